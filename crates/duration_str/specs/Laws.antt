@@ -1,0 +1,133 @@
+-- The laws, each as one statement over the definitions.
+use Rattle.std.specs.Prelude.{◌≡◌, ℕ, ◌+◌, ◌*◌, ◌/◌, ◌^◌, ◌<◌, ◌≤◌, Bool, true, false, List, [], ◌∷◌, ◌++◌, Some, None, map, ◌↔◌, ◌≢◌, take, drop, codes, Ok, Err, ◌⊎◌, IsTrue, not, ◌==◌}
+use Rattle.std.specs.Char.{is_ascii_uppercase}
+use Rattle.std.specs.List.{list_all}
+use Rattle.std.specs.Duration.{FitsDuration}
+use Rattle.duration_str.specs.declared.unit.Options.{Options}
+use Rattle.duration_str.specs.declared.unit.CondUnit.{CondUnit}
+use Rattle.duration_str.specs.declared.unit.CondUnit.TheVariants.{Star}
+use Rattle.duration_str.specs.declared.unit.TimeUnit.TheVariants.{Year}
+use Rattle.duration_str.specs.declared.fault.Cause.{Cause}
+use Rattle.duration_str.specs.declared.fault.Cause.TheVariants.{Overflow}
+use Rattle.duration_str.specs.declared.fault.Expected.{Expected}
+use Rattle.duration_str.specs.Text.{is_operator, is_chinese}
+use Rattle.duration_str.specs.Units.{unit_lengths, nanos_of}
+use Rattle.duration_str.specs.Grammar.{Token, operator, IsSentence, IsSentenceOf, Spells, token_of}
+use Rattle.duration_str.specs.Pieces.{Piece, pieces_of, words_of, ArePieces}
+use Rattle.duration_str.specs.Place.{BeginsSentence, CanFollow, IsFront, kinds_after, last_of, front_of}
+use Rattle.duration_str.specs.Value.{AllPlus, Term, value_of_term, terms_of, times_in, second}
+use Rattle.duration_str.specs.Reading.{IsRead, IsRefused}
+use Rattle.duration_str.specs.Answer.{answer}
+use Rattle.duration_str.specs.Printing.{IsPrinted, IsGreatestBreakdown, counts_of}
+
+abbrev pub HasNoStar : List ℕ → Type 0
+HasNoStar text = IsTrue (list_all (λ c. not (c == 42)) text)
+
+abbrev pub HasNoOperator : List ℕ → Type 0
+HasNoOperator text = IsTrue (list_all (λ c. not (is_operator c)) text)
+
+abbrev pub HasNoCapital : List ℕ → Type 0
+HasNoCapital text = IsTrue (list_all (λ c. not (is_ascii_uppercase c)) text)
+
+abbrev pub HasNoChinese : List ℕ → Type 0
+HasNoChinese text = IsTrue (list_all (λ c. not (is_chinese c)) text)
+
+-- Two sentences that spell one text are equal, and a sentence spells a text exactly if its words are the text's pieces.
+pub record OneSentence : Type 0 where
+  pub equal : (o : Options) (text : List ℕ) (words others : List (List ℕ)) → IsSentenceOf o words text → IsSentenceOf o others text → words ≡ others
+  pub pieces : (o : Options) (text : List ℕ) (words : List (List ℕ)) → IsSentence o.no_calc (map (token_of o) words)
+      → (Spells words text ↔ (words ≡ words_of (pieces_of o text)))
+
+-- A text has the pieces that `pieces_of` gives, and no others.
+pub record OneCut : Type 0 where
+  pub are : (o : Options) (text : List ℕ) → ArePieces o 0 text (pieces_of o text)
+  pub only : (o : Options) (text : List ℕ) (pieces : List Piece) → ArePieces o 0 text pieces → pieces ≡ pieces_of o text
+
+-- A text is read as one value or refused for one cause, and not both.
+pub record OneAnswer : Type 0 where
+  pub some : (o : Options) (text : List ℕ) → ((nanos : ℕ) × IsRead o text nanos) ⊎ ((cause : Cause) × IsRefused o text cause)
+  pub one_value : (o : Options) (text : List ℕ) (m n : ℕ) → IsRead o text m → IsRead o text n → m ≡ n
+  pub one_cause : (o : Options) (text : List ℕ) (c d : Cause) → IsRefused o text c → IsRefused o text d → c ≡ d
+  pub not_both : (o : Options) (text : List ℕ) (nanos : ℕ) (cause : Cause) → IsRead o text nanos → IsRefused o text cause → ⊥
+
+-- The computed answer is the value that is read, or the cause of the refusal.
+pub record IsAnswer : Type 0 where
+  pub read : (o : Options) (text : List ℕ) (nanos : ℕ) → (answer o text ≡ Ok nanos ↔ IsRead o text nanos)
+  pub refused : (o : Options) (text : List ℕ) (cause : Cause) → (answer o text ≡ Err cause ↔ IsRefused o text cause)
+
+-- What can follow the beginning of a sentence is told by the table from its last token,
+-- and a walk along the table finds the longest beginning.
+pub record PlaceAndKinds : Type 0 where
+  pub kinds : (no_calc : Bool) (front : List Token) (expected : Expected) → BeginsSentence no_calc front
+      → (CanFollow no_calc front expected ↔ (expected ≡ kinds_after no_calc (last_of None front)))
+  pub no_operator : (no_calc : Bool) (front : List Token) (op : CondUnit) → no_calc ≡ true → BeginsSentence no_calc front
+      → last_of None front ≢ Some (operator op)
+  pub front : (no_calc : Bool) (tokens : List Token) → IsFront no_calc tokens (take (front_of no_calc tokens) tokens) (drop (front_of no_calc tokens) tokens)
+  pub only : (no_calc : Bool) (tokens front rest : List Token) → IsFront no_calc tokens front rest
+      → (front ≡ take (front_of no_calc tokens) tokens) × (rest ≡ drop (front_of no_calc tokens) tokens)
+
+-- Without operators `no_calc` changes neither what is accepted nor its value.
+abbrev pub NoCalcAgrees : Type 0
+NoCalcAgrees = (o : Options) (text : List ℕ) (nanos : ℕ) → HasNoOperator text
+    → (IsRead (record o { no_calc = true }) text nanos ↔ IsRead (record o { no_calc = false }) text nanos)
+
+-- `lowercase` changes nothing without ASCII capitals, and `cn_unit` nothing without Chinese characters.
+pub record OptionsIdle : Type 0 where
+  pub lowercase_value : (o : Options) (text : List ℕ) (nanos : ℕ) → HasNoCapital text
+      → (IsRead (record o { lowercase = true }) text nanos ↔ IsRead (record o { lowercase = false }) text nanos)
+  pub lowercase_cause : (o : Options) (text : List ℕ) (cause : Cause) → HasNoCapital text
+      → (IsRefused (record o { lowercase = true }) text cause ↔ IsRefused (record o { lowercase = false }) text cause)
+  pub cn_unit_value : (o : Options) (text : List ℕ) (nanos : ℕ) → HasNoChinese text
+      → (IsRead (record o { cn_unit = true }) text nanos ↔ IsRead (record o { cn_unit = false }) text nanos)
+  pub cn_unit_cause : (o : Options) (text : List ℕ) (cause : Cause) → HasNoChinese text
+      → (IsRefused (record o { cn_unit = true }) text cause ↔ IsRefused (record o { cn_unit = false }) text cause)
+
+-- Texts that one sentence spells have the same value, or are refused for the same cause.
+pub record BlanksFree : Type 0 where
+  pub value : (o : Options) (a b : List ℕ) (words : List (List ℕ)) (nanos : ℕ) → IsSentenceOf o words a → Spells words b
+      → IsRead o a nanos → IsRead o b nanos
+  pub cause : (o : Options) (a b : List ℕ) (words : List (List ℕ)) (cause : Cause) → IsSentenceOf o words a → Spells words b
+      → IsRefused o a cause → IsRefused o b cause
+
+-- Two accepted texts without `*`, joined by a plus, come to the sum of their values, or overflow.
+pub record SumOfTexts : Type 0 where
+  pub below : (o : Options) (a b : List ℕ) (m n : ℕ) → o.no_calc ≡ false → HasNoStar a → HasNoStar b → IsRead o a m → IsRead o b n
+      → m + n < 2 ^ 64 → IsRead o (a ++ codes "+" ++ b) (m + n)
+  pub above : (o : Options) (a b : List ℕ) (m n : ℕ) → o.no_calc ≡ false → HasNoStar a → HasNoStar b → IsRead o a m → IsRead o b n
+      → 2 ^ 64 ≤ m + n → IsRefused o (a ++ codes "+" ++ b) (Overflow None)
+
+-- Two sentences of sums whose terms have the same values, each equally often, agree in acceptance and value.
+abbrev pub Reorder : Type 0
+Reorder = (o : Options) (a b : List ℕ) (words others : List (List ℕ)) (nanos : ℕ) → IsSentenceOf o words a → IsSentenceOf o others b
+    → AllPlus (map (token_of o) words) → AllPlus (map (token_of o) others)
+    → ((n : ℕ) → times_in n (map value_of_term (terms_of (map (token_of o) words))) ≡ times_in n (map value_of_term (terms_of (map (token_of o) others))))
+    → IsRead o a nanos → IsRead o b nanos
+
+-- A product of two terms is accepted exactly where both terms and their product fit, has this value,
+-- and so has the product of the exchanged terms.
+pub record TwoFactors : Type 0 where
+  pub product : (o : Options) (text : List ℕ) (words : List (List ℕ)) (t u : Term) (nanos : ℕ) → IsSentenceOf o words text
+      → terms_of (map (token_of o) words) ≡ t ∷ u ∷ [] → u.operator ≡ Star
+      → (IsRead o text nanos ↔ ((t.number < 2 ^ 64) × (value_of_term t < 2 ^ 64) × (u.number < 2 ^ 64) × (value_of_term u < 2 ^ 64)
+      × (nanos < 2 ^ 64) × (nanos ≡ value_of_term t * value_of_term u / second)))
+  pub exchanged : (o : Options) (a b : List ℕ) (words others : List (List ℕ)) (t u v w : Term) (nanos : ℕ) → IsSentenceOf o words a → IsSentenceOf o others b
+      → terms_of (map (token_of o) words) ≡ t ∷ u ∷ [] → u.operator ≡ Star
+      → terms_of (map (token_of o) others) ≡ v ∷ w ∷ [] → w.operator ≡ Star
+      → v.number ≡ u.number → v.length ≡ u.length → w.number ≡ t.number → w.length ≡ t.length
+      → IsRead o a nanos → IsRead o b nanos
+
+-- The counts by quotients and remainders are the greatest breakdown.
+abbrev pub GreatestBreakdown : Type 0
+GreatestBreakdown = (nanos : ℕ) → IsGreatestBreakdown unit_lengths nanos (counts_of unit_lengths nanos)
+
+-- Two durations print the same exactly if they are the same.
+abbrev pub EqualTexts : Type 0
+EqualTexts = (m n : ℕ) (a b : List ℕ) → FitsDuration m → FitsDuration n → IsPrinted m a → IsPrinted n b → (a ≡ b ↔ m ≡ n)
+
+-- What is printed is read back below 2^64 nanoseconds. Elsewhere it overflows: from 585 years on in the first term.
+pub record ReadsBack : Type 0 where
+  pub below : (o : Options) (nanos : ℕ) (text : List ℕ) → nanos < 2 ^ 64 → IsPrinted nanos text → IsRead o text nanos
+  pub above : (o : Options) (nanos : ℕ) (text : List ℕ) → 2 ^ 64 ≤ nanos → nanos < 585 * nanos_of Year → IsPrinted nanos text
+      → IsRefused o text (Overflow None)
+  pub far_above : (o : Options) (nanos : ℕ) (text : List ℕ) → 585 * nanos_of Year ≤ nanos → FitsDuration nanos → IsPrinted nanos text
+      → IsRefused o text (Overflow (Some 0))

@@ -1,0 +1,11 @@
+pub mod Text
+pub mod Units
+pub mod Grammar
+pub mod Pieces
+pub mod Place
+pub mod Value
+pub mod Reading
+pub mod Answer
+pub mod Printing
+pub mod Faults
+pub mod Laws

@@ -1,0 +1,56 @@
+-- Texts: lists of characters, each by its code. The classes of characters, and what digits write.
+use Rattle.std.specs.Prelude.{ℕ, ◌+◌, ◌*◌, ◌-◌, Bool, ◌&&◌, ◌||◌, List, [], ◌∷◌, nat_le, ◌==◌, IsTrue, Option, Some, None, is_some, if◌then◌else◌}
+use Rattle.std.specs.Char.{is_ascii_digit, is_ascii_alphabetic, len_utf8}
+use Rattle.std.specs.List.{list_any, list_all}
+use lib.Chars.{codes}
+use Rattle.duration_str.specs.declared.unit.Options.{Options}
+use Rattle.duration_str.specs.declared.unit.CondUnit.{CondUnit}
+use Rattle.duration_str.specs.declared.unit.CondUnit.TheVariants.{Plus, Star}
+
+-- space, tab, carriage return, line feed
+abbrev pub is_blank : ℕ → Bool
+is_blank c = c == 32 || c == 9 || c == 13 || c == 10
+
+-- 0 to 9
+abbrev pub is_digit : ℕ → Bool
+is_digit c = is_ascii_digit c
+
+-- the characters that the option `cn_unit` adds to the unit letters
+abbrev pub chinese_letters : List ℕ
+chinese_letters = codes "年月周日天时分秒毫微纳"
+
+abbrev pub is_chinese : ℕ → Bool
+is_chinese c = list_any (λ d. d == c) chinese_letters
+
+-- an ASCII letter, µ (U+00B5), or with `cn_unit` one of the Chinese characters
+abbrev pub is_unit_letter : Options → ℕ → Bool
+is_unit_letter o c = is_ascii_alphabetic c || c == 0xB5 || (o.cn_unit && is_chinese c)
+
+-- the operator that a character is: 43 is `+` and 42 is `*`
+abbrev pub operator_of : ℕ → Option CondUnit
+operator_of c = if c == 43 then Some Plus else if c == 42 then Some Star else None
+
+abbrev pub is_operator : ℕ → Bool
+is_operator c = is_some (operator_of c)
+
+-- Every character is a blank.
+abbrev pub IsBlank : List ℕ → Type 0
+IsBlank text = IsTrue (list_all is_blank text)
+
+-- the number that these digits write in decimal behind those of n
+abbrev pub number_after : ℕ → List ℕ → ℕ
+number_after n [] = n
+number_after n (c ∷ digits) = number_after (n * 10 + (c - 48)) digits
+
+-- the number that digits write in decimal
+abbrev pub number_of : List ℕ → ℕ
+number_of digits = number_after 0 digits
+
+-- how many bytes a character takes in UTF-8; a number that is no character counts as four
+abbrev pub width : ℕ → ℕ
+width c = if nat_le 0xD800 c && nat_le c 0xDFFF then 4 else len_utf8 c
+
+-- how many bytes a text takes in UTF-8
+abbrev pub byte_len : List ℕ → ℕ
+byte_len [] = 0
+byte_len (c ∷ text) = width c + byte_len text

@@ -1,0 +1,55 @@
+-- The units: how long each is, how it is printed, and the words that name it.
+use Rattle.std.specs.Prelude.{ℕ, Bool, ◌&&◌, ◌||◌, List, [], ◌∷◌, Option, if◌then◌else◌, map}
+use Rattle.std.specs.Char.{to_ascii_lowercase}
+use Rattle.std.specs.List.{list_any, find}
+use Rattle.std.specs.Str.{bytes_eq}
+use lib.Chars.{codes}
+use Rattle.duration_str.specs.declared.unit.Options.{Options}
+use Rattle.duration_str.specs.declared.unit.TimeUnit.{TimeUnit}
+use Rattle.duration_str.specs.declared.unit.TimeUnit.TheVariants.{Year, Month, Week, Day, Hour, Minute, Second, MilliSecond, MicroSecond, NanoSecond}
+
+-- what is said of a unit: its length in nanoseconds, the name that is printed, the names that are read,
+-- and those that are read with `cn_unit` alone
+pub record UnitRow : Type 0 where
+  pub nanos : ℕ
+  pub printed : List ℕ
+  pub names : List (List ℕ)
+  pub chinese : List (List ℕ)
+
+-- The table of units. All else that is said of units follows from it.
+abbrev pub row_of : TimeUnit → UnitRow
+row_of Year = record { nanos = 31_536_000_000_000_000; printed = codes "y"; names = codes "y" ∷ codes "year" ∷ codes "years" ∷ []; chinese = codes "年" ∷ [] }
+row_of Month = record { nanos = 2_592_000_000_000_000; printed = codes "mon"; names = codes "mon" ∷ codes "month" ∷ codes "months" ∷ []; chinese = codes "月" ∷ [] }
+row_of Week = record { nanos = 604_800_000_000_000; printed = codes "w"; names = codes "w" ∷ codes "week" ∷ codes "weeks" ∷ []; chinese = codes "周" ∷ [] }
+row_of Day = record { nanos = 86_400_000_000_000; printed = codes "d"; names = codes "d" ∷ codes "day" ∷ codes "days" ∷ []; chinese = codes "日" ∷ codes "天" ∷ [] }
+row_of Hour = record { nanos = 3_600_000_000_000; printed = codes "h"; names = codes "h" ∷ codes "hr" ∷ codes "hour" ∷ codes "hours" ∷ []; chinese = codes "时" ∷ [] }
+row_of Minute = record { nanos = 60_000_000_000; printed = codes "min"; names = codes "m" ∷ codes "min" ∷ codes "minute" ∷ codes "minutes" ∷ []; chinese = codes "分" ∷ [] }
+row_of Second = record { nanos = 1_000_000_000; printed = codes "s"; names = codes "s" ∷ codes "sec" ∷ codes "second" ∷ codes "seconds" ∷ []; chinese = codes "秒" ∷ [] }
+row_of MilliSecond = record { nanos = 1_000_000; printed = codes "ms"; names = codes "ms" ∷ codes "msec" ∷ codes "millisecond" ∷ codes "milliseconds" ∷ []; chinese = codes "毫秒" ∷ [] }
+row_of MicroSecond = record { nanos = 1_000; printed = codes "µs"; names = codes "µs" ∷ codes "µsec" ∷ codes "µsecond" ∷ codes "us" ∷ codes "usec" ∷ codes "usecond" ∷ codes "microsecond" ∷ codes "microseconds" ∷ []; chinese = codes "微秒" ∷ [] }
+row_of NanoSecond = record { nanos = 1; printed = codes "ns"; names = codes "ns" ∷ codes "nsec" ∷ codes "nanosecond" ∷ codes "nanoseconds" ∷ []; chinese = codes "纳秒" ∷ [] }
+
+-- the units, the longest first
+abbrev pub units : List TimeUnit
+units = Year ∷ Month ∷ Week ∷ Day ∷ Hour ∷ Minute ∷ Second ∷ MilliSecond ∷ MicroSecond ∷ NanoSecond ∷ []
+
+-- the length of a unit in nanoseconds
+abbrev pub nanos_of : TimeUnit → ℕ
+nanos_of u = (row_of u).nanos
+
+-- the lengths, the longest first
+abbrev pub unit_lengths : List ℕ
+unit_lengths = map nanos_of units
+
+-- the word as it is compared with the names: its ASCII capitals are folded, unless `lowercase` is on
+abbrev pub folded : Options → List ℕ → List ℕ
+folded o word = if o.lowercase then word else map to_ascii_lowercase word
+
+-- whether the word is a name of the unit
+abbrev pub is_named : Options → List ℕ → TimeUnit → Bool
+is_named o word u =
+    list_any (bytes_eq (folded o word)) (row_of u).names || (o.cn_unit && list_any (bytes_eq (folded o word)) (row_of u).chinese)
+
+-- the unit that a word names
+abbrev pub unit_of_word : Options → List ℕ → Option TimeUnit
+unit_of_word o word = find (is_named o word) units

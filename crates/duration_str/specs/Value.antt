@@ -1,0 +1,119 @@
+-- The terms of a sentence, what they come to, and what is wrong with them.
+use Rattle.std.specs.Prelude.{◌≡◌, ℕ, ◌+◌, ◌*◌, ◌/◌, ◌^◌, Bool, true, false, List, [], ◌∷◌, ◌++◌, Option, Some, None, if◌then◌else◌, nat_lt, ◌==◌}
+use Rattle.std.specs.List.{list_all, fold}
+use Rattle.duration_str.specs.declared.unit.TimeUnit.TheVariants.{Second}
+use Rattle.duration_str.specs.declared.unit.CondUnit.{CondUnit}
+use Rattle.duration_str.specs.declared.unit.CondUnit.TheVariants.{Plus, Star}
+use Rattle.duration_str.specs.declared.fault.Cause.{Cause}
+use Rattle.duration_str.specs.declared.fault.Cause.TheVariants.{NumberTooLarge, Overflow, Mixed}
+use Rattle.duration_str.specs.Units.{nanos_of}
+use Rattle.duration_str.specs.Grammar.{Token, number, word, operator}
+
+-- a term: the operator before it, its number, and its unit's length in nanoseconds
+pub record Term : Type 0 where
+  pub operator : CondUnit
+  pub number : ℕ
+  pub length : ℕ
+
+abbrev pub value_of_term : Term → ℕ
+value_of_term t = t.number * t.length
+
+-- the length of a unit that is left out
+abbrev pub second : ℕ
+second = nanos_of Second
+
+-- the terms of the tokens behind the operator `op`; an operator that is left out is plus
+abbrev pub terms_after : CondUnit → List Token → List Term
+terms_after op (number n ∷ word (Some u) ∷ more) = record { operator = op; number = n; length = nanos_of u } ∷ terms_after Plus more
+terms_after op (number n ∷ more) = record { operator = op; number = n; length = second } ∷ terms_after Plus more
+terms_after op (operator next ∷ more) = terms_after next more
+terms_after op _ = []
+
+-- the terms of a sentence; the first one's operator is plus, and means nothing
+abbrev pub terms_of : List Token → List Term
+terms_of tokens = terms_after Plus tokens
+
+-- Each operator that is written is plus.
+abbrev pub AllPlus : List Token → Type 0
+AllPlus [] = Unit {0}
+AllPlus (operator op ∷ tokens) = (op ≡ Plus) × AllPlus tokens
+AllPlus (token ∷ tokens) = AllPlus tokens
+
+abbrev pub is_same_operator : CondUnit → CondUnit → Bool
+is_same_operator Plus Plus = true
+is_same_operator Star Star = true
+is_same_operator _ _ = false
+
+abbrev pub sum_of : List Term → ℕ
+sum_of [] = 0
+sum_of (t ∷ terms) = value_of_term t + sum_of terms
+
+-- a product of terms, in nanoseconds of seconds multiplied: each step is rounded down
+abbrev pub product_of : List Term → ℕ
+product_of terms = fold (λ p t. p * value_of_term t / second) second terms
+
+-- what the later terms come to
+abbrev pub together : CondUnit → List Term → ℕ
+together Plus later = sum_of later
+together Star later = product_of later
+
+-- the value x, and what stands behind it
+abbrev pub joined : CondUnit → ℕ → ℕ → ℕ
+joined Plus x rest = x + rest
+joined Star x rest = x * rest / second
+
+-- the first term's value, and what the later terms come to
+abbrev pub with_first : CondUnit → Term → ℕ → ℕ
+with_first op t rest = joined op (value_of_term t) rest
+
+-- the value of a sentence by its terms, in nanoseconds; none where the operators are mixed
+abbrev pub value_of : List Term → Option ℕ
+value_of [] = None
+value_of (t ∷ []) = Some (value_of_term t)
+value_of (t ∷ u ∷ later) =
+    if list_all (λ v. is_same_operator u.operator v.operator) later
+    then Some (with_first u.operator t (together u.operator (u ∷ later)))
+    else None
+
+-- whether a number is below 2^64
+abbrev pub fits : ℕ → Bool
+fits n = nat_lt n (2 ^ 64)
+
+-- the first cause of two
+abbrev pub or_else : Option Cause → Option Cause → Option Cause
+or_else (Some cause) _ = Some cause
+or_else None next = next
+
+abbrev pub unless : Bool → Cause → Option Cause
+unless true _ = None
+unless false cause = Some cause
+
+-- the fault of a term alone
+abbrev pub term_fault : Option ℕ → Term → Option Cause
+term_fault place t = or_else (unless (fits t.number) (NumberTooLarge place)) (unless (fits (value_of_term t)) (Overflow place))
+
+-- the first fault of the later terms: those in `before` have none, and `set` is the operator of the first later term
+abbrev pub later_fault : CondUnit → List Term → List Term → Option Cause
+later_fault set before [] = None
+later_fault set before (t ∷ later) =
+    or_else (unless (is_same_operator set t.operator) (Mixed set t.operator))
+    (or_else (term_fault None t)
+    (or_else (unless (fits (together set (before ++ t ∷ []))) (Overflow None))
+    (later_fault set (before ++ t ∷ []) later)))
+
+-- the fault of a sentence whose first term has none: that of the later terms, or of the step with the first one
+abbrev pub evaluation_fault : List Term → Option Cause
+evaluation_fault (t ∷ u ∷ later) =
+    or_else (later_fault u.operator [] (u ∷ later))
+    (unless (fits (with_first u.operator t (together u.operator (u ∷ later)))) (Overflow None))
+evaluation_fault _ = None
+
+-- Every number, term and step is below 2^64, and the operators are not mixed.
+abbrev pub Evaluates : List Term → Type 0
+Evaluates [] = ⊥
+Evaluates (t ∷ later) = (term_fault None t ≡ None) × (evaluation_fault (t ∷ later) ≡ None)
+
+-- how often a number stands in a list
+abbrev pub times_in : ℕ → List ℕ → ℕ
+times_in n [] = 0
+times_in n (m ∷ ms) = (if m == n then 1 else 0) + times_in n ms
