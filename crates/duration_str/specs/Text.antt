@@ -1,5 +1,5 @@
 -- Texts: lists of characters, each by its code. The classes of characters, and what digits write.
-use Rattle.std.specs.Prelude.{ℕ, ◌+◌, ◌*◌, ◌-◌, Bool, ◌&&◌, ◌||◌, List, [], ◌∷◌, nat_le, ◌==◌, IsTrue, Option, Some, None, is_some, if◌then◌else◌}
+use Rattle.std.specs.Prelude.{ℕ, ◌+◌, ◌*◌, ◌-◌, ◌<◌, Bool, ◌&&◌, ◌||◌, List, [], ◌∷◌, nat_le, ◌==◌, IsTrue, Option, Some, None, is_some, length, if◌then◌else◌}
 use Rattle.std.specs.Char.{is_ascii_digit, is_ascii_alphabetic, len_utf8}
 use Rattle.std.specs.List.{list_any, list_all}
 use lib.Chars.{codes}
@@ -36,6 +36,10 @@ is_operator c = is_some (operator_of c)
 -- Every character is a blank.
 abbrev pub IsBlank : List ℕ → Type 0
 IsBlank text = IsTrue (list_all is_blank text)
+
+-- A nonempty run of digits.
+abbrev pub IsNumber : List ℕ → Type 0
+IsNumber text = (0 < length text) × IsTrue (list_all is_digit text)
 
 -- the number that these digits write in decimal behind those of n
 abbrev pub number_after : ℕ → List ℕ → ℕ

@@ -1,5 +1,6 @@
 -- The units: how long each is, how it is printed, and the words that name it.
-use Rattle.std.specs.Prelude.{ℕ, Bool, ◌&&◌, ◌||◌, List, [], ◌∷◌, Option, if◌then◌else◌, map}
+use denote.Ref.{Bor}
+use Rattle.std.specs.Prelude.{◌≡◌, encode_utf8_all, ℕ, Bool, false, ◌&&◌, ◌||◌, List, [], ◌∷◌, Option, if◌then◌else◌, map}
 use Rattle.std.specs.Char.{to_ascii_lowercase}
 use Rattle.std.specs.List.{list_any, find}
 use Rattle.std.specs.Str.{bytes_eq}
@@ -7,6 +8,10 @@ use lib.Chars.{codes}
 use Rattle.duration_str.specs.declared.unit.Options.{Options}
 use Rattle.duration_str.specs.declared.unit.TimeUnit.{TimeUnit}
 use Rattle.duration_str.specs.declared.unit.TimeUnit.TheVariants.{Year, Month, Week, Day, Hour, Minute, Second, MilliSecond, MicroSecond, NanoSecond}
+
+-- all options off
+abbrev pub off : Options
+off = record { no_calc = false; lowercase = false; cn_unit = false }
 
 -- what is said of a unit: its length in nanoseconds, the name that is printed, the names that are read,
 -- and those that are read with `cn_unit` alone
@@ -53,3 +58,7 @@ is_named o word u =
 -- the unit that a word names
 abbrev pub unit_of_word : Options → List ℕ → Option TimeUnit
 unit_of_word o word = find (is_named o word) units
+
+-- These texts are the names in UTF-8.
+abbrev pub AreEncoded : List (Bor (List ℕ)) → List (List ℕ) → Type 0
+AreEncoded texts names = map (λ text. text.now) texts ≡ map encode_utf8_all names

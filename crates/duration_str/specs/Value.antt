@@ -1,6 +1,7 @@
 -- The terms of a sentence, what they come to, and what is wrong with them.
-use Rattle.std.specs.Prelude.{◌≡◌, ℕ, ◌+◌, ◌*◌, ◌/◌, ◌^◌, Bool, true, false, List, [], ◌∷◌, ◌++◌, Option, Some, None, if◌then◌else◌, nat_lt, ◌==◌}
+use Rattle.std.specs.Prelude.{◌≡◌, ℕ, ◌+◌, ◌*◌, ◌/◌, ◌^◌, Bool, true, false, List, [], ◌∷◌, ◌++◌, Option, Some, None, Result, Ok, Err, if◌then◌else◌, nat_lt, ◌==◌}
 use Rattle.std.specs.List.{list_all, fold}
+use Rattle.duration_str.specs.declared.unit.TimeUnit.{TimeUnit}
 use Rattle.duration_str.specs.declared.unit.TimeUnit.TheVariants.{Second}
 use Rattle.duration_str.specs.declared.unit.CondUnit.{CondUnit}
 use Rattle.duration_str.specs.declared.unit.CondUnit.TheVariants.{Plus, Star}
@@ -91,6 +92,23 @@ unless false cause = Some cause
 -- the fault of a term alone
 abbrev pub term_fault : Option ℕ → Term → Option Cause
 term_fault place t = or_else (unless (fits t.number) (NumberTooLarge place)) (unless (fits (value_of_term t)) (Overflow place))
+
+-- a number and a unit as a term
+abbrev pub term_of : ℕ → TimeUnit → Term
+term_of n u = record { operator = Plus; number = n; length = nanos_of u }
+
+-- the value of a term, or its fault
+abbrev pub term_answer : Option ℕ → Term → Result ℕ Cause
+term_answer place t = elim (term_fault place t) [ None ↦ Ok (value_of_term t) | Some cause ↦ Err cause ]
+
+-- a number where it is below 2^64
+abbrev pub kept : ℕ → Option ℕ
+kept n = if fits n then Some n else None
+
+-- the same of a number that is kept
+abbrev pub term_value : Option ℕ → Option ℕ → ℕ → Result ℕ Cause
+term_value place None length = Err (NumberTooLarge place)
+term_value place (Some n) length = if fits (n * length) then Ok (n * length) else Err (Overflow place)
 
 -- the first fault of the later terms: those in `before` have none, and `set` is the operator of the first later term
 abbrev pub later_fault : CondUnit → List Term → List Term → Option Cause

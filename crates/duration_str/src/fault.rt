@@ -1,9 +1,12 @@
-//! Why a text is refused, and where.
+//! Why a text is refused, and where, with the text that shows it.
+ghost use Rattle.std.specs.Prelude.{◌≡◌, ◌≤◌, Some, replicate, length, take};
 ghost use Rattle.std.specs.Option.{ForSome};
-ghost use Rattle.std.specs.Str.{IsCharBoundary};
+ghost use Rattle.std.specs.Str.{IsCharBoundary, chars};
 ghost use Rattle.duration_str.specs.Faults.{place_of};
+ghost use Rattle.duration_str.specs.FaultText.{fault_text};
 
 use crate::unit::CondUnit;
+use std::fmt;
 
 /// What could stand at the place of a syntax fault.
 #[derive(Clone, Copy, Debug, PartialEq, Eq)]
@@ -33,7 +36,20 @@ pub enum Cause {
     NotText { optional: bool },
 }
 
-/// A refusal: the text that was read, and the cause.
+impl Cause {
+    /// The byte at which the fault stands, if it has a place.
+    fn place(self) -> Option<usize>
+        ensures { result ≡ place_of self }
+    {
+        match self {
+            Cause::Syntax { place, .. } => Some(place),
+            Cause::NumberTooLarge { place } | Cause::Overflow { place } => place,
+            Cause::Empty | Cause::Mixed { .. } | Cause::OutOfRange | Cause::NotText { .. } => None,
+        }
+    }
+}
+
+/// A refusal: the text that was read, and the cause. It prints as what a person is told.
 #[derive(Clone, Copy, Debug, PartialEq, Eq)]
 pub struct Fault<'a> {
     pub text: &'a str,
@@ -41,3 +57,82 @@ pub struct Fault<'a> {
     /// The place is a character boundary within the text.
     pub ghost placed: { ForSome (place_of cause) (IsCharBoundary text.now) },
 }
+
+impl<'a> Fault<'a> {
+    /// The whole text that was read, and for `NotText` the empty text.
+    pub fn text(&self) -> &'a str
+        ensures { result ≡ self.now.text }
+    {
+        self.text
+    }
+
+    /// Why it is refused.
+    pub fn cause(&self) -> Cause
+        ensures { result ≡ self.now.cause }
+    {
+        self.cause
+    }
+}
+
+const SPACES: &str = "                                                                ";
+
+/// So many spaces, at most 64.
+fn short_run(count: usize) -> &'static str
+    requires { count ≤ 64 }
+    ensures { result.now ≡ replicate count 32 }
+{
+    &SPACES[..count]
+}
+
+/// So many spaces, written in runs.
+#[derive(Clone, Copy)]
+struct Spaces(usize);
+
+impl fmt::Display for Spaces {
+    ghost output = { λ spaces. Some (replicate spaces.0 32) };
+
+    fn fmt<W: fmt::Write>(&self, f: &mut fmt::Formatter<W>) -> fmt::Result {
+        let mut left = self.0;
+        while left > 64 {
+            f.write_str(short_run(64))?;
+            left -= 64;
+        }
+        f.write_str(short_run(left))
+    }
+}
+
+/// How many characters stand before the place.
+fn chars_before(text: &str, place: usize) -> usize
+    requires { IsCharBoundary text.now place }
+    ensures { result ≡ length (chars (take place text.now)) }
+{
+    text[..place].chars().count()
+}
+
+/// The line of the cause. Where the fault has a place, the text stands above it, with a caret below the place,
+/// or, where the text holds a line feed, the place in bytes before it: `byte 5: expected number`.
+///
+/// ```text
+/// 3ms-2ms
+///    ^
+/// expected ['+', '*']
+/// ```
+impl fmt::Display for Fault<'_> {
+    ghost output = { λ fault. Some (fault_text fault.text.now fault.cause) };
+
+    fn fmt<W: fmt::Write>(&self, f: &mut fmt::Formatter<W>) -> fmt::Result {
+        let text = self.text;
+        let line = self.cause.line();
+        let Some(place) = self.cause.place() else {
+            return f.write_str(line);
+        };
+        if text.as_bytes().contains(&b'\n') {
+            return write!(f, "byte {place}: {line}");
+        }
+        let spaces = Spaces(chars_before(text, place));
+        write!(f, "{text}\n{spaces}^\n{line}")
+    }
+}
+
+#[cfg(test)]
+mod tests;

@@ -1,5 +1,30 @@
 //! Duration expressions such as `3m + 13s + 29ms`, read and printed.
 #![tactic(auto)]
 
+mod config;
+pub mod error;
+pub mod ext;
+mod eye;
 pub mod fault;
+pub mod laws;
+mod line;
+mod packed;
+pub mod parser;
+mod reader;
+pub mod token;
+pub mod top;
 pub mod unit;
+#[cfg(test)]
+mod vectors;
+
+pub use error::{DError, DResult};
+pub use ext::{HumanFormat, write_human};
+pub use parser::{Cause, Expected, Fault, parse, parse_looked, parse_std, parse_with};
+pub use token::{Token, Tokens, What};
+pub use top::{
+    DeserializeDuration, after_naive_date, after_naive_date_time, before_naive_date,
+    before_naive_date_time, deserialize_duration, deserialize_duration_chrono,
+    deserialize_duration_time, deserialize_option_duration, deserialize_option_duration_chrono,
+    deserialize_option_duration_time, parse_chrono, parse_time,
+};
+pub use unit::{CondUnit, Options, TimeUnit};

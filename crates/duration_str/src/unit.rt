@@ -1,7 +1,14 @@
 //! The choice of options, the units of time, and the operators.
-ghost use Rattle.std.specs.Prelude.{◌≡◌, false};
-ghost use Rattle.duration_str.specs.Text.{operator_of};
-ghost use Rattle.duration_str.specs.Units.{nanos_of};
+ghost use Rattle.std.specs.Prelude.{◌≡◌, None, Some, encode_utf8_all};
+ghost use Rattle.std.specs.List.{list_any};
+ghost use Rattle.std.specs.Str.{bytes_eq, chars};
+ghost use Rattle.duration_str.specs.FaultText.{sign_of};
+ghost use Rattle.duration_str.specs.Text.{operator_of, IsNumber, number_of};
+ghost use Rattle.duration_str.specs.Units.{off, nanos_of, row_of, folded, is_named, unit_of_word, AreEncoded};
+ghost use Rattle.duration_str.specs.Value.{kept, term_of, term_answer, term_value};
+
+use crate::fault::Cause;
+use std::fmt;
 
 /// Which grammar is read, and which words name units.
 #[derive(Clone, Copy, Debug, PartialEq, Eq)]
@@ -17,7 +24,7 @@ pub struct Options {
 impl Options {
     /// All three options off.
     pub fn off() -> Options
-        ensures { result ≡ record { no_calc = false; lowercase = false; cn_unit = false } }
+        ensures { result ≡ off }
     {
         Options {
             no_calc: false,
@@ -64,6 +71,163 @@ impl TimeUnit {
             TimeUnit::NanoSecond => 1,
         }
     }
+
+    /// The printed name.
+    #[inline(always)]
+    pub(crate) fn name(self) -> &'static str
+        ensures { result.now ≡ encode_utf8_all (row_of self).printed }
+    {
+        match self {
+            TimeUnit::Year => "y",
+            TimeUnit::Month => "mon",
+            TimeUnit::Week => "w",
+            TimeUnit::Day => "d",
+            TimeUnit::Hour => "h",
+            TimeUnit::Minute => "min",
+            TimeUnit::Second => "s",
+            TimeUnit::MilliSecond => "ms",
+            TimeUnit::MicroSecond => "µs",
+            TimeUnit::NanoSecond => "ns",
+        }
+    }
+
+    /// The unit that a word names under these options, if it names one.
+    ///
+    /// `from_word("Minutes", Options::off())` is `Some(TimeUnit::Minute)`.
+    pub fn from_word(word: &str, o: Options) -> Option<TimeUnit>
+        ensures { result ≡ unit_of_word o (chars word.now) }
+    {
+        UNITS.iter().copied().find(|unit| unit.is_named(word, o))
+    }
+
+    /// The value in nanoseconds of a term with this number, a nonempty run of digits.
+    ///
+    /// # Errors
+    ///
+    /// `NumberTooLarge` for a number of 2^64 or more, else `Overflow` for a value of 2^64 or more, both without place.
+    pub fn value(self, number: &str) -> Result<u64, Cause>
+        requires { IsNumber (chars number.now) }
+        ensures { result ≡ term_answer None (term_of (number_of (chars number.now)) self) }
+    {
+        self.times(number_of(number), None)
+    }
+
+    /// The value in nanoseconds of a term with this number, which is `None` from 2^64 on. The place is that of its fault.
+    #[inline(always)]
+    pub(crate) fn times(self, number: Option<u64>, place: Option<usize>) -> Result<u64, Cause>
+        ensures { result ≡ term_value place number (nanos_of self) }
+    {
+        let Some(n) = number else {
+            return Err(Cause::NumberTooLarge { place });
+        };
+        match n.checked_mul(self.nanos()) {
+            Some(value) => Ok(value),
+            None => Err(Cause::Overflow { place }),
+        }
+    }
+
+    /// Whether a word is a name of the unit.
+    fn is_named(self, word: &str, o: Options) -> bool
+        ensures { result ≡ is_named o (chars word.now) self }
+    {
+        is_any(self.names(), word, o) || o.cn_unit && is_any(self.chinese_names(), word, o)
+    }
+
+    /// The names that are read under any options.
+    fn names(self) -> &'static [&'static str]
+        ensures { AreEncoded result.now (row_of self).names }
+    {
+        match self {
+            TimeUnit::Year => &["y", "year", "years"],
+            TimeUnit::Month => &["mon", "month", "months"],
+            TimeUnit::Week => &["w", "week", "weeks"],
+            TimeUnit::Day => &["d", "day", "days"],
+            TimeUnit::Hour => &["h", "hr", "hour", "hours"],
+            TimeUnit::Minute => &["m", "min", "minute", "minutes"],
+            TimeUnit::Second => &["s", "sec", "second", "seconds"],
+            TimeUnit::MilliSecond => &["ms", "msec", "millisecond", "milliseconds"],
+            TimeUnit::MicroSecond => &[
+                "µs",
+                "µsec",
+                "µsecond",
+                "us",
+                "usec",
+                "usecond",
+                "microsecond",
+                "microseconds",
+            ],
+            TimeUnit::NanoSecond => &["ns", "nsec", "nanosecond", "nanoseconds"],
+        }
+    }
+
+    /// The names that the option `cn_unit` adds.
+    fn chinese_names(self) -> &'static [&'static str]
+        ensures { AreEncoded result.now (row_of self).chinese }
+    {
+        match self {
+            TimeUnit::Year => &["年"],
+            TimeUnit::Month => &["月"],
+            TimeUnit::Week => &["周"],
+            TimeUnit::Day => &["日", "天"],
+            TimeUnit::Hour => &["时"],
+            TimeUnit::Minute => &["分"],
+            TimeUnit::Second => &["秒"],
+            TimeUnit::MilliSecond => &["毫秒"],
+            TimeUnit::MicroSecond => &["微秒"],
+            TimeUnit::NanoSecond => &["纳秒"],
+        }
+    }
+}
+
+/// The printed name: `y`, `mon`, `w`, `d`, `h`, `min`, `s`, `ms`, `µs` or `ns`.
+impl fmt::Display for TimeUnit {
+    ghost output = { λ unit. Some (encode_utf8_all (row_of unit).printed) };
+
+    fn fmt<W: fmt::Write>(&self, f: &mut fmt::Formatter<W>) -> fmt::Result {
+        f.write_str(self.name())
+    }
+}
+
+/// The units, the longest first.
+static UNITS: [TimeUnit; 10] = [
+    TimeUnit::Year,
+    TimeUnit::Month,
+    TimeUnit::Week,
+    TimeUnit::Day,
+    TimeUnit::Hour,
+    TimeUnit::Minute,
+    TimeUnit::Second,
+    TimeUnit::MilliSecond,
+    TimeUnit::MicroSecond,
+    TimeUnit::NanoSecond,
+];
+
+/// Whether a word is one of these names.
+fn is_any(names: &[&str], word: &str, o: Options) -> bool
+    ensures { result ≡ list_any (λ name. bytes_eq (folded o word.now) (folded o name.now)) names.now }
+{
+    names.iter().any(|name| is_name(name, word, o))
+}
+
+/// Whether a word is this name under these options.
+fn is_name(name: &str, word: &str, o: Options) -> bool
+    ensures { result ≡ bytes_eq (folded o word.now) (folded o name.now) }
+{
+    if o.lowercase {
+        word == name
+    } else {
+        word.eq_ignore_ascii_case(name)
+    }
+}
+
+/// The number that digits write, where it is below 2^64.
+#[cold]
+#[inline(never)]
+pub(crate) fn number_of(digits: &str) -> Option<u64>
+    requires { IsNumber (chars digits.now) }
+    ensures { result ≡ kept (number_of (chars digits.now)) }
+{
+    digits.parse::<u64>().ok()
 }
 
 /// An operator between two terms.
@@ -87,3 +251,18 @@ impl CondUnit {
         }
     }
 }
+
+/// `+` or `*`.
+impl fmt::Display for CondUnit {
+    ghost output = { λ operator. Some (sign_of operator) };
+
+    fn fmt<W: fmt::Write>(&self, f: &mut fmt::Formatter<W>) -> fmt::Result {
+        match self {
+            CondUnit::Plus => f.write_str("+"),
+            CondUnit::Star => f.write_str("*"),
+        }
+    }
+}
+
+#[cfg(test)]
+mod tests;

@@ -1,0 +1,249 @@
+-- The steps of cutting, over a text, the byte up to which it is cut, and the looks.
+use Rattle.std.proofs.Common.{◌≡◌, ℕ, ◌+◌, ◌-◌, ◌*◌, ◌%◌, ◌<◌, ◌≤◌, ◌^◌, Bool, true, false, List, [], ◌∷◌, ◌++◌, length, take, drop, Option, Some, None, IsUtf8, refl, ap, sym, ◌∙◌, subst, arith, lit<}
+use Rattle.std.specs.Prelude.{is_some, IsSome, IfSome, IsTrue, slice_range, if◌then◌else◌}
+use Rattle.std.specs.List.{list_all}
+use Rattle.std.specs.Char.{is_ascii_alphabetic}
+use Rattle.std.proofs.lemmas.Bool.{and_from, true≢false}
+use Rattle.std.proofs.lemmas.List.Folds.{list_all-append}
+use Rattle.std.specs.Option.{ForSome}
+use Rattle.std.specs.Str.{IsCharBoundary, chars}
+use Rattle.std.proofs.lemmas.Str.{length-le-encodes, encodes-chars, chars-append, IsUtf8-take, IsUtf8-drop}
+use Rattle.std.proofs.lemmas.List.{take-append-drop, drop-drop, append_cancel_right}
+use Rattle.std.proofs.Math.Nat.{pow-le-pow_right}
+use Rattle.std.proofs.Common.{length-append, append_assoc, append-nil, length-drop}
+use lib.Utf8.{encodes}
+use Rattle.duration_str.specs.declared.unit.Options.{Options}
+use Rattle.duration_str.specs.declared.unit.TimeUnit.{TimeUnit}
+use Rattle.duration_str.specs.Pieces.{pieces_from, IsPiece, EndsRun}
+use Rattle.duration_str.proofs.PieceLemmas.{pieces_are, pieces_once, pieces_step}
+use Rattle.duration_str.specs.Text.{byte_len, is_blank, IsBlank, is_digit, is_unit_letter, number_after, number_of, IsNumber}
+use Rattle.duration_str.specs.Units.{unit_of_word}
+use Rattle.duration_str.specs.Value.{kept}
+use Rattle.duration_str.specs.Packed.{unit_of_packed}
+use Rattle.duration_str.specs.Cutting.{ahead, StandsAt, Between, Passes, Stops, TakesDigits, TakesNumber, TakesLetters, TakesWord, packed_after}
+use Rattle.duration_str.proofs.TextLemmas.{width_some, byte_len-append}
+use Rattle.duration_str.proofs.NumberLemmas.{kept_some, number_below}
+use Rattle.duration_str.proofs.PackedLemmas.{exact, unit_by_number}
+
+-- ---- how often a character was looked at
+
+-- the looks so far and the characters ahead, of which the head was looked at, are all characters
+abbrev pub IsCounted : List ℕ → ℕ → ℕ → Option ℕ → Type 0
+IsCounted text place looks head = looks + length (ahead text place) ≡ length (chars text) + (if is_some head then 1 else 0)
+
+-- a text has at most as many characters as bytes
+chars_short : (text : List ℕ) → IsUtf8 text → length (chars text) ≤ length text
+chars_short text utf8 = let few = length-le-encodes (chars text) in let same = ap length (encodes-chars text utf8) in omega (arith, few, same)
+
+-- past the head, no character ahead was looked at
+pub counted_past : (text : List ℕ) (place next looks : ℕ) (head : Option ℕ) → IsSome head → ForSome head (StandsAt text place next) → IsCounted text place looks head
+    → looks + length (ahead text next) ≡ length (chars text)
+counted_past text place next looks None h stands counted = absurd cc
+counted_past text place next looks (Some c) h stands counted = let len = ap length (stands c refl).head in omega (arith, len, counted)
+
+-- the looks fit their type
+pub looks_fit : (text : List ℕ) (place looks : ℕ) → IsUtf8 text → length text < 2 ^ 63 → looks + length (ahead text place) ≡ length (chars text) → looks + 1 < 2 ^ 64
+looks_fit text place looks utf8 short counted = let few = chars_short text utf8 in omega (arith, few, short, counted)
+
+-- at most all characters were looked at
+pub looks_most : (text : List ℕ) (place next looks : ℕ) (head : Option ℕ) → ForSome head (StandsAt text place next) → IsCounted text place looks head → looks ≤ length (chars text)
+looks_most text place next looks None stands counted = omega (arith, counted)
+looks_most text place next looks (Some c) stands counted = let len = ap length (stands c refl).head in omega (arith, len, counted)
+
+-- the characters of the two parts of a text
+pub parts_count : (text : List ℕ) (place : ℕ) → IsUtf8 text → IsCharBoundary text place → length (chars text) ≡ length (chars (take place text)) + length (ahead text place)
+parts_count text place utf8 boundary =
+    ap length (sym (ap chars (take-append-drop place text)) ∙ chars-append (take place text) (drop place text) (IsUtf8-take text place utf8 boundary))
+    ∙ length-append (chars (take place text)) (ahead text place)
+
+-- each character behind the place was looked at
+pub looks_least : (text : List ℕ) (place looks : ℕ) (head : Option ℕ) → IsUtf8 text → IsCharBoundary text place → IsCounted text place looks head
+    → length (chars (take place text)) ≤ looks
+looks_least text place looks head utf8 boundary counted = let parts = parts_count text place utf8 boundary in omega (arith, parts, counted)
+
+-- what a look found, after the text and the place stayed
+pub stands_same : (text text' : List ℕ) (place place' next : ℕ) (head : Option ℕ) → text' ≡ text → place' ≡ place → IfSome head (StandsAt text place next)
+    → ForSome head (StandsAt text' place' next)
+stands_same text text' place place' next None e p h = λ c is. cc
+stands_same text text' place place' next (Some d) e p h =
+    λ c is. let same : d ≡ c = cc in
+    subst (λ t. StandsAt t place' next c) (sym e) (subst (λ p. StandsAt text p next c) (sym p) (subst (λ x. StandsAt text place next x) same h))
+
+-- ---- characters that pass a test
+
+pub passes_none : (test : ℕ → Bool) (text : List ℕ) (place : ℕ) → Passes test text place place
+passes_none test text place = record { characters = []; between = record { cut = refl; bytes = omega arith }; all = refl }
+
+list_all-push : (test : ℕ → Bool) (cs : List ℕ) (c : ℕ) → IsTrue (list_all test cs) → test c ≡ true → IsTrue (list_all test (cs ++ c ∷ []))
+list_all-push test cs c all e = list_all-append test cs (c ∷ []) ∙ and_from _ _ all (and_from _ _ e refl)
+
+-- one more character
+pub passes_more : (test : ℕ → Bool) (text : List ℕ) (place at next c : ℕ) → Passes test text place at → StandsAt text at next c → test c ≡ true → Passes test text place next
+passes_more test text place at next c passed stands e =
+    let len = byte_len-append passed.characters (c ∷ []) in
+    record {
+      characters = passed.characters ++ c ∷ [];
+      between = record {
+        cut = passed.between.cut ∙ ap (λ l. passed.characters ++ l) stands.head ∙ sym (append_assoc passed.characters (c ∷ []) (ahead text next));
+        bytes = omega (arith, len, passed.between.bytes, stands.bytes);
+      };
+      all = list_all-push test passed.characters c passed.all e;
+    }
+
+-- the text is shorter ahead of the next place
+pub ahead_shorter : (text : List ℕ) (place next c : ℕ) → StandsAt text place next c → length (ahead text next) < length (ahead text place)
+ahead_shorter text place next c stands = let len = ap length stands.head in omega (arith, len)
+
+-- the text stops where its head fails the test
+pub stops_at : (test : ℕ → Bool) (text : List ℕ) (place next c : ℕ) → StandsAt text place next c → test c ≡ false → Stops test (ahead text place)
+stops_at test text place next c stands e = subst (Stops test) (sym stands.head) e
+
+-- the head of the text that is left passes the test, and is passed
+pub passes_head : (test : ℕ → Bool) (text left : List ℕ) (place at next : ℕ) (head : Option ℕ) (c : ℕ) → left ≡ text → Passes test text place at → head ≡ Some c
+    → ForSome head (StandsAt left at next) → test c ≡ true → Passes test text place next
+passes_head test text left place at next head c same passed is stands e =
+    passes_more test text place at next c passed (subst (λ t. StandsAt t at next c) same (stands c is)) e
+
+-- ---- digits and letters that are gathered
+
+number_after-push : (n : ℕ) (cs : List ℕ) (c : ℕ) → number_after n (cs ++ c ∷ []) ≡ number_after n cs * 10 + (c - 48)
+number_after-push n [] c = refl
+number_after-push n (d ∷ cs) c = number_after-push (n * 10 + (d - 48)) cs c
+
+packed_after-push : (n : ℕ) (cs : List ℕ) (c : ℕ) → packed_after n (cs ++ c ∷ []) ≡ packed_after n cs * 32 + c % 32
+packed_after-push n [] c = refl
+packed_after-push n (d ∷ cs) c = packed_after-push (n * 32 + d % 32) cs c
+
+pub digits_none : (text : List ℕ) (place : ℕ) → TakesDigits text place place 0
+unfolding passes_none
+digits_none text place = record { run = passes_none is_digit text place; number = refl }
+
+-- one more digit
+pub digits_head : (text left : List ℕ) (place at next : ℕ) (head : Option ℕ) (c value value' : ℕ) → left ≡ text → TakesDigits text place at value → head ≡ Some c
+    → ForSome head (StandsAt left at next) → is_digit c ≡ true → value' ≡ (value * 10 % 2 ^ 64 + (c - 48)) % 2 ^ 64 → TakesDigits text place next value'
+unfolding passes_head passes_more
+digits_head text left place at next head c value value' same taken is stands e more =
+    let push = number_after-push 0 taken.run.characters c in
+    let before = taken.number in
+    record {
+      run = passes_head is_digit text left place at next head c same taken.run is stands e;
+      number = omega (arith, more, push, before);
+    }
+
+pub letters_none : (o : Options) (text : List ℕ) (place : ℕ) → TakesLetters o text place place 0 true
+unfolding passes_none
+letters_none o text place = record { run = passes_none (is_unit_letter o) text place; ascii = λ p. refl; number = λ p. refl }
+
+-- one more ASCII letter
+pub letters_head : (o : Options) (text left : List ℕ) (place at next : ℕ) (head : Option ℕ) (c value value' : ℕ) → left ≡ text
+    → TakesLetters o text place at value true → head ≡ Some c → ForSome head (StandsAt left at next) → is_ascii_alphabetic c ≡ true
+    → value' ≡ (value * 32 % 2 ^ 64 + c % 32) % 2 ^ 64 → TakesLetters o text place next value' true
+unfolding passes_head passes_more
+letters_head o text left place at next head c value value' same taken is stands e more =
+    let push = packed_after-push 0 taken.run.characters c in
+    record {
+      run = passes_head (is_unit_letter o) text left place at next head c same taken.run is stands (rw e refl);
+      ascii = λ p. list_all-push is_ascii_alphabetic taken.run.characters c (taken.ascii p) e;
+      number = λ p. let before = taken.number p in omega (arith, more, push, before);
+    }
+
+-- one more letter, behind which nothing is said of the packed number
+pub letters_wide : (o : Options) (text left : List ℕ) (place at next : ℕ) (head : Option ℕ) (c value : ℕ) (plain : Bool) → left ≡ text
+    → TakesLetters o text place at value plain → head ≡ Some c → ForSome head (StandsAt left at next) → is_unit_letter o c ≡ true
+    → TakesLetters o text place next value false
+letters_wide o text left place at next head c value plain same taken is stands e = record {
+  run = passes_head (is_unit_letter o) text left place at next head c same taken.run is stands e;
+  ascii = λ p. absurd (true≢false (sym p));
+  number = λ p. absurd (true≢false (sym p));
+}
+
+-- ---- what stands between two places
+
+length-le-byte_len : (cs : List ℕ) → length cs ≤ byte_len cs
+length-le-byte_len [] = omega arith
+length-le-byte_len (c ∷ cs) = let one = width_some c in let rest = length-le-byte_len cs in omega (arith, one, rest)
+
+-- so many characters at most
+pub between_count : (text : List ℕ) (place next n : ℕ) (cs : List ℕ) → Between text place next cs → next - place ≤ n → length cs ≤ n
+between_count text place next n cs between few = let len = length-le-byte_len cs in let bytes = between.bytes in omega (arith, len, bytes, few)
+
+-- the slice between two places has these characters
+pub chars_between : (text : List ℕ) (place next : ℕ) (cs : List ℕ) → Between text place next cs → IsUtf8 (slice_range text place next) → chars (slice_range text place next) ≡ cs
+chars_between text place next cs between slice =
+    let order : place ≤ next = omega (arith, between.bytes) in
+    let there : drop (next - place) (drop place text) ≡ drop next text = drop-drop (next - place) place text ∙ ap (λ n. drop n text) (let e : place + (next - place) ≡ next = omega (arith, order) in e) in
+    let parts : slice_range text place next ++ drop next text ≡ drop place text = ap (λ l. slice_range text place next ++ l) (sym there) ∙ take-append-drop (next - place) (drop place text) in
+    append_cancel_right (chars (slice_range text place next)) cs (ahead text next)
+    (sym (chars-append (slice_range text place next) (drop next text) slice) ∙ ap chars parts ∙ between.cut)
+
+-- ---- numbers and words
+
+pub short_number : (text : List ℕ) (place next value : ℕ) → TakesDigits text place next value → next - place ≤ 19 → TakesNumber text place next (Some value)
+short_number text place next value taken short =
+    let cs = taken.run.characters in
+    let few : length cs ≤ 19 = between_count text place next 19 cs taken.run.between short in
+    let less = number_below 0 cs taken.run.all in
+    let pow : 10 ^ length cs ≤ 10 ^ 19 = pow-le-pow_right (lit< tt) few in
+    let small : number_of cs < 2 ^ 64 = omega (arith, less, pow) in
+    let same : value ≡ number_of cs = (let v = taken.number in omega (arith, v, small)) in
+    record { run = taken.run; number = ap Some same ∙ sym (kept_some (number_of cs) small) }
+
+some_character : (cs : List ℕ) → 0 < byte_len cs → 0 < length cs
+some_character [] h = absurd (omega (arith, h))
+some_character (c ∷ cs) h = omega arith
+
+-- the slice of many digits is a number
+pub long_digits : (text : List ℕ) (place next value : ℕ) (slice : List ℕ) → TakesDigits text place next value → 19 < next - place → slice ≡ slice_range text place next → IsUtf8 slice
+    → IsNumber (chars slice)
+long_digits text place next value slice taken long is utf8 =
+    let cs = taken.run.characters in
+    let same : chars slice ≡ cs = ap chars is ∙ chars_between text place next cs taken.run.between (subst IsUtf8 is utf8) in
+    subst IsNumber (sym same) (some_character cs (let bytes = taken.run.between.bytes in omega (arith, bytes, long)), taken.run.all)
+
+pub long_number : (text : List ℕ) (place next value : ℕ) (slice : List ℕ) (number : Option ℕ) → TakesDigits text place next value → slice ≡ slice_range text place next → IsUtf8 slice
+    → number ≡ kept (number_of (chars slice)) → TakesNumber text place next number
+long_number text place next value slice number taken is utf8 found =
+    record { run = taken.run; number = found ∙ ap (λ cs. kept (number_of cs)) (ap chars is ∙ chars_between text place next taken.run.characters taken.run.between (subst IsUtf8 is utf8)) }
+
+pub short_word : (o : Options) (text : List ℕ) (place next value : ℕ) (plain : Bool) (unit : Option TimeUnit) → TakesLetters o text place next value plain → IsTrue plain → o.lowercase ≡ false
+    → next - place ≤ 12 → unit ≡ unit_of_packed value → TakesWord o text place next unit
+short_word o text place next value plain unit taken ascii off short found =
+    let cs = taken.run.characters in
+    let few : length cs ≤ 12 = between_count text place next 12 cs taken.run.between short in
+    record { run = taken.run; named = found ∙ ap unit_of_packed (exact cs value few (taken.number ascii)) ∙ sym (unit_by_number o cs off (taken.ascii ascii)) }
+
+pub long_word : (o : Options) (text : List ℕ) (place next value : ℕ) (plain : Bool) (slice : List ℕ) (unit : Option TimeUnit) → TakesLetters o text place next value plain
+    → slice ≡ slice_range text place next → IsUtf8 slice → unit ≡ unit_of_word o (chars slice) → TakesWord o text place next unit
+long_word o text place next value plain slice unit taken is utf8 found =
+    record { run = taken.run; named = found ∙ ap (unit_of_word o) (ap chars is ∙ chars_between text place next taken.run.characters taken.run.between (subst IsUtf8 is utf8)) }
+
+-- the slice of a text that stayed, from a place that was kept
+pub same_slice : (slice text text' : List ℕ) (start place next : ℕ) → slice ≡ slice_range text start next → text ≡ text' → start ≡ place → slice ≡ slice_range text' place next
+same_slice slice text text' start place next is same there = is ∙ (λ i. slice_range (same i) (there i) next)
+
+-- ---- the first piece that is left
+
+-- blanks and a piece are taken, which stands behind the blanks
+pub piece_taken : (o : Options) (text : List ℕ) (old place next : ℕ) (cs : List ℕ) → Passes is_blank text old place → Between text place next cs → IsPiece o cs → EndsRun o cs (ahead text next)
+    → pieces_from o old (ahead text old) ≡ record { start = place; characters = cs } ∷ pieces_from o next (ahead text next)
+piece_taken o text old place next cs blanks between is_piece ends =
+    let cut : ahead text old ≡ blanks.characters ++ (cs ++ ahead text next) = blanks.between.cut ∙ ap (λ l. blanks.characters ++ l) between.cut in
+    ap (pieces_from o old) cut ∙ pieces_step o old blanks.characters cs (ahead text next) blanks.all is_piece ends
+    ∙ (λ i. record { start = sym blanks.between.bytes i; characters = cs } ∷ pieces_from o (step i) (ahead text next))
+  where
+    step : old + byte_len blanks.characters + byte_len cs ≡ next
+    step = omega (arith, blanks.between.bytes, between.bytes)
+
+-- blanks alone are no piece
+pub none_taken : (o : Options) (text : List ℕ) (old place : ℕ) → Passes is_blank text old place → ahead text place ≡ [] → pieces_from o old (ahead text old) ≡ []
+none_taken o text old place blanks nothing =
+    let cut : ahead text old ≡ blanks.characters = blanks.between.cut ∙ ap (λ l. blanks.characters ++ l) nothing ∙ append-nil blanks.characters in
+    pieces_once o old (ahead text old) (pieces_from o old (ahead text old)) [] (pieces_are o old (ahead text old)) (subst IsBlank (sym cut) blanks.all)
+
+-- where nothing lies ahead, the place is the end of the text
+pub place_at_end : (text : List ℕ) (place : ℕ) → IsUtf8 text → IsCharBoundary text place → ahead text place ≡ [] → place ≡ length text
+place_at_end text place utf8 boundary nothing =
+    let bytes = ap length (sym (encodes-chars (drop place text) (IsUtf8-drop text place utf8 boundary)) ∙ ap encodes nothing) in
+    let len = length-drop place text in
+    let order = boundary.0 in
+    omega (arith, bytes, len, order)

@@ -1,0 +1,356 @@
+-- Worked examples, computed: what texts are read as, why others are refused, and what durations print as.
+use Rattle.std.specs.Prelude.{◌≡◌, ℕ, Bool, true, false, List, [], ◌∷◌, ◌++◌, Some, None, Ok, Err, refl, ⊤, length, flat_map, encode_utf8_all}
+use Rattle.std.specs.Fmt.{digits}
+use Rattle.std.specs.Str.{chars}
+use lib.Chars.{codes}
+use lib.Utf8.{encode}
+use Rattle.duration_str.specs.declared.unit.Options.{Options}
+use Rattle.duration_str.specs.declared.unit.TimeUnit.{TimeUnit}
+use Rattle.duration_str.specs.declared.unit.CondUnit.TheVariants.{Plus, Star}
+use Rattle.duration_str.specs.declared.fault.Cause.TheVariants.{Empty, Syntax, NumberTooLarge, Overflow, Mixed}
+use Rattle.duration_str.specs.declared.fault.Expected.{Expected}
+use Rattle.duration_str.specs.Units.{off, row_of, units, unit_of_word, unit_lengths}
+use Rattle.duration_str.specs.Printing.{printed_counts, counts_of}
+use Rattle.duration_str.specs.Answer.{answer}
+use Rattle.duration_str.specs.FaultText.{fault_text}
+
+abbrev with_no_calc : Options
+with_no_calc = record { no_calc = true; lowercase = false; cn_unit = false }
+
+abbrev with_lowercase : Options
+with_lowercase = record { no_calc = false; lowercase = true; cn_unit = false }
+
+abbrev with_cn_unit : Options
+with_cn_unit = record { no_calc = false; lowercase = false; cn_unit = true }
+
+-- ---- What can stand at the place of a syntax fault
+
+abbrev number_alone : Expected
+number_alone = record { number = true; unit_word = false; operator = false; text_end = false }
+
+abbrev behind_number : Expected
+behind_number = record { number = false; unit_word = true; operator = true; text_end = true }
+
+abbrev behind_unit : Expected
+behind_unit = record { number = true; unit_word = false; operator = true; text_end = true }
+
+abbrev behind_number-no_calc : Expected
+behind_number-no_calc = record { number = false; unit_word = true; operator = false; text_end = true }
+
+abbrev behind_unit-no_calc : Expected
+behind_unit-no_calc = record { number = true; unit_word = false; operator = false; text_end = true }
+
+-- ---- Terms and sums
+
+pub sum_with_plus : answer off (codes "3m + 13s + 29ms") ≡ Ok 193_029_000_000
+sum_with_plus = refl
+
+pub sum_without_plus : answer off (codes "1d2h3min4s") ≡ Ok 93_784_000_000_000
+sum_without_plus = refl
+
+pub sum_of_many_units : answer off (codes "751d 1mon 3week 5d 2ns") ≡ Ok 69_724_800_000_000_002
+sum_of_many_units = refl
+
+pub all_blanks : answer off (9 ∷ codes "1m" ++ 13 ∷ 10 ∷ []) ≡ Ok 60_000_000_000
+all_blanks = refl
+
+pub number_alone-seconds : answer off (codes "1") ≡ Ok 1_000_000_000
+number_alone-seconds = refl
+
+pub last_number-seconds : answer off (codes "1m 2") ≡ Ok 62_000_000_000
+last_number-seconds = refl
+
+pub sum-overflow : answer off (codes "580y 580y") ≡ Err (Overflow None)
+sum-overflow = refl
+
+-- ---- Products
+
+pub product_by_one : answer off (codes "580y*1") ≡ Ok 18_290_880_000_000_000_000
+product_by_one = refl
+
+pub product-overflow : answer off (codes "580y*2") ≡ Err (Overflow None)
+product-overflow = refl
+
+pub product-zero_last : answer off (codes "580y*2*0") ≡ Ok 0
+product-zero_last = refl
+
+pub product-zero_first : answer off (codes "0*580y*2") ≡ Err (Overflow None)
+product-zero_first = refl
+
+pub product-first_last : answer off (codes "1ns*1ns*1000000000") ≡ Ok 1
+product-first_last = refl
+
+pub product-steps_rounded : answer off (codes "1000000000*1ns*1ns") ≡ Ok 0
+product-steps_rounded = refl
+
+-- each step is rounded down, not only the last one
+pub product-middle_step_rounded : answer off (codes "1*1ns*1ns*1000000000") ≡ Ok 0
+product-middle_step_rounded = refl
+
+pub plus_then_star : answer off (codes "1m 2s*3") ≡ Err (Mixed Plus Star)
+plus_then_star = refl
+
+pub star_then_plus : answer off (codes "1m*2*3+4") ≡ Err (Mixed Star Plus)
+star_then_plus = refl
+
+-- ---- The limits of numbers
+
+pub leading_zeros : answer off (codes "00000000000000000000000001") ≡ Ok 1_000_000_000
+leading_zeros = refl
+
+pub greatest_number : answer off (codes "18446744073709551615ns") ≡ Ok 18_446_744_073_709_551_615
+greatest_number = refl
+
+pub number_above_limit : answer off (codes "18446744073709551616ns") ≡ Err (NumberTooLarge (Some 0))
+number_above_limit = refl
+
+pub first_term-overflow : answer off (codes "10000000000000000y+60") ≡ Err (Overflow (Some 0))
+first_term-overflow = refl
+
+pub later_number-no_place : answer off (codes "1s + 99999999999999999999") ≡ Err (NumberTooLarge None)
+later_number-no_place = refl
+
+-- ---- Syntax faults, their places, and what is expected there
+
+pub empty-refused : answer off [] ≡ Err Empty
+empty-refused = refl
+
+pub blanks-refused : answer off (codes "   ") ≡ Err (Syntax 3 number_alone)
+blanks-refused = refl
+
+pub two_numbers-refused : answer off (codes "1 2") ≡ Err (Syntax 2 behind_number)
+two_numbers-refused = refl
+
+pub unknown_word-refused : answer off (codes "0mxyz") ≡ Err (Syntax 1 behind_number)
+unknown_word-refused = refl
+
+pub longer_word-refused : answer off (codes "1mx") ≡ Err (Syntax 1 behind_number)
+longer_word-refused = refl
+
+pub minus_behind_number-refused : answer off (codes "0m+3-5") ≡ Err (Syntax 4 behind_number)
+minus_behind_number-refused = refl
+
+pub minus_behind_unit-refused : answer off (codes "3ms-2ms") ≡ Err (Syntax 3 behind_unit)
+minus_behind_unit-refused = refl
+
+pub minus_behind_later_number-refused : answer off (codes "1m 3-5") ≡ Err (Syntax 4 behind_number)
+minus_behind_later_number-refused = refl
+
+pub last_operator-refused : answer off (codes "1m+") ≡ Err (Syntax 3 number_alone)
+last_operator-refused = refl
+
+pub first_operator-refused : answer off (codes "+1m") ≡ Err (Syntax 0 number_alone)
+first_operator-refused = refl
+
+pub two_operators-refused : answer off (codes "1m++2") ≡ Err (Syntax 3 number_alone)
+two_operators-refused = refl
+
+pub place_behind_line_feeds : answer off (codes "1m" ++ 10 ∷ codes "+" ++ 10 ∷ codes "x") ≡ Err (Syntax 5 number_alone)
+place_behind_line_feeds = refl
+
+pub place_in_bytes : answer off (codes "1µs 分") ≡ Err (Syntax 5 behind_unit)
+place_in_bytes = refl
+
+pub vertical_tab-refused : answer off (codes "1m" ++ 11 ∷ codes "2") ≡ Err (Syntax 2 behind_unit)
+vertical_tab-refused = refl
+
+pub form_feed-refused : answer off (codes "1m" ++ 12 ∷ codes "2") ≡ Err (Syntax 2 behind_unit)
+form_feed-refused = refl
+
+pub no_break_space-refused : answer off (codes "1m" ++ 0xA0 ∷ codes "2") ≡ Err (Syntax 2 behind_unit)
+no_break_space-refused = refl
+
+pub wide_space-refused : answer off (codes "1m" ++ 0x3000 ∷ codes "2") ≡ Err (Syntax 2 behind_unit)
+wide_space-refused = refl
+
+-- ---- The order of refusals
+
+pub syntax-before_standing_number : answer off (codes "99999999999999999999 2") ≡ Err (Syntax 21 behind_number)
+syntax-before_standing_number = refl
+
+pub first_term-before_syntax : answer off (codes "99999999999999999999y-") ≡ Err (NumberTooLarge (Some 0))
+first_term-before_syntax = refl
+
+pub syntax-before_sum : answer off (codes "580y 580y x") ≡ Err (Syntax 10 behind_unit)
+syntax-before_sum = refl
+
+pub syntax-before_sum-at_sign : answer off (codes "580y 580y-") ≡ Err (Syntax 9 behind_unit)
+syntax-before_sum-at_sign = refl
+
+pub number-before_later_operator : answer off (codes "1m+99999999999999999999*2") ≡ Err (NumberTooLarge None)
+number-before_later_operator = refl
+
+pub operator-before_later_number : answer off (codes "1m+2*99999999999999999999") ≡ Err (Mixed Plus Star)
+operator-before_later_number = refl
+
+-- ---- The option `no_calc`
+
+pub no_calc-sum : answer with_no_calc (codes "2h 37m") ≡ Ok 9_420_000_000_000
+no_calc-sum = refl
+
+pub no_calc-plus_behind_number : answer with_no_calc (codes "1+2") ≡ Err (Syntax 1 behind_number-no_calc)
+no_calc-plus_behind_number = refl
+
+pub no_calc-plus_behind_unit : answer with_no_calc (codes "1m+2") ≡ Err (Syntax 2 behind_unit-no_calc)
+no_calc-plus_behind_unit = refl
+
+pub no_calc-minus_behind_number : answer with_no_calc (codes "0m3-5") ≡ Err (Syntax 3 behind_number-no_calc)
+no_calc-minus_behind_number = refl
+
+pub no_calc-number_stands_not : answer with_no_calc (codes "99999999999999999999+1") ≡ Err (Syntax 20 behind_number-no_calc)
+no_calc-number_stands_not = refl
+
+pub no_calc-first_term_before_syntax : answer with_no_calc (codes "99999999999999999999m+1") ≡ Err (NumberTooLarge (Some 0))
+no_calc-first_term_before_syntax = refl
+
+pub no_calc-sum_before_word : answer with_no_calc (codes "580y 580y x") ≡ Err (Overflow None)
+no_calc-sum_before_word = refl
+
+pub no_calc-sum_before_plus : answer with_no_calc (codes "580y 580y+1") ≡ Err (Overflow None)
+no_calc-sum_before_plus = refl
+
+pub no_calc-sum_before_minus : answer with_no_calc (codes "580y 580y-") ≡ Err (Overflow None)
+no_calc-sum_before_minus = refl
+
+pub no_calc-later_number_no_place : answer with_no_calc (codes "1m 99999999999999999999") ≡ Err (NumberTooLarge None)
+no_calc-later_number_no_place = refl
+
+-- ---- The options `lowercase` and `cn_unit`
+
+pub capitals_folded : answer off (codes "1MS") ≡ Ok 1_000_000
+capitals_folded = refl
+
+pub capital_minute : answer off (codes "1M") ≡ Ok 60_000_000_000
+capital_minute = refl
+
+pub capital_behind_micro : answer off (codes "1µS") ≡ Ok 1_000
+capital_behind_micro = refl
+
+pub lowercase-capital_refused : answer with_lowercase (codes "1M") ≡ Err (Syntax 1 behind_number)
+lowercase-capital_refused = refl
+
+-- the Greek letter U+03BC, which is not the micro sign U+00B5
+pub greek_mu-refused : answer off (49 ∷ 0x3BC ∷ 115 ∷ []) ≡ Err (Syntax 1 behind_number)
+greek_mu-refused = refl
+
+pub micro_alone-refused : answer off (codes "1µ s") ≡ Err (Syntax 1 behind_number)
+micro_alone-refused = refl
+
+pub cn_unit-chinese_read : answer with_cn_unit (codes " 1分+   31秒 + 2毫秒+  3纳秒  ") ≡ Ok 91_002_000_003
+cn_unit-chinese_read = refl
+
+pub cn_unit-all_read : answer with_cn_unit (codes "1年1月1周1日1天1时1分1秒1毫秒1微秒1纳秒") ≡ Ok 34_909_261_001_001_001
+cn_unit-all_read = refl
+
+pub chinese-refused : answer off (codes " 1分+   31秒 + 2毫秒+  3纳秒  ") ≡ Err (Syntax 2 behind_number)
+chinese-refused = refl
+
+-- ---- The texts of faults
+
+pub caret-by_characters : fault_text (encode_utf8_all (codes "1µs 分")) (Syntax 5 behind_unit)
+    ≡ encode_utf8_all (codes "1µs 分" ++ 10 ∷ codes "    ^" ++ 10 ∷ codes "expected ['+', '*']")
+unfolding encode chars
+caret-by_characters = refl
+
+pub byte-behind_line_feeds : fault_text (codes "1m" ++ 10 ∷ codes "+" ++ 10 ∷ codes "x") (Syntax 5 number_alone)
+    ≡ codes "byte 5: expected number"
+unfolding digits encode
+byte-behind_line_feeds = refl
+
+pub line-alone : fault_text (codes "1m 2s*3") (Mixed Plus Star) ≡ codes "not support '+' with '*' calculate"
+unfolding encode
+line-alone = refl
+
+-- ---- Printed texts
+
+abbrev printed : ℕ → List ℕ
+printed nanos = printed_counts (counts_of unit_lengths nanos)
+
+pub printed-zero : printed 0 ≡ codes "0s"
+unfolding digits
+printed-zero = refl
+
+pub printed-milliseconds : printed 193_029_000_000 ≡ codes "3min 13s 29ms"
+unfolding digits
+printed-milliseconds = refl
+
+pub printed-day_to_second : printed 93_784_000_000_000 ≡ codes "1d 2h 3min 4s"
+unfolding digits
+printed-day_to_second = refl
+
+pub printed-807_days : printed 69_724_800_000_000_002 ≡ codes "2y 2mon 2w 3d 2ns"
+unfolding digits
+printed-807_days = refl
+
+pub printed-364_days : printed 31_449_600_000_000_000 ≡ codes "12mon 4d"
+unfolding digits
+printed-364_days = refl
+
+pub printed-35_days : printed 3_024_000_000_000_000 ≡ codes "1mon 5d"
+unfolding digits
+printed-35_days = refl
+
+pub printed-377_days : printed 32_572_803_000_000_000 ≡ codes "1y 1w 5d 3s"
+unfolding digits
+printed-377_days = refl
+
+-- ---- Printed texts around 2^64 nanoseconds
+
+abbrev last_that_reads_back : List ℕ
+last_that_reads_back = codes "584y 11mon 1w 6d 23h 34min 33s 709ms 551µs 615ns"
+
+abbrev first_that_overflows : List ℕ
+first_that_overflows = codes "584y 11mon 1w 6d 23h 34min 33s 709ms 551µs 616ns"
+
+abbrev greatest_duration : List ℕ
+greatest_duration = codes "584942417355y 3w 5d 7h 15s 999ms 999µs 999ns"
+
+pub printed-last_that_reads_back : printed 18_446_744_073_709_551_615 ≡ last_that_reads_back
+unfolding digits
+printed-last_that_reads_back = refl
+
+pub reads_back-last : answer off last_that_reads_back ≡ Ok 18_446_744_073_709_551_615
+reads_back-last = refl
+
+pub printed-first_that_overflows : printed 18_446_744_073_709_551_616 ≡ first_that_overflows
+unfolding digits
+printed-first_that_overflows = refl
+
+pub overflows-first : (no_calc lowercase cn_unit : Bool)
+    → answer (record { no_calc = no_calc; lowercase = lowercase; cn_unit = cn_unit }) first_that_overflows ≡ Err (Overflow None)
+overflows-first true true true = refl
+overflows-first true true false = refl
+overflows-first true false true = refl
+overflows-first true false false = refl
+overflows-first false true true = refl
+overflows-first false true false = refl
+overflows-first false false true = refl
+overflows-first false false false = refl
+
+pub printed-greatest_duration : printed 18_446_744_073_709_551_615_999_999_999 ≡ greatest_duration
+unfolding digits
+printed-greatest_duration = refl
+
+pub overflows-greatest_duration : answer off greatest_duration ≡ Err (Overflow (Some 0))
+overflows-greatest_duration = refl
+
+-- ---- The names of the units
+
+-- Each of the names is read as the unit.
+abbrev AreNamesOf : Options → TimeUnit → List (List ℕ) → Type 0
+AreNamesOf o u [] = ⊤
+AreNamesOf o u (name ∷ names) = (unit_of_word o name ≡ Some u) × AreNamesOf o u names
+
+-- Each name of these units is read as its unit, whether or not it is folded, and each Chinese name with `cn_unit`.
+abbrev AreNames : List TimeUnit → Type 0
+AreNames [] = ⊤
+AreNames (u ∷ us) =
+    AreNamesOf off u (row_of u).names × AreNamesOf with_lowercase u (row_of u).names
+    × AreNamesOf with_cn_unit u ((row_of u).names ++ (row_of u).chinese) × AreNames us
+
+-- No name is another unit's, since each is read as one unit.
+pub names_of_one_unit : AreNames units
+names_of_one_unit = assumption
+
+pub forty_names : length (flat_map (λ u. (row_of u).names) units) ≡ 40
+forty_names = refl

@@ -1,0 +1,5 @@
+use Rattle.duration_str.proofs.NoCalcAgrees.{no_calc_agrees_holds}
+use Rattle.duration_str.proofs.laws.no_calc_agrees.Goals as goal
+
+pub returns : goal.returns
+returns c = no_calc_agrees_holds

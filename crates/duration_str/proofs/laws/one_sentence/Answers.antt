@@ -1,0 +1,15 @@
+use Rattle.duration_str.proofs.OneSentence.{one_sentence_holds, one_cut_holds}
+use Rattle.duration_str.proofs.AnswerLemmas.{one_answer_holds, is_answer_holds}
+use Rattle.duration_str.proofs.laws.one_sentence.Goals as goal
+
+pub returns-clause-sentence : goal.returns-clause-sentence
+returns-clause-sentence c = one_sentence_holds
+
+pub returns-clause-pieces : goal.returns-clause-pieces
+returns-clause-pieces c = one_cut_holds
+
+pub returns-clause-answer : goal.returns-clause-answer
+returns-clause-answer c = one_answer_holds
+
+pub returns-clause-computed : goal.returns-clause-computed
+returns-clause-computed c = is_answer_holds

@@ -1,0 +1,5 @@
+use Rattle.duration_str.proofs.PlaceAndKinds.{place_and_kinds_hold}
+use Rattle.duration_str.proofs.laws.place_and_kinds.Goals as goal
+
+pub returns : goal.returns
+returns c = place_and_kinds_hold

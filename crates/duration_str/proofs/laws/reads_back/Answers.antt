@@ -1,0 +1,5 @@
+use Rattle.duration_str.proofs.ReadsBack.{reads_back_holds}
+use Rattle.duration_str.proofs.laws.reads_back.Goals as goal
+
+pub returns : goal.returns
+returns c = reads_back_holds

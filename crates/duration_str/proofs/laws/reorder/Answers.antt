@@ -1,0 +1,5 @@
+use Rattle.duration_str.proofs.Reorder.{reorder_holds}
+use Rattle.duration_str.proofs.laws.reorder.Goals as goal
+
+pub returns : goal.returns
+returns c = reorder_holds

@@ -1,0 +1,31 @@
+use Rattle.std.proofs.Common.{◌<◌, ◌∙◌, refl, sym, subst, length}
+use Rattle.duration_str.specs.Text.{is_blank}
+use Rattle.duration_str.specs.Cutting.{ahead}
+use Rattle.duration_str.specs.Tokens.{source, place_of}
+use Rattle.duration_str.proofs.CuttingLemmas.{passes_none, passes_head, ahead_shorter}
+use Rattle.duration_str.proofs.token.Tokens.skip_blanks.Goals as goal
+
+pub loop-self-init : goal.loop-self-init
+loop-self-init c = record {
+  same_source = refl;
+  same_options = refl;
+  blanks = passes_none is_blank (source c.args.self.now) (place_of c.args.self.now);
+}
+
+pub loop-self-preserved : goal.loop-self-preserved
+loop-self-preserved c =
+    let inv = c.loop-self.invariant in
+    let s = c.loop-self.self in
+    let start = c.args.self.now in
+    record {
+      same_source = c.advance.ensures.source ∙ inv.same_source;
+      same_options = c.advance.ensures.options ∙ inv.same_options;
+      blanks = passes_head is_blank (source start) (source s) (place_of start) (place_of s) (place_of c.advance.new.self) s.head c.in-Some.c inv.same_source inv.blanks c.in-Some.is
+          c.advance.ensures.past (sym c.is_blank.ensures ∙ c.if-is_blank.true);
+    }
+
+pub loop-self-smaller : goal.loop-self-smaller
+loop-self-smaller c =
+    let s = c.loop-self.self in
+    subst (λ t. length (ahead t (place_of c.advance.new.self)) < length (ahead (source s) (place_of s))) (sym c.advance.ensures.source)
+    (ahead_shorter (source s) (place_of s) (place_of c.advance.new.self) c.in-Some.c (c.advance.ensures.past c.in-Some.c c.in-Some.is))

@@ -1,0 +1,32 @@
+use Rattle.std.proofs.Common.{◌<◌, ◌∙◌, refl, sym, subst, length}
+use Rattle.duration_str.specs.Text.{is_digit}
+use Rattle.duration_str.specs.Cutting.{ahead}
+use Rattle.duration_str.specs.Tokens.{source, place_of}
+use Rattle.duration_str.proofs.CuttingLemmas.{digits_none, digits_head, ahead_shorter, stops_at}
+use Rattle.duration_str.proofs.token.Tokens.take_digits.Goals as goal
+
+pub loop-self-init : goal.loop-self-init
+loop-self-init c = record { same_source = refl; same_options = refl; digits = digits_none (source c.args.self.now) (place_of c.args.self.now) }
+
+pub loop-self-preserved : goal.loop-self-preserved
+loop-self-preserved c =
+    let inv = c.loop-self.invariant in
+    let s = c.loop-self.self in
+    let start = c.args.self.now in
+    record {
+      same_source = c.advance.ensures.source ∙ inv.same_source;
+      same_options = c.advance.ensures.options ∙ inv.same_options;
+      digits = digits_head (source start) (source s) (place_of start) (place_of s) (place_of c.advance.new.self) s.head c.in-Some.c c.loop-self.number _ inv.same_source inv.digits c.in-Some.is
+          c.advance.ensures.past (sym c.is_ascii_digit.ensures.value ∙ c.if-is_ascii_digit.true) (rw c.from.ensures refl);
+    }
+
+pub loop-self-smaller : goal.loop-self-smaller
+loop-self-smaller c =
+    let s = c.loop-self.self in
+    subst (λ t. length (ahead t (place_of c.advance.new.self)) < length (ahead (source s) (place_of s))) (sym c.advance.ensures.source)
+    (ahead_shorter (source s) (place_of s) (place_of c.advance.new.self) c.in-Some.c (c.advance.ensures.past c.in-Some.c c.in-Some.is))
+
+pub returns-else-is_ascii_digit-clause-stops : goal.returns-else-is_ascii_digit-clause-stops
+returns-else-is_ascii_digit-clause-stops c =
+    let s = c.loop-self.self in
+    stops_at is_digit (source s) (place_of s) s.eye.next c.in-Some.c (s.some c.in-Some.c c.in-Some.is) (sym c.is_ascii_digit.ensures.value ∙ c.if-is_ascii_digit.false)

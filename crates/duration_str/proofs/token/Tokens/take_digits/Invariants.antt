@@ -1,0 +1,14 @@
+use Rattle.std.proofs.Common.{◌≡◌, length}
+use Rattle.duration_str.specs.Cutting.{ahead, TakesDigits}
+use Rattle.duration_str.specs.Tokens.{source, options_of, place_of}
+use Rattle.duration_str.proofs.token.Tokens.take_digits.Given as goal
+
+abbrev pub invariant-loop-self : goal.invariant-loop-self
+invariant-loop-self l = record {
+  same_source : source l.self ≡ source l.initial.self;
+  same_options : options_of l.self ≡ options_of l.initial.self;
+  digits : TakesDigits (source l.initial.self) (place_of l.initial.self) (place_of l.self) l.number;
+}
+
+abbrev pub decreases-loop-self : goal.decreases-loop-self
+decreases-loop-self l = length (ahead (source l.self) (place_of l.self))

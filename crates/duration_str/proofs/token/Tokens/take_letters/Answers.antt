@@ -1,0 +1,37 @@
+use Rattle.std.proofs.Common.{◌≡◌, ℕ, Bool, ap, ◌<◌, ◌∙◌, sym, subst, length}
+use Rattle.duration_str.specs.declared.unit.Options.{Options}
+use Rattle.duration_str.specs.Text.{is_unit_letter}
+use Rattle.duration_str.specs.Cutting.{ahead}
+use Rattle.duration_str.specs.Tokens.{source, options_of, place_of}
+use Rattle.duration_str.proofs.CuttingLemmas.{letters_wide, ahead_shorter, stops_at}
+use Rattle.duration_str.proofs.token.Tokens.take_letters.Goals as goal
+
+-- the options stayed, so the test is that of the beginning
+letter_test : (o o' : Options) (c : ℕ) (r b : Bool) → o' ≡ o → r ≡ is_unit_letter o' c → r ≡ b → is_unit_letter o c ≡ b
+letter_test o o' c r b same is e = ap (λ x. is_unit_letter x c) (sym same) ∙ sym is ∙ e
+
+pub loop-self-init : goal.loop-self-init
+loop-self-init c = let e = c.take_ascii_letters-packed.ensures in record { same_source = e.source; same_options = e.options; letters = e.letters }
+
+pub loop-self-preserved : goal.loop-self-preserved
+loop-self-preserved c =
+    let inv = c.loop-self.invariant in
+    let s = c.loop-self.self in
+    let start = c.args.self.now in
+    record {
+      same_source = c.advance.ensures.source ∙ inv.same_source;
+      same_options = c.advance.ensures.options ∙ inv.same_options;
+      letters = letters_wide (options_of start) (source start) (source s) (place_of start) (place_of s) (place_of c.advance.new.self) s.head c.in-Some.c _ c.loop-self.plain inv.same_source inv.letters c.in-Some.is
+          c.advance.ensures.past (letter_test (options_of start) s.options c.in-Some.c c.is_unit_letter.result _ inv.same_options c.is_unit_letter.ensures c.if-is_unit_letter.true);
+    }
+
+pub loop-self-smaller : goal.loop-self-smaller
+loop-self-smaller c =
+    let s = c.loop-self.self in
+    subst (λ t. length (ahead t (place_of c.advance.new.self)) < length (ahead (source s) (place_of s))) (sym c.advance.ensures.source)
+    (ahead_shorter (source s) (place_of s) (place_of c.advance.new.self) c.in-Some.c (c.advance.ensures.past c.in-Some.c c.in-Some.is))
+
+pub returns-else-is_unit_letter-clause-stops : goal.returns-else-is_unit_letter-clause-stops
+returns-else-is_unit_letter-clause-stops c =
+    let s = c.loop-self.self in
+    stops_at (is_unit_letter (options_of c.args.self.now)) (source s) (place_of s) s.eye.next c.in-Some.c (s.some c.in-Some.c c.in-Some.is) (letter_test (options_of c.args.self.now) s.options c.in-Some.c c.is_unit_letter.result _ c.loop-self.invariant.same_options c.is_unit_letter.ensures c.if-is_unit_letter.false)

@@ -1,0 +1,23 @@
+-- What a configuration value gives.
+use Rattle.std.specs.Prelude.{◌≡◌, ℤ, [], ◌∷◌, Bool, true, false, Option, None, Result, Ok, Err}
+use Rattle.serde_json.specs.Data.{Data, null, string}
+use Rattle.duration_str.specs.declared.fault.Cause.TheVariants.{NotText}
+use Rattle.duration_str.specs.declared.fault.Fault.{Fault}
+use Rattle.duration_str.specs.ReadAs.{IsReadAs, IsReadAsSome}
+
+-- The value is refused, since it is no text.
+abbrev pub IsNotText : {T : Type 0} → Bool → Result T Fault → Type 0
+IsNotText optional (Ok v) = ⊥
+IsNotText optional (Err fault) = (fault.text.now ≡ []) × (fault.cause ≡ NotText optional)
+
+-- A required value: a text is read, and all else is refused.
+abbrev pub IsRequired : {T : Type 0} → (T → ℤ) → Data → Result T Fault → Type 0
+IsRequired nanos_of (string text) result = IsReadAs nanos_of text result
+IsRequired nanos_of _ result = IsNotText false result
+
+-- An optional value: null and the empty text are `None`, another text is read, and all else is refused.
+abbrev pub IsOptional : {T : Type 0} → (T → ℤ) → Data → Result (Option T) Fault → Type 0
+IsOptional nanos_of null result = result ≡ Ok None
+IsOptional nanos_of (string []) result = result ≡ Ok None
+IsOptional nanos_of (string (b ∷ text)) result = IsReadAsSome nanos_of (b ∷ text) result
+IsOptional nanos_of _ result = IsNotText true result

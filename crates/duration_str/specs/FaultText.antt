@@ -1,0 +1,55 @@
+-- The texts of faults.
+use Rattle.std.specs.Prelude.{ℕ, Bool, List, ◌++◌, Option, Some, None, if◌then◌else◌, length, take, replicate, decimal, encode_utf8_all, ◌==◌}
+use Rattle.std.specs.List.{list_any}
+use Rattle.std.specs.Str.{chars}
+use lib.Chars.{codes}
+use Rattle.duration_str.specs.declared.unit.CondUnit.{CondUnit}
+use Rattle.duration_str.specs.declared.unit.CondUnit.TheVariants.{Plus, Star}
+use Rattle.duration_str.specs.declared.fault.Expected.{Expected}
+use Rattle.duration_str.specs.declared.fault.Cause.{Cause}
+use Rattle.duration_str.specs.declared.fault.Cause.TheVariants.{Empty, Syntax, NumberTooLarge, Overflow, Mixed, OutOfRange, NotText}
+use Rattle.duration_str.specs.Faults.{place_of}
+
+-- the character of an operator
+abbrev pub sign_of : CondUnit → List ℕ
+sign_of Plus = codes "+"
+sign_of Star = codes "*"
+
+-- the line of a syntax fault: where a unit could stand it names units, else where an operator could stand the operators
+abbrev pub expected_line : Expected → List ℕ
+expected_line expected =
+    if expected.unit_word then codes "expected [\"y\", \"mon\", \"w\", \"d\", \"h\", \"m\", \"s\", \"ms\", \"µs\", \"us\", \"ns\"]"
+    else if expected.operator then codes "expected ['+', '*']"
+    else codes "expected number"
+
+-- the line of a fault, by its characters
+abbrev pub line_of : Cause → List ℕ
+line_of Empty = codes "Empty input"
+line_of (Syntax place expected) = expected_line expected
+line_of (NumberTooLarge place) = codes "number too large to fit in target type"
+line_of (Overflow place) = codes "overflow error"
+line_of (Mixed first later) = codes "not support '" ++ (sign_of first ++ (codes "' with '" ++ (sign_of later ++ codes "' calculate")))
+line_of OutOfRange = codes "date out of range"
+line_of (NotText optional) =
+    if optional then codes "expect duration string, null, or missing field"
+    else codes "expect duration string, e.g: '1min+30'"
+
+-- The text, a caret below the place, and the line. One space stands before the caret for each character before the place.
+abbrev pub caret_text : List ℕ → ℕ → List ℕ → List ℕ
+caret_text text place line = text ++ (codes "\n" ++ (replicate (length (chars (take place text))) 32 ++ (codes "^\n" ++ line)))
+
+-- the place in decimal, and the line
+abbrev pub byte_text : ℕ → List ℕ → List ℕ
+byte_text place line = codes "byte " ++ (decimal place ++ (codes ": " ++ line))
+
+abbrev pub has_line_feed : List ℕ → Bool
+has_line_feed text = list_any (λ b. b == 10) text
+
+-- the line alone where there is no place; else with the place, which is a number where the text holds a line feed
+abbrev pub placed_text : List ℕ → Option ℕ → List ℕ → List ℕ
+placed_text text None line = line
+placed_text text (Some place) line = if has_line_feed text then byte_text place line else caret_text text place line
+
+-- the bytes of a fault's text, from the bytes of the text that was read
+abbrev pub fault_text : List ℕ → Cause → List ℕ
+fault_text text cause = placed_text text (place_of cause) (encode_utf8_all (line_of cause))

@@ -1,0 +1,160 @@
+//! Durations in configuration values.
+ghost use Rattle.std.specs.Prelude.{◌≡◌, ◌≢◌, ◌⊎◌, pos, true, Result, None, [], IfOk, IfErr, IfSome, IfNone};
+ghost use Rattle.std.specs.Duration.{as_nanos};
+ghost use Rattle.jiff.specs.Words.{signed_nanos};
+ghost use Rattle.serde_json.specs.Data.{Data, null, string};
+ghost use Rattle.serde_json.specs.Find.{as_str};
+ghost use Rattle.serde_json.specs.View.{view};
+ghost use Rattle.duration_str.specs.Configuration.{IsRequired, IsOptional};
+ghost use Rattle.duration_str.specs.declared.fault.Cause.TheVariants.{NotText};
+ghost use Rattle.duration_str.specs.declared.fault.Fault.{Fault as PlainFault};
+
+use crate::fault::{Cause, Fault};
+use crate::parser::parse;
+use crate::top::parse_chrono;
+use jiff::SignedDuration;
+use serde_json::Value;
+use std::time::Duration;
+
+/// What can be read from a configuration value.
+///
+/// `Duration` and `SignedDuration` are required values: a text is read by `parse`, and all else is
+/// `NotText { optional: false }`. Their `Option`s are optional ones: null and the empty text are `None`,
+/// another text is read by `parse`, and all else is `NotText { optional: true }`.
+pub trait DeserializeDuration<'de>: Sized {
+    /// What the data of a value gives.
+    ghost gives: { Data → Result Self PlainFault → Type 0 };
+
+    /// Reads the value. A fault of its text borrows the text; a `NotText` fault has the empty text.
+    fn deserialize_duration(value: &'de Value) -> Result<Self, Fault<'de>>
+        ensures { gives (view value.now) result };
+}
+
+/// The fault of a value that is no text.
+fn not_text<'a>(optional: bool) -> Fault<'a>
+    ensures text { result.text.now ≡ [] }
+    ensures cause { result.cause ≡ NotText optional }
+{
+    Fault {
+        text: "",
+        cause: Cause::NotText { optional },
+    }
+}
+
+/// The text to read, or `None` where the value says that there is none.
+fn optional_text<'a>(value: &'a Value) -> Result<Option<&'a str>, Fault<'a>>
+    ensures some { IfOk result (λ o. IfSome o (λ text.
+        (view value.now ≡ string text.now) × (text.now ≢ []))) }
+    ensures none { IfOk result (λ o. IfNone o
+        ((view value.now ≡ null) ⊎ (view value.now ≡ string []))) }
+    ensures fault { IfErr result (λ f. (f.text.now ≡ []) × (f.cause ≡ NotText true)
+        × (view value.now ≢ null) × (as_str (view value.now) ≡ None)) }
+{
+    match value {
+        Value::Null => Ok(None),
+        Value::String(text) if text.is_empty() => Ok(None),
+        Value::String(text) => Ok(Some(text.as_str())),
+        _ => Err(not_text(true)),
+    }
+}
+
+impl<'de> DeserializeDuration<'de> for Duration {
+    ghost gives = { IsRequired (λ d. pos (as_nanos d)) };
+
+    fn deserialize_duration(value: &'de Value) -> Result<Duration, Fault<'de>> {
+        match value.as_str() {
+            Some(text) => parse(text),
+            None => Err(not_text(false)),
+        }
+    }
+}
+
+impl<'de> DeserializeDuration<'de> for SignedDuration {
+    ghost gives = { IsRequired signed_nanos };
+
+    fn deserialize_duration(value: &'de Value) -> Result<SignedDuration, Fault<'de>> {
+        match value.as_str() {
+            Some(text) => parse_chrono(text),
+            None => Err(not_text(false)),
+        }
+    }
+}
+
+impl<'de> DeserializeDuration<'de> for Option<Duration> {
+    ghost gives = { IsOptional (λ d. pos (as_nanos d)) };
+
+    fn deserialize_duration(value: &'de Value) -> Result<Option<Duration>, Fault<'de>> {
+        match optional_text(value)? {
+            Some(text) => parse(text).map(Some),
+            None => Ok(None),
+        }
+    }
+}
+
+impl<'de> DeserializeDuration<'de> for Option<SignedDuration> {
+    ghost gives = { IsOptional signed_nanos };
+
+    fn deserialize_duration(value: &'de Value) -> Result<Option<SignedDuration>, Fault<'de>> {
+        match optional_text(value)? {
+            Some(text) => parse_chrono(text).map(Some),
+            None => Ok(None),
+        }
+    }
+}
+
+/// Reads a configuration value as its type says: `Duration` and `SignedDuration` are required, and their
+/// `Option`s are not.
+///
+/// ```text
+/// deserialize_duration::<Duration>(&json!(in alloc; "1min+30")?)  // Ok, 90 s
+/// deserialize_duration::<Option<Duration>>(&Value::Null)          // Ok(None)
+/// ```
+pub fn deserialize_duration<'de, T: DeserializeDuration<'de>>(
+    value: &'de Value,
+) -> Result<T, Fault<'de>>
+    ensures { T.gives (view value.now) result }
+{
+    T::deserialize_duration(value)
+}
+
+/// Reads a required value.
+pub fn deserialize_duration_chrono<'de>(value: &'de Value) -> Result<SignedDuration, Fault<'de>>
+    ensures { IsRequired signed_nanos (view value.now) result }
+{
+    SignedDuration::deserialize_duration(value)
+}
+
+/// What `deserialize_duration_chrono` answers.
+pub fn deserialize_duration_time<'de>(value: &'de Value) -> Result<SignedDuration, Fault<'de>>
+    ensures { IsRequired signed_nanos (view value.now) result }
+{
+    deserialize_duration_chrono(value)
+}
+
+/// Reads an optional value.
+pub fn deserialize_option_duration<'de>(value: &'de Value) -> Result<Option<Duration>, Fault<'de>>
+    ensures { IsOptional (λ d. pos (as_nanos d)) (view value.now) result }
+{
+    Option::<Duration>::deserialize_duration(value)
+}
+
+/// Reads an optional value.
+pub fn deserialize_option_duration_chrono<'de>(
+    value: &'de Value,
+) -> Result<Option<SignedDuration>, Fault<'de>>
+    ensures { IsOptional signed_nanos (view value.now) result }
+{
+    Option::<SignedDuration>::deserialize_duration(value)
+}
+
+/// What `deserialize_option_duration_chrono` answers.
+pub fn deserialize_option_duration_time<'de>(
+    value: &'de Value,
+) -> Result<Option<SignedDuration>, Fault<'de>>
+    ensures { IsOptional signed_nanos (view value.now) result }
+{
+    deserialize_option_duration_chrono(value)
+}
+
+#[cfg(test)]
+mod tests;

@@ -1,0 +1,219 @@
+//! Durations printed for people, as `3min 13s 29ms`.
+//!
+//! The text has the greatest count of years, behind it the greatest count of months of what is left,
+//! and so on down to nanoseconds. Counts of 0 are left out, and the duration 0 is `0s`.
+ghost use Rattle.std.specs.Prelude.{◌≡◌, ℕ, ◌+◌, ◌*◌, ◌/◌, ◌%◌, ◌^◌, ◌<◌, ◌≤◌, ◌++◌, take, length, decimal, encode_utf8_all, chars, IsUtf8, ◌↔◌, IsTrue, ℤ, pos, ◌≤ℤ◌, unsigned_abs, IfOk, string_bytes};
+ghost use Rattle.std.specs.Duration.{as_nanos};
+ghost use Rattle.duration_str.specs.declared.unit.TimeUnit.TheVariants.{Year};
+ghost use Rattle.duration_str.specs.Units.{nanos_of, unit_lengths};
+ghost use Rattle.duration_str.specs.Printing.{IsPrinted, printed_counts, counts_of};
+ghost use Rattle.duration_str.specs.PrintedBytes.{with_space, with_part, with_parts, below_year, most_digits, most_bytes};
+
+use crate::unit::TimeUnit;
+use std::alloc::{AllocError, Allocator, Global};
+use std::time::Duration;
+
+const YEAR_SECONDS: u64 = 31_536_000;
+
+/// Writes a digit at the place `at`, and returns where it ends.
+#[inline(always)]
+#[tactic(auto, using(crate::proofs::DigitLemmas::put_steps))]
+fn put_digit(buffer: &mut [u8; 64], at: usize, digit: u64) -> usize
+    requires room { at < 64 }
+    requires digit { digit < 10 }
+    ensures text { take result buffer.new ≡ take at buffer.old ++ decimal digit }
+    ensures end { result ≡ at + 1 }
+{
+    buffer[at] = b'0' + digit as u8;
+    at + 1
+}
+
+/// Writes the digits of `n` from `at` on, and returns where they end.
+#[tactic(auto, using(crate::proofs::DigitLemmas::put_steps))]
+fn put_number(buffer: &mut [u8; 64], at: usize, n: u64) -> usize
+    requires room { at + length (decimal n) ≤ 64 }
+    ensures text { take result buffer.new ≡ take at buffer.old ++ decimal n }
+    ensures end { result ≡ at + length (decimal n) }
+{
+    if n < 10 {
+        return put_digit(buffer, at, n);
+    }
+    let end = put_number(buffer, at, n / 10);
+    put_digit(buffer, end, n % 10)
+}
+
+/// Writes a count as `put_number` does. The one or two digits that most counts have take no call.
+#[inline(always)]
+#[tactic(auto, using(crate::proofs::DigitLemmas::put_steps))]
+fn put_count(buffer: &mut [u8; 64], at: usize, n: u64) -> usize
+    requires room { at + length (decimal n) ≤ 64 }
+    ensures text { take result buffer.new ≡ take at buffer.old ++ decimal n }
+    ensures end { result ≡ at + length (decimal n) }
+{
+    if n < 10 {
+        return put_digit(buffer, at, n);
+    }
+    if n < 100 {
+        let end = put_digit(buffer, at, n / 10);
+        return put_digit(buffer, end, n % 10);
+    }
+    put_number(buffer, at, n)
+}
+
+/// Writes a text from `at` on, and returns where it ends.
+#[inline(always)]
+fn put_text(buffer: &mut [u8; 64], at: usize, text: &str) -> usize
+    requires room { at + length text.now ≤ 64 }
+    ensures text { take result buffer.new ≡ take at buffer.old ++ text.now }
+    ensures end { result ≡ at + length text.now }
+{
+    let end = at + text.len();
+    buffer[at..end].copy_from_slice(text.as_bytes());
+    end
+}
+
+/// Writes a space behind the first `at` bytes, unless there are none, and returns where it ends.
+#[inline(always)]
+fn put_space(buffer: &mut [u8; 64], at: usize) -> usize
+    requires room { at < 64 }
+    ensures text { take result buffer.new ≡ with_space (take at buffer.old) }
+    ensures end { result ≤ at + 1 }
+    ensures first { at ≡ 0 → result ≡ 0 }
+{
+    if at == 0 {
+        return 0;
+    }
+    put_text(buffer, at, " ")
+}
+
+/// Writes a unit's part behind the first `at` bytes, and returns where it ends.
+#[inline(always)]
+#[tactic(auto, using(crate::proofs::DigitLemmas::length_count, crate::proofs::NameLemmas::length_name))]
+fn put_part(buffer: &mut [u8; 64], at: usize, count: u64, unit: TimeUnit) -> usize
+    requires digits { count < 10 ^ most_digits unit }
+    requires room { at + 1 + most_bytes unit ≤ 64 }
+    ensures text { take result buffer.new ≡ with_part (take at buffer.old) unit count }
+    ensures end { result ≤ at + 1 + most_bytes unit }
+    ensures first { at ≡ 0 → result ≤ most_bytes unit }
+{
+    if count == 0 {
+        return at;
+    }
+    let start = put_space(buffer, at);
+    let end = put_count(buffer, start, count);
+    put_text(buffer, end, unit.name())
+}
+
+/// Writes the part that a unit makes of the rest, in nanoseconds, and leaves in `rest` what is behind the unit.
+#[inline(always)]
+fn put_unit(buffer: &mut [u8; 64], at: usize, rest: &mut u64, unit: TimeUnit) -> usize
+    requires digits { rest.old < 10 ^ most_digits unit * nanos_of unit }
+    requires room { at + 1 + most_bytes unit ≤ 64 }
+    ensures text { take result buffer.new ≡ with_part (take at buffer.old) unit (rest.old / nanos_of unit) }
+    ensures end { result ≤ at + 1 + most_bytes unit }
+    ensures rest { rest.new ≡ rest.old % nanos_of unit }
+{
+    // Most units take no part, and a comparison costs less than a division.
+    if *rest < unit.nanos() {
+        return at;
+    }
+    let count = *rest / unit.nanos();
+    *rest %= unit.nanos();
+    put_part(buffer, at, count, unit)
+}
+
+/// Writes the parts below a year, and returns where they end.
+#[inline(always)]
+fn put_units(buffer: &mut [u8; 64], at: usize, nanos: u64) -> usize
+    requires within_year { nanos < nanos_of Year }
+    requires behind_years { at ≤ most_bytes Year }
+    ensures text { take result buffer.new ≡ with_parts (take at buffer.old) below_year nanos }
+    ensures end { result ≤ 58 }
+{
+    let mut rest = nanos;
+    let month = put_unit(buffer, at, &mut rest, TimeUnit::Month);
+    let week = put_unit(buffer, month, &mut rest, TimeUnit::Week);
+    let day = put_unit(buffer, week, &mut rest, TimeUnit::Day);
+    let hour = put_unit(buffer, day, &mut rest, TimeUnit::Hour);
+    let minute = put_unit(buffer, hour, &mut rest, TimeUnit::Minute);
+    let second = put_unit(buffer, minute, &mut rest, TimeUnit::Second);
+    let millisecond = put_unit(buffer, second, &mut rest, TimeUnit::MilliSecond);
+    let microsecond = put_unit(buffer, millisecond, &mut rest, TimeUnit::MicroSecond);
+    put_unit(buffer, microsecond, &mut rest, TimeUnit::NanoSecond)
+}
+
+/// Writes the printed text into the front of the buffer, and returns its length.
+fn fill(d: Duration, buffer: &mut [u8; 64]) -> usize
+    ensures text { take result buffer.new ≡ encode_utf8_all (printed_counts (counts_of unit_lengths (as_nanos d))) }
+    ensures short { result ≤ 58 }
+    ensures utf8 { IsUtf8 (take result buffer.new) }
+{
+    let secs = d.as_secs();
+    let below_year = secs % YEAR_SECONDS * 1_000_000_000 + u64::from(d.subsec_nanos());
+    let years = put_part(buffer, 0, secs / YEAR_SECONDS, TimeUnit::Year);
+    let end = put_units(buffer, years, below_year);
+    if end == 0 {
+        return put_text(buffer, 0, "0s");
+    }
+    end
+}
+
+/// Prints a duration into the front of a buffer, whatever the buffer held. The text has at most 58 bytes.
+/// It takes no memory and does not fail.
+///
+/// ```text
+/// let mut buffer = [0; 64];
+/// write_human(&Duration::new(193, 29_000_000), &mut buffer) // "3min 13s 29ms"
+/// write_human(&Duration::ZERO, &mut buffer)                 // "0s"
+/// ```
+pub fn write_human<'b>(d: &Duration, buffer: &'b mut [u8; 64]) -> &'b str
+    ensures text { IsPrinted (as_nanos d.now) (chars result.now) }
+    ensures short { length result.now ≤ 58 }
+{
+    let end = fill(*d, buffer);
+    unsafe { std::str::from_utf8_unchecked(&buffer[..end]) }
+}
+
+/// What is printed for people: a length of time, which may be negative.
+///
+/// ```text
+/// let d = Duration::new(93_784, 0);
+/// d.is_printable()            // true
+/// d.human_format(rt.alloc())? // "1d 2h 3min 4s"
+/// ```
+pub trait HumanFormat {
+    /// The length in nanoseconds.
+    ghost nanos: { Self → ℤ };
+
+    /// Whether the length is not negative.
+    fn is_printable(&self) -> bool
+        ensures { IsTrue result ↔ (pos 0 ≤ℤ nanos self.now) };
+
+    /// The printed text of a length that is not negative. It fails only where memory is refused.
+    fn human_format(&self, alloc: Global) -> Result<String, AllocError>
+        requires { pos 0 ≤ℤ nanos self.now }
+        ensures { IfOk result (λ text. IsPrinted (unsigned_abs (nanos self.now)) (chars (string_bytes text))) };
+}
+
+/// The printed text, in a string that grows once.
+fn text_of<A: Allocator>(d: Duration, alloc: A) -> Result<String<A>, AllocError>
+    ensures { IfOk result (λ text. IsPrinted (as_nanos d) (chars (string_bytes text))) }
+{
+    let mut buffer = [0; 64];
+    String::from_str(alloc, write_human(&d, &mut buffer))
+}
+
+impl HumanFormat for Duration {
+    ghost nanos = { λ d. pos (as_nanos d) };
+
+    fn is_printable(&self) -> bool {
+        true
+    }
+
+    fn human_format(&self, alloc: Global) -> Result<String, AllocError> {
+        text_of(*self, alloc)
+    }
+}
+
+#[cfg(test)]
+mod tests;

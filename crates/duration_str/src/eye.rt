@@ -1,0 +1,123 @@
+//! The only way to the text while it is cut: one character after the other, each look counted.
+ghost use Rattle.std.specs.Prelude.{◌≡◌, ◌+◌, ◌<◌, ◌≤◌, ◌^◌, [], is_some, IfSome, IfNone, if◌then◌else◌, slice_range, IsUtf8, length};
+ghost use Rattle.std.specs.Char.{len_utf8};
+ghost use Rattle.std.specs.Str.{IsCharBoundary};
+ghost use Rattle.duration_str.specs.Cutting.{ahead, StandsAt};
+
+/// A text, and the place up to which it is cut.
+#[derive(Drop)]
+pub(crate) struct Eye<'a> {
+    text: &'a str,
+    place: usize,
+    next: usize,
+    looks: u64,
+    ghost utf8: { ∥ IsUtf8 text.now ∥₁ },
+    ghost short: { length text.now < 2 ^ 63 },
+    ghost at_place: { IsCharBoundary text.now place },
+    ghost at_next: { IsCharBoundary text.now next },
+    ghost order: { place ≤ next },
+}
+
+impl<'a> Eye<'a> {
+    /// At the beginning of the text, with nothing looked at.
+    #[inline(always)]
+    pub(crate) fn new(text: &'a str) -> Eye<'a>
+        ensures text { result.text.now ≡ text.now }
+        ensures place { result.place ≡ 0 }
+        ensures looks { result.looks ≡ 0 }
+    {
+        Eye {
+            text,
+            place: 0,
+            next: 0,
+            looks: 0,
+        }
+    }
+
+    /// The byte up to which the text is cut.
+    #[inline(always)]
+    pub(crate) fn place(&self) -> usize
+        ensures { result ≡ self.now.place }
+    {
+        self.place
+    }
+
+    /// How often a character was looked at.
+    #[inline(always)]
+    pub(crate) fn looks(&self) -> u64
+        ensures { result ≡ self.now.looks }
+    {
+        self.looks
+    }
+
+    /// Takes the character at the place, and counts it; `None` at the end of the text.
+    #[inline(always)]
+    pub(crate) fn look(&mut self) -> Option<char>
+        requires { self.old.looks + 1 < 2 ^ 64 }
+        ensures some { IfSome result (StandsAt self.old.text.now self.old.place self.new.next) }
+        ensures none { IfNone result (ahead self.old.text.now self.old.place ≡ []) }
+        ensures text { self.new.text ≡ self.old.text }
+        ensures place { self.new.place ≡ self.old.place }
+        ensures looks { self.new.looks ≡ self.old.looks + (if is_some result then 1 else 0) }
+    {
+        if self.place == self.text.len() {
+            return None;
+        }
+        let (c, next) = character_at(self.text, self.place);
+        self.next = next;
+        self.looks += 1;
+        Some(c)
+    }
+
+    /// Moves past the character just looked at.
+    #[inline(always)]
+    pub(crate) fn step(&mut self)
+        ensures text { self.new.text ≡ self.old.text }
+        ensures place { self.new.place ≡ self.old.next }
+        ensures looks { self.new.looks ≡ self.old.looks }
+    {
+        self.place = self.next;
+    }
+
+    /// The text from an earlier place to the present one.
+    #[inline(always)]
+    pub(crate) fn since(&self, start: usize) -> &'a str
+        requires order { start ≤ self.now.place }
+        requires boundary { IsCharBoundary self.now.text.now start }
+        ensures { result.now ≡ slice_range self.now.text.now start self.now.place }
+    {
+        &self.text[start..self.place]
+    }
+}
+
+/// The character at a place, and the place behind it.
+#[inline(always)]
+fn character_at(text: &str, place: usize) -> (char, usize)
+    requires boundary { IsCharBoundary text.now place }
+    requires inside { place < length text.now }
+    ensures stands { StandsAt text.now place result.1 result.0 }
+    ensures boundary { IsCharBoundary text.now result.1 }
+{
+    let byte = text.as_bytes()[place];
+    if byte < 128 {
+        (char::from(byte), place + 1)
+    } else {
+        let c = decoded_at(text, place);
+        (c, place + c.len_utf8())
+    }
+}
+
+/// The character at a place, of any number of bytes.
+#[cold]
+#[inline(never)]
+fn decoded_at(text: &str, place: usize) -> char
+    requires boundary { IsCharBoundary text.now place }
+    requires inside { place < length text.now }
+    ensures stands { StandsAt text.now place (place + len_utf8 result) result }
+    ensures boundary { IsCharBoundary text.now (place + len_utf8 result) }
+{
+    match text[place..].chars().next() {
+        Some(c) => c,
+        None => unreachable!(),
+    }
+}

@@ -1,0 +1,75 @@
+//! Laws over the definitions: each function does nothing, and its contract is a law.
+ghost use Rattle.duration_str.specs.Laws.{OneSentence, OneCut, OneAnswer, IsAnswer, PlaceAndKinds, NoCalcAgrees, OptionsIdle, BlanksFree, SumOfTexts, Reorder, TwoFactors, GreatestBreakdown, EqualTexts, ReadsBack};
+
+/// At most one sentence spells a text, and its words are the text's pieces; a text is read as one value or refused for
+/// one cause, and not both, and the computed answer says which. So `3m31s` is spelled by `3`, `m`, `31`, `s` and by no
+/// other sentence, and is read as 211 seconds.
+pub fn one_sentence()
+    ensures sentence { OneSentence }
+    ensures pieces { OneCut }
+    ensures answer { OneAnswer }
+    ensures computed { IsAnswer }
+{}
+
+/// What can follow the beginning of a sentence is told by its last token, and the longest beginning is as long as the
+/// table allows each token behind the one before it. So `1m` is followed by a number, an operator (not under `no_calc`)
+/// or the end, and the longest beginning in `1m 3-5` is `1m 3`.
+pub fn place_and_kinds()
+    ensures { PlaceAndKinds }
+{}
+
+/// Without operators `no_calc` changes neither what is accepted nor its value. So `2h 37m` is 9,420 seconds with and
+/// without `no_calc`. Where both refuse, the causes may differ.
+pub fn no_calc_agrees()
+    ensures { NoCalcAgrees }
+{}
+
+/// `lowercase` changes nothing on texts without ASCII capitals, and `cn_unit` nothing on texts without the Chinese
+/// characters of the units: neither the value nor the cause of a refusal. So `1m` is 60 seconds with and without them,
+/// and `0mxyz` is a syntax fault at 1.
+pub fn options_idle()
+    ensures { OptionsIdle }
+{}
+
+/// Texts that one sentence spells, which so differ in blanks alone, have the same value, or are refused for the same
+/// cause. So `3 m31 s0 ns` and `3m31s0ns` are both 211 seconds.
+pub fn blanks_free()
+    ensures { BlanksFree }
+{}
+
+/// Two accepted texts without `*`, joined by a plus, come to the sum of their values where that is below 2^64
+/// nanoseconds, and else are refused as an overflow without place; `no_calc` is off. So `1m 2s` and `3` are joined to
+/// `1m 2s+3`, which is 65 seconds, and `580y+580y` overflows.
+pub fn sum_of_texts()
+    ensures { SumOfTexts }
+{}
+
+/// Two sentences of sums whose terms have the same values, each equally often, agree in acceptance and value. So
+/// `1ns+30s` and `30s+1ns` are both 30,000,000,001 nanoseconds.
+pub fn reorder()
+    ensures { Reorder }
+{}
+
+/// A product of two terms is accepted exactly where both numbers, both terms and the product, rounded down to
+/// nanoseconds, are below 2^64, and the exchanged product agrees in acceptance and value. So `1m*10ms` and `10ms*1m`
+/// are both 600 milliseconds.
+pub fn two_factors()
+    ensures { TwoFactors }
+{}
+
+/// The counts by quotients and remainders are the greatest breakdown. So 364 days are 12 months and 4 days, not 52 weeks.
+pub fn greatest_breakdown()
+    ensures { GreatestBreakdown }
+{}
+
+/// Two durations print the same exactly if they are the same. So no duration but 211 seconds prints as `3min 31s`.
+pub fn equal_texts()
+    ensures { EqualTexts }
+{}
+
+/// What a duration prints as is read back as that duration below 2^64 nanoseconds, and else refused as an overflow:
+/// without place below 585 years, and with place 0 from there on. So
+/// `584y 11mon 1w 6d 23h 34min 33s 709ms 551µs 615ns` is read as 2^64 - 1 nanoseconds, and with `616ns` it overflows.
+pub fn reads_back()
+    ensures { ReadsBack }
+{}

@@ -1,0 +1,158 @@
+//! Signed durations, dates and configuration values.
+ghost use Rattle.std.specs.Prelude.{◌≡◌, ℕ, IsOk, ◌↔◌, pos, ◌+ℤ◌, ◌-ℤ◌, ◌^◌, ◌<◌, IsSome, IfSome, IfNone, IsErrAnd, Ok};
+ghost use Rattle.std.specs.Duration.{as_nanos};
+ghost use Rattle.std.specs.Str.{chars};
+ghost use Rattle.jiff.specs.Words.{signed_nanos};
+ghost use Rattle.duration_str.specs.Dates.{IsCivil, IsCivilDay, IsDated, IsInRange};
+ghost use Rattle.duration_str.specs.ReadAs.{IsReadAs};
+ghost use Rattle.duration_str.specs.Reading.{IsRead};
+ghost use Rattle.duration_str.specs.Units.{off};
+ghost use Rattle.duration_str.specs.declared.fault.Cause.TheVariants.{OutOfRange};
+
+pub use crate::config::{
+    DeserializeDuration, deserialize_duration, deserialize_duration_chrono,
+    deserialize_duration_time, deserialize_option_duration, deserialize_option_duration_chrono,
+    deserialize_option_duration_time,
+};
+use crate::ext::HumanFormat;
+use crate::fault::{Cause, Fault};
+use crate::parser::parse;
+use jiff::civil::{Date, DateTime};
+use jiff::tz::Offset;
+use jiff::{SignedDuration, Timestamp};
+use std::alloc::{AllocError, Global};
+use std::time::Duration;
+
+/// Printable where it is not negative, and printed as its length.
+impl HumanFormat for SignedDuration {
+    ghost nanos = { signed_nanos };
+
+    fn is_printable(&self) -> bool {
+        !self.is_negative()
+    }
+
+    fn human_format(&self, alloc: Global) -> Result<String, AllocError> {
+        self.unsigned_abs().human_format(alloc)
+    }
+}
+
+/// The same length, signed.
+fn to_signed(length: Duration) -> SignedDuration
+    requires { as_nanos length < 2 ^ 64 }
+    ensures { signed_nanos result ≡ pos (as_nanos length) }
+{
+    SignedDuration::from_nanos_i128(length.as_nanos() as i128)
+}
+
+/// Reads a text as `parse` does, into a signed duration, which holds every value that a text can have.
+///
+/// ```text
+/// parse_chrono("1h+30s") // Ok(SignedDuration::from_secs(3_630))
+/// ```
+pub fn parse_chrono(input: &str) -> Result<SignedDuration, Fault<'_>>
+    ensures answer { IsReadAs signed_nanos input.now result }
+    ensures accepts { (nanos : ℕ) → IsRead off (chars input.now) nanos → IsOk result }
+{
+    let length = parse(input)?;
+    Ok(to_signed(length))
+}
+
+/// What `parse_chrono` answers.
+pub fn parse_time(input: &str) -> Result<SignedDuration, Fault<'_>>
+    ensures answer { IsReadAs signed_nanos input.now result }
+    ensures accepts { (nanos : ℕ) → IsRead off (chars input.now) nanos → IsOk result }
+{
+    parse_chrono(input)
+}
+
+/// The date and time of a moment in UTC.
+fn at_utc(moment: Timestamp) -> DateTime
+    ensures { IsCivil moment.nanosecond result }
+{
+    Offset::UTC.to_datetime(moment)
+}
+
+/// The date and time so long before the moment, or `None` out of range.
+fn earlier(moment: Timestamp, length: Duration) -> Option<DateTime>
+    ensures shown { IfSome result (IsCivil (moment.nanosecond -ℤ pos (as_nanos length))) }
+    ensures within { IsSome result ↔ IsInRange (moment.nanosecond -ℤ pos (as_nanos length)) }
+{
+    match moment.checked_sub(length) {
+        Ok(earlier) => Some(at_utc(earlier)),
+        Err(_) => None,
+    }
+}
+
+/// The date and time so long after the moment, or `None` out of range.
+fn later(moment: Timestamp, length: Duration) -> Option<DateTime>
+    ensures shown { IfSome result (IsCivil (moment.nanosecond +ℤ pos (as_nanos length))) }
+    ensures within { IsSome result ↔ IsInRange (moment.nanosecond +ℤ pos (as_nanos length)) }
+{
+    match moment.checked_add(length) {
+        Ok(later) => Some(at_utc(later)),
+        Err(_) => None,
+    }
+}
+
+/// The date and time, or the fault that there is none.
+fn in_range<'a>(at: Option<DateTime>, input: &'a str) -> Result<DateTime, Fault<'a>>
+    ensures some { IfSome at (λ shown. result ≡ Ok shown) }
+    ensures none { IfNone at (IsErrAnd result (λ fault. (fault.text.now ≡ input.now) × (fault.cause ≡ OutOfRange))) }
+{
+    match at {
+        Some(at) => Ok(at),
+        None => Err(Fault {
+            text: input,
+            cause: Cause::OutOfRange,
+        }),
+    }
+}
+
+/// The moment minus the value of the text, as a date and time in UTC.
+///
+/// The text is read by `parse`, and its refusal comes first. `OutOfRange` where the instant is below
+/// `Timestamp::MIN`.
+pub fn before_naive_date_time(moment: Timestamp, input: &str) -> Result<DateTime, Fault<'_>>
+    ensures { IsDated IsCivil (λ nanos. moment.nanosecond -ℤ pos nanos) input.now result }
+{
+    let length = parse(input)?;
+    in_range(earlier(moment, length), input)
+}
+
+/// The moment plus the value of the text, as a date and time in UTC.
+///
+/// The text is read by `parse`, and its refusal comes first. `OutOfRange` where the instant is above
+/// `Timestamp::MAX`.
+///
+/// ```text
+/// after_naive_date_time(Timestamp::UNIX_EPOCH, "180d") // Ok, 1970-06-30T00:00:00
+/// ```
+pub fn after_naive_date_time(moment: Timestamp, input: &str) -> Result<DateTime, Fault<'_>>
+    ensures { IsDated IsCivil (λ nanos. moment.nanosecond +ℤ pos nanos) input.now result }
+{
+    let length = parse(input)?;
+    in_range(later(moment, length), input)
+}
+
+/// The date of `before_naive_date_time`.
+pub fn before_naive_date(moment: Timestamp, input: &str) -> Result<Date, Fault<'_>>
+    ensures { IsDated IsCivilDay (λ nanos. moment.nanosecond -ℤ pos nanos) input.now result }
+{
+    match before_naive_date_time(moment, input) {
+        Ok(earlier) => Ok(earlier.date()),
+        Err(fault) => Err(fault),
+    }
+}
+
+/// The date of `after_naive_date_time`.
+pub fn after_naive_date(moment: Timestamp, input: &str) -> Result<Date, Fault<'_>>
+    ensures { IsDated IsCivilDay (λ nanos. moment.nanosecond +ℤ pos nanos) input.now result }
+{
+    match after_naive_date_time(moment, input) {
+        Ok(later) => Ok(later.date()),
+        Err(fault) => Err(fault),
+    }
+}
+
+#[cfg(test)]
+mod tests;
