@@ -1,0 +1,36 @@
+//! Reads durations from standard input, a line each, and prints them.
+//!
+//! The words of the command line choose the options: `no_calc`, `lowercase`, `cn_unit`.
+#![tactic(auto)]
+
+use duration_str::Options;
+use durstr_run::{ending, run, with_word};
+use std::env;
+use std::io::ErrorKind;
+use std::process::ExitCode;
+
+/// Runs by the words of the command line, and answers the status and the line on standard error.
+fn ended(rt: &HostRuntime) -> (u8, &'static str) {
+    let words = match env::args(rt) {
+        Ok(words) => words,
+        Err(e) if e.kind() == ErrorKind::OutOfMemory => return (3, "durstr: out of memory"),
+        Err(_) => return (2, "durstr: unknown word"),
+    };
+    let mut options = Options::off();
+    for word in words.skip(1) {
+        match with_word(options, word.as_str()) {
+            Some(next) => options = next,
+            None => return (2, "durstr: unknown word"),
+        }
+    }
+    ending(run(rt.alloc(), &mut rt.stdin(), &mut rt.stdout(), options))
+}
+
+fn main(rt: HostRuntime) -> ExitCode {
+    let (status, line) = ended(&rt);
+    if !line.is_empty() {
+        // The status says the same, so a failure of this line is let go.
+        let _ = eprintln!(rt; "{line}");
+    }
+    ExitCode::from(status)
+}

@@ -1,0 +1,21 @@
+-- How the program ends after each answer of a run.
+use Rattle.std.specs.Prelude.{ℕ, Bool, true, false, List, [], Result, Ok, Err, codes}
+use Rattle.durstr_run.specs.declared.fault.RunFault.{RunFault}
+use Rattle.durstr_run.specs.declared.fault.RunFault.TheVariants as faults
+
+-- the exit status
+abbrev pub status_of : Result Bool RunFault → ℕ
+status_of (Ok true) = 0
+status_of (Ok false) = 1
+status_of (Err faults.Read) = 2
+status_of (Err faults.Write) = 2
+status_of (Err faults.TooLong) = 2
+status_of (Err faults.Memory) = 3
+
+-- the line on standard error, empty where there is none
+abbrev pub line_of : Result Bool RunFault → List ℕ
+line_of (Ok accepted) = []
+line_of (Err faults.Read) = codes "durstr: read failed"
+line_of (Err faults.Write) = codes "durstr: write failed"
+line_of (Err faults.TooLong) = codes "durstr: input too long"
+line_of (Err faults.Memory) = codes "durstr: out of memory"

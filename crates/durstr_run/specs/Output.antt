@@ -1,0 +1,46 @@
+-- What is written for the bytes that were read.
+use Rattle.std.specs.Prelude.{◌≡◌, ℕ, Bool, true, false, ◌&&◌, ◌⊎◌, List, [], ◌∷◌, ◌++◌, codes, encode_utf8_all}
+use Rattle.std.specs.Fmt.{decimal}
+use Rattle.std.specs.Str.{IsUtf8, chars}
+use Rattle.duration_str.specs.declared.unit.Options.{Options}
+use Rattle.duration_str.specs.declared.fault.Cause.{Cause}
+use Rattle.duration_str.specs.Reading.{IsRead, IsRefused}
+use Rattle.duration_str.specs.Printing.{IsPrinted}
+use Rattle.duration_str.specs.FaultText.{fault_text}
+use Rattle.durstr_run.specs.Lines.{lines_of}
+
+-- An accepted line prints its value in nanoseconds, a space, and the same as a duration.
+pub record PrintsValue (o : Options) (line text : List ℕ) : Type 0 where
+  pub nanos : ℕ
+  pub human : List ℕ
+  pub utf8 : IsUtf8 line
+  pub read : IsRead o (chars line) nanos
+  pub human_printed : IsPrinted nanos human
+  pub shown : text ≡ decimal nanos ++ (32 ∷ encode_utf8_all human)
+
+-- A refused line prints its fault text.
+pub record PrintsFault (o : Options) (line text : List ℕ) : Type 0 where
+  pub cause : Cause
+  pub utf8 : IsUtf8 line
+  pub refused : IsRefused o (chars line) cause
+  pub shown : text ≡ fault_text line cause
+
+-- Bytes that are no text say so.
+abbrev pub PrintsNotUtf8 : List ℕ → List ℕ → Type 0
+PrintsNotUtf8 line text = (IsUtf8 line → ⊥) × (text ≡ codes "not UTF-8")
+
+-- The text is what is printed for a line, without its line feed, and the line is accepted or not.
+unfoldable pub IsLineOutput : Options → List ℕ → List ℕ → Bool → Type 0
+IsLineOutput o line text true = PrintsValue o line text
+IsLineOutput o line text false = PrintsFault o line text ⊎ PrintsNotUtf8 line text
+
+-- The bytes are what is printed for these lines, each with a line feed behind it, and all lines are accepted or not.
+abbrev pub AreOutputs : Options → List (List ℕ) → List ℕ → Bool → Type 0
+AreOutputs o [] out all = (out ≡ []) × (all ≡ true)
+AreOutputs o (line ∷ lines) out all =
+    (text rest : List ℕ) × (accepted others : Bool) × IsLineOutput o line text accepted × AreOutputs o lines rest others
+    × (out ≡ text ++ (10 ∷ rest)) × (all ≡ (accepted && others))
+
+-- The bytes are the output for the input, and all of its lines are accepted or not.
+abbrev pub IsOutput : Options → List ℕ → List ℕ → Bool → Type 0
+IsOutput o input out all = AreOutputs o (lines_of input) out all

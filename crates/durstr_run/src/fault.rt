@@ -1,0 +1,26 @@
+//! Why a run ended before all was written.
+ghost use Rattle.std.specs.Prelude.{◌≡◌};
+ghost use Rattle.durstr_run.specs.declared.fault.RunFault.TheVariants.{Memory};
+
+use std::alloc::AllocError;
+
+/// Why a run ended before all was written.
+#[derive(Clone, Copy, Debug, PartialEq, Eq)]
+pub enum RunFault {
+    /// A read answered an error.
+    Read,
+    /// A write or the flush answered an error, or a write of a nonempty piece took nothing.
+    Write,
+    /// The reader gave more than 1,048,576 bytes.
+    TooLong,
+    /// A growth was refused.
+    Memory,
+}
+
+impl From<AllocError> for RunFault {
+    ghost from_gives = { λ _ e. e ≡ Memory };
+
+    fn from(_error: AllocError) -> RunFault {
+        RunFault::Memory
+    }
+}

@@ -1,0 +1,35 @@
+//! Reading the whole input.
+ghost use Rattle.std.specs.Prelude.{IfOk, IsErrOf};
+ghost use Rattle.durstr_run.specs.Running.{ReadsAll, ReadsTooMuch};
+
+use crate::fault::RunFault;
+use std::alloc::Allocator;
+use std::io::Read;
+
+/// The most bytes that an input may have.
+const LIMIT: usize = 1_048_576;
+
+/// The most bytes that one read asks for.
+const CHUNK: usize = 65_536;
+
+/// All that the reader gives.
+pub fn read_all<A: Allocator, R: Read>(alloc: A, reader: &mut R) -> Result<Vec<u8, A>, RunFault>
+    ensures ok { IfOk result (λ input. ReadsAll (R.remaining reader.old) (R.remaining reader.new) input.items) }
+    ensures too_long { IsErrOf result RunFault.TooLong → ReadsTooMuch (R.remaining reader.old) (R.remaining reader.new) }
+    ensures no_write { IsErrOf result RunFault.Write → ⊥ }
+{
+    let mut input = Vec::new(alloc);
+    let mut chunk = [0u8; CHUNK];
+    loop {
+        let Ok(count) = reader.read(&mut chunk) else {
+            return Err(RunFault::Read);
+        };
+        if count == 0 {
+            return Ok(input);
+        }
+        if count > LIMIT - input.len() {
+            return Err(RunFault::TooLong);
+        }
+        input.extend_from_slice(&chunk[..count])?;
+    }
+}

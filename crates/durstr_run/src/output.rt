@@ -1,0 +1,78 @@
+//! The output for the lines, and its writing.
+ghost use Rattle.std.specs.Prelude.{◌≡◌, ℕ, List, [], ◌∷◌, ◌++◌, IfOk, OnOk, OnErr, string_bytes};
+ghost use Rattle.std.specs.Io.KnownBytes.{Appends};
+ghost use Rattle.durstr_run.specs.Running.{WritesFront};
+ghost use Rattle.durstr_run.specs.Output.{IsLineOutput, IsOutput};
+
+use crate::fault::RunFault;
+use crate::lines::first_line;
+use duration_str::{Options, parse_with, write_human};
+use std::alloc::{AllocError, Allocator};
+use std::io::Write;
+
+/// Adds the output for one line and a line feed, and answers whether the line was accepted.
+fn push_line<A: Allocator>(
+    out: &mut String<A>,
+    line: &[u8],
+    options: Options,
+) -> Result<bool, AllocError>
+    ensures { IfOk result (λ accepted. (text : List ℕ) × IsLineOutput options line.now text accepted
+        × (string_bytes out.new ≡ string_bytes out.old ++ (text ++ (10 ∷ [])))) }
+{
+    let Ok(text) = str::from_utf8(line) else {
+        out.push_str("not UTF-8\n")?;
+        return Ok(false);
+    };
+    match parse_with(text, options) {
+        Ok(duration) => {
+            let nanos = duration.as_nanos() as u64;
+            let mut buffer = [0u8; 64];
+            let human = write_human(&duration, &mut buffer);
+            writeln!(out, "{nanos} {human}")?;
+            Ok(true)
+        }
+        Err(fault) => {
+            writeln!(out, "{fault}")?;
+            Ok(false)
+        }
+    }
+}
+
+/// The output for the whole input, and whether every line was accepted.
+pub fn output_of<A: Allocator>(
+    alloc: A,
+    input: &[u8],
+    options: Options,
+) -> Result<(String<A>, bool), AllocError>
+    ensures { IfOk result (λ r. IsOutput options input.now (string_bytes r.0) r.1) }
+{
+    let mut out = String::new(alloc);
+    let mut all_accepted = true;
+    let mut rest = input;
+    while !rest.is_empty() {
+        let (line, after) = first_line(rest);
+        let accepted = push_line(&mut out, line, options)?;
+        all_accepted &= accepted;
+        rest = after;
+    }
+    Ok((out, all_accepted))
+}
+
+/// Writes all of the bytes and flushes.
+pub fn write_all<W: Write>(writer: &mut W, bytes: &[u8]) -> Result<(), RunFault>
+    ensures ok { OnOk result (Appends (W.contents writer.old) (W.contents writer.new) bytes.now) }
+    ensures err { OnErr result (WritesFront (W.contents writer.old) (W.contents writer.new) bytes.now) }
+    ensures kind { OnErr result (result ≡ Err RunFault.Write) }
+{
+    let mut written = 0;
+    while written < bytes.len() {
+        match writer.write(&bytes[written..]) {
+            Ok(0) | Err(_) => return Err(RunFault::Write),
+            Ok(count) => written += count,
+        }
+    }
+    match writer.flush() {
+        Ok(()) => Ok(()),
+        Err(_) => Err(RunFault::Write),
+    }
+}

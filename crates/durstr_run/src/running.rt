@@ -1,0 +1,57 @@
+//! From a reader to a writer.
+ghost use Rattle.std.specs.Prelude.{IfOk, IfErr};
+ghost use Rattle.durstr_run.specs.Running.{WritesOutput, Leaves};
+
+use crate::fault::RunFault;
+use crate::input::read_all;
+use crate::output::{output_of, write_all};
+use duration_str::Options;
+use std::alloc::{Allocator, Global};
+use std::io::{Read, Write};
+
+/// Reads the whole input, and then writes the output for its lines.
+///
+/// Lines end at line feeds. Each gives its own output and a line feed: an accepted line its nanoseconds,
+/// a space and the printed duration, a refused one its fault text, and one that is not UTF-8 says so.
+///
+/// `Ok(true)`: every line was accepted. `Ok(false)`: some line was not. In both cases all was written and flushed.
+/// The input may have 1,048,576 bytes. After `Read`, `TooLong` and `Memory` nothing was written,
+/// after `Write` a beginning of the output.
+pub fn run<R: Read, W: Write>(
+    alloc: Global,
+    reader: &mut R,
+    writer: &mut W,
+    options: Options,
+) -> Result<bool, RunFault>
+    ensures ok { IfOk result (λ accepted. WritesOutput options accepted
+        (R.remaining reader.old) (R.remaining reader.new)
+        (W.contents writer.old) (W.contents writer.new)) }
+    ensures err { IfErr result (λ fault. Leaves options fault
+        (R.remaining reader.old) (R.remaining reader.new)
+        (W.contents writer.old) (W.contents writer.new)) }
+{
+    run_in(&alloc, reader, writer, options)
+}
+
+/// `run` over any allocator.
+fn run_in<A: Allocator, R: Read, W: Write>(
+    alloc: &A,
+    reader: &mut R,
+    writer: &mut W,
+    options: Options,
+) -> Result<bool, RunFault>
+    ensures ok { IfOk result (λ accepted. WritesOutput options accepted
+        (R.remaining reader.old) (R.remaining reader.new)
+        (W.contents writer.old) (W.contents writer.new)) }
+    ensures err { IfErr result (λ fault. Leaves options fault
+        (R.remaining reader.old) (R.remaining reader.new)
+        (W.contents writer.old) (W.contents writer.new)) }
+{
+    let input = read_all(alloc, reader)?;
+    let (text, all_accepted) = output_of(alloc, &input, options)?;
+    write_all(writer, text.as_bytes())?;
+    Ok(all_accepted)
+}
+
+#[cfg(test)]
+mod tests;

@@ -1,0 +1,106 @@
+//! The words of the command line, and how the program ends.
+ghost use Rattle.std.specs.Prelude.{◌≡◌, ◌≢◌, ◌↔◌, true, Some, IsNone, codes};
+ghost use Rattle.durstr_run.specs.Ending.{status_of, line_of};
+
+use crate::fault::RunFault;
+use duration_str::Options;
+
+/// The options with the field of this name on and the other two kept,
+/// or `None` where the word is none of `no_calc`, `lowercase`, `cn_unit`.
+pub fn with_word(options: Options, word: &str) -> Option<Options>
+    ensures no_calc { word.now ≡ codes "no_calc" → result ≡ Some (record options { no_calc = true }) }
+    ensures lowercase { word.now ≡ codes "lowercase" → result ≡ Some (record options { lowercase = true }) }
+    ensures cn_unit { word.now ≡ codes "cn_unit" → result ≡ Some (record options { cn_unit = true }) }
+    ensures unknown { IsNone result ↔ ((word.now ≢ codes "no_calc") × (word.now ≢ codes "lowercase") × (word.now ≢ codes "cn_unit")) }
+{
+    match word {
+        "no_calc" => Some(Options {
+            no_calc: true,
+            ..options
+        }),
+        "lowercase" => Some(Options {
+            lowercase: true,
+            ..options
+        }),
+        "cn_unit" => Some(Options {
+            cn_unit: true,
+            ..options
+        }),
+        _ => None,
+    }
+}
+
+/// The exit status for this answer of `run`, and the line for standard error, empty where there is none.
+pub fn ending(answer: Result<bool, RunFault>) -> (u8, &'static str)
+    ensures status { result.0 ≡ status_of answer }
+    ensures line { result.1.now ≡ line_of answer }
+{
+    match answer {
+        Ok(true) => (0, ""),
+        Ok(false) => (1, ""),
+        Err(RunFault::Read) => (2, "durstr: read failed"),
+        Err(RunFault::Write) => (2, "durstr: write failed"),
+        Err(RunFault::TooLong) => (2, "durstr: input too long"),
+        Err(RunFault::Memory) => (3, "durstr: out of memory"),
+    }
+}
+
+#[cfg(test)]
+mod tests {
+    use super::*;
+
+    #[test]
+    fn sets_the_field_of_each_word(rt: HostRuntime) {
+        let off = Options::off();
+        let on = Options {
+            no_calc: true,
+            lowercase: true,
+            cn_unit: true,
+        };
+        let rows = [
+            (
+                "no_calc",
+                Options {
+                    no_calc: true,
+                    ..off
+                },
+            ),
+            (
+                "lowercase",
+                Options {
+                    lowercase: true,
+                    ..off
+                },
+            ),
+            (
+                "cn_unit",
+                Options {
+                    cn_unit: true,
+                    ..off
+                },
+            ),
+        ];
+        for (word, wanted) in rows {
+            assert_eq!(rt; with_word(off, word), Some(wanted), "{word}");
+            assert_eq!(rt; with_word(on, word), Some(on), "{word}");
+        }
+        for word in ["nocalc", "", "NO_CALC", "no_calc "] {
+            assert_eq!(rt; with_word(off, word), None, "{word}");
+        }
+    }
+
+    #[test]
+    fn ends_by_the_answer(rt: HostRuntime) {
+        let rows = [
+            (Ok(true), (0, "")),
+            (Ok(false), (1, "")),
+            (Err(RunFault::Read), (2, "durstr: read failed")),
+            (Err(RunFault::Write), (2, "durstr: write failed")),
+            (Err(RunFault::TooLong), (2, "durstr: input too long")),
+            (Err(RunFault::Memory), (3, "durstr: out of memory")),
+        ];
+        for (answer, wanted) in rows {
+            assert_eq!(rt; ending(answer), wanted);
+        }
+    }
+}
