@@ -1,0 +1,7 @@
+//! Tests of what strangers hand in: very long texts, and characters that look like others.
+//!
+//! Refused memory and failing devices are tested beside the functions that take an allocator, a reader or a writer.
+#![tactic(auto)]
+
+#[cfg(test)]
+mod tests;

@@ -1,0 +1,17 @@
+//! Callers of `duration_str`. They rest on what it promises and on its laws, and on nothing of how it works.
+#![tactic(auto)]
+
+pub mod accepted;
+pub mod retention;
+pub mod scheduler;
+pub mod settings;
+pub mod table;
+
+pub use accepted::Accepted;
+pub use retention::Period;
+pub use scheduler::{is_outdated, remaining, show};
+pub use settings::{Settings, SettingsFault};
+pub use table::{Key, Table};
+
+#[cfg(test)]
+mod tests;

@@ -1,0 +1,57 @@
+//! How long to keep what two periods together ask for.
+ghost use Rattle.std.specs.Prelude.{◌≡◌, ◌==◌, ◌++◌, None, not, codes, IfSome, IfNone};
+ghost use Rattle.std.specs.Duration.{as_nanos};
+ghost use Rattle.std.specs.List.{list_all};
+ghost use Rattle.std.specs.Str.{chars};
+ghost use Rattle.duration_str.specs.Laws.{HasNoStar};
+ghost use Rattle.duration_str.specs.Reading.{IsRead, IsRefused};
+ghost use Rattle.duration_str.specs.Units.{off};
+ghost use Rattle.duration_str.specs.declared.fault.Cause.TheVariants.{Overflow};
+
+use crate::accepted::Accepted;
+use duration_str::laws::sum_of_texts;
+use std::time::Duration;
+
+/// An accepted text without `*`, so that another one can be added to it.
+#[derive(Clone, Copy)]
+pub struct Period<'a> {
+    pub accepted: Accepted<'a>,
+    pub ghost plain: { HasNoStar (chars accepted.text.now) },
+}
+
+impl<'a> Period<'a> {
+    /// The period that an accepted text says, or `None` where it has a `*`.
+    pub fn new(accepted: Accepted<'a>) -> Option<Period<'a>>
+        ensures some { IfSome result (λ period. period.accepted ≡ accepted.entry) }
+        ensures none { IfNone result (HasNoStar (chars accepted.entry.text.now) → ⊥) }
+    {
+        if has_no_star(accepted.text) {
+            Some(Period { accepted })
+        } else {
+            None
+        }
+    }
+
+    /// The duration that both texts, joined by a plus, are read as; `None` where the joined text is refused, since both
+    /// come to 2^64 nanoseconds or more. The joined text is neither made nor read.
+    pub fn total(&self, other: &Period<'_>) -> Option<Duration>
+        ensures read { IfSome result (λ d. IsRead off
+            (chars self.now.accepted.text.now ++ codes "+" ++ chars other.now.accepted.text.now) (as_nanos d)) }
+        ensures refused { IfNone result (IsRefused off
+            (chars self.now.accepted.text.now ++ codes "+" ++ chars other.now.accepted.text.now) (Overflow None)) }
+    {
+        sum_of_texts();
+        let nanos = self.accepted.length().as_nanos() + other.accepted.length().as_nanos();
+        match u64::try_from(nanos) {
+            Ok(nanos) => Some(Duration::from_nanos(nanos)),
+            Err(_) => None,
+        }
+    }
+}
+
+/// Whether a text has no `*`.
+fn has_no_star(text: &str) -> bool
+    ensures { result ≡ list_all (λ c. not (c == 42)) (chars text.now) }
+{
+    text.chars().all(|c| c != '*')
+}
