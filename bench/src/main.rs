@@ -1,0 +1,180 @@
+//! Times of this library and of humantime, and single calls for a program that counts instructions.
+//!
+//! - `bench times`: nanoseconds a call over 1,000 expressions, a line `WHAT OURS THEIRS` for reading and for printing.
+//! - `bench calls SIDE WHAT COUNT`: so many calls on `3m 13s 29ms`. SIDE is `ours`, `theirs` or `nobody`, WHAT is `read`,
+//!   `print` (into a buffer) or `print-string`.
+//! - `bench text SIDE BYTES COUNT`: reads a text of so many bytes so many times.
+//! - `bench seconds BYTES`: the seconds in which a text of so many bytes is read, ours and theirs.
+use std::hint::black_box;
+use std::io::Write;
+use std::time::{Duration, Instant};
+
+unsafe extern "C" {
+    fn duration_str_parse(text: *const u8, length: usize, nanos: *mut u64) -> bool;
+    fn duration_str_format(secs: u64, nanos: u32, buffer: *mut u8) -> usize;
+}
+
+const EXPRESSION: &str = "3m 13s 29ms";
+
+#[derive(Clone, Copy, PartialEq)]
+enum Side {
+    Ours,
+    Theirs,
+    Nobody,
+}
+
+#[derive(Clone, Copy)]
+enum Call {
+    Read,
+    Print,
+    PrintString,
+}
+
+fn our_reading(text: &str) -> u64 {
+    let mut nanos = 0;
+    // SAFETY: the pointer and length are a slice's, and `nanos` is written alone.
+    let read = unsafe { duration_str_parse(text.as_ptr(), text.len(), &mut nanos) };
+    assert!(read, "refused: {text}");
+    nanos
+}
+
+fn our_printing(length: Duration) -> [u8; 64] {
+    let mut buffer = [0; 64];
+    // SAFETY: the buffer has the 64 bytes that may be written.
+    let end = unsafe { duration_str_format(length.as_secs(), length.subsec_nanos(), buffer.as_mut_ptr()) };
+    black_box(end);
+    buffer
+}
+
+fn their_reading(text: &str) -> Duration {
+    humantime::parse_duration(text).expect("a text that humantime reads")
+}
+
+fn their_printing(length: Duration) -> [u8; 64] {
+    let mut buffer = [0; 64];
+    write!(&mut buffer[..], "{}", humantime::format_duration(length)).expect("a text of at most 64 bytes");
+    buffer
+}
+
+/// Expressions of one to five terms, longest unit first, by a fixed sequence of numbers.
+fn expressions() -> Vec<String> {
+    const UNITS: [&str; 9] = ["years", "months", "days", "h", "min", "s", "ms", "us", "ns"];
+    let mut state = 20_260_301u64;
+    let mut next = |below: u64| {
+        state = state.wrapping_mul(6_364_136_223_846_793_005).wrapping_add(1_442_695_040_888_963_407);
+        (state >> 33) % below
+    };
+    (0..1000)
+        .map(|_| {
+            let count = 1 + next(5) as usize;
+            let first = next((UNITS.len() - count + 1) as u64) as usize;
+            let terms: Vec<String> = UNITS[first..first + count].iter().map(|unit| format!("{}{unit}", 1 + next(59))).collect();
+            terms.join(" ")
+        })
+        .collect()
+}
+
+/// A text of so many bytes: terms of one nanosecond, and blanks.
+fn long_text(bytes: usize) -> String {
+    let mut text = "1ns ".repeat(bytes / 4);
+    while text.len() < bytes {
+        text.push(' ');
+    }
+    text
+}
+
+/// The best of nine rounds, in nanoseconds a call.
+fn nanos_a_call(calls: usize, round: impl Fn()) -> f64 {
+    const REPEATS: usize = 100;
+    (0..9)
+        .map(|_| {
+            let start = Instant::now();
+            for _ in 0..REPEATS {
+                round();
+            }
+            start.elapsed().as_nanos() as f64 / (REPEATS * calls) as f64
+        })
+        .fold(f64::INFINITY, f64::min)
+}
+
+fn times() {
+    let texts = expressions();
+    let lengths: Vec<Duration> = texts.iter().map(|text| their_reading(text)).collect();
+    let ours = nanos_a_call(texts.len(), || texts.iter().for_each(|text| { black_box(our_reading(black_box(text))); }));
+    let theirs = nanos_a_call(texts.len(), || texts.iter().for_each(|text| { black_box(their_reading(black_box(text))); }));
+    println!("read {ours:.1} {theirs:.1}");
+    let ours = nanos_a_call(texts.len(), || lengths.iter().for_each(|length| { black_box(our_printing(black_box(*length))); }));
+    let theirs = nanos_a_call(texts.len(), || lengths.iter().for_each(|length| { black_box(their_printing(black_box(*length))); }));
+    println!("print {ours:.1} {theirs:.1}");
+    let theirs = nanos_a_call(texts.len(), || lengths.iter().for_each(|length| { black_box(humantime::format_duration(black_box(*length)).to_string()); }));
+    println!("print-string {ours:.1} {theirs:.1}");
+}
+
+fn calls(side: Side, call: Call, count: u64) {
+    let length = Duration::new(193, 29_000_000);
+    for _ in 0..count {
+        let text = black_box(EXPRESSION);
+        let length = black_box(length);
+        match (side, call) {
+            (Side::Ours, Call::Read) => { black_box(our_reading(text)); }
+            (Side::Theirs, Call::Read) => { black_box(their_reading(text)); }
+            (Side::Ours, Call::Print | Call::PrintString) => { black_box(our_printing(length)); }
+            (Side::Theirs, Call::Print) => { black_box(their_printing(length)); }
+            (Side::Theirs, Call::PrintString) => { black_box(humantime::format_duration(length).to_string()); }
+            (Side::Nobody, _) => {}
+        }
+    }
+}
+
+fn text(side: Side, bytes: usize, count: u64) {
+    let text = long_text(bytes);
+    for _ in 0..count {
+        let text = black_box(text.as_str());
+        match side {
+            Side::Ours => { black_box(our_reading(text)); }
+            Side::Theirs => { black_box(their_reading(text)); }
+            Side::Nobody => {}
+        }
+    }
+}
+
+fn seconds(bytes: usize) {
+    let text = long_text(bytes);
+    let start = Instant::now();
+    black_box(our_reading(black_box(&text)));
+    let ours = start.elapsed().as_secs_f64();
+    let start = Instant::now();
+    black_box(their_reading(black_box(&text)));
+    let theirs = start.elapsed().as_secs_f64();
+    println!("{bytes} {ours:.4} {theirs:.4}");
+}
+
+fn side(word: &str) -> Side {
+    match word {
+        "ours" => Side::Ours,
+        "theirs" => Side::Theirs,
+        "nobody" => Side::Nobody,
+        _ => panic!("no side: {word}"),
+    }
+}
+
+fn call(word: &str) -> Call {
+    match word {
+        "read" => Call::Read,
+        "print" => Call::Print,
+        "print-string" => Call::PrintString,
+        _ => panic!("no call: {word}"),
+    }
+}
+
+fn main() {
+    let words: Vec<String> = std::env::args().skip(1).collect();
+    let words: Vec<&str> = words.iter().map(String::as_str).collect();
+    match words.as_slice() {
+        ["times"] => times(),
+        ["calls", who, what, count] => calls(side(who), call(what), count.parse().expect("a count")),
+        ["text", who, bytes, count] => text(side(who), bytes.parse().expect("a length"), count.parse().expect("a count")),
+        ["seconds", bytes] => seconds(bytes.parse().expect("a length")),
+        _ => panic!("see the first lines of src/main.rs"),
+    }
+}

@@ -1,0 +1,79 @@
+/* Durations read from expressions such as `3m 13s 29ms`, and printed for people.
+ *
+ * Every function takes no memory, keeps no state, and may be called from several threads at once. No pointer may be
+ * null. A text is handed over as a pointer and a length in bytes; it need not end in a zero byte, and must not overlap
+ * what a function writes. Texts are UTF-8; other bytes are refused. Texts that are written end in no zero byte.
+ *
+ * The grammar: terms, each a number and a unit such as `3m` or `29 ms`, joined by `+` or by `*`, or following one
+ * another, which adds them. Behind a number the unit may be left out before an operator and at the end, and is seconds.
+ * Units: y year years, mon month months, w week weeks, d day days, h hr hour hours, m min minute minutes, s sec second
+ * seconds, ms msec millisecond milliseconds, µs µsec µsecond us usec usecond microsecond microseconds, ns nsec
+ * nanosecond nanoseconds. A year has 365 days and a month 30. Numbers and values are below 2^64.
+ */
+#ifndef DURATION_STR_H
+#define DURATION_STR_H
+
+#include <stdbool.h>
+#include <stddef.h>
+#include <stdint.h>
+
+#ifdef __cplusplus
+extern "C" {
+#endif
+
+/* Which options are on. */
+struct duration_str_options {
+    bool no_calc;   /* `+` and `*` are not read: terms are added as they come */
+    bool lowercase; /* words are compared as they stand; else ASCII capitals are folded to small letters */
+    bool cn_unit;   /* the Chinese names of the units are read too */
+};
+
+/* Why a text is refused. */
+enum duration_str_cause {
+    DURATION_STR_READ = 0,             /* it is not: the text is read */
+    DURATION_STR_EMPTY = 1,            /* the text is empty */
+    DURATION_STR_SYNTAX = 2,           /* no expression goes on as the text does at the place */
+    DURATION_STR_NUMBER_TOO_LARGE = 3, /* a number is 2^64 or more */
+    DURATION_STR_OVERFLOW = 4,         /* a term, a step or the value is 2^64 nanoseconds or more */
+    DURATION_STR_MIXED = 5,            /* `+` and `*` are mixed */
+    DURATION_STR_OUT_OF_RANGE = 6,     /* a date is out of range; no function here answers it */
+    DURATION_STR_NOT_TEXT = 7          /* the bytes are no UTF-8 */
+};
+
+/* What a text is read as. What a case does not name is 0 or false. */
+struct duration_str_answer {
+    uint64_t nanos;  /* the value in nanoseconds, where `cause` is DURATION_STR_READ */
+    size_t place;    /* where `has_place`: the byte of the text at which the fault stands, from 0 to the text's length */
+    uint32_t cause;  /* an `enum duration_str_cause` */
+    bool has_place;  /* always for DURATION_STR_SYNTAX; else where a first term is too large */
+    bool number;     /* for DURATION_STR_SYNTAX: a number could stand at the place */
+    bool unit_word;  /* a unit could stand there */
+    bool is_operator; /* `+` or `*` could stand there */
+    bool text_end;   /* the text could end there */
+};
+
+/* Reads a text with all options off. True where it is read: then `*nanos` is its value in nanoseconds. False where it is
+ * refused, also for bytes that are no UTF-8: then `*nanos` stays. */
+bool duration_str_parse(const uint8_t *text, size_t length, uint64_t *nanos);
+
+/* Reads a text under these options, and tells in `*answer` its value, or why and where it is refused. */
+void duration_str_parse_with(const uint8_t *text, size_t length, const struct duration_str_options *options,
+                             struct duration_str_answer *answer);
+
+/* Writes what a person is told of a refused text into the front of `buffer`, which has room for `room` bytes, and returns
+ * its length in bytes. Where the fault has a place, this is the text, below it a caret under the place, and a line; where
+ * the text holds a line feed, `byte N: ` and the line; else the line alone. Returns 0 where the text is read, where the
+ * bytes are no UTF-8, and where the message has more than `room` or more than 1,024 bytes. */
+size_t duration_str_fault_text(const uint8_t *text, size_t length, const struct duration_str_options *options,
+                               uint8_t *buffer, size_t room);
+
+/* Prints a duration of `secs` seconds and `nanos` nanoseconds, which are below 1,000,000,000, into the front of `buffer`,
+ * as `3min 13s 29ms`, and returns its length, which is at most 58 bytes. `buffer` has 64 bytes. Returns 0 where `nanos` is
+ * 1,000,000,000 or more; then the buffer stays. */
+size_t duration_str_format(uint64_t secs, uint32_t nanos, uint8_t *buffer);
+
+#ifdef __cplusplus
+}
+#endif
+
+#endif

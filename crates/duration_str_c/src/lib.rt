@@ -1,0 +1,239 @@
+//! The library for C: `include/duration_str.h` declares what stands here.
+//!
+//! Nothing takes memory. Bytes that are no UTF-8 are refused.
+#![tactic(auto)]
+
+ghost use Rattle.std.specs.Prelude.{◌≡◌, ℕ, ◌+◌, ◌*◌, ◌<◌, ◌≤◌, false, IsTrue, IsFalse, IsUtf8, take, length};
+ghost use Rattle.std.specs.Str.{chars};
+ghost use Rattle.duration_str.specs.Units.{off};
+ghost use Rattle.duration_str.specs.Reading.{IsRead, IsRefused};
+ghost use Rattle.duration_str.specs.Printing.{IsPrinted};
+ghost use Rattle.duration_str.specs.Faults.{place_of};
+ghost use Rattle.duration_str.specs.FaultText.{fault_text};
+ghost use Rattle.duration_str.specs.declared.fault.Cause.{Cause};
+ghost use Rattle.duration_str.specs.declared.fault.Cause.TheVariants.{NotText};
+ghost use Rattle.duration_str_c.specs.Told.{chosen, number_of, expected_of, refusal_told, IsTold};
+
+use arrayvec::ArrayString;
+use duration_str::{Cause, Expected, Fault, Options};
+use std::fmt::Write;
+use std::time::Duration;
+
+/// Which options are on.
+#[repr(C)]
+#[derive(Clone, Copy)]
+pub struct Choice {
+    pub no_calc: bool,
+    pub lowercase: bool,
+    pub cn_unit: bool,
+}
+
+/// What a text is read as: its nanoseconds where `cause` is 0, else the number of the cause, its place where it has
+/// one, and for a syntax fault what could stand there.
+#[repr(C)]
+#[derive(Clone, Copy)]
+pub struct Answer {
+    pub nanos: u64,
+    pub place: usize,
+    pub cause: u32,
+    pub has_place: bool,
+    pub number: bool,
+    pub unit_word: bool,
+    pub is_operator: bool,
+    pub text_end: bool,
+}
+
+impl Choice {
+    ghost use Rattle.duration_str_c.specs.Told.{chosen};
+
+    /// The options.
+    fn options(self) -> Options
+        ensures { result ≡ chosen self }
+    {
+        Options {
+            no_calc: self.no_calc,
+            lowercase: self.lowercase,
+            cn_unit: self.cn_unit,
+        }
+    }
+}
+
+impl Answer {
+    ghost use Rattle.duration_str_c.specs.Told.{value_told, refusal_told};
+
+    /// A value.
+    fn value(nanos: u64) -> Answer
+        ensures { result ≡ value_told nanos }
+    {
+        Answer {
+            nanos,
+            place: 0,
+            cause: 0,
+            has_place: false,
+            number: false,
+            unit_word: false,
+            is_operator: false,
+            text_end: false,
+        }
+    }
+
+    /// A refusal.
+    fn refusal(cause: Cause) -> Answer
+        ensures { result ≡ refusal_told cause }
+    {
+        let Expected {
+            number,
+            unit_word,
+            operator,
+            text_end,
+        } = expected_of(cause);
+        let place = place_of(cause);
+        Answer {
+            nanos: 0,
+            place: place.unwrap_or(0),
+            cause: number_of(cause),
+            has_place: place.is_some(),
+            number,
+            unit_word,
+            is_operator: operator,
+            text_end,
+        }
+    }
+}
+
+/// Reads a text with all options off into nanoseconds. False where it is refused, and `nanos` stays.
+#[unsafe(no_mangle)]
+pub extern "C" fn duration_str_parse(text: &[u8], nanos: &mut u64) -> bool
+    ensures read { IsTrue result → IsRead off (chars text.now) nanos.new }
+    ensures accepts { IsUtf8 text.now → (value : ℕ) → IsRead off (chars text.now) value → IsTrue result }
+    ensures utf8 { IsTrue result → IsUtf8 text.now }
+    ensures refused { IsFalse result → nanos.new ≡ nanos.old }
+{
+    let Ok(text) = str::from_utf8(text) else {
+        return false;
+    };
+    match duration_str::parse(text) {
+        Ok(length) => {
+            *nanos = length.as_nanos() as u64;
+            true
+        }
+        Err(_) => false,
+    }
+}
+
+/// Prints a duration into the front of the buffer, and gives the text's length. It is 0 where `nanos` is no part of a
+/// second, and the buffer stays.
+#[unsafe(no_mangle)]
+pub extern "C" fn duration_str_format(secs: u64, nanos: u32, buffer: &mut [u8; 64]) -> usize
+    ensures text { nanos < 1_000_000_000 → IsPrinted (secs * 1_000_000_000 + nanos) (chars (take result buffer.new)) }
+    ensures short { result ≤ 58 }
+    ensures refused { 1_000_000_000 ≤ nanos → (result ≡ 0) × (buffer.new ≡ buffer.old) }
+{
+    if nanos >= 1_000_000_000 {
+        return 0;
+    }
+    let mut printed = [0; 64];
+    let text = duration_str::write_human(&Duration::new(secs, nanos), &mut printed);
+    let end = text.len();
+    buffer[..end].copy_from_slice(text.as_bytes());
+    end
+}
+
+/// Reads a text under these options.
+#[unsafe(no_mangle)]
+pub extern "C" fn duration_str_parse_with(text: &[u8], options: &Choice, answer: &mut Answer)
+    ensures told { IsUtf8 text.now → IsTold (chosen options.now) (chars text.now) answer.new }
+    ensures not_text { ¬ (IsUtf8 text.now) → answer.new ≡ refusal_told (NotText false) }
+{
+    *answer = match str::from_utf8(text) {
+        Ok(text) => match duration_str::parse_with(text, options.options()) {
+            Ok(length) => Answer::value(length.as_nanos() as u64),
+            Err(fault) => Answer::refusal(fault.cause()),
+        },
+        Err(_) => Answer::refusal(Cause::NotText { optional: false }),
+    };
+}
+
+/// The most bytes of a refusal's text.
+const MOST_BYTES: usize = 1024;
+
+/// Writes the text of a refusal into the front of the buffer, and gives its length. It is 0 where the text is read, where
+/// the bytes are no UTF-8, and where the refusal's text has more bytes than the buffer, or more than 1,024.
+#[unsafe(no_mangle)]
+pub extern "C" fn duration_str_fault_text(text: &[u8], options: &Choice, buffer: &mut [u8]) -> usize
+    ensures text { 0 < result → (cause : Cause) × IsRefused (chosen options.now) (chars text.now) cause × (take result buffer.new ≡ fault_text text.now cause) }
+    ensures within { result ≤ length buffer.old }
+{
+    let Ok(text) = str::from_utf8(text) else {
+        return 0;
+    };
+    match duration_str::parse_with(text, options.options()) {
+        Ok(_) => 0,
+        Err(fault) => copied(&shown(fault), buffer),
+    }
+}
+
+/// The text of a refusal; empty where it has more than `MOST_BYTES` bytes.
+fn shown(fault: Fault<'_>) -> ArrayString<MOST_BYTES>
+    ensures { 0 < length result.bytes → result.bytes ≡ fault_text fault.entry.text.now fault.entry.cause }
+{
+    let mut text = ArrayString::new();
+    match write!(text, "{fault}") {
+        Ok(()) => text,
+        Err(_) => ArrayString::new(),
+    }
+}
+
+/// Copies a text into the front of the buffer, where it fits, and gives its length, else 0.
+fn copied(text: &str, buffer: &mut [u8]) -> usize
+    ensures text { 0 < result → take result buffer.new ≡ text.now }
+    ensures within { result ≤ length buffer.old }
+{
+    let end = text.len();
+    if end > buffer.len() {
+        return 0;
+    }
+    buffer[..end].copy_from_slice(text.as_bytes());
+    end
+}
+
+/// The number of a cause.
+fn number_of(cause: Cause) -> u32
+    ensures { result ≡ number_of cause }
+{
+    match cause {
+        Cause::Empty => 1,
+        Cause::Syntax { .. } => 2,
+        Cause::NumberTooLarge { .. } => 3,
+        Cause::Overflow { .. } => 4,
+        Cause::Mixed { .. } => 5,
+        Cause::OutOfRange => 6,
+        Cause::NotText { .. } => 7,
+    }
+}
+
+/// The byte at which the fault stands, if it has a place.
+fn place_of(cause: Cause) -> Option<usize>
+    ensures { result ≡ place_of cause }
+{
+    match cause {
+        Cause::Syntax { place, .. } => Some(place),
+        Cause::NumberTooLarge { place } | Cause::Overflow { place } => place,
+        Cause::Empty | Cause::Mixed { .. } | Cause::OutOfRange | Cause::NotText { .. } => None,
+    }
+}
+
+/// What could stand at the place; nothing but for a syntax fault.
+fn expected_of(cause: Cause) -> Expected
+    ensures { result ≡ expected_of cause }
+{
+    match cause {
+        Cause::Syntax { expected, .. } => expected,
+        _ => Expected {
+            number: false,
+            unit_word: false,
+            operator: false,
+            text_end: false,
+        },
+    }
+}
