@@ -17,6 +17,7 @@ pub mod PrintedBytes
 pub mod Faults
 pub mod Answered
 pub mod FaultText
+pub mod Buffers
 pub mod Errors
 pub mod ReadAs
 pub mod Dates

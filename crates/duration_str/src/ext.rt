@@ -30,7 +30,7 @@ fn put_digit(buffer: &mut [u8; 64], at: usize, digit: u64) -> usize
 
 /// Writes the digits of `n` from `at` on, and returns where they end.
 #[tactic(auto, using(crate::proofs::DigitLemmas::put_steps))]
-fn put_number(buffer: &mut [u8; 64], at: usize, n: u64) -> usize
+pub(crate) fn put_number(buffer: &mut [u8; 64], at: usize, n: u64) -> usize
     requires room { at + length (decimal n) ≤ 64 }
     ensures text { take result buffer.new ≡ take at buffer.old ++ decimal n }
     ensures end { result ≡ at + length (decimal n) }

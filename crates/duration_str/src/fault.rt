@@ -38,7 +38,7 @@ pub enum Cause {
 
 impl Cause {
     /// The byte at which the fault stands, if it has a place.
-    fn place(self) -> Option<usize>
+    pub(crate) fn place(self) -> Option<usize>
         ensures { result ≡ place_of self }
     {
         match self {
@@ -102,7 +102,7 @@ impl fmt::Display for Spaces {
 }
 
 /// How many characters stand before the place.
-fn chars_before(text: &str, place: usize) -> usize
+pub(crate) fn chars_before(text: &str, place: usize) -> usize
     requires { IsCharBoundary text.now place }
     ensures { result ≡ length (chars (take place text.now)) }
 {

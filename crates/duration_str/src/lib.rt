@@ -8,6 +8,7 @@ mod eye;
 pub mod fault;
 pub mod laws;
 mod line;
+mod message;
 mod packed;
 pub mod parser;
 mod reader;

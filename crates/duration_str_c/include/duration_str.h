@@ -62,8 +62,9 @@ void duration_str_parse_with(const uint8_t *text, size_t length, const struct du
 
 /* Writes what a person is told of a refused text into the front of `buffer`, which has room for `room` bytes, and returns
  * its length in bytes. Where the fault has a place, this is the text, below it a caret under the place, and a line; where
- * the text holds a line feed, `byte N: ` and the line; else the line alone. Returns 0 where the text is read, where the
- * bytes are no UTF-8, and where the message has more than `room` or more than 1,024 bytes. */
+ * the text holds a line feed, `byte N: ` and the line; else the line alone. Returns 0 where the text is read and where the
+ * bytes are no UTF-8: then the buffer stays. Returns 0 too where the message has more than `room` bytes: then the buffer
+ * may hold anything. */
 size_t duration_str_fault_text(const uint8_t *text, size_t length, const struct duration_str_options *options,
                                uint8_t *buffer, size_t room);
 

@@ -1,10 +1,13 @@
 -- What a caller of C is told of a text.
-use Rattle.std.specs.Prelude.{◌≡◌, ℕ, false, List, ◌⊎◌, is_some, unwrap_or}
+use Rattle.std.specs.Prelude.{◌≡◌, ℕ, false, List, ◌⊎◌, Option, is_some, unwrap_or}
+use Rattle.std.specs.Str.{chars}
 use Rattle.duration_str.specs.declared.unit.Options.{Options}
 use Rattle.duration_str.specs.declared.fault.Cause.{Cause}
 use Rattle.duration_str.specs.declared.fault.Cause.TheVariants.{Empty, Syntax, NumberTooLarge, Overflow, Mixed, OutOfRange, NotText}
 use Rattle.duration_str.specs.declared.fault.Expected.{Expected}
 use Rattle.duration_str.specs.Faults.{place_of}
+use Rattle.duration_str.specs.FaultText.{fault_text}
+use Rattle.duration_str.specs.Buffers.{IsInFront}
 use Rattle.duration_str.specs.Reading.{IsRead, IsRefused}
 use Rattle.duration_str_c.specs.declared.Answer.{Answer}
 use Rattle.duration_str_c.specs.declared.Choice.{Choice}
@@ -59,3 +62,11 @@ abbrev pub IsTold : Options → List ℕ → Answer → Type 0
 IsTold o text answer =
     ((nanos : ℕ) × IsRead o text nanos × (answer ≡ value_told nanos))
     ⊎ ((cause : Cause) × IsRefused o text cause × (answer ≡ refusal_told cause))
+
+-- Where the bytes are read, the length is 0 and the buffer stays. Where they are refused, the text of the refusal stands in
+-- the front of the buffer and has this length, or the length is 0, since it has more bytes than the buffer.
+abbrev pub IsMessage : Options → List ℕ → List ℕ → ℕ → List ℕ → Type 0
+IsMessage o bytes old len new =
+    ((nanos : ℕ) × IsRead o (chars bytes) nanos × (len ≡ 0) × (new ≡ old))
+    ⊎ ((cause : Cause) × IsRefused o (chars bytes) cause
+    × ((end : Option ℕ) × IsInFront (fault_text bytes cause) end new × (len ≡ unwrap_or end 0)))

@@ -6,17 +6,14 @@
 ghost use Rattle.std.specs.Prelude.{◌≡◌, ℕ, ◌+◌, ◌*◌, ◌<◌, ◌≤◌, false, IsTrue, IsFalse, IsUtf8, take, length};
 ghost use Rattle.std.specs.Str.{chars};
 ghost use Rattle.duration_str.specs.Units.{off};
-ghost use Rattle.duration_str.specs.Reading.{IsRead, IsRefused};
+ghost use Rattle.duration_str.specs.Reading.{IsRead};
 ghost use Rattle.duration_str.specs.Printing.{IsPrinted};
 ghost use Rattle.duration_str.specs.Faults.{place_of};
-ghost use Rattle.duration_str.specs.FaultText.{fault_text};
 ghost use Rattle.duration_str.specs.declared.fault.Cause.{Cause};
 ghost use Rattle.duration_str.specs.declared.fault.Cause.TheVariants.{NotText};
-ghost use Rattle.duration_str_c.specs.Told.{chosen, number_of, expected_of, refusal_told, IsTold};
+ghost use Rattle.duration_str_c.specs.Told.{chosen, number_of, expected_of, refusal_told, IsTold, IsMessage};
 
-use arrayvec::ArrayString;
-use duration_str::{Cause, Expected, Fault, Options};
-use std::fmt::Write;
+use duration_str::{Cause, Expected, Options};
 use std::time::Duration;
 
 /// Which options are on.
@@ -154,47 +151,21 @@ pub extern "C" fn duration_str_parse_with(text: &[u8], options: &Choice, answer:
     };
 }
 
-/// The most bytes of a refusal's text.
-const MOST_BYTES: usize = 1024;
-
-/// Writes the text of a refusal into the front of the buffer, and gives its length. It is 0 where the text is read, where
-/// the bytes are no UTF-8, and where the refusal's text has more bytes than the buffer, or more than 1,024.
+/// Writes what a person is told of a refused text into the front of the buffer, and gives its length in bytes. It is 0
+/// where the text is read and where the bytes are no UTF-8, and the buffer stays; and where the message has more bytes
+/// than the buffer, whose bytes may then be any.
 #[unsafe(no_mangle)]
 pub extern "C" fn duration_str_fault_text(text: &[u8], options: &Choice, buffer: &mut [u8]) -> usize
-    ensures text { 0 < result → (cause : Cause) × IsRefused (chosen options.now) (chars text.now) cause × (take result buffer.new ≡ fault_text text.now cause) }
-    ensures within { result ≤ length buffer.old }
+    ensures told { IsUtf8 text.now → IsMessage (chosen options.now) text.now buffer.old result buffer.new }
+    ensures not_text { ¬ (IsUtf8 text.now) → (result ≡ 0) × (buffer.new ≡ buffer.old) }
 {
     let Ok(text) = str::from_utf8(text) else {
         return 0;
     };
     match duration_str::parse_with(text, options.options()) {
         Ok(_) => 0,
-        Err(fault) => copied(&shown(fault), buffer),
+        Err(fault) => fault.write_message(buffer).unwrap_or(0),
     }
-}
-
-/// The text of a refusal; empty where it has more than `MOST_BYTES` bytes.
-fn shown(fault: Fault<'_>) -> ArrayString<MOST_BYTES>
-    ensures { 0 < length result.bytes → result.bytes ≡ fault_text fault.entry.text.now fault.entry.cause }
-{
-    let mut text = ArrayString::new();
-    match write!(text, "{fault}") {
-        Ok(()) => text,
-        Err(_) => ArrayString::new(),
-    }
-}
-
-/// Copies a text into the front of the buffer, where it fits, and gives its length, else 0.
-fn copied(text: &str, buffer: &mut [u8]) -> usize
-    ensures text { 0 < result → take result buffer.new ≡ text.now }
-    ensures within { result ≤ length buffer.old }
-{
-    let end = text.len();
-    if end > buffer.len() {
-        return 0;
-    }
-    buffer[..end].copy_from_slice(text.as_bytes());
-    end
 }
 
 /// The number of a cause.
