@@ -1,4 +1,5 @@
-/* duration EXPRESSION: the expression's nanoseconds and what they print as, or its fault. */
+/* duration EXPRESSION: the expression's nanoseconds, what they print as, and the moment so long after
+ * 2000-01-01T00:00:00Z in seconds since 1970; or its fault. */
 #include <stdio.h>
 #include <string.h>
 
@@ -16,7 +17,12 @@ int main(int count, char **words)
     if (duration_str_parse(text, length, &nanos)) {
         uint8_t printed[64];
         size_t end = duration_str_format(nanos / 1000000000, (uint32_t)(nanos % 1000000000), printed);
-        printf("%llu %.*s\n", (unsigned long long)nanos, (int)end, (const char *)printed);
+        struct duration_str_moment moment = {946684800, 0};
+        if (duration_str_after(text, length, &moment) != DURATION_STR_READ) {
+            return 1;
+        }
+        printf("%llu %.*s %lld.%09u\n", (unsigned long long)nanos, (int)end, (const char *)printed,
+               (long long)moment.secs, (unsigned)moment.nanos);
         return 0;
     }
     struct duration_str_options off = {false, false, false};

@@ -1,4 +1,5 @@
-"""duration.py LIBRARY EXPRESSION: the expression's nanoseconds and what they print as, or its fault."""
+"""duration.py LIBRARY EXPRESSION: the expression's nanoseconds, what they print as, and the moment so long after
+2000-01-01T00:00:00Z in seconds since 1970; or its fault."""
 
 import ctypes
 import os
@@ -15,6 +16,10 @@ class Answer(ctypes.Structure):
         ("place", ctypes.c_size_t),
         ("cause", ctypes.c_uint32),
     ] + [(name, ctypes.c_bool) for name in ("has_place", "number", "unit_word", "is_operator", "text_end")]
+
+
+class Moment(ctypes.Structure):
+    _fields_ = [("secs", ctypes.c_int64), ("nanos", ctypes.c_uint32)]
 
 
 class Library:
@@ -35,6 +40,9 @@ class Library:
         self._format = library.duration_str_format
         self._format.argtypes = [ctypes.c_uint64, ctypes.c_uint32, ctypes.c_char_p]
         self._format.restype = ctypes.c_size_t
+        self._after = library.duration_str_after
+        self._after.argtypes = text + [ctypes.POINTER(Moment)]
+        self._after.restype = ctypes.c_uint32
 
     def parse(self, text):
         """The nanoseconds of a text, or None where it is refused."""
@@ -46,6 +54,12 @@ class Library:
         buffer = ctypes.create_string_buffer(64)
         end = self._format(nanos // 10**9, nanos % 10**9, buffer)
         return buffer.raw[:end].decode()
+
+    def after(self, text, secs):
+        """The moment so long after one, both in seconds since 1970, or None where there is none."""
+        moment = Moment(secs, 0)
+        cause = self._after(text, len(text), ctypes.byref(moment))
+        return f"{moment.secs}.{moment.nanos:09}" if cause == 0 else None
 
     def fault(self, text):
         """What a person is told of a refused text."""
@@ -68,7 +82,7 @@ def main():
     if nanos is None:
         print(library.fault(text))
         sys.exit(1)
-    print(nanos, library.printed(nanos))
+    print(nanos, library.printed(nanos), library.after(text, 946_684_800))
 
 
 if __name__ == "__main__":

@@ -1,4 +1,5 @@
-//! duration EXPRESSION: the expression's nanoseconds and what they print as, or its fault.
+//! duration EXPRESSION: the expression's nanoseconds, what they print as, and the moment so long after
+//! 2000-01-01T00:00:00Z in seconds since 1970; or its fault.
 use std::ffi::OsString;
 use std::os::unix::ffi::OsStringExt;
 use std::process::ExitCode;
@@ -24,12 +25,20 @@ struct Answer {
     text_end: bool,
 }
 
+#[repr(C)]
+#[derive(Clone, Copy)]
+struct Moment {
+    secs: i64,
+    nanos: u32,
+}
+
 #[link(name = "duration_str_c", kind = "static")]
 unsafe extern "C" {
     fn duration_str_parse(text: *const u8, length: usize, nanos: *mut u64) -> bool;
     fn duration_str_parse_with(text: *const u8, length: usize, options: *const Options, answer: *mut Answer);
     fn duration_str_fault_text(text: *const u8, length: usize, options: *const Options, buffer: *mut u8, room: usize) -> usize;
     fn duration_str_format(secs: u64, nanos: u32, buffer: *mut u8) -> usize;
+    fn duration_str_after(text: *const u8, length: usize, moment: *mut Moment) -> u32;
 }
 
 /// The nanoseconds of a text, or `None` where it is refused.
@@ -45,6 +54,13 @@ fn printed(nanos: u64) -> String {
     // SAFETY: the buffer has the 64 bytes that the function may write.
     let end = unsafe { duration_str_format(nanos / 1_000_000_000, (nanos % 1_000_000_000) as u32, buffer.as_mut_ptr()) };
     String::from_utf8_lossy(&buffer[..end]).into_owned()
+}
+
+/// The moment so long after one, or `None` where the text is refused or the moment out of range.
+fn after(text: &[u8], mut moment: Moment) -> Option<Moment> {
+    // SAFETY: a slice's pointer and length, and a reference to a struct that is laid out as the header's.
+    let cause = unsafe { duration_str_after(text.as_ptr(), text.len(), &mut moment) };
+    (cause == 0).then_some(moment)
 }
 
 /// What a person is told of a refused text.
@@ -69,12 +85,13 @@ fn main() -> ExitCode {
         return ExitCode::from(2);
     };
     let text = word.clone().into_vec();
-    match parse(&text) {
-        Some(nanos) => {
-            println!("{nanos} {}", printed(nanos));
+    let start = Moment { secs: 946_684_800, nanos: 0 };
+    match (parse(&text), after(&text, start)) {
+        (Some(nanos), Some(moment)) => {
+            println!("{nanos} {} {}.{:09}", printed(nanos), moment.secs, moment.nanos);
             ExitCode::SUCCESS
         }
-        None => {
+        _ => {
             println!("{}", fault(&text));
             ExitCode::FAILURE
         }

@@ -36,7 +36,7 @@ enum duration_str_cause {
     DURATION_STR_NUMBER_TOO_LARGE = 3, /* a number is 2^64 or more */
     DURATION_STR_OVERFLOW = 4,         /* a term, a step or the value is 2^64 nanoseconds or more */
     DURATION_STR_MIXED = 5,            /* `+` and `*` are mixed */
-    DURATION_STR_OUT_OF_RANGE = 6,     /* a date is out of range; no function here answers it */
+    DURATION_STR_OUT_OF_RANGE = 6,     /* a moment is out of range; for duration_str_after and duration_str_before alone */
     DURATION_STR_NOT_TEXT = 7          /* the bytes are no UTF-8 */
 };
 
@@ -50,6 +50,14 @@ struct duration_str_answer {
     bool unit_word;  /* a unit could stand there */
     bool is_operator; /* `+` or `*` could stand there */
     bool text_end;   /* the text could end there */
+};
+
+/* A moment, in UTC: `secs` whole seconds since 1970-01-01T00:00:00Z, which are negative before it, and behind them `nanos`
+ * nanoseconds, which are below 1,000,000,000. Moments go from -9999-01-02T01:59:59Z (`secs` is -377,705,023,201) to
+ * 9999-12-30T22:00:00.999999999Z (`secs` is 253,402,207,200). */
+struct duration_str_moment {
+    int64_t secs;
+    uint32_t nanos;
 };
 
 /* Reads a text with all options off. True where it is read: then `*nanos` is its value in nanoseconds. False where it is
@@ -72,6 +80,15 @@ size_t duration_str_fault_text(const uint8_t *text, size_t length, const struct 
  * as `3min 13s 29ms`, and returns its length, which is at most 58 bytes. `buffer` has 64 bytes. Returns 0 where `nanos` is
  * 1,000,000,000 or more; then the buffer stays. */
 size_t duration_str_format(uint64_t secs, uint32_t nanos, uint8_t *buffer);
+
+/* Moves `*moment` forward by the value of a text, which is read with all options off, and returns DURATION_STR_READ. Where
+ * it can't, `*moment` stays, and it returns the `enum duration_str_cause`: DURATION_STR_OUT_OF_RANGE where `*moment` is none
+ * of the moments above, whatever the text; else why the text is refused; else DURATION_STR_OUT_OF_RANGE, where what is
+ * reached is none of the moments above. */
+uint32_t duration_str_after(const uint8_t *text, size_t length, struct duration_str_moment *moment);
+
+/* Moves `*moment` back as duration_str_after moves it forward. */
+uint32_t duration_str_before(const uint8_t *text, size_t length, struct duration_str_moment *moment);
 
 #ifdef __cplusplus
 }

@@ -13,6 +13,8 @@ ghost use Rattle.duration_str.specs.declared.fault.Cause.{Cause};
 ghost use Rattle.duration_str.specs.declared.fault.Cause.TheVariants.{NotText};
 ghost use Rattle.duration_str_c.specs.Told.{chosen, number_of, expected_of, refusal_told, IsTold, IsMessage};
 
+pub mod moment;
+
 use duration_str::{Cause, Expected, Options};
 use std::time::Duration;
 
@@ -208,3 +210,6 @@ fn expected_of(cause: Cause) -> Expected
         },
     }
 }
+
+#[cfg(test)]
+mod tests;

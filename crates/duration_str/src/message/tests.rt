@@ -1,32 +1,45 @@
-// Faults written into buffers that have just room, and one byte less.
+// Faults written into buffers that have just room, more, and one byte less.
 use crate::fault::Fault;
 use crate::parser::parse;
 use std::process::Abort;
-
-const ROOM: usize = 1024;
 
 /// The refusal of a text that is none.
 fn refusal<'a>(rt: &impl Abort, text: &'a str) -> Fault<'a> {
     parse(text).err().expect(rt, "a refused text")
 }
 
+/// Whether the fault's message fills a buffer that has just room for these bytes, and is these.
+fn fills<const N: usize>(fault: Fault<'_>, message: &[u8; N]) -> bool {
+    let mut buffer = [0; N];
+    fault.write_message(&mut buffer) == Some(N) && buffer == *message
+}
+
 #[test]
-fn writes_what_fits(rt: HostRuntime) {
-    for (text, message) in [
-        ("", "Empty input"),
-        ("580y*2", "overflow error"),
-        ("3ms-2ms", "3ms-2ms\n   ^\nexpected ['+', '*']"),
-        ("1m\n+", "byte 4: expected number"),
-        ("µ", "µ\n^\nexpected number"),
-    ] {
-        let mut buffer = [b'#'; ROOM];
-        let fault = refusal(&rt, text);
-        let room = message.len();
-        assert_eq!(rt; fault.write_message(&mut buffer), Some(room));
-        assert!(rt; buffer.starts_with(message.as_bytes()));
-        assert!(rt; buffer[room..].iter().all(|b| *b == b'#'));
-        assert_eq!(rt; fault.write_message(&mut buffer[..room]), Some(room));
-        assert_eq!(rt; fault.write_message(&mut buffer[..room - 1]), None);
-        assert_eq!(rt; fault.write_message(&mut []), None);
-    }
+fn writes_each_layout(rt: HostRuntime) {
+    assert!(rt; fills(refusal(&rt, ""), b"Empty input"));
+    assert!(rt; fills(refusal(&rt, "580y*2"), b"overflow error"));
+    assert!(rt;
+        fills(
+            refusal(&rt, "3ms-2ms"),
+            b"3ms-2ms\n   ^\nexpected ['+', '*']"
+        )
+    );
+    assert!(rt; fills(refusal(&rt, "1m\n+"), b"byte 4: expected number"));
+    assert!(rt; fills(refusal(&rt, "\u{b5} 1"), b"\xc2\xb5 1\n^\nexpected number"));
+}
+
+#[test]
+fn writes_what_has_room(rt: HostRuntime) {
+    let fault = refusal(&rt, "");
+    let mut longer = [b'#'; 13];
+    assert_eq!(rt; fault.write_message(&mut longer), Some(11));
+    assert!(rt; longer == *b"Empty input##");
+    let mut shorter = [b'#'; 10];
+    assert_eq!(rt; fault.write_message(&mut shorter), None);
+    assert_eq!(rt; fault.write_message(&mut []), None);
+    let mut without_line = [b'#'; 31];
+    assert_eq!(rt;
+        refusal(&rt, "3ms-2ms").write_message(&mut without_line),
+        None
+    );
 }
