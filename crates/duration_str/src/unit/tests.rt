@@ -1,4 +1,9 @@
 // The choice of options, the table of units, and operators.
+ghost use Rattle.std.specs.Prelude.{◌≡◌};
+ghost use Rattle.std.specs.List.{list_all};
+ghost use Rattle.std.specs.Str.{chars};
+ghost use Rattle.duration_str.specs.Text.{is_digit};
+
 use super::{CondUnit, Options, TimeUnit};
 use crate::fault::Cause;
 use crate::vectors::{CN_UNIT, LOWERCASE, NO_CALC};
@@ -158,6 +163,107 @@ fn values_terms(rt: HostRuntime) {
         ),
     ] {
         assert_eq!(rt; unit.times(number, place), value);
+    }
+}
+
+/// Whether a text has digits alone.
+fn are_digits(text: &str) -> bool
+    ensures { result ≡ list_all is_digit (chars text.now) }
+{
+    text.chars().all(|c| c.is_ascii_digit())
+}
+
+/// What `value` answers for this number, or `None` where the text is none.
+fn value_of(unit: TimeUnit, number: &str) -> Option<Result<u64, Cause>> {
+    if number.chars().next().is_some() && are_digits(number) {
+        Some(unit.value(number))
+    } else {
+        None
+    }
+}
+
+#[test]
+fn values_digits_up_to_the_limit(rt: HostRuntime) {
+    for (unit, nanos, printed, _, _) in TABLE {
+        assert_eq!(rt; value_of(unit, "0"), Some(Ok(0)), "{printed}");
+        assert_eq!(rt; value_of(unit, "1"), Some(Ok(nanos)), "{printed}");
+    }
+    let overflow = Some(Err(Cause::Overflow { place: None }));
+    for (unit, last, value, next) in [
+        (TimeUnit::Year, "584", 18_417_024_000_000_000_000, "585"),
+        (TimeUnit::Month, "7116", 18_444_672_000_000_000_000, "7117"),
+        (TimeUnit::Week, "30500", 18_446_400_000_000_000_000, "30501"),
+        (
+            TimeUnit::Day,
+            "213503",
+            18_446_659_200_000_000_000,
+            "213504",
+        ),
+        (
+            TimeUnit::Hour,
+            "5124095",
+            18_446_742_000_000_000_000,
+            "5124096",
+        ),
+        (
+            TimeUnit::Minute,
+            "307445734",
+            18_446_744_040_000_000_000,
+            "307445735",
+        ),
+        (
+            TimeUnit::Second,
+            "18446744073",
+            18_446_744_073_000_000_000,
+            "18446744074",
+        ),
+        (
+            TimeUnit::MilliSecond,
+            "18446744073709",
+            18_446_744_073_709_000_000,
+            "18446744073710",
+        ),
+        (
+            TimeUnit::MicroSecond,
+            "18446744073709551",
+            18_446_744_073_709_551_000,
+            "18446744073709552",
+        ),
+    ] {
+        assert_eq!(rt; value_of(unit, last), Some(Ok(value)), "{last}");
+        assert_eq!(rt; value_of(unit, next), overflow, "{next}");
+    }
+}
+
+#[test]
+fn values_numbers_of_any_length(rt: HostRuntime) {
+    let overflow = Err(Cause::Overflow { place: None });
+    let too_large = Err(Cause::NumberTooLarge { place: None });
+    for (unit, number, value) in [
+        (TimeUnit::NanoSecond, "18446744073709551615", Ok(u64::MAX)),
+        (TimeUnit::MicroSecond, "18446744073709551615", overflow),
+        (TimeUnit::NanoSecond, "18446744073709551616", too_large),
+        (TimeUnit::Year, "18446744073709551616", too_large),
+        (
+            TimeUnit::NanoSecond,
+            "100000000000000000000000000000",
+            too_large,
+        ),
+        (TimeUnit::Second, "007", Ok(7_000_000_000)),
+        (TimeUnit::Year, "0000000000000000000000000", Ok(0)),
+        (
+            TimeUnit::Year,
+            "000000000000000000000000584",
+            Ok(18_417_024_000_000_000_000),
+        ),
+        (
+            TimeUnit::NanoSecond,
+            "00018446744073709551615",
+            Ok(u64::MAX),
+        ),
+        (TimeUnit::NanoSecond, "00018446744073709551616", too_large),
+    ] {
+        assert_eq!(rt; value_of(unit, number), Some(value), "{number}");
     }
 }
 
