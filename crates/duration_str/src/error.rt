@@ -63,7 +63,7 @@ mod tests {
     use std::alloc::AllocError;
     use std::test::Fail;
 
-    fn causes() -> [(Cause, &'static str); 4] {
+    fn causes() -> [(Cause, &'static str); 7] {
         let expected = Expected {
             number: true,
             unit_word: false,
@@ -82,6 +82,15 @@ mod tests {
             (
                 Cause::Mixed { first, later },
                 "not support '+' with '*' calculate",
+            ),
+            (Cause::OutOfRange, "date out of range"),
+            (
+                Cause::NotText { optional: false },
+                "expect duration string, e.g: '1min+30'",
+            ),
+            (
+                Cause::NotText { optional: true },
+                "expect duration string, null, or missing field",
             ),
         ]
     }
