@@ -58,6 +58,7 @@ impl Fault<'_> {
 mod tests {
     use super::{DError, own_line};
     use crate::fault::{Cause, Expected, Fault};
+    use crate::parser::parse;
     use crate::unit::CondUnit;
     use refusing::Refusing;
     use std::alloc::AllocError;
@@ -108,11 +109,21 @@ mod tests {
 
     #[test]
     fn becomes_an_error(rt: HostRuntime) -> Result<(), Fail> {
-        let cause = Cause::Empty;
-        let error = Fault { text: "", cause }.to_derror(rt.alloc())?;
-        let line = String::from_str(rt.alloc(), "Empty input")?;
-        assert_eq!(rt; error, DError::ParseError(line));
-        assert_eq!(rt; error.to_string(rt.alloc())?.as_str(), "Empty input");
+        for (text, line) in [
+            ("", "Empty input"),
+            ("1m+", "expected number"),
+            (
+                "18446744073709551616",
+                "number too large to fit in target type",
+            ),
+            ("1m 2s*3", "not support '+' with '*' calculate"),
+        ] {
+            let fault = parse(text).err().expect(&rt, "a refused text");
+            let error = fault.to_derror(rt.alloc())?;
+            let held = String::from_str(rt.alloc(), line)?;
+            assert_eq!(rt; error, DError::ParseError(held));
+            assert_eq!(rt; error.to_string(rt.alloc())?.as_str(), line);
+        }
         Ok(())
     }
 
