@@ -3,20 +3,20 @@ use Rattle.std.proofs.Common.{◌≡◌, ℕ, ◌+◌, ◌-◌, ◌*◌, ◌%◌
 use Rattle.std.specs.Prelude.{is_some, IsSome, IfSome, IsTrue, slice_range, if◌then◌else◌}
 use Rattle.std.specs.List.{list_all}
 use Rattle.std.specs.Char.{is_ascii_alphabetic}
-use Rattle.std.proofs.lemmas.Bool.{and_from, true≢false}
+use Rattle.std.proofs.lemmas.Bool.{and_from, and_parts, true≢false}
 use Rattle.std.proofs.lemmas.List.Folds.{list_all-append}
 use Rattle.std.specs.Option.{ForSome}
 use Rattle.std.specs.Str.{IsCharBoundary, chars}
 use Rattle.std.proofs.lemmas.Str.{length-le-encodes, encodes-chars, chars-append, IsUtf8-take, IsUtf8-drop}
 use Rattle.std.proofs.lemmas.List.{take-append-drop, drop-drop, append_cancel_right}
 use Rattle.std.proofs.Math.Nat.{pow-le-pow_right}
-use Rattle.std.proofs.Common.{length-append, append_assoc, append-nil, length-drop}
+use Rattle.std.proofs.Common.{add_assoc, add-zero, length-append, append_assoc, length-drop}
 use lib.Utf8.{encodes}
 use Rattle.duration_str.specs.declared.unit.Options.{Options}
 use Rattle.duration_str.specs.declared.unit.TimeUnit.{TimeUnit}
 use Rattle.duration_str.specs.Pieces.{pieces_from, IsPiece, EndsRun}
-use Rattle.duration_str.proofs.PieceLemmas.{pieces_are, pieces_once, pieces_step}
-use Rattle.duration_str.specs.Text.{byte_len, is_blank, IsBlank, is_digit, is_unit_letter, number_after, number_of, IsNumber}
+use Rattle.duration_str.proofs.PieceLemmas.{pieces_step}
+use Rattle.duration_str.specs.Text.{width, byte_len, is_blank, IsBlank, is_digit, is_unit_letter, number_after, number_of, IsNumber}
 use Rattle.duration_str.specs.Units.{unit_of_word}
 use Rattle.duration_str.specs.Value.{kept}
 use Rattle.duration_str.specs.Packed.{unit_of_packed}
@@ -223,22 +223,27 @@ same_slice slice text text' start place next is same there = is ∙ (λ i. slice
 
 -- ---- the first piece that is left
 
--- blanks and a piece are taken, which stands behind the blanks
-pub piece_taken : (o : Options) (text : List ℕ) (old place next : ℕ) (cs : List ℕ) → Passes is_blank text old place → Between text place next cs → IsPiece o cs → EndsRun o cs (ahead text next)
-    → pieces_from o old (ahead text old) ≡ record { start = place; characters = cs } ∷ pieces_from o next (ahead text next)
-piece_taken o text old place next cs blanks between is_piece ends =
-    let cut : ahead text old ≡ blanks.characters ++ (cs ++ ahead text next) = blanks.between.cut ∙ ap (λ l. blanks.characters ++ l) between.cut in
-    ap (pieces_from o old) cut ∙ pieces_step o old blanks.characters cs (ahead text next) blanks.all is_piece ends
-    ∙ (λ i. record { start = sym blanks.between.bytes i; characters = cs } ∷ pieces_from o (step i) (ahead text next))
-  where
-    step : old + byte_len blanks.characters + byte_len cs ≡ next
-    step = omega (arith, blanks.between.bytes, between.bytes)
+blanks_no_piece : (o : Options) (at : ℕ) (blanks rest : List ℕ) → IsBlank blanks → pieces_from o at (blanks ++ rest) ≡ pieces_from o (at + byte_len blanks) rest
+blanks_no_piece o at [] rest h = ap (λ n. pieces_from o n rest) (sym (add-zero at))
+blanks_no_piece o at (b ∷ blanks) rest h =
+    let parts = and_parts (is_blank b) (list_all is_blank blanks) h in
+    rw (parts.0) (blanks_no_piece o (at + width b) blanks rest parts.1) ∙ ap (λ n. pieces_from o n rest) (add_assoc at (width b) (byte_len blanks))
 
--- blanks alone are no piece
-pub none_taken : (o : Options) (text : List ℕ) (old place : ℕ) → Passes is_blank text old place → ahead text place ≡ [] → pieces_from o old (ahead text old) ≡ []
-none_taken o text old place blanks nothing =
-    let cut : ahead text old ≡ blanks.characters = blanks.between.cut ∙ ap (λ l. blanks.characters ++ l) nothing ∙ append-nil blanks.characters in
-    pieces_once o old (ahead text old) (pieces_from o old (ahead text old)) [] (pieces_are o old (ahead text old)) (subst IsBlank (sym cut) blanks.all)
+-- the same pieces are left behind blanks
+pub blanks_passed : (o : Options) (text : List ℕ) (place next : ℕ) → Passes is_blank text place next → pieces_from o place (ahead text place) ≡ pieces_from o next (ahead text next)
+blanks_passed o text place next blanks =
+    ap (pieces_from o place) blanks.between.cut ∙ blanks_no_piece o place blanks.characters (ahead text next) blanks.all
+    ∙ ap (λ n. pieces_from o n (ahead text next)) (sym blanks.between.bytes)
+
+-- a piece is taken
+pub piece_taken : (o : Options) (text : List ℕ) (place next : ℕ) (cs : List ℕ) → Between text place next cs → IsPiece o cs → EndsRun o cs (ahead text next)
+    → pieces_from o place (ahead text place) ≡ record { start = place; characters = cs } ∷ pieces_from o next (ahead text next)
+piece_taken o text place next cs between is_piece ends =
+    ap (pieces_from o place) between.cut ∙ pieces_step o place [] cs (ahead text next) refl is_piece ends
+    ∙ (λ i. record { start = add-zero place i; characters = cs } ∷ pieces_from o (step i) (ahead text next))
+  where
+    step : place + 0 + byte_len cs ≡ next
+    step = omega (arith, between.bytes)
 
 -- where nothing lies ahead, the place is the end of the text
 pub place_at_end : (text : List ℕ) (place : ℕ) → IsUtf8 text → IsCharBoundary text place → ahead text place ≡ [] → place ≡ length text

@@ -32,7 +32,7 @@ pub mod GreatestBreakdown
 pub mod EqualTexts
 pub mod ReadsBack
 pub mod Rows
-pub mod MeaningLemmas
+pub mod SortLemmas
 pub mod TokensLemmas
 pub mod ReaderLemmas
 pub mod DigitLemmas

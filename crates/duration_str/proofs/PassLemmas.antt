@@ -6,14 +6,13 @@ use Rattle.duration_str.specs.declared.unit.CondUnit.{CondUnit}
 use Rattle.duration_str.specs.declared.unit.CondUnit.TheVariants.{Plus}
 use Rattle.duration_str.specs.declared.fault.Cause.{Cause}
 use Rattle.duration_str.specs.declared.fault.Cause.TheVariants.{Syntax}
-use Rattle.duration_str.specs.declared.reader.Tally.{Tally}
 use Rattle.duration_str.specs.Units.{nanos_of}
 use Rattle.duration_str.specs.Grammar.{Token, number, word, operator, other, token_of}
 use Rattle.duration_str.specs.Pieces.{Piece, words_of}
 use Rattle.duration_str.specs.Place.{kinds_after, last_of, front_after, start_after}
 use Rattle.duration_str.specs.Value.{Term, second, kept, terms_after}
 use Rattle.duration_str.specs.Reading.{standing}
-use Rattle.duration_str.specs.Machine.{Last, start as at_start, number as at_number, word as at_word, operator as at_operator, State, placed_tokens, added, tallied, tallied_on, with_last, on_ok, run}
+use Rattle.duration_str.specs.Machine.{Last, at_start, at_number, at_word, at_operator, Tally, State, placed_tokens, added, tallied, tallied_on, with_last, on_ok, run}
 use Rattle.duration_str.proofs.FrontLemmas.{CanBeLast}
 
 abbrev pub on_tally : {A : Type 0} → Result Tally Cause → (Tally → Result A Cause) → Result A Cause

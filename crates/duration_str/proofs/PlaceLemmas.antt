@@ -11,8 +11,6 @@ use Rattle.duration_str.specs.declared.unit.Options.{Options}
 use Rattle.duration_str.specs.declared.unit.CondUnit.{CondUnit}
 use Rattle.duration_str.specs.declared.fault.Cause.{Cause}
 use Rattle.duration_str.specs.declared.fault.Cause.TheVariants.{Empty, Syntax, NumberTooLarge, Overflow, Mixed, OutOfRange, NotText}
-use Rattle.duration_str.specs.declared.reader.Tally.{Tally}
-use Rattle.duration_str.specs.declared.reader.Tally.TheVariants.{Nothing, One, More, Held}
 use Rattle.duration_str.specs.Text.{byte_len}
 use Rattle.duration_str.specs.Grammar.{Token}
 use Rattle.duration_str.specs.Pieces.{Piece, ArePieces, pieces_of}
@@ -21,7 +19,7 @@ use Rattle.duration_str.specs.Value.{Term, value_of_term, sum_of, together, join
 use Rattle.duration_str.specs.Reading.{standing_terms, place_behind, first_fault, running_fault, early_fault, late_fault}
 use Rattle.duration_str.specs.Answer.{is_whole, late_answer, answer_after, answer}
 use Rattle.duration_str.specs.Passing.{IsNoSyntax, HoldsNoSyntax}
-use Rattle.duration_str.specs.Machine.{nothing_of, first_added, sum_added, later_added, added, tallied, IsCutTo}
+use Rattle.duration_str.specs.Machine.{Tally, Nothing, One, More, Held, nothing_of, first_added, sum_added, later_added, added, tallied, IsCutTo}
 use Rattle.duration_str.specs.Faults.{place_of}
 use Rattle.duration_str.proofs.TextLemmas.{width-scalar, byte_len-append}
 use Rattle.duration_str.proofs.PieceLemmas.{pieces_are}
@@ -252,3 +250,8 @@ fault_cut (Overflow place) len at h = tt
 fault_cut (Mixed first later) len at h = tt
 fault_cut OutOfRange len at h = tt
 fault_cut (NotText optional) len at h = tt
+
+-- A text whose result is no syntax fault is cut to its end.
+pub result_cut : (r : Result ℕ Cause) (len at : ℕ) → HasNoSyntax r → at ≡ len → IsCutTo r len at
+result_cut (Ok nanos) len at h e = e
+result_cut (Err cause) len at h e = fault_cut cause len at h

@@ -1,303 +1,401 @@
 -- The reader's steps along the pass over the tokens.
-use Rattle.std.proofs.Common.{◌≡◌, ℕ, ◌≤◌, ◌<◌, Bool, true, false, List, length, Option, Some, None, Result, Ok, Err, refl, sym, ap, subst, ◌∙◌, arith}
-use Rattle.duration_str.specs.declared.unit.Options.{Options}
+use Rattle.std.proofs.Common.{◌≡◌, ℕ, ◌+◌, ◌^◌, ◌<◌, ◌≤◌, IsTrue, add-zero, if◌then◌else◌, Bool, true, false, List, [], ◌∷◌, length, Option, Some, None, Result, Ok, Err, refl, sym, ap, subst, ◌∙◌, arith}
+use Rattle.std.proofs.lemmas.Bool.{true≢false, false_from_ne_true, lt-ltb, ltb-true}
 use Rattle.duration_str.specs.declared.unit.TimeUnit.{TimeUnit}
 use Rattle.duration_str.specs.declared.unit.CondUnit.{CondUnit}
-use Rattle.duration_str.specs.declared.unit.CondUnit.TheVariants.{Plus}
-use Rattle.duration_str.specs.declared.fault.Expected.{Expected}
+use Rattle.duration_str.specs.declared.unit.CondUnit.TheVariants.{Plus, Star}
+use Rattle.duration_str.specs.declared.unit.TimeUnit.TheVariants.{Second}
 use Rattle.duration_str.specs.declared.fault.Cause.{Cause}
-use Rattle.duration_str.specs.declared.fault.Cause.TheVariants.{Syntax}
-use Rattle.duration_str.specs.declared.token.Lexeme.{Lexeme}
-use Rattle.duration_str.specs.declared.token.Meaning.{Meaning}
-use Rattle.duration_str.specs.declared.token.Meaning.TheVariants as meanings
+use Rattle.duration_str.specs.declared.fault.Expected.{Expected}
+use Rattle.duration_str.specs.declared.fault.Cause.TheVariants.{Syntax, Overflow}
+use Rattle.duration_str.specs.declared.token.Sort.{Sort}
+use Rattle.duration_str.specs.declared.token.Sort.TheVariants as sorts
 use Rattle.duration_str.specs.declared.token.Tokens.{Tokens}
-use Rattle.duration_str.specs.declared.reader.Tally.{Tally}
-use Rattle.duration_str.specs.declared.reader.Progress.{Progress}
-use Rattle.duration_str.specs.declared.reader.Progress.TheVariants.{Goes, Ends}
-use Rattle.duration_str.specs.declared.reader.AfterNumber.{AfterNumber}
-use Rattle.duration_str.specs.declared.reader.AfterNumber.TheVariants as numbers
-use Rattle.duration_str.specs.declared.reader.AfterUnit.{AfterUnit}
-use Rattle.duration_str.specs.declared.reader.AfterUnit.TheVariants as units
 use Rattle.duration_str.specs.Units.{nanos_of}
-use Rattle.duration_str.specs.Value.{second}
-use Rattle.duration_str.specs.Grammar.{token_of}
-use Rattle.duration_str.specs.Meanings.{meaning_of}
-use Rattle.duration_str.specs.Tokens.{source, options_of, place_of, left, lexeme_steps}
-use Rattle.duration_str.specs.Machine.{Placed, placed_tokens, Last, start, number, word, operator, added, tallied, tallied_on, with_last, moved, at_end, on_ok, run, IsCutTo}
-use Rattle.duration_str.proofs.PlaceLemmas.{HasNoSyntax, LeavesNoSyntax, added_no_syntax, tallied_no_syntax, fault_cut}
-use Rattle.duration_str.specs.Passing.{number_at, first_number, after_number_at, after_number, after_unit_at, after_unit, ended_by, ended, run_from, run_reading, HoldsNoSyntax, ReadsOn}
+use Rattle.duration_str.specs.Value.{second, kept, fits, term_value}
+use Rattle.duration_str.specs.Grammar.{Token, number, word, operator, other, token_of}
+use Rattle.duration_str.specs.Pieces.{Piece}
+use Rattle.duration_str.specs.Sorts.{sort_of}
+use Rattle.duration_str.specs.Tokens.{source, options_of, place_of, left, IsAhead, LooksAhead, TakesPiece, TakesNumberPiece}
+use Rattle.duration_str.specs.Machine.{Placed, placed_tokens, Last, at_start, at_number, at_word, at_operator, Tally, One, More, Held, nothing_of, first_added, sum_added, later_added, later_tally, added, tallied, tallied_on, expected_after, with_last, moved, at_end, on_ok, run, IsCutTo}
+use Rattle.duration_str.specs.Passing.{comes, comes_behind, EndsWith, ReadsNumber, ReadsUnit, ReadsOperator, HoldsNoSyntax, IsSum}
+use Rattle.duration_str.proofs.PlaceLemmas.{LeavesNoSyntax, added_no_syntax, tallied_no_syntax, fault_cut, result_cut}
+use Rattle.duration_str.proofs.TokensLemmas.{none_left, first_left}
 
--- ---- one step over the next piece, or the end
+-- ---- what is left of the pass
 
--- what the pass comes to from a lexeme on, where the tokens `qs` stand behind it
-abbrev run_lexeme : Bool → ℕ → Option Lexeme → List Placed → Last → Tally → Result ℕ Cause
-run_lexeme no_calc len None qs last tally = at_end no_calc len last tally
-run_lexeme no_calc len (Some x) qs last tally = on_ok (moved no_calc last tally x.start x.meaning) (run no_calc len qs)
-
-pass_lexeme : (s t : Tokens) (o : Options) (r : Option Lexeme) (no_calc : Bool) (len : ℕ) (last : Last) (tally : Tally) → lexeme_steps s r t → options_of s ≡ o
-    → run_from no_calc len (placed_tokens o (left s)) last tally ≡ run_lexeme no_calc len r (placed_tokens o (left t)) last tally
+-- from the end on
+pub comes_to_end : (no_calc : Bool) (s : Tokens) (last : Last) (tally : Tally) → IsAhead s None → comes no_calc s last tally ≡ at_end no_calc (length (source s)) last tally
 unfolding run
-pass_lexeme s t o None no_calc len last tally steps e = ap (λ ps. run_from no_calc len (placed_tokens o ps) last tally) steps.none
-pass_lexeme s t o (Some x) no_calc len last tally steps e =
-    ap (λ ps. run_from no_calc len (placed_tokens o ps) last tally) steps.1.first
-    ∙ ap (λ m. on_ok (moved no_calc last tally x.start m) (run no_calc len (placed_tokens o (left t)))) (sym (steps.2 ∙ ap (λ p. meaning_of (token_of p steps.0)) e))
+comes_to_end no_calc s last tally end =
+    ap (λ ps. run no_calc (length (source s)) (placed_tokens (options_of s) ps) (record { last = last; tally = tally })) (none_left s end).0
 
-pub lexeme_source : (s t : Tokens) (r : Option Lexeme) → lexeme_steps s r t → source t ≡ source s
-lexeme_source s t None steps = steps.same_source
-lexeme_source s t (Some x) steps = steps.1.same_source
+-- from a first piece on, which is left
+comes_over : (no_calc : Bool) (s : Tokens) (last : Last) (tally : Tally) (start : ℕ) (cs : List ℕ) (rest : List Piece) → left s ≡ record { start = start; characters = cs } ∷ rest
+    → comes no_calc s last tally ≡ on_ok (moved no_calc last tally start (token_of (options_of s) cs)) (run no_calc (length (source s)) (placed_tokens (options_of s) rest))
+unfolding run
+comes_over no_calc s last tally start cs rest first =
+    ap (λ ps. run no_calc (length (source s)) (placed_tokens (options_of s) ps) (record { last = last; tally = tally })) first
 
-pub lexeme_options : (s t : Tokens) (r : Option Lexeme) → lexeme_steps s r t → options_of t ≡ options_of s
-lexeme_options s t None steps = steps.same_options
-lexeme_options s t (Some x) steps = steps.1.same_options
+-- from s on, where this piece is taken up to t
+comes_past : (no_calc : Bool) (s t : Tokens) (last : Last) (tally : Tally) (token : Token) → TakesPiece s t token
+    → comes no_calc s last tally ≡ on_ok (moved no_calc last tally (place_of s) token) (run no_calc (length (source t)) (placed_tokens (options_of t) (left t)))
+comes_past no_calc s t last tally token taken =
+    comes_over no_calc s last tally (place_of s) taken.characters (left t) taken.first
+    ∙ (λ i. on_ok (moved no_calc last tally (place_of s) (sym taken.is_token i)) (run no_calc (length (sym taken.same_source i)) (placed_tokens (sym taken.same_options i) (left t))))
 
--- ---- what stands behind a number
+-- from behind the blanks on
+comes_ahead : (no_calc : Bool) (s m : Tokens) (sort : Option Sort) (last : Last) (tally : Tally) → LooksAhead s m sort → comes no_calc s last tally ≡ comes no_calc m last tally
+comes_ahead no_calc s m sort last tally look =
+    (λ i. run no_calc (length (sym look.same_source i)) (placed_tokens (sym look.same_options i) (sym look.same_left i)) (record { last = last; tally = tally }))
 
-abbrev number_comes : Bool → ℕ → Result AfterNumber Cause → List Placed → CondUnit → Option ℕ → Tally → Result ℕ Cause
-number_comes no_calc len (Ok (numbers.Unit u)) qs op n tally = on_ok (with_last word (added no_calc tally op n (nanos_of u))) (run no_calc len qs)
-number_comes no_calc len (Ok (numbers.Operator next)) qs op n tally = on_ok (with_last (operator next) (added no_calc tally op n second)) (run no_calc len qs)
-number_comes no_calc len (Ok numbers.End) qs op n tally = tallied_on (added no_calc tally op n second)
-number_comes no_calc len (Err cause) qs op n tally = Err cause
+fewer : (s m t : Tokens) (sort : Option Sort) (token : Token) → LooksAhead s m sort → TakesPiece m t token → length (left t) < length (left s)
+fewer s m t sort token look taken = omega (arith, ap length taken.first, ap length look.same_left)
 
-number_moves : (no_calc : Bool) (len at : ℕ) (meaning : Meaning) (qs : List Placed) (op : CondUnit) (n : Option ℕ) (tally : Tally)
-    → on_ok (moved no_calc (number op n) tally at meaning) (run no_calc len qs) ≡ number_comes no_calc len (after_number_at no_calc at meaning) qs op n tally
-number_moves no_calc len at (meanings.Number m) qs op n tally = refl
-number_moves no_calc len at (meanings.Word None) qs op n tally = refl
-number_moves no_calc len at (meanings.Word (Some u)) qs op n tally = refl
-number_moves true len at (meanings.Operator next) qs op n tally = refl
-number_moves false len at (meanings.Operator next) qs op n tally = refl
-number_moves no_calc len at meanings.Other qs op n tally = refl
+-- ---- a syntax fault
 
-number_runs : (no_calc : Bool) (len : ℕ) (r : Option Lexeme) (qs : List Placed) (op : CondUnit) (n : Option ℕ) (tally : Tally)
-    → run_lexeme no_calc len r qs (number op n) tally ≡ number_comes no_calc len (after_number no_calc r) qs op n tally
-number_runs no_calc len None qs op n tally = refl
-number_runs no_calc len (Some x) qs op n tally = number_moves no_calc len x.start x.meaning qs op n tally
+-- whether a piece of this sort is one of the expected
+abbrev pub is_expected : Expected → Sort → Bool
+is_expected e sorts.Number = e.number
+is_expected e sorts.Word = e.unit_word
+is_expected e (sorts.Operator op) = e.operator
+is_expected e sorts.Other = false
 
-pub pass_number : (s t : Tokens) (r : Option Lexeme) (after : Result AfterNumber Cause) (no_calc : Bool) (len : ℕ) (op : CondUnit) (n : Option ℕ) (tally : Tally)
-    → lexeme_steps s r t → after ≡ after_number no_calc r
-    → run_from no_calc len (placed_tokens (options_of s) (left s)) (number op n) tally ≡ number_comes no_calc len after (placed_tokens (options_of s) (left t)) op n tally
-pass_number s t r after no_calc len op n tally steps is =
-    pass_lexeme s t (options_of s) r no_calc len (number op n) tally steps refl ∙ number_runs no_calc len r (placed_tokens (options_of s) (left t)) op n tally
-    ∙ ap (λ a. number_comes no_calc len a (placed_tokens (options_of s) (left t)) op n tally) (sym is)
+refused : (no_calc : Bool) (last : Last) (tally : Tally) (at : ℕ) (token : Token) → is_expected (expected_after no_calc last) (sort_of token) ≡ false
+    → moved no_calc last tally at token ≡ Err (Syntax at (expected_after no_calc last))
+refused no_calc at_start tally at (number n) h = absurd cc
+refused no_calc at_start tally at (word u) h = refl
+refused no_calc at_start tally at (operator next) h = refl
+refused no_calc at_start tally at other h = refl
+refused no_calc (at_number op m) tally at (number n) h = refl
+refused no_calc (at_number op m) tally at (word u) h = absurd cc
+refused true (at_number op m) tally at (operator next) h = refl
+refused false (at_number op m) tally at (operator next) h = absurd cc
+refused no_calc (at_number op m) tally at other h = refl
+refused no_calc at_word tally at (number n) h = absurd cc
+refused no_calc at_word tally at (word u) h = refl
+refused true at_word tally at (operator next) h = refl
+refused false at_word tally at (operator next) h = absurd cc
+refused no_calc at_word tally at other h = refl
+refused no_calc (at_operator op) tally at (number n) h = absurd cc
+refused no_calc (at_operator op) tally at (word u) h = refl
+refused no_calc (at_operator op) tally at (operator next) h = refl
+refused no_calc (at_operator op) tally at other h = refl
 
--- A term ends with its unit, before an operator, or at the end: it is added, with this result.
-pub ends_with_unit : (s t : Tokens) (r : Option Lexeme) (u : TimeUnit) (no_calc : Bool) (len : ℕ) (op : CondUnit) (n : Option ℕ) (tally : Tally) (sum : Result Tally Cause)
-    → lexeme_steps s r t → Ok (numbers.Unit u) ≡ after_number no_calc r → sum ≡ added no_calc tally op n (nanos_of u)
-    → run_from no_calc len (placed_tokens (options_of s) (left s)) (number op n) tally ≡ on_ok (with_last word sum) (run no_calc len (placed_tokens (options_of s) (left t)))
-ends_with_unit s t r u no_calc len op n tally sum steps is adds =
-    pass_number s t r (Ok (numbers.Unit u)) no_calc len op n tally steps is
-    ∙ ap (λ x. on_ok (with_last word x) (run no_calc len (placed_tokens (options_of s) (left t)))) (sym adds)
+-- a piece of a sort that may not stand behind the last piece
+pub ends_at_place : (no_calc : Bool) (s m : Tokens) (last : Last) (tally : Tally) (sort : Sort) (place : ℕ) → LooksAhead s m (Some sort)
+    → is_expected (expected_after no_calc last) sort ≡ false → place ≡ place_of m → EndsWith (comes no_calc s last tally) s m (Err (Syntax place (expected_after no_calc last)))
+ends_at_place no_calc s m last tally sort place look h there =
+    let first = first_left m sort look.ahead in
+    let token = token_of (options_of m) first.0 in
+    let unexpected : is_expected (expected_after no_calc last) (sort_of token) ≡ false = ap (is_expected (expected_after no_calc last)) (sym first.3) ∙ h in (
+      comes_ahead no_calc s m (Some sort) last tally look
+          ∙ comes_over no_calc m last tally (place_of m) first.0 first.1 first.2
+          ∙ ap (λ r. on_ok r (run no_calc (length (source m)) (placed_tokens (options_of m) first.1))) (refused no_calc last tally (place_of m) token unexpected)
+          ∙ ap (λ p. Err (Syntax p (expected_after no_calc last))) (sym there),
+      omega (arith, there),
+    )
 
-pub ends_before_operator : (s t : Tokens) (r : Option Lexeme) (next : CondUnit) (no_calc : Bool) (len : ℕ) (op : CondUnit) (n : Option ℕ) (tally : Tally) (sum : Result Tally Cause)
-    → lexeme_steps s r t → Ok (numbers.Operator next) ≡ after_number no_calc r → sum ≡ added no_calc tally op n second
-    → run_from no_calc len (placed_tokens (options_of s) (left s)) (number op n) tally ≡ on_ok (with_last (operator next) sum) (run no_calc len (placed_tokens (options_of s) (left t)))
-ends_before_operator s t r next no_calc len op n tally sum steps is adds =
-    pass_number s t r (Ok (numbers.Operator next)) no_calc len op n tally steps is
-    ∙ ap (λ x. on_ok (with_last (operator next) x) (run no_calc len (placed_tokens (options_of s) (left t)))) (sym adds)
+-- the end, where the text may not end
+ends_too_early : (no_calc : Bool) (s m : Tokens) (last : Last) (tally : Tally) (place : ℕ) → LooksAhead s m None
+    → ((len : ℕ) → at_end no_calc len last tally ≡ Err (Syntax len (expected_after no_calc last))) → place ≡ place_of m
+    → EndsWith (comes no_calc s last tally) s m (Err (Syntax place (expected_after no_calc last)))
+ends_too_early no_calc s m last tally place look early there =
+    let end = none_left m look.ahead in (
+      comes_ahead no_calc s m None last tally look ∙ comes_to_end no_calc m last tally look.ahead ∙ early (length (source m))
+          ∙ ap (λ p. Err (Syntax p (expected_after no_calc last))) (sym (there ∙ end.1)),
+      omega (arith, there),
+    )
 
-pub ends_at_end : (s t : Tokens) (r : Option Lexeme) (no_calc : Bool) (len : ℕ) (op : CondUnit) (n : Option ℕ) (tally : Tally) (sum : Result Tally Cause)
-    → lexeme_steps s r t → Ok numbers.End ≡ after_number no_calc r → sum ≡ added no_calc tally op n second
-    → run_from no_calc len (placed_tokens (options_of s) (left s)) (number op n) tally ≡ tallied_on sum
-ends_at_end s t r no_calc len op n tally sum steps is adds =
-    pass_number s t r (Ok numbers.End) no_calc len op n tally steps is ∙ ap tallied_on (sym adds)
+-- ---- a number
 
--- A fault of a term doesn't depend on where the text is cut.
-pub term_fault_cut : (no_calc : Bool) (tally : Tally) (op : CondUnit) (n : Option ℕ) (length len at : ℕ) (cause : Cause) → HoldsNoSyntax tally
-    → Err cause ≡ added no_calc tally op n length → IsCutTo (Err cause) len at
-term_fault_cut no_calc tally op n length len at cause holds is =
-    fault_cut cause len at (subst LeavesNoSyntax (sym is) (added_no_syntax no_calc tally op n length holds))
+number_taken : (no_calc : Bool) (s m t : Tokens) (last : Last) (op : CondUnit) (tally : Tally) (value : Option ℕ) → LooksAhead s m (Some sorts.Number) → TakesNumberPiece m t value
+    → ((n at : ℕ) → moved no_calc last tally at (number n) ≡ Ok (record { last = at_number op (kept n); tally = tally }))
+    → (comes no_calc s last tally ≡ comes no_calc t (at_number op value) tally) × (length (left t) < length (left s))
+number_taken no_calc s m t last op tally value look taken moves = (
+  comes_ahead no_calc s m _ last tally look
+      ∙ comes_past no_calc m t last tally (number taken.0) taken.1
+      ∙ ap (λ r. on_ok r (run no_calc (length (source t)) (placed_tokens (options_of t) (left t)))) (moves taken.0 (place_of m))
+      ∙ ap (λ n. comes no_calc t (at_number op n) tally) (sym taken.2),
+  fewer s m t _ _ look taken.1,
+)
 
--- The tally of an added term holds no syntax fault.
-pub sum_holds : (no_calc : Bool) (tally sum : Tally) (op : CondUnit) (n : Option ℕ) (length : ℕ) → HoldsNoSyntax tally
-    → Ok sum ≡ added no_calc tally op n length → HoldsNoSyntax sum
-sum_holds no_calc tally sum op n length holds is = subst LeavesNoSyntax (sym is) (added_no_syntax no_calc tally op n length holds)
+pub number_read : (no_calc : Bool) (s m t : Tokens) (behind : Option CondUnit) (tally : Tally) (value : Option ℕ) → LooksAhead s m (Some sorts.Number) → TakesNumberPiece m t value
+    → ReadsNumber no_calc s t behind tally (Ok value)
+number_read no_calc s m t None tally value look taken = number_taken no_calc s m t at_start Plus tally value look taken (λ n at. refl)
+number_read no_calc s m t (Some op) tally value look taken = number_taken no_calc s m t (at_operator op) op tally value look taken (λ n at. refl)
 
--- ---- what stands behind a unit
+pub no_number : (no_calc : Bool) (s m : Tokens) (behind : Option CondUnit) (tally : Tally) (sort : Sort) (place : ℕ) → LooksAhead s m (Some sort)
+    → is_expected (expected_after no_calc at_start) sort ≡ false → place ≡ place_of m
+    → ReadsNumber no_calc s m behind tally (Err (Syntax place (expected_after no_calc at_start)))
+no_number no_calc s m None tally sort place look h there = ends_at_place no_calc s m at_start tally sort place look h there
+no_number no_calc s m (Some op) tally sort place look h there = ends_at_place no_calc s m (at_operator op) tally sort place look h there
 
-abbrev unit_comes : Bool → ℕ → Result AfterUnit Cause → List Placed → Tally → Result ℕ Cause
-unit_comes no_calc len (Ok (units.Number n)) qs tally = run_from no_calc len qs (number Plus n) tally
-unit_comes no_calc len (Ok (units.Operator op)) qs tally = run_from no_calc len qs (operator op) tally
-unit_comes no_calc len (Ok units.End) qs tally = tallied tally
-unit_comes no_calc len (Err cause) qs tally = Err cause
+pub no_number_at_end : (no_calc : Bool) (s m : Tokens) (behind : Option CondUnit) (tally : Tally) (place : ℕ) → LooksAhead s m None → place ≡ place_of m
+    → ReadsNumber no_calc s m behind tally (Err (Syntax place (expected_after no_calc at_start)))
+no_number_at_end no_calc s m None tally place look there = ends_too_early no_calc s m at_start tally place look (λ len. refl) there
+no_number_at_end no_calc s m (Some op) tally place look there = ends_too_early no_calc s m (at_operator op) tally place look (λ len. refl) there
 
-unit_moves : (no_calc : Bool) (len at : ℕ) (meaning : Meaning) (qs : List Placed) (tally : Tally)
-    → on_ok (moved no_calc word tally at meaning) (run no_calc len qs) ≡ unit_comes no_calc len (after_unit_at no_calc at meaning) qs tally
-unit_moves no_calc len at (meanings.Number m) qs tally = refl
-unit_moves no_calc len at (meanings.Word u) qs tally = refl
-unit_moves true len at (meanings.Operator next) qs tally = refl
-unit_moves false len at (meanings.Operator next) qs tally = refl
-unit_moves no_calc len at meanings.Other qs tally = refl
+-- ---- a unit
 
-unit_runs : (no_calc : Bool) (len : ℕ) (r : Option Lexeme) (qs : List Placed) (tally : Tally)
-    → run_lexeme no_calc len r qs word tally ≡ unit_comes no_calc len (after_unit no_calc r) qs tally
-unit_runs no_calc len None qs tally = refl
-unit_runs no_calc len (Some x) qs tally = unit_moves no_calc len x.start x.meaning qs tally
+behind_unit : (no_calc : Bool) (t : Tokens) (r : Result Tally Cause) → on_ok (with_last at_word r) (run no_calc (length (source t)) (placed_tokens (options_of t) (left t))) ≡ comes_behind no_calc t r
+behind_unit no_calc t (Ok tally) = refl
+behind_unit no_calc t (Err cause) = refl
 
-pub pass_unit : (s t : Tokens) (o : Options) (r : Option Lexeme) (after : Result AfterUnit Cause) (no_calc : Bool) (len : ℕ) (tally : Tally)
-    → lexeme_steps s r t → options_of s ≡ o → after ≡ after_unit no_calc r
-    → run_from no_calc len (placed_tokens o (left s)) word tally ≡ unit_comes no_calc len after (placed_tokens o (left t)) tally
-pass_unit s t o r after no_calc len tally steps e is =
-    pass_lexeme s t o r no_calc len word tally steps e ∙ unit_runs no_calc len r (placed_tokens o (left t)) tally
-    ∙ ap (λ a. unit_comes no_calc len a (placed_tokens o (left t)) tally) (sym is)
+pub unit_taken : (no_calc : Bool) (s m t : Tokens) (op : CondUnit) (n : Option ℕ) (tally : Tally) (u : TimeUnit) → LooksAhead s m (Some sorts.Word) → TakesPiece m t (word (Some u))
+    → ReadsUnit no_calc s t op n tally (Ok u)
+unit_taken no_calc s m t op n tally u look taken = (
+  comes_ahead no_calc s m _ (at_number op n) tally look
+      ∙ comes_past no_calc m t (at_number op n) tally (word (Some u)) taken
+      ∙ behind_unit no_calc t (added no_calc tally op n (nanos_of u)),
+  omega (arith, fewer s m t _ _ look taken),
+)
 
--- A term ends with its unit, and this stands behind it.
-pub passes_unit : (s t v : Tokens) (x y : Option Lexeme) (u : TimeUnit) (after : Result AfterUnit Cause) (no_calc : Bool) (len : ℕ) (op : CondUnit) (n : Option ℕ) (tally sum : Tally)
-    → lexeme_steps s x t → Ok (numbers.Unit u) ≡ after_number no_calc x → Ok sum ≡ added no_calc tally op n (nanos_of u)
-    → lexeme_steps t y v → after ≡ after_unit no_calc y
-    → run_from no_calc len (placed_tokens (options_of s) (left s)) (number op n) tally ≡ unit_comes no_calc len after (placed_tokens (options_of s) (left v)) sum
-passes_unit s t v x y u after no_calc len op n tally sum steps is adds steps' is' =
-    ends_with_unit s t x u no_calc len op n tally (Ok sum) steps is adds
-    ∙ pass_unit t v (options_of s) y after no_calc len sum steps' (lexeme_options s t x steps) is'
+-- a word that names no unit
+pub unknown_word : (no_calc : Bool) (s m t : Tokens) (op : CondUnit) (n : Option ℕ) (tally : Tally) (place : ℕ) → LooksAhead s m (Some sorts.Word) → TakesPiece m t (word None)
+    → place ≡ place_of m → EndsWith (comes no_calc s (at_number op n) tally) s t (Err (Syntax place (expected_after no_calc (at_number op n))))
+unknown_word no_calc s m t op n tally place look taken there = (
+  comes_ahead no_calc s m _ (at_number op n) tally look
+      ∙ comes_past no_calc m t (at_number op n) tally (word None) taken
+      ∙ ap (λ p. Err (Syntax p (expected_after no_calc (at_number op n)))) (sym there),
+  omega (arith, taken.between.bytes, there),
+)
 
--- ---- the number that has to come, behind the operator `op`
+operator_token : (token : Token) (op : CondUnit) → sorts.Operator op ≡ sort_of token → token ≡ operator op
+operator_token (number n) op e = absurd cc
+operator_token (word u) op e = absurd cc
+operator_token (operator next) op e = let same : next ≡ op = cc in ap operator same
+operator_token other op e = absurd cc
 
-abbrev first_comes : Bool → ℕ → Result (Option ℕ) Cause → List Placed → CondUnit → Tally → Result ℕ Cause
-first_comes no_calc len (Ok n) qs op tally = run_from no_calc len qs (number op n) tally
-first_comes no_calc len (Err cause) qs op tally = Err cause
-
-start_moves : (no_calc : Bool) (len at : ℕ) (meaning : Meaning) (qs : List Placed) (tally : Tally)
-    → on_ok (moved no_calc start tally at meaning) (run no_calc len qs) ≡ first_comes no_calc len (number_at at meaning) qs Plus tally
-start_moves no_calc len at (meanings.Number m) qs tally = refl
-start_moves no_calc len at (meanings.Word u) qs tally = refl
-start_moves no_calc len at (meanings.Operator next) qs tally = refl
-start_moves no_calc len at meanings.Other qs tally = refl
-
-operand_moves : (no_calc : Bool) (len at : ℕ) (meaning : Meaning) (qs : List Placed) (op : CondUnit) (tally : Tally)
-    → on_ok (moved no_calc (operator op) tally at meaning) (run no_calc len qs) ≡ first_comes no_calc len (number_at at meaning) qs op tally
-operand_moves no_calc len at (meanings.Number m) qs op tally = refl
-operand_moves no_calc len at (meanings.Word u) qs op tally = refl
-operand_moves no_calc len at (meanings.Operator next) qs op tally = refl
-operand_moves no_calc len at meanings.Other qs op tally = refl
-
-start_runs : (no_calc : Bool) (len : ℕ) (r : Option Lexeme) (qs : List Placed) (tally : Tally)
-    → run_lexeme no_calc len r qs start tally ≡ first_comes no_calc len (first_number len r) qs Plus tally
-start_runs no_calc len None qs tally = refl
-start_runs no_calc len (Some x) qs tally = start_moves no_calc len x.start x.meaning qs tally
-
-operand_runs : (no_calc : Bool) (len : ℕ) (r : Option Lexeme) (qs : List Placed) (op : CondUnit) (tally : Tally)
-    → run_lexeme no_calc len r qs (operator op) tally ≡ first_comes no_calc len (first_number len r) qs op tally
-operand_runs no_calc len None qs op tally = refl
-operand_runs no_calc len (Some x) qs op tally = operand_moves no_calc len x.start x.meaning qs op tally
-
-pub pass_start : (s t : Tokens) (r : Option Lexeme) (first : Result (Option ℕ) Cause) (no_calc : Bool) (len : ℕ) (tally : Tally)
-    → lexeme_steps s r t → first ≡ first_number len r
-    → run_from no_calc len (placed_tokens (options_of s) (left s)) start tally ≡ first_comes no_calc len first (placed_tokens (options_of s) (left t)) Plus tally
-pass_start s t r first no_calc len tally steps is =
-    pass_lexeme s t (options_of s) r no_calc len start tally steps refl ∙ start_runs no_calc len r (placed_tokens (options_of s) (left t)) tally
-    ∙ ap (λ f. first_comes no_calc len f (placed_tokens (options_of s) (left t)) Plus tally) (sym is)
-
-pub pass_operand : (s t : Tokens) (r : Option Lexeme) (first : Result (Option ℕ) Cause) (no_calc : Bool) (len : ℕ) (op : CondUnit) (tally : Tally)
-    → lexeme_steps s r t → first ≡ first_number len r
-    → run_from no_calc len (placed_tokens (options_of s) (left s)) (operator op) tally ≡ first_comes no_calc len first (placed_tokens (options_of s) (left t)) op tally
-pass_operand s t r first no_calc len op tally steps is =
-    pass_lexeme s t (options_of s) r no_calc len (operator op) tally steps refl ∙ operand_runs no_calc len r (placed_tokens (options_of s) (left t)) op tally
-    ∙ ap (λ f. first_comes no_calc len f (placed_tokens (options_of s) (left t)) op tally) (sym is)
-
--- ---- up to where the text is cut at a fault
-
-behind_start : (s t : Tokens) (x : Lexeme) → lexeme_steps s (Some x) t → x.start ≤ place_of t
-behind_start s t x steps = omega (arith, steps.1.between.bytes)
-
--- a syntax fault at a byte that is cut
-syntax_cut : (at place : ℕ) (len : ℕ) (cause : Cause) (expected : Expected) → cause ≡ Syntax place expected → place ≤ at → IsCutTo (Err cause) len at
-syntax_cut at place len cause expected is order = subst (λ c. IsCutTo (Err c) len at) (sym is) order
-
-err_same : {A : Type 0} (c d : Cause) → (let r : Result A Cause = Err c in r) ≡ Err d → c ≡ d
-err_same c d e = cc
-
-number_cut : (at place len : ℕ) (meaning : Meaning) (cause : Cause) → Err cause ≡ number_at place meaning → place ≤ at → IsCutTo (Err cause) len at
-number_cut at place len (meanings.Number n) cause is order = absurd cc
-number_cut at place len (meanings.Word u) cause is order = syntax_cut at place len cause _ (err_same cause _ is) order
-number_cut at place len (meanings.Operator op) cause is order = syntax_cut at place len cause _ (err_same cause _ is) order
-number_cut at place len meanings.Other cause is order = syntax_cut at place len cause _ (err_same cause _ is) order
-
-pub first_cut : (s t : Tokens) (r : Option Lexeme) (len : ℕ) (cause : Cause) → lexeme_steps s r t → len ≡ length (source s) → Err cause ≡ first_number len r → IsCutTo (Err cause) len (place_of t)
-first_cut s t None len cause steps e is = syntax_cut (place_of t) len len cause _ (err_same cause _ is) (omega (arith, e, steps.place))
-first_cut s t (Some x) len cause steps e is = number_cut (place_of t) x.start len x.meaning cause is (behind_start s t x steps)
-
-after_number_cut : (no_calc : Bool) (at place len : ℕ) (meaning : Meaning) (cause : Cause) → Err cause ≡ after_number_at no_calc place meaning → place ≤ at → IsCutTo (Err cause) len at
-after_number_cut no_calc at place len (meanings.Number n) cause is order = syntax_cut at place len cause _ (err_same cause _ is) order
-after_number_cut no_calc at place len (meanings.Word None) cause is order = syntax_cut at place len cause _ (err_same cause _ is) order
-after_number_cut no_calc at place len (meanings.Word (Some u)) cause is order = absurd cc
-after_number_cut true at place len (meanings.Operator op) cause is order = syntax_cut at place len cause _ (err_same cause _ is) order
-after_number_cut false at place len (meanings.Operator op) cause is order = absurd cc
-after_number_cut no_calc at place len meanings.Other cause is order = syntax_cut at place len cause _ (err_same cause _ is) order
-
-pub number_fault_cut : (s t : Tokens) (r : Option Lexeme) (no_calc : Bool) (len : ℕ) (cause : Cause) → lexeme_steps s r t → Err cause ≡ after_number no_calc r → IsCutTo (Err cause) len (place_of t)
-number_fault_cut s t None no_calc len cause steps is = absurd cc
-number_fault_cut s t (Some x) no_calc len cause steps is = after_number_cut no_calc (place_of t) x.start len x.meaning cause is (behind_start s t x steps)
-
-after_unit_cut : (no_calc : Bool) (at place len : ℕ) (meaning : Meaning) (cause : Cause) → Err cause ≡ after_unit_at no_calc place meaning → place ≤ at → IsCutTo (Err cause) len at
-after_unit_cut no_calc at place len (meanings.Number n) cause is order = absurd cc
-after_unit_cut no_calc at place len (meanings.Word u) cause is order = syntax_cut at place len cause _ (err_same cause _ is) order
-after_unit_cut true at place len (meanings.Operator op) cause is order = syntax_cut at place len cause _ (err_same cause _ is) order
-after_unit_cut false at place len (meanings.Operator op) cause is order = absurd cc
-after_unit_cut no_calc at place len meanings.Other cause is order = syntax_cut at place len cause _ (err_same cause _ is) order
-
-pub unit_fault_cut : (s t : Tokens) (r : Option Lexeme) (no_calc : Bool) (len : ℕ) (cause : Cause) → lexeme_steps s r t → Err cause ≡ after_unit no_calc r → IsCutTo (Err cause) len (place_of t)
-unit_fault_cut s t None no_calc len cause steps is = absurd cc
-unit_fault_cut s t (Some x) no_calc len cause steps is = after_unit_cut no_calc (place_of t) x.start len x.meaning cause is (behind_start s t x steps)
-
--- where nothing stands behind a number or a unit, the text is cut to its end
-pub number_end_cut : (s t : Tokens) (r : Option Lexeme) (no_calc : Bool) → lexeme_steps s r t → Ok numbers.End ≡ after_number no_calc r → place_of t ≡ length (source s)
-number_end_cut s t None no_calc steps is = steps.place
-number_end_cut s t (Some x) no_calc steps is = absurd (at_meaning no_calc x.meaning is)
+-- an operator behind a number, which is not taken
+pub unit_before_operator : (s m : Tokens) (op next : CondUnit) (n : Option ℕ) (tally : Tally) → LooksAhead s m (Some (sorts.Operator next)) → ReadsUnit false s m op n tally (Ok Second)
+unit_before_operator s m op next n tally look = (
+  comes_ahead false s m _ (at_number op n) tally look ∙ over (at_number op n) tally ∙ behind (added false tally op n second),
+  omega (arith, ap length look.same_left),
+)
   where
-    at_meaning : (b : Bool) (meaning : Meaning) → Ok numbers.End ≡ after_number_at b x.start meaning → ⊥
-    at_meaning b (meanings.Number n) h = cc
-    at_meaning b (meanings.Word None) h = cc
-    at_meaning b (meanings.Word (Some u)) h = cc
-    at_meaning true (meanings.Operator op) h = cc
-    at_meaning false (meanings.Operator op) h = cc
-    at_meaning b meanings.Other h = cc
+    first : (cs : List ℕ) × (rest : List Piece) × (left m ≡ record { start = place_of m; characters = cs } ∷ rest) × (sorts.Operator next ≡ sort_of (token_of (options_of m) cs))
+    first = first_left m (sorts.Operator next) look.ahead
 
-pub unit_end_cut : (s t : Tokens) (r : Option Lexeme) (no_calc : Bool) → lexeme_steps s r t → Ok units.End ≡ after_unit no_calc r → place_of t ≡ length (source s)
-unit_end_cut s t None no_calc steps is = steps.place
-unit_end_cut s t (Some x) no_calc steps is = absurd (at_meaning no_calc x.meaning is)
+    token : token_of (options_of m) first.0 ≡ operator next
+    token = operator_token _ next first.3
+
+    over : (last : Last) (tally : Tally) → comes false m last tally
+        ≡ on_ok (moved false last tally (place_of m) (operator next)) (run false (length (source m)) (placed_tokens (options_of m) first.1))
+    over last tally = comes_over false m last tally (place_of m) first.0 first.1 first.2
+        ∙ ap (λ x. on_ok (moved false last tally (place_of m) x) (run false (length (source m)) (placed_tokens (options_of m) first.1))) token
+
+    behind : (r : Result Tally Cause) → on_ok (with_last (at_operator next) r) (run false (length (source m)) (placed_tokens (options_of m) first.1)) ≡ comes_behind false m r
+    behind (Ok tally) = sym (over at_word tally)
+    behind (Err cause) = refl
+
+-- the end behind a number
+pub unit_at_end : (no_calc : Bool) (s m : Tokens) (op : CondUnit) (n : Option ℕ) (tally : Tally) → LooksAhead s m None → ReadsUnit no_calc s m op n tally (Ok Second)
+unit_at_end no_calc s m op n tally look = (
+  comes_ahead no_calc s m None (at_number op n) tally look ∙ comes_to_end no_calc m (at_number op n) tally look.ahead ∙ behind (added no_calc tally op n second),
+  omega (arith, ap length look.same_left),
+)
   where
-    at_meaning : (b : Bool) (meaning : Meaning) → Ok units.End ≡ after_unit_at b x.start meaning → ⊥
-    at_meaning b (meanings.Number n) h = cc
-    at_meaning b (meanings.Word u) h = cc
-    at_meaning true (meanings.Operator op) h = cc
-    at_meaning false (meanings.Operator op) h = cc
-    at_meaning b meanings.Other h = cc
+    behind : (r : Result Tally Cause) → tallied_on r ≡ comes_behind no_calc m r
+    behind (Ok tally) = sym (comes_to_end no_calc m at_word tally look.ahead)
+    behind (Err cause) = refl
 
--- ---- fewer pieces are left
+-- ---- an operator
 
-pub left_fewer : (s t : Tokens) (x : Lexeme) → lexeme_steps s (Some x) t → length (left t) < length (left s)
-left_fewer s t x steps = omega (arith, ap length steps.1.first)
+pub operator_at_end : (no_calc : Bool) (s m : Tokens) (tally : Tally) → LooksAhead s m None → ReadsOperator no_calc s m tally (Ok None)
+operator_at_end no_calc s m tally look =
+    (comes_ahead no_calc s m None at_word tally look ∙ comes_to_end no_calc m at_word tally look.ahead, (none_left m look.ahead).1 ∙ ap length look.same_source)
 
-pub left_no_more : (s t : Tokens) (r : Option Lexeme) → lexeme_steps s r t → length (left t) ≤ length (left s)
-left_no_more s t None steps = omega (arith, ap length steps.none, ap length steps.still_none)
-left_no_more s t (Some x) steps = omega (arith, left_fewer s t x steps)
+number_token : (no_calc : Bool) (tally : Tally) (at : ℕ) (token : Token) → sorts.Number ≡ sort_of token → moved no_calc at_word tally at token ≡ moved no_calc (at_operator Plus) tally at token
+number_token no_calc tally at (number n) e = refl
+number_token no_calc tally at (word u) e = absurd cc
+number_token no_calc tally at (operator next) e = absurd cc
+number_token no_calc tally at other e = absurd cc
 
-pub number_fewer : (s t : Tokens) (r : Option Lexeme) (len : ℕ) (n : Option ℕ) → lexeme_steps s r t → Ok n ≡ first_number len r → length (left t) < length (left s)
-number_fewer s t None len n steps is = absurd cc
-number_fewer s t (Some x) len n steps is = left_fewer s t x steps
+-- a left-out plus before a number, which is not taken
+pub operator_left_out : (no_calc : Bool) (s m : Tokens) (tally : Tally) → LooksAhead s m (Some sorts.Number) → ReadsOperator no_calc s m tally (Ok (Some Plus))
+operator_left_out no_calc s m tally look =
+    let first = first_left m sorts.Number look.ahead in
+    let token = token_of (options_of m) first.0 in (
+      comes_ahead no_calc s m _ at_word tally look
+          ∙ comes_over no_calc m at_word tally (place_of m) first.0 first.1 first.2
+          ∙ ap (λ r. on_ok r (run no_calc (length (source m)) (placed_tokens (options_of m) first.1))) (number_token no_calc tally (place_of m) token first.3)
+          ∙ sym (comes_over no_calc m (at_operator Plus) tally (place_of m) first.0 first.1 first.2),
+      omega (arith, ap length look.same_left),
+      (λ yes. refl),
+    )
 
-pub unit_fewer : (s t : Tokens) (r : Option Lexeme) (no_calc : Bool) (n : Option ℕ) → lexeme_steps s r t → Ok (units.Number n) ≡ after_unit no_calc r → length (left t) < length (left s)
-unit_fewer s t None no_calc n steps is = absurd cc
-unit_fewer s t (Some x) no_calc n steps is = left_fewer s t x steps
+pub operator_taken : (s m t : Tokens) (op : CondUnit) (tally : Tally) → LooksAhead s m (Some (sorts.Operator op))
+    → ((sort : Sort) → IsAhead m (Some sort) → (token : Token) × TakesPiece m t token × (sort ≡ sort_of token)) → ReadsOperator false s t tally (Ok (Some op))
+operator_taken s m t op tally look taken =
+    let sign = taken (sorts.Operator op) look.ahead in (
+      comes_ahead false s m _ at_word tally look
+          ∙ comes_past false m t at_word tally sign.0 sign.1
+          ∙ ap (λ x. on_ok (moved false at_word tally (place_of m) x) (run false (length (source t)) (placed_tokens (options_of t) (left t)))) (operator_token sign.0 op sign.2),
+      omega (arith, fewer s m t _ _ look sign.1),
+      (λ yes. absurd (true≢false (sym yes))),
+    )
 
--- ---- the end behind a term
+-- ---- the terms behind each other
 
-ended_result : (no_calc : Bool) (len : ℕ) (s t : Tokens) (r : Result ℕ Cause) → HasNoSyntax r → place_of t ≡ len → ReadsOn no_calc len r s t (ended_by r)
-ended_result no_calc len s t (Ok value) h e = (refl, e)
-ended_result no_calc len s t (Err cause) h e = (refl, fault_cut cause len (place_of t) h)
+-- The pass goes on from t as from s.
+pub ends_on : (all all' : Result ℕ Cause) (s t v : Tokens) (r : Result ℕ Cause) → all ≡ all' → source t ≡ source s → EndsWith all' t v r → EndsWith all s v r
+ends_on all all' s t v r same text ends = (same ∙ ends.0, subst (λ bytes. IsCutTo r (length bytes) (place_of v)) text ends.1)
 
-pub ended_reads : (no_calc : Bool) (len : ℕ) (s t : Tokens) (tally : Tally) → HoldsNoSyntax tally → place_of t ≡ len → ReadsOn no_calc len (tallied tally) s t (ended tally)
-ended_reads no_calc len s t tally h e = ended_result no_calc len s t (tallied tally) (tallied_no_syntax tally h) e
+-- A term ends with this unit, and is added with this result.
+pub behind_term : (no_calc : Bool) (s t : Tokens) (op : CondUnit) (n : Option ℕ) (tally : Tally) (u : TimeUnit) (r : Result Tally Cause) → ReadsUnit no_calc s t op n tally (Ok u)
+    → r ≡ added no_calc tally op n (nanos_of u) → comes no_calc s (at_number op n) tally ≡ comes_behind no_calc t r
+behind_term no_calc s t op n tally u r reads is = reads.0 ∙ ap (comes_behind no_calc t) (sym is)
 
--- ---- the pass goes on from an operator
+-- The fault of a term, which is no syntax fault, ends the pass wherever the text is cut.
+pub ends_at_term : (no_calc : Bool) (all : Result ℕ Cause) (s t : Tokens) (op : CondUnit) (n : Option ℕ) (tally : Tally) (u : TimeUnit) (cause : Cause) → HoldsNoSyntax tally
+    → all ≡ Err cause → Err cause ≡ added no_calc tally op n (nanos_of u) → EndsWith all s t (Err cause)
+ends_at_term no_calc all s t op n tally u cause holds same is =
+    (same, fault_cut cause (length (source s)) (place_of t) (subst LeavesNoSyntax (sym is) (added_no_syntax no_calc tally op n (nanos_of u) holds)))
 
-goes_on : (no_calc : Bool) (len : ℕ) (all from : Result ℕ Cause) (s t v : Tokens) (r : Result Progress Cause) → all ≡ from → options_of t ≡ options_of s → length (left t) ≤ length (left s)
-    → ReadsOn no_calc len from t v r → ReadsOn no_calc len all s v r
-goes_on no_calc len all from s t v (Ok (Goes next)) same e fewer reads =
-    (same ∙ reads.0 ∙ ap (λ o. run_reading no_calc len (placed_tokens o (left v)) next) e, reads.1, omega (arith, fewer, reads.2))
-goes_on no_calc len all from s t v (Ok (Ends value)) same e fewer reads = (same ∙ reads.0, reads.1)
-goes_on no_calc len all from s t v (Err cause) same e fewer reads = (same ∙ reads.0, reads.1)
+-- The end behind the last term.
+pub ends_with_tally : (all : Result ℕ Cause) (s t v : Tokens) (tally : Tally) (no_calc : Bool) → HoldsNoSyntax tally → all ≡ comes no_calc t at_word tally → source t ≡ source s
+    → ReadsOperator no_calc t v tally (Ok None) → EndsWith all s v (tallied tally)
+ends_with_tally all s t v tally no_calc holds same text reads =
+    (same ∙ reads.0, result_cut (tallied tally) (length (source s)) (place_of v) (tallied_no_syntax tally holds) (reads.1 ∙ ap length text))
 
-pub operand_goes_on : (no_calc : Bool) (len : ℕ) (all : Result ℕ Cause) (op : CondUnit) (tally : Tally) (s t v : Tokens) (r : Result Progress Cause)
-    → all ≡ run_from no_calc len (placed_tokens (options_of s) (left t)) (operator op) tally → options_of t ≡ options_of s → length (left t) ≤ length (left s)
-    → ReadsOn no_calc len (run_from no_calc len (placed_tokens (options_of t) (left t)) (operator op) tally) t v r → ReadsOn no_calc len all s v r
-operand_goes_on no_calc len all op tally s t v r same e fewer reads =
-    goes_on no_calc len all _ s t v r (same ∙ ap (λ o. run_from no_calc len (placed_tokens o (left t)) (operator op) tally) (sym e)) e fewer reads
+-- ---- the first operator is set
+
+same_added : (first : ℕ) (op : CondUnit) (n : Option ℕ) (length : ℕ) → added false (One first) op n length ≡ added false (More first op (nothing_of op)) op n length
+same_added first Plus n length = refl
+same_added first Star n length = refl
+
+same_run : (first len : ℕ) (op : CondUnit) (n : Option ℕ) (ps : List Placed)
+    → run false len ps (record { last = at_number op n; tally = One first }) ≡ run false len ps (record { last = at_number op n; tally = More first op (nothing_of op) })
+unfolding run
+same_run first len op n [] = ap tallied_on (same_added first op n second)
+same_run first len op n (p ∷ ps) = over p.token
+  where
+    over : (token : Token) → on_ok (moved false (at_number op n) (One first) p.start token) (run false len ps)
+        ≡ on_ok (moved false (at_number op n) (More first op (nothing_of op)) p.start token) (run false len ps)
+    over (number m) = refl
+    over (word None) = refl
+    over (word (Some u)) = ap (λ r. on_ok (with_last at_word r) (run false len ps)) (same_added first op n (nanos_of u))
+    over (operator next) = ap (λ r. on_ok (with_last (at_operator next) r) (run false len ps)) (same_added first op n second)
+    over other = refl
+
+operator_run : (first len : ℕ) (op : CondUnit) (ps : List Placed)
+    → run false len ps (record { last = at_operator op; tally = One first }) ≡ run false len ps (record { last = at_operator op; tally = More first op (nothing_of op) })
+unfolding run
+operator_run first len op [] = refl
+operator_run first len op (p ∷ ps) = over p.token
+  where
+    over : (token : Token) → on_ok (moved false (at_operator op) (One first) p.start token) (run false len ps)
+        ≡ on_ok (moved false (at_operator op) (More first op (nothing_of op)) p.start token) (run false len ps)
+    over (number m) = same_run first len op (kept m) ps
+    over (word u) = refl
+    over (operator next) = refl
+    over other = refl
+
+-- The operator before the second term is set.
+pub operator_set : (no_calc : Bool) (s : Tokens) (first : ℕ) (set : CondUnit) → (IsTrue no_calc → set ≡ Plus)
+    → comes no_calc s (at_operator set) (One first) ≡ comes no_calc s (at_operator set) (later_tally no_calc first set (Ok (nothing_of set)))
+operator_set false s first set plus = operator_run first (length (source s)) set (placed_tokens (options_of s) (left s))
+operator_set true s first set plus =
+    ap (λ sum. comes true s (at_operator set) (One sum)) (sym (add-zero first) ∙ ap (λ op. first + nothing_of op) (sym (plus refl)))
+
+-- ---- the terms of a sum
+
+plus_is_no_star : Star ≡ Plus → ⊥
+plus_is_no_star e = cc
+
+abbrev or_held : Result Tally Cause → Tally
+or_held (Ok tally) = tally
+or_held (Err cause) = Held cause
+
+by_fit : (b : Bool) (n : ℕ) → first_added (if b then Ok n else Err (Overflow None)) ≡ (if b then Ok (One n) else Err (Overflow None))
+by_fit true n = refl
+by_fit false n = refl
+
+-- a number above one of 2^64 or more
+stays_large : (n m : ℕ) → m ≤ n → fits m ≡ false → fits n ≡ false
+stays_large n m order large = false_from_ne_true (fits n) (λ h. true≢false (sym (lt-ltb m (2 ^ 64) (omega (arith, ltb-true n (2 ^ 64) h, order))) ∙ large))
+
+sum_fits : (first total x : ℕ) (b : Bool) → fits (total + x) ≡ b
+    → first_added (tallied (if b then More first Plus (total + x) else Held (Overflow None))) ≡ (if fits (first + total + x) then Ok (One (first + total + x)) else Err (Overflow None))
+sum_fits first total x true e =
+    let same : first + (total + x) ≡ first + total + x = omega arith in
+    by_fit (fits (first + (total + x))) (first + (total + x)) ∙ ap (λ n. if fits n then Ok (One n) else Err (Overflow None)) same
+sum_fits first total x false e = rw (stays_large (first + total + x) (total + x) (omega arith) e) refl
+
+-- A term that is added to the later ones is added to the sum of all.
+sum_step : (first total : ℕ) (value : Result ℕ Cause) → first_added (tallied (later_added first Plus total value)) ≡ sum_added (first + total) value
+sum_step first total (Ok x) = sum_fits first total x (fits (total + x)) refl
+sum_step first total (Err cause) = refl
+
+-- what is kept of later terms that come to a sum
+summed : (first : ℕ) (r : Result ℕ Cause) → IsSum first Plus r → Ok (later_tally true first Plus r) ≡ first_added (tallied (later_tally false first Plus r))
+summed first (Ok total) sum = sym (of_fit (fits (first + total)) sum.1)
+  where
+    of_fit : (b : Bool) → (if b then Ok (first + total) else Err (Overflow None)) ≡ Ok sum.0 → first_added (if b then Ok (first + total) else Err (Overflow None)) ≡ Ok (One (first + total))
+    of_fit true e = refl
+    of_fit false e = absurd cc
+summed first (Err cause) sum = absurd cc
+
+-- Under `no_calc` all that comes to a sum is added as the terms are.
+sum_added_on : (first : ℕ) (r r' : Result ℕ Cause) (n : Option ℕ) (length : ℕ) → IsSum first Plus r → Ok (later_tally false first Plus r') ≡ added false (later_tally false first Plus r) Plus n length
+    → first_added (tallied (later_tally false first Plus r')) ≡ added true (later_tally true first Plus r) Plus n length
+sum_added_on first (Ok total) r' n length sum is =
+    let same : later_tally false first Plus r' ≡ later_added first Plus total (term_value None n length) = ap or_held is in
+    ap (λ tally. first_added (tallied tally)) same ∙ sum_step first total (term_value None n length)
+sum_added_on first (Err cause) r' n length sum is = absurd cc
+
+pub held_at_first : (no_calc : Bool) (first : ℕ) (set : CondUnit) (total : ℕ) → HoldsNoSyntax (later_tally no_calc first set (Ok total))
+held_at_first true first set total = tt
+held_at_first false first set total = tt
+
+pub sum_at_first : (first : ℕ) (set : CondUnit) (total : ℕ) → first < 2 ^ 64 → set ≡ Plus → total ≡ nothing_of set → IsSum first set (Ok total)
+sum_at_first first Plus total h e is = (first, rw (is, add-zero first, lt-ltb first (2 ^ 64) h) refl)
+sum_at_first first Star total h e is = absurd (plus_is_no_star e)
+
+-- One more later term is added, where a sum stays a sum.
+term_added : (no_calc : Bool) (first : ℕ) (set op : CondUnit) (r r' : Result ℕ Cause) (n : Option ℕ) (length : ℕ) → (IsTrue no_calc → (set ≡ Plus) × (op ≡ Plus) × IsSum first set r × IsSum first set r')
+    → Ok (later_tally false first set r') ≡ added false (later_tally false first set r) op n length → Ok (later_tally no_calc first set r') ≡ added no_calc (later_tally no_calc first set r) op n length
+term_added false first set op r r' n length sums is = is
+term_added true first set op r r' n length sums is = by_plus set op (sums refl) is
+  where
+    by_plus : (set op : CondUnit) → (set ≡ Plus) × (op ≡ Plus) × IsSum first set r × IsSum first set r' → Ok (later_tally false first set r') ≡ added false (later_tally false first set r) op n length
+        → Ok (later_tally true first set r') ≡ added true (later_tally true first set r) op n length
+    by_plus Plus Plus sums is = summed first r' sums.3 ∙ sum_added_on first r r' n length sums.2 is
+    by_plus Star op sums is = absurd (plus_is_no_star sums.0)
+    by_plus Plus Star sums is = absurd (plus_is_no_star sums.1)
+
+-- Under `no_calc` a fault of the sum ends the pass.
+pub sum_at_fault : (no_calc : Bool) (first : ℕ) (set op : CondUnit) (r r' : Result ℕ Cause) (n : Option ℕ) (length : ℕ) (cause : Cause) → no_calc ≡ true → set ≡ Plus → op ≡ Plus → IsSum first set r
+    → Ok (later_tally false first set r') ≡ added false (later_tally false first set r) op n length → tallied (later_tally false first set r') ≡ Err cause
+    → Err cause ≡ added no_calc (later_tally no_calc first set r) op n length
+sum_at_fault false first set op r r' n length cause on e f sum is fault = absurd (true≢false (sym on))
+sum_at_fault true first Plus Plus r r' n length cause on e f sum is fault = sym (ap first_added fault) ∙ sum_added_on first r r' n length sum is
+sum_at_fault true first Star op r r' n length cause on e f sum is fault = absurd (plus_is_no_star e)
+sum_at_fault true first Plus Star r r' n length cause on e f sum is fault = absurd (plus_is_no_star f)
+
+-- The terms of a sum come to it.
+pub comes_to_sum : (no_calc : Bool) (first : ℕ) (set : CondUnit) (r : Result ℕ Cause) → (IsTrue no_calc → (set ≡ Plus) × IsSum first set r)
+    → tallied (later_tally no_calc first set r) ≡ tallied (later_tally false first set r)
+comes_to_sum false first set r sums = refl
+comes_to_sum true first set (Err cause) sums = refl
+comes_to_sum true first Star (Ok total) sums = absurd (plus_is_no_star (sums refl).0)
+comes_to_sum true first Plus (Ok total) sums = of_fit (fits (first + total)) (sums refl).1.1
+  where
+    of_fit : (b : Bool) → (if b then Ok (first + total) else Err (Overflow None)) ≡ Ok (sums refl).1.0 → Ok (first + total) ≡ (if b then Ok (first + total) else Err (Overflow None))
+    of_fit true e = refl
+    of_fit false e = absurd cc
+
+-- One more later term is read, and the pass goes on behind it.
+pub later_read : (no_calc : Bool) (all : Result ℕ Cause) (s a b : Tokens) (first : ℕ) (set op : CondUnit) (n : Option ℕ) (u : TimeUnit) (r r' : Result ℕ Cause)
+    → all ≡ comes no_calc s (at_operator op) (later_tally no_calc first set r) → HoldsNoSyntax (later_tally no_calc first set r)
+    → ReadsNumber no_calc s a (Some op) (later_tally no_calc first set r) (Ok n) → ReadsUnit no_calc a b op n (later_tally no_calc first set r) (Ok u)
+    → Ok (later_tally false first set r') ≡ added false (later_tally false first set r) op n (nanos_of u)
+    → (IsTrue no_calc → (set ≡ Plus) × (op ≡ Plus) × IsSum first set r × IsSum first set r')
+    → (all ≡ comes no_calc b at_word (later_tally no_calc first set r')) × HoldsNoSyntax (later_tally no_calc first set r')
+later_read no_calc all s a b first set op n u r r' same holds comes_number ends is sums =
+    let tally = later_tally no_calc first set r in
+    let adds = term_added no_calc first set op r r' n (nanos_of u) sums is in (
+      same ∙ comes_number.0 ∙ behind_term no_calc a b op n tally u (Ok (later_tally no_calc first set r')) ends adds,
+      subst LeavesNoSyntax (sym adds) (added_no_syntax no_calc tally op n (nanos_of u) holds),
+    )

@@ -6,7 +6,6 @@ use Rattle.duration_str.specs.declared.unit.Options.{Options}
 use Rattle.duration_str.specs.declared.unit.CondUnit.TheVariants.{Plus}
 use Rattle.duration_str.specs.declared.fault.Cause.{Cause}
 use Rattle.duration_str.specs.declared.fault.Cause.TheVariants.{Empty, Syntax}
-use Rattle.duration_str.specs.declared.reader.Tally.TheVariants.{Nothing}
 use Rattle.duration_str.specs.Text.{byte_len}
 use Rattle.duration_str.specs.Grammar.{Token}
 use Rattle.duration_str.specs.Pieces.{pieces_of}
@@ -14,9 +13,9 @@ use Rattle.duration_str.specs.Place.{kinds_after, last_of, front_of, start_after
 use Rattle.duration_str.specs.Value.{terms_of, value_of, evaluation_fault}
 use Rattle.duration_str.specs.Reading.{ended, standing, first_fault, running_fault}
 use Rattle.duration_str.specs.Answer.{is_whole, late_answer, answer_after, answer_at, answer}
-use Rattle.duration_str.specs.Machine.{start, placed_tokens, run}
-use Rattle.duration_str.specs.Passing.{run_from}
-use Rattle.duration_str.specs.Tokens.{options_of, left}
+use Rattle.duration_str.specs.Machine.{at_start, Nothing, placed_tokens, run}
+use Rattle.duration_str.specs.Passing.{comes}
+use Rattle.duration_str.specs.Tokens.{source, options_of, left}
 use Rattle.duration_str.specs.declared.token.Tokens.{Tokens}
 use Rattle.duration_str.proofs.FrontLemmas.{begins_allowed, table_front}
 use Rattle.duration_str.proofs.SumLemmas.{AreAdded, terms_added}
@@ -71,7 +70,7 @@ front_answer true place tokens =
     no_calc_answer place (take (front_of true tokens) tokens) (drop (front_of true tokens) tokens) (front_added tokens)
 
 pub run_answers : (o : Options) (c : ℕ) (text : List ℕ)
-    → run o.no_calc (byte_len (c ∷ text)) (placed_tokens o (pieces_of o (c ∷ text))) (record { last = start; tally = Nothing }) ≡ answer o (c ∷ text)
+    → run o.no_calc (byte_len (c ∷ text)) (placed_tokens o (pieces_of o (c ∷ text))) (record { last = at_start; tally = Nothing }) ≡ answer o (c ∷ text)
 run_answers o c text =
     let tokens = tokens_of o (c ∷ text) in
     let pieces = pieces_of o (c ∷ text) in
@@ -82,7 +81,7 @@ run_answers o c text =
 -- ---- Texts by their bytes
 
 nonempty_answer : (o : Options) (text : List ℕ) → 0 < byte_len text
-    → answer o text ≡ run o.no_calc (byte_len text) (placed_tokens o (pieces_of o text)) (record { last = start; tally = Nothing })
+    → answer o text ≡ run o.no_calc (byte_len text) (placed_tokens o (pieces_of o text)) (record { last = at_start; tally = Nothing })
 nonempty_answer o [] h = absurd (omega arith)
 nonempty_answer o (c ∷ text) h = sym (run_answers o c text)
 
@@ -91,16 +90,15 @@ byte_positive zero m e h = absurd (h refl)
 byte_positive (suc n) m e h = omega (arith, e)
 
 -- What the pass over the pieces of a text comes to is the text's answer.
-pub text_answer : (o : Options) (bs : List ℕ) (tokens : Tokens) (r : Result ℕ Cause) → IsUtf8 bs → (length bs ≡ 0 → ⊥) → options_of tokens ≡ o → left tokens ≡ pieces_of o (chars bs)
-    → r ≡ run_from o.no_calc (length bs) (placed_tokens (options_of tokens) (left tokens)) start Nothing → answer o (chars bs) ≡ r
-text_answer o bs tokens r utf8 h options pieces is =
+pub text_answer : (o : Options) (bs : List ℕ) (tokens : Tokens) (r : Result ℕ Cause) → IsUtf8 bs → (length bs ≡ 0 → ⊥) → source tokens ≡ bs → options_of tokens ≡ o → left tokens ≡ pieces_of o (chars bs)
+    → comes o.no_calc tokens at_start Nothing ≡ r → answer o (chars bs) ≡ r
+text_answer o bs tokens r utf8 h text options pieces is =
     let count = byte_count bs utf8 in
     let positive : 0 < byte_len (chars bs) = byte_positive (length bs) (byte_len (chars bs)) count h in
     nonempty_answer o (chars bs) positive
-    ∙ ap (λ n. run_from o.no_calc n (placed_tokens o (pieces_of o (chars bs))) start Nothing) count
-    ∙ ap (λ ps. run_from o.no_calc (length bs) (placed_tokens o ps) start Nothing) (sym pieces)
-    ∙ ap (λ x. run_from o.no_calc (length bs) (placed_tokens x (left tokens)) start Nothing) (sym options)
-    ∙ sym is
+    ∙ ap (λ n. run o.no_calc n (placed_tokens o (pieces_of o (chars bs))) (record { last = at_start; tally = Nothing })) (count ∙ ap length (sym text))
+    ∙ (λ i. run o.no_calc (length (source tokens)) (placed_tokens (sym options i) (sym pieces i)) (record { last = at_start; tally = Nothing }))
+    ∙ is
 
 pub empty_answer : (o : Options) (bs : List ℕ) → length bs ≡ 0 → answer o (chars bs) ≡ Err Empty
 empty_answer o [] h = ap (answer o) chars-nil

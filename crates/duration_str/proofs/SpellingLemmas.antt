@@ -15,7 +15,7 @@ use Rattle.duration_str.proofs.TokenLemmas.{token_cases}
 use Rattle.duration_str.proofs.FrontLemmas.{AreAllowedWhole, sentence_allowed}
 
 -- A test that follows from another one holds of each character of which that one holds.
-all_weaker : (p q : ℕ → Bool) (cs : List ℕ) → ((c : ℕ) → p c ≡ true → q c ≡ true) → IsTrue (list_all p cs) → IsTrue (list_all q cs)
+pub all_weaker : (p q : ℕ → Bool) (cs : List ℕ) → ((c : ℕ) → p c ≡ true → q c ≡ true) → IsTrue (list_all p cs) → IsTrue (list_all q cs)
 all_weaker p q [] weaker h = refl
 all_weaker p q (c ∷ cs) weaker h = and_from _ _ (weaker c (and_parts _ _ h).0) (all_weaker p q cs weaker (and_parts _ _ h).1)
 

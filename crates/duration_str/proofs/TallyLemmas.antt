@@ -6,11 +6,9 @@ use Rattle.duration_str.specs.declared.unit.CondUnit.{CondUnit}
 use Rattle.duration_str.specs.declared.unit.CondUnit.TheVariants.{Plus, Star}
 use Rattle.duration_str.specs.declared.fault.Cause.{Cause}
 use Rattle.duration_str.specs.declared.fault.Cause.TheVariants.{NumberTooLarge, Overflow, Mixed}
-use Rattle.duration_str.specs.declared.reader.Tally.{Tally}
-use Rattle.duration_str.specs.declared.reader.Tally.TheVariants.{Nothing, One, More, Held}
 use Rattle.duration_str.specs.Value.{Term, second, kept, value_of_term, sum_of, together, joined, value_of, fits, or_else, unless, term_fault, term_value, later_fault, evaluation_fault, is_same_operator}
 use Rattle.duration_str.specs.Reading.{first_fault, running_fault, place_behind}
-use Rattle.duration_str.specs.Machine.{first_added, sum_added, later_added, added, tallied}
+use Rattle.duration_str.specs.Machine.{Tally, Nothing, One, More, Held, first_added, sum_added, later_added, added, tallied}
 use Rattle.duration_str.proofs.FaultLemmas.{no_faults, term_no_fault_below}
 use Rattle.duration_str.proofs.SumLemmas.{AreAdded, sum-append, value_is_sum}
 use Rattle.duration_str.proofs.AnswerLemmas.{later_value}

@@ -1,81 +1,122 @@
--- The steps of `Tokens`: the next piece, or the end.
-use Rattle.std.proofs.Common.{◌≡◌, ℕ, ◌-◌, ◌≤◌, drop, length-drop, arith, List, [], ◌∷◌, length, Some, None, IsUtf8, refl, sym, ap, subst, ◌∙◌}
+-- The steps of `Tokens`: what lies ahead, and the next piece.
+use Rattle.std.proofs.Common.{◌≡◌, ℕ, ◌-◌, ◌≤◌, drop, length-drop, arith, List, [], ◌∷◌, length, Option, Some, None, IsUtf8, refl, sym, ap, subst, ◌∙◌}
 use Rattle.std.specs.Prelude.{slice_range}
 use Rattle.std.specs.Str.{IsCharBoundary, chars}
 use Rattle.std.proofs.lemmas.List.{length-take-le}
-use Rattle.duration_str.specs.declared.token.Meaning.{Meaning}
+use Rattle.std.proofs.lemmas.Str.{IsUtf8-had}
+use Rattle.duration_str.specs.declared.unit.TimeUnit.{TimeUnit}
+use Rattle.duration_str.specs.declared.unit.CondUnit.{CondUnit}
+use Rattle.duration_str.specs.declared.token.What.TheVariants as whats
+use Rattle.duration_str.specs.declared.token.Sort.{Sort}
+use Rattle.duration_str.specs.declared.token.Sort.TheVariants.{Number, Word, Operator, Other}
 use Rattle.duration_str.specs.declared.token.Token.{Token as TokenPiece}
 use Rattle.duration_str.specs.declared.token.Tokens.{Tokens}
-use Rattle.duration_str.specs.Grammar.{Token, number, word, operator, other, token_of}
-use Rattle.duration_str.specs.Text.{is_blank}
-use Rattle.duration_str.specs.Pieces.{pieces_from}
-use Rattle.duration_str.specs.Cutting.{ahead, Passes}
-use Rattle.duration_str.specs.Meanings.{MeansPiece, meaning_of, sort_of}
-use Rattle.duration_str.specs.Tokens.{source, options_of, place_of, left, what_of, TakesFirst, lexeme_steps, tokens_steps}
-use Rattle.duration_str.proofs.CuttingLemmas.{chars_between, piece_taken, none_taken, place_at_end}
+use Rattle.duration_str.specs.Grammar.{Token, number, word, operator, other, operator_or_other, token_of}
+use Rattle.duration_str.specs.Text.{is_blank, is_digit, is_unit_letter, operator_of}
+use Rattle.duration_str.specs.Pieces.{Piece, pieces_from}
+use Rattle.duration_str.specs.Cutting.{ahead, StandsAt, Passes, Stops, TakesNumber, TakesWord}
+use Rattle.duration_str.specs.Sorts.{sort_at, sort_of, StandsPiece}
+use Rattle.duration_str.specs.Tokens.{source, options_of, place_of, left, what_of, IsAhead, LooksAhead, IsSign, TakesPiece, TakesNumberPiece, tokens_steps}
+use Rattle.duration_str.proofs.CuttingLemmas.{chars_between, blanks_passed, piece_taken, place_at_end}
+use Rattle.duration_str.proofs.SortLemmas.{number_stands, word_stands, sign_stands, digit_of_sort, letter_of_sort, sign_of_sort, sign_sorts, first_piece}
 
 -- what is left of the text from a place on, after the source and the options stayed
 left_same : (s t : Tokens) → source t ≡ source s → options_of t ≡ options_of s → left t ≡ pieces_from (options_of s) (place_of t) (ahead (source s) (place_of t))
 left_same s t text o = (λ i. pieces_from (o i) (place_of t) (ahead (text i) (place_of t)))
 
--- from s, past the blanks up to m, and past a piece up to t
-pub takes_first : (s m t : Tokens) (start : ℕ) (meaning : Meaning) → source m ≡ source s → options_of m ≡ options_of s → source t ≡ source m → options_of t ≡ options_of m
-    → Passes is_blank (source s) (place_of s) (place_of m) → MeansPiece (options_of m) (source m) (place_of m) (place_of t) meaning → start ≡ place_of m
-    → IsCharBoundary (source m) (place_of m) → lexeme_steps s (Some (record { start = start; meaning = meaning })) t
-takes_first s m t start meaning text o text' o' blanks piece there boundary =
-    let text'' : source t ≡ source s = text' ∙ text in
-    let o'' : options_of t ≡ options_of s = o' ∙ o in
-    let taken : MeansPiece (options_of s) (source s) start (place_of t) meaning =
-    subst (λ p. MeansPiece (options_of s) (source s) p (place_of t) meaning) (sym there)
-    (subst (λ x. MeansPiece x (source s) (place_of m) (place_of t) meaning) o (subst (λ x. MeansPiece (options_of m) x (place_of m) (place_of t) meaning) text piece)) in
-    let passed : Passes is_blank (source s) (place_of s) start = subst (Passes is_blank (source s) (place_of s)) (sym there) blanks in (
-      taken.characters,
-      record {
-        same_source = text'';
-        same_options = o'';
-        first = piece_taken (options_of s) (source s) (place_of s) start (place_of t) taken.characters passed taken.between taken.is_piece taken.ends
-            ∙ ap (λ ps. record { start = start; characters = taken.characters } ∷ ps) (sym (left_same s t text'' o''));
-        boundary = subst (λ x. IsCharBoundary x start) text (subst (IsCharBoundary (source m)) (sym there) boundary);
-        between = taken.between;
-      },
-      taken.means,
-    )
+-- ---- what lies ahead
 
--- from s, past the blanks up to m, where nothing lies ahead
-pub takes_none : (s m : Tokens) → IsUtf8 (source m) → source m ≡ source s → options_of m ≡ options_of s → Passes is_blank (source s) (place_of s) (place_of m)
-    → IsCharBoundary (source m) (place_of m) → ahead (source m) (place_of m) ≡ [] → lexeme_steps s None m
-takes_none s m utf8 text o blanks boundary nothing = record {
+-- from s, past the blanks up to t
+pub looks_ahead : (s t : Tokens) (sort : Option Sort) → source t ≡ source s → options_of t ≡ options_of s → Passes is_blank (source s) (place_of s) (place_of t) → IsAhead t sort → LooksAhead s t sort
+looks_ahead s t sort text o blanks ahead = record {
   same_source = text;
   same_options = o;
-  none = none_taken (options_of s) (source s) (place_of s) (place_of m) blanks (subst (λ x. ahead x (place_of m) ≡ []) text nothing);
-  still_none = ap (pieces_from (options_of m) (place_of m)) nothing;
-  place = place_at_end (source m) (place_of m) utf8 boundary nothing ∙ ap length text;
+  same_left = left_same s t text o ∙ sym (blanks_passed (options_of s) (source s) (place_of s) (place_of t) blanks);
+  ahead = ahead;
 }
 
--- a token has the sort of its meaning
-sort_same : (token : Token) → sort_of (meaning_of token) ≡ what_of token
-sort_same (number n) = refl
-sort_same (word u) = refl
-sort_same (operator op) = refl
-sort_same other = refl
+pub none_left : (s : Tokens) → IsAhead s None → (left s ≡ []) × (place_of s ≡ length (source s))
+none_left s end =
+    let nothing : ahead (source s) (place_of s) ≡ [] = s.none end in
+    (ap (pieces_from (options_of s) (place_of s)) nothing, place_at_end (source s) (place_of s) (IsUtf8-had s.eye.text.now s.eye.utf8) s.eye.at_place nothing)
 
--- the slice from the start of the piece that was taken has its characters
-slice_characters : (s t : Tokens) (start : ℕ) (slice cs : List ℕ) → TakesFirst s t start cs → slice ≡ slice_range (source s) start (place_of t) → IsUtf8 slice → chars slice ≡ cs
-slice_characters s t start slice cs taken is utf8 = ap chars is ∙ chars_between (source s) start (place_of t) cs taken.between (subst IsUtf8 is utf8)
+-- The first piece that is left starts at the place, and its token is of the sort ahead.
+pub first_left : (s : Tokens) (sort : Sort) → IsAhead s (Some sort)
+    → (cs : List ℕ) × (rest : List Piece) × (left s ≡ record { start = place_of s; characters = cs } ∷ rest) × (sort ≡ sort_of (token_of (options_of s) cs))
+first_left s sort h =
+    let stands : StandsAt (source s) (place_of s) s.eye.next h.0 = s.some h.0 h.1 in
+    let first = first_piece (options_of s) (place_of s) h.0 (ahead (source s) s.eye.next) h.2 in
+    (first.0, first.1, ap (pieces_from (options_of s) (place_of s)) stands.head ∙ first.2, h.3 ∙ first.3)
+
+pub one_sort : (s : Tokens) (a b : Sort) → IsAhead s (Some a) → IsAhead s (Some b) → a ≡ b
+one_sort s a b h k =
+    let heads = sym h.1 ∙ k.1 in
+    let same : h.0 ≡ k.0 = cc in
+    h.3 ∙ ap (sort_at (options_of s)) same ∙ sym k.3
+
+-- ---- the next piece
+
+takes_piece : (s t : Tokens) (token : Token) → source t ≡ source s → options_of t ≡ options_of s → StandsPiece (options_of s) (source s) (place_of s) (place_of t) token → TakesPiece s t token
+takes_piece s t token text o piece = record {
+  characters = piece.characters;
+  same_source = text;
+  same_options = o;
+  first = piece_taken (options_of s) (source s) (place_of s) (place_of t) piece.characters piece.between piece.is_piece piece.ends
+      ∙ ap (λ ps. record { start = place_of s; characters = piece.characters } ∷ ps) (sym (left_same s t text o));
+  between = piece.between;
+  is_token = piece.is_token;
+}
+
+pub takes_number : (s t : Tokens) (value : Option ℕ) → IsAhead s (Some Number) → source t ≡ source s → options_of t ≡ options_of s
+    → TakesNumber (source s) (place_of s) (place_of t) value → Stops is_digit (ahead (source t) (place_of t)) → TakesNumberPiece s t value
+takes_number s t value h text o taken stops =
+    let piece = number_stands (options_of s) (source s) (place_of s) (place_of t) s.eye.next h.0 value taken (subst (λ l. Stops is_digit (ahead l (place_of t))) text stops)
+    (s.some h.0 h.1) (digit_of_sort (options_of s) h.0 h.3) in
+    (piece.0, takes_piece s t _ text o piece.1, piece.2)
+
+pub takes_word : (s t : Tokens) (unit : Option TimeUnit) → IsAhead s (Some Word) → source t ≡ source s → options_of t ≡ options_of s
+    → TakesWord (options_of s) (source s) (place_of s) (place_of t) unit → Stops (is_unit_letter (options_of s)) (ahead (source t) (place_of t)) → TakesPiece s t (word unit)
+takes_word s t unit h text o taken stops =
+    takes_piece s t (word unit) text o
+    (word_stands (options_of s) (source s) (place_of s) (place_of t) s.eye.next h.0 unit taken (subst (λ l. Stops (is_unit_letter (options_of s)) (ahead l (place_of t))) text stops)
+    (s.some h.0 h.1) (letter_of_sort (options_of s) h.0 h.3))
+
+-- from s past the character ahead
+pub takes_sign : (s t : Tokens) (sort : Sort) → IsSign sort → IsAhead s (Some sort) → source t ≡ source s → options_of t ≡ options_of s
+    → ((c : ℕ) → s.head ≡ Some c → StandsAt (source s) (place_of s) (place_of t) c) → (token : Token) × TakesPiece s t token × (sort ≡ sort_of token)
+takes_sign s t sort sign h text o past =
+    let class = sign_of_sort (options_of s) h.0 sort sign h.3 in (
+      operator_or_other (operator_of h.0),
+      takes_piece s t _ text o (sign_stands (options_of s) (source s) (place_of s) (place_of t) h.0 (past h.0 h.1) h.2 class.0 class.1),
+      class.2 ∙ sign_sorts (operator_of h.0),
+    )
+
+-- the sort tells what the token of a single character is
+pub sign_what : (token : Token) (op : CondUnit) → Operator op ≡ sort_of token → whats.Operator op ≡ what_of token
+sign_what (number n) op e = absurd cc
+sign_what (word u) op e = absurd cc
+sign_what (operator next) op e = let same : op ≡ next = cc in ap whats.Operator same
+sign_what other op e = absurd cc
+
+pub other_what : (token : Token) → Other ≡ sort_of token → whats.Other ≡ what_of token
+other_what (number n) e = absurd cc
+other_what (word u) e = absurd cc
+other_what (operator next) e = absurd cc
+other_what other e = refl
 
 -- a token is the first piece that was left
-pub takes_token : (s t : Tokens) (x : TokenPiece) (meaning : Meaning) → lexeme_steps s (Some (record { start = x.start; meaning = meaning })) t
-    → x.text.now ≡ slice_range (source t) x.start (place_of t) → IsUtf8 x.text.now → x.what ≡ sort_of meaning → IsCharBoundary (source t) (place_of t) → tokens_steps s (Some x) t
-takes_token s t x meaning steps is utf8 sort boundary =
-    let taken = steps.1 in
-    let slice : x.text.now ≡ slice_range (source s) x.start (place_of t) = is ∙ ap (λ text. slice_range text x.start (place_of t)) taken.same_source in
-    let cs : chars x.text.now ≡ steps.0 = slice_characters s t x.start x.text.now steps.0 taken slice utf8 in
-    let order : x.start ≤ place_of t = omega (arith, taken.between.bytes) in
+pub takes_token : (s m t : Tokens) (x : TokenPiece) (token : Token) → source m ≡ source s → options_of m ≡ options_of s → left m ≡ left s → TakesPiece m t token
+    → x.start ≡ place_of m → x.text.now ≡ slice_range (source t) x.start (place_of t) → IsUtf8 x.text.now → x.what ≡ what_of token → IsCharBoundary (source m) (place_of m)
+    → IsCharBoundary (source t) (place_of t) → tokens_steps s (Some x) t
+takes_token s m t x token text o same taken there is utf8 sort before boundary =
+    let slice : x.text.now ≡ slice_range (source m) (place_of m) (place_of t) = is ∙ (λ i. slice_range (taken.same_source i) (there i) (place_of t)) in
+    let cs : chars x.text.now ≡ taken.characters = ap chars slice ∙ chars_between (source m) (place_of m) (place_of t) taken.characters taken.between (subst IsUtf8 slice utf8) in
+    let order : x.start ≤ place_of t = omega (arith, taken.between.bytes, there) in
     let len : length x.text.now ≡ place_of t - x.start =
     ap length is ∙ length-take-le (place_of t - x.start) (drop x.start (source t)) (simp length-drop (omega (arith, boundary.0, order))) in (
-      taken.first ∙ ap (λ characters. record { start = x.start; characters = characters } ∷ left t) (sym cs),
-      taken.same_source,
-      taken.same_options,
-      sort ∙ ap sort_of steps.2 ∙ sort_same (token_of (options_of s) steps.0) ∙ ap (λ characters. what_of (token_of (options_of s) characters)) (sym cs),
-      (omega (arith, len, order), slice),
+      sym same ∙ taken.first ∙ (λ i. record { start = sym there i; characters = sym cs i } ∷ left t),
+      taken.same_source ∙ text,
+      taken.same_options ∙ o,
+      sort ∙ ap what_of taken.is_token ∙ (λ i. what_of (token_of (o i) (sym cs i))),
+      (omega (arith, len, order), is ∙ ap (λ l. slice_range l x.start (place_of t)) (taken.same_source ∙ text)),
     )

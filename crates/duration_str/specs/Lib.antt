@@ -7,7 +7,7 @@ pub mod Value
 pub mod Reading
 pub mod Answer
 pub mod Cutting
-pub mod Meanings
+pub mod Sorts
 pub mod Packed
 pub mod Machine
 pub mod Passing

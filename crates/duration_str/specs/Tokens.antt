@@ -1,17 +1,20 @@
 -- What callers see of `Tokens`.
-use Rattle.std.specs.Prelude.{◌≡◌, ℕ, ◌+◌, List, [], ◌∷◌, length, Option, Some, None, MatchOption, IfSome, slice_range}
-use Rattle.std.specs.Str.{chars, IsCharBoundary}
+use Rattle.std.specs.Prelude.{◌≡◌, ℕ, ◌+◌, false, List, ◌∷◌, length, Option, Some, None, MatchOption, IfSome, slice_range}
+use Rattle.std.specs.Str.{chars}
 use Rattle.std.specs.Iterator.{YieldsFirstBy}
 use Rattle.duration_str.specs.declared.unit.Options.{Options}
 use Rattle.duration_str.specs.declared.token.What.{What}
 use Rattle.duration_str.specs.declared.token.What.TheVariants as whats
-use Rattle.duration_str.specs.declared.token.Lexeme.{Lexeme}
+use Rattle.duration_str.specs.declared.token.Sort.{Sort}
+use Rattle.duration_str.specs.declared.token.Sort.TheVariants as sorts
 use Rattle.duration_str.specs.declared.token.Token.{Token as TokenPiece}
 use Rattle.duration_str.specs.declared.token.Tokens.{Tokens}
 use Rattle.duration_str.specs.Grammar.{Token, number, word, operator, other, token_of}
 use Rattle.duration_str.specs.Pieces.{Piece, pieces_from}
 use Rattle.duration_str.specs.Cutting.{ahead, Between}
-use Rattle.duration_str.specs.Meanings.{meaning_of}
+use Rattle.duration_str.specs.Sorts.{sort_at}
+use Rattle.duration_str.specs.Text.{is_blank}
+use Rattle.duration_str.specs.Value.{kept}
 
 -- the sort of a piece that means this token
 abbrev pub what_of : Token → What
@@ -50,24 +53,33 @@ tokens_steps s r t =
     × IfSome r (λ x. x.what ≡ what_of (token_of (options_of s) (chars x.text.now)))
     × MatchOption r (place_of t ≡ length (source s)) (λ x. (place_of t ≡ x.start + length x.text.now) × (x.text.now ≡ slice_range (source s) x.start (place_of t)))
 
--- The first piece that is left is taken, which has these characters and starts at this byte.
-pub record TakesFirst (old new : Tokens) (start : ℕ) (characters : List ℕ) : Type 0 where
+-- The character ahead begins a piece of this sort; `None` at the end.
+abbrev pub IsAhead : Tokens → Option Sort → Type 0
+IsAhead s None = s.head ≡ None
+IsAhead s (Some sort) = (c : ℕ) × (s.head ≡ Some c) × (is_blank c ≡ false) × (sort ≡ sort_at (options_of s) c)
+
+-- Blanks are passed, so the same pieces are left, and the character ahead begins a piece of this sort; `None` at the end.
+pub record LooksAhead (old new : Tokens) (sort : Option Sort) : Type 0 where
   pub same_source : source new ≡ source old
   pub same_options : options_of new ≡ options_of old
-  pub first : left old ≡ record { start = start; characters = characters } ∷ left new
-  pub boundary : IsCharBoundary (source old) start
-  pub between : Between (source old) start (place_of new) characters
+  pub same_left : left new ≡ left old
+  pub ahead : IsAhead new sort
 
--- No piece is left, and the whole text is cut.
-pub record TakesNone (old new : Tokens) : Type 0 where
+-- The sort of a single character that is neither a digit nor a unit letter.
+abbrev pub IsSign : Sort → Type 0
+IsSign sorts.Number = ⊥
+IsSign sorts.Word = ⊥
+IsSign _ = Unit {0}
+
+-- The first piece that is left is taken, which starts at the place and has this token.
+pub record TakesPiece (old new : Tokens) (token : Token) : Type 0 where
+  pub characters : List ℕ
   pub same_source : source new ≡ source old
   pub same_options : options_of new ≡ options_of old
-  pub none : left old ≡ []
-  pub still_none : left new ≡ []
-  pub place : place_of new ≡ length (source old)
+  pub first : left old ≡ record { start = place_of old; characters = characters } ∷ left new
+  pub between : Between (source old) (place_of old) (place_of new) characters
+  pub is_token : token ≡ token_of (options_of old) characters
 
--- What the reader gets of the first piece that is left: its start and its meaning.
-abbrev pub lexeme_steps : Tokens → Option Lexeme → Tokens → Type 0
-lexeme_steps s None t = TakesNone s t
-lexeme_steps s (Some x) t =
-    (characters : List ℕ) × TakesFirst s t x.start characters × (x.meaning ≡ meaning_of (token_of (options_of s) characters))
+-- The first piece that is left is taken, a number, and this is the number where it is below 2^64.
+abbrev pub TakesNumberPiece : Tokens → Tokens → Option ℕ → Type 0
+TakesNumberPiece old new value = (n : ℕ) × TakesPiece old new (number n) × (value ≡ kept n)

@@ -1,6 +1,5 @@
 //! The only way to the text while it is cut: one character after the other, each look counted.
 ghost use Rattle.std.specs.Prelude.{◌≡◌, ◌+◌, ◌<◌, ◌≤◌, ◌^◌, [], is_some, IfSome, IfNone, if◌then◌else◌, slice_range, IsUtf8, length};
-ghost use Rattle.std.specs.Char.{len_utf8};
 ghost use Rattle.std.specs.Str.{IsCharBoundary};
 ghost use Rattle.duration_str.specs.Cutting.{ahead, StandsAt};
 
@@ -91,7 +90,7 @@ impl<'a> Eye<'a> {
 }
 
 /// The character at a place, and the place behind it.
-#[inline(always)]
+#[inline]
 fn character_at(text: &str, place: usize) -> (char, usize)
     requires boundary { IsCharBoundary text.now place }
     requires inside { place < length text.now }
@@ -102,22 +101,21 @@ fn character_at(text: &str, place: usize) -> (char, usize)
     if byte < 128 {
         (char::from(byte), place + 1)
     } else {
-        let c = decoded_at(text, place);
-        (c, place + c.len_utf8())
+        decoded_at(text, place)
     }
 }
 
-/// The character at a place, of any number of bytes.
+/// The character at a place, of any number of bytes, and the place behind it.
 #[cold]
 #[inline(never)]
-fn decoded_at(text: &str, place: usize) -> char
+fn decoded_at(text: &str, place: usize) -> (char, usize)
     requires boundary { IsCharBoundary text.now place }
     requires inside { place < length text.now }
-    ensures stands { StandsAt text.now place (place + len_utf8 result) result }
-    ensures boundary { IsCharBoundary text.now (place + len_utf8 result) }
+    ensures stands { StandsAt text.now place result.1 result.0 }
+    ensures boundary { IsCharBoundary text.now result.1 }
 {
     match text[place..].chars().next() {
-        Some(c) => c,
+        Some(c) => (c, place + c.len_utf8()),
         None => unreachable!(),
     }
 }

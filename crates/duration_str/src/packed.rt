@@ -5,7 +5,7 @@ ghost use Rattle.duration_str.specs.Packed.{unit_of_packed};
 use crate::unit::TimeUnit;
 
 /// The unit whose name packs to this number.
-#[inline(always)]
+#[inline]
 pub(crate) fn unit_of_packed(packed: u64) -> Option<TimeUnit>
     ensures { result ≡ unit_of_packed packed }
 {

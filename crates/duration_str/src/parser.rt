@@ -26,6 +26,7 @@ use std::time::Duration;
 /// parse("1m*60*20")        // Ok(Duration::from_secs(72_000))
 /// parse("1m 3-5")          // Err, Syntax at byte 4: a unit, an operator or the end could stand there
 /// ```
+#[inline(always)]
 pub fn parse(input: &str) -> Result<Duration, Fault<'_>>
     ensures read { IfOk result (λ d. IsRead off (chars input.now) (as_nanos d)) }
     ensures accepts { (nanos : ℕ) → IsRead off (chars input.now) nanos → IsOk result }
@@ -33,7 +34,8 @@ pub fn parse(input: &str) -> Result<Duration, Fault<'_>>
     ensures answer { IsAnswered as_nanos (answer off (chars input.now)) input.now result }
     ensures fits { IfOk result (λ d. as_nanos d < 2 ^ 64) }
 {
-    parse_with(input, Options::off())
+    let (answer, _) = read_text(input, Options::off());
+    answer
 }
 
 /// What `parse` answers.
@@ -103,7 +105,7 @@ fn read_text(input: &str, o: Options) -> (Result<Duration, Fault<'_>>, u64)
         return (Err(fault), 0);
     }
     let mut tokens = Tokens::new(input, o);
-    let answer = read(&mut tokens, o.no_calc, input.len());
+    let answer = read(&mut tokens, o.no_calc);
     let looked = tokens.looked();
     match answer {
         Ok(nanos) => (Ok(Duration::from_nanos(nanos)), looked),

@@ -5,8 +5,10 @@ ghost use Rattle.std.specs.Str.{chars};
 ghost use Rattle.std.specs.Iterator.{item_count};
 ghost use Rattle.duration_str.specs.Text.{is_blank, is_digit, is_unit_letter, is_chinese};
 ghost use Rattle.duration_str.specs.Pieces.{pieces_of};
-ghost use Rattle.duration_str.specs.Cutting.{ahead, StandsAt, Passes, Stops, TakesDigits, TakesNumber, TakesLetters, TakesWord};
-ghost use Rattle.duration_str.specs.Meanings.{MeansPiece};
+ghost use Rattle.duration_str.specs.Cutting.{ahead, StandsAt, Passes, Stops, TakesDigits, TakesLetters};
+ghost use Rattle.duration_str.specs.Sorts.{sort_at};
+ghost use Rattle.duration_str.specs.declared.token.Sort.{Sort};
+ghost use Rattle.duration_str.specs.declared.token.Sort.TheVariants.{Number as a_number, Word as a_word};
 
 use crate::eye::Eye;
 use crate::packed::unit_of_packed;
@@ -33,36 +35,13 @@ pub struct Token<'a> {
     pub what: What,
 }
 
-/// What a piece means to the reader. A number is `None` from 2^64 on.
+/// The sort of a piece that its first character tells.
 #[derive(Clone, Copy)]
-pub(crate) enum Meaning {
-    Number(Option<u64>),
-    Word(Option<TimeUnit>),
+pub(crate) enum Sort {
+    Number,
+    Word,
     Operator(CondUnit),
     Other,
-}
-
-impl Meaning {
-    ghost use Rattle.duration_str.specs.Meanings.{sort_of};
-
-    /// The sort of the piece.
-    fn what(self) -> What
-        ensures { result ≡ sort_of self }
-    {
-        match self {
-            Meaning::Number(_) => What::Number,
-            Meaning::Word(unit) => What::Word(unit),
-            Meaning::Operator(operator) => What::Operator(operator),
-            Meaning::Other => What::Other,
-        }
-    }
-}
-
-/// A piece as the reader needs it: where it starts, and what it means.
-#[derive(Clone, Copy)]
-pub(crate) struct Lexeme {
-    pub(crate) start: usize,
-    pub(crate) meaning: Meaning,
 }
 
 /// The pieces of a text, in order. Each character is looked at once, when it comes.
@@ -78,7 +57,9 @@ pub struct Tokens<'a> {
 }
 
 impl<'a> Tokens<'a> {
-    ghost use Rattle.duration_str.specs.Tokens.{source, options_of, place_of, looks_of, left, lexeme_steps};
+    ghost use Rattle.duration_str.specs.Grammar.{Token as PieceToken, word};
+    ghost use Rattle.duration_str.specs.Sorts.{sort_of};
+    ghost use Rattle.duration_str.specs.Tokens.{source, options_of, place_of, looks_of, left, what_of, IsAhead, LooksAhead, IsSign, TakesNumberPiece, TakesPiece};
 
     /// The pieces of a text, cut under these options.
     #[inline(always)]
@@ -104,6 +85,14 @@ impl<'a> Tokens<'a> {
         ensures least { length (chars (take (place_of self.now) (source self.now))) ≤ result }
     {
         self.eye.looks()
+    }
+
+    /// The byte up to which the text is cut.
+    #[inline(always)]
+    pub(crate) fn place(&self) -> usize
+        ensures { result ≡ place_of self.now }
+    {
+        self.eye.place()
     }
 
     /// Moves past the character ahead, and looks at the next one.
@@ -153,13 +142,11 @@ impl<'a> Tokens<'a> {
         number
     }
 
-    /// Moves past the digits, and gives their number where it is below 2^64.
+    /// Takes the number ahead, and gives it where it is below 2^64.
     #[inline(always)]
-    fn take_number(&mut self) -> Option<u64>
-        ensures source { source self.new ≡ source self.old }
-        ensures options { options_of self.new ≡ options_of self.old }
-        ensures number { TakesNumber (source self.old) (place_of self.old) (place_of self.new) result }
-        ensures stops { Stops is_digit (ahead (source self.new) (place_of self.new)) }
+    pub(crate) fn take_number(&mut self) -> Option<u64>
+        requires { IsAhead self.old (Some a_number) }
+        ensures { TakesNumberPiece self.old self.new result }
     {
         let start = self.eye.place();
         let number = self.take_digits();
@@ -208,13 +195,11 @@ impl<'a> Tokens<'a> {
         (packed, plain)
     }
 
-    /// Moves past the unit letters, and gives the unit that they name.
+    /// Takes the word ahead, and gives the unit that it names.
     #[inline(always)]
-    fn take_word(&mut self) -> Option<TimeUnit>
-        ensures source { source self.new ≡ source self.old }
-        ensures options { options_of self.new ≡ options_of self.old }
-        ensures word { TakesWord (options_of self.old) (source self.old) (place_of self.old) (place_of self.new) result }
-        ensures stops { Stops (is_unit_letter (options_of self.old)) (ahead (source self.new) (place_of self.new)) }
+    pub(crate) fn take_word(&mut self) -> Option<TimeUnit>
+        requires { IsAhead self.old (Some a_word) }
+        ensures { TakesPiece self.old self.new (word result) }
     {
         let start = self.eye.place();
         let (packed, plain) = self.take_letters();
@@ -236,38 +221,46 @@ impl<'a> Tokens<'a> {
         }
     }
 
-    /// Moves past the piece that begins with this character, and gives its meaning.
+    /// Takes the single character ahead, an operator or another one that is neither a digit nor a unit letter.
     #[inline(always)]
-    fn take_piece(&mut self, first: char) -> Meaning
-        requires head { self.old.head ≡ Some first }
-        requires not_blank { is_blank first ≡ false }
-        ensures source { source self.new ≡ source self.old }
-        ensures options { options_of self.new ≡ options_of self.old }
-        ensures piece { MeansPiece (options_of self.old) (source self.old) (place_of self.old) (place_of self.new) result }
+    pub(crate) fn take_sign(&mut self)
+        requires { (sort : Sort) × IsSign sort × IsAhead self.old (Some sort) }
+        ensures { (sort : Sort) → IsAhead self.old (Some sort) → (token : PieceToken) × TakesPiece self.old self.new token × (sort ≡ sort_of token) }
     {
-        if first.is_ascii_digit() {
-            return Meaning::Number(self.take_number());
-        }
-        if is_unit_letter(first, self.options) {
-            return Meaning::Word(self.take_word());
-        }
         self.advance();
-        match CondUnit::from_char(first) {
-            Some(operator) => Meaning::Operator(operator),
-            None => Meaning::Other,
+    }
+
+    /// Takes the piece ahead, which is of this sort.
+    #[inline(always)]
+    fn take_piece(&mut self, sort: Sort) -> What
+        requires { IsAhead self.old (Some sort) }
+        ensures { (token : PieceToken) × TakesPiece self.old self.new token × (result ≡ what_of token) }
+    {
+        match sort {
+            Sort::Number => {
+                let _ = self.take_number();
+                What::Number
+            }
+            Sort::Word => What::Word(self.take_word()),
+            Sort::Operator(operator) => {
+                self.take_sign();
+                What::Operator(operator)
+            }
+            Sort::Other => {
+                self.take_sign();
+                What::Other
+            }
         }
     }
 
-    /// The next piece, as the reader needs it.
+    /// Moves past the blanks, and gives the sort of the piece ahead; `None` at the end.
     #[inline(always)]
-    pub(crate) fn next_lexeme(&mut self) -> Option<Lexeme>
-        ensures { lexeme_steps self.old result self.new }
+    pub(crate) fn sort_ahead(&mut self) -> Option<Sort>
+        ensures { LooksAhead self.old self.new result }
     {
         self.skip_blanks();
         let first = self.head?;
-        let start = self.eye.place();
-        let meaning = self.take_piece(first);
-        Some(Lexeme { start, meaning })
+        Some(sort_at(first, self.options))
     }
 }
 
@@ -281,9 +274,10 @@ impl<'a> Iterator for Tokens<'a> {
     ghost remaining = { item_count left };
 
     fn next(&mut self) -> Option<Token<'a>> {
-        let Lexeme { start, meaning } = self.next_lexeme()?;
+        let sort = self.sort_ahead()?;
+        let start = self.eye.place();
+        let what = self.take_piece(sort);
         let text = self.eye.since(start);
-        let what = meaning.what();
         Some(Token { start, text, what })
     }
 }
@@ -294,8 +288,25 @@ const MOST_DIGITS: usize = 19;
 /// The most letters that a `u64` holds packed.
 const MOST_LETTERS: usize = 12;
 
-/// Whether a character is a unit letter under these options.
+/// The sort of a piece that begins with this character.
 #[inline(always)]
+fn sort_at(first: char, o: Options) -> Sort
+    ensures { result ≡ sort_at o first }
+{
+    if first.is_ascii_digit() {
+        return Sort::Number;
+    }
+    if is_unit_letter(first, o) {
+        return Sort::Word;
+    }
+    match CondUnit::from_char(first) {
+        Some(operator) => Sort::Operator(operator),
+        None => Sort::Other,
+    }
+}
+
+/// Whether a character is a unit letter under these options.
+#[inline]
 fn is_unit_letter(c: char, o: Options) -> bool
     ensures { result ≡ is_unit_letter o c }
 {
@@ -322,7 +333,7 @@ fn is_chinese(c: char) -> bool
 }
 
 /// Space, tab, carriage return, line feed.
-#[inline(always)]
+#[inline]
 fn is_blank(c: char) -> bool
     ensures { result ≡ is_blank c }
 {

@@ -54,7 +54,7 @@ pub enum TimeUnit {
 
 impl TimeUnit {
     /// The length in nanoseconds.
-    #[inline(always)]
+    #[inline]
     pub fn nanos(self) -> u64
         ensures { result ≡ nanos_of self }
     {
@@ -113,7 +113,7 @@ impl TimeUnit {
     }
 
     /// The value in nanoseconds of a term with this number, which is `None` from 2^64 on. The place is that of its fault.
-    #[inline(always)]
+    #[inline]
     pub(crate) fn times(self, number: Option<u64>, place: Option<usize>) -> Result<u64, Cause>
         ensures { result ≡ term_value place number (nanos_of self) }
     {

@@ -1,57 +1,75 @@
-use Rattle.std.proofs.Common.{Ok, ap, sym, subst, ◌∙◌}
+use Rattle.std.proofs.Common.{None, Ok, Err, ap, subst, ◌∙◌}
 use Rattle.std.proofs.lemmas.Result.{err_from_is_err_and}
 use Rattle.duration_str.specs.declared.unit.CondUnit.TheVariants.{Plus}
-use Rattle.duration_str.specs.declared.reader.Tally.TheVariants.{Nothing}
-use Rattle.duration_str.specs.Machine.{number, placed_tokens}
-use Rattle.duration_str.specs.Passing.{run_from, run_reading, ReadsOn}
-use Rattle.duration_str.specs.Tokens.{options_of, left}
-use Rattle.duration_str.proofs.ReaderLemmas.{pass_start, lexeme_source, lexeme_options}
+use Rattle.duration_str.specs.Machine.{first_added, Nothing, One}
+use Rattle.duration_str.specs.Passing.{ReadsOperator}
+use Rattle.duration_str.proofs.ReaderLemmas.{ends_on, behind_term, ends_at_term, ends_with_tally}
 use Rattle.duration_str.proofs.reader.read.Goals as goal
-
-pub loop-next-init : goal.loop-next-init
-loop-next-init c =
-    let s = c.args.tokens.now in
-    let t = c.next_lexeme.new.self in
-    let x = c.next_lexeme.result in
-    let options = lexeme_options s t x c.next_lexeme.ensures in
-    let run = pass_start s t x _ c.args.no_calc c.args.len Nothing c.next_lexeme.ensures (c.in_ok-number.ensures {u = tt}) in
-    record {
-      same_source = lexeme_source s t x c.next_lexeme.ensures;
-      same_options = options;
-      held = tt;
-      same_run = ap (λ o. run_from c.args.no_calc c.args.len (placed_tokens o (left t)) (number Plus c.in_ok-number.number) Nothing) options ∙ sym run;
-    }
-
-pub loop-next-preserved : goal.loop-next-preserved
-loop-next-preserved c =
-    let s = c.loop-next.tokens in
-    let t = c.read_term.new.tokens in
-    let inv = c.loop-next.invariant in
-    let all = run_reading c.args.no_calc c.args.len (placed_tokens (options_of s) (left s)) c.loop-next.reading in
-    let reads = subst (λ p. ReadsOn c.args.no_calc c.args.len all s t (Ok p)) c.in-Goes.is (c.in_ok-next.ensures {u = tt}).progress in
-    let options = c.read_term.ensures.options in
-    record {
-      same_source = c.read_term.ensures.source ∙ inv.same_source;
-      same_options = options ∙ inv.same_options;
-      held = reads.1;
-      same_run = ap (λ o. run_reading c.args.no_calc c.args.len (placed_tokens o (left t)) c.in-Goes.next) options ∙ sym reads.0 ∙ inv.same_run;
-    }
 
 pub returns-in_err-number-clause-answer : goal.returns-in_err-number-clause-answer
 returns-in_err-number-clause-answer c =
     let p = err_from_is_err_and c.from_residual.result c.from_residual.ensures.1 in
+    rw (p.1, p.2) ((c.in_err-number.ensures {u = tt}).number c.args.no_calc None Nothing)
+
+pub returns-in_err-unit-clause-answer : goal.returns-in_err-unit-clause-answer
+returns-in_err-unit-clause-answer c =
+    let first = (c.in_ok-number.ensures {u = tt}).number c.args.no_calc None Nothing in
+    let p = err_from_is_err_and c.from_residual-in_err-unit.result c.from_residual-in_err-unit.ensures.1 in
     rw (p.1, p.2)
-    (sym (pass_start c.args.tokens.now c.next_lexeme.new.self c.next_lexeme.result _ c.args.no_calc c.args.len Nothing c.next_lexeme.ensures (c.in_err-number.ensures {u = tt})))
+    (ends_on _ _ c.args.tokens.now c.read_number.new.tokens c.read_unit.new.tokens _ first.0 c.read_number.ensures.source
+    ((c.in_err-unit.ensures {u = tt}).unit Plus c.in_ok-number.number Nothing))
 
-pub returns-in_err-next-clause-answer : goal.returns-in_err-next-clause-answer
-returns-in_err-next-clause-answer c =
-    let p = err_from_is_err_and c.from_residual-in_err-next.result c.from_residual-in_err-next.ensures.1 in
-    rw (p.1, p.2) (sym (c.in_err-next.ensures {u = tt}).progress.0 ∙ c.loop-next.invariant.same_run)
+pub returns-in_err-first-clause-answer : goal.returns-in_err-first-clause-answer
+returns-in_err-first-clause-answer c =
+    let s = c.read_number.new.tokens in
+    let t = c.read_unit.new.tokens in
+    let n = c.in_ok-number.number in
+    let u = c.in_ok-unit.unit in
+    let first = (c.in_ok-number.ensures {u = tt}).number c.args.no_calc None Nothing in
+    let is = ap first_added (c.in_err-first.ensures {u = tt}) in
+    let same = behind_term c.args.no_calc s t Plus n Nothing u (Err _) ((c.in_ok-unit.ensures {u = tt}).unit Plus n Nothing) is in
+    let p = err_from_is_err_and c.from_residual-in_err-first.result c.from_residual-in_err-first.ensures.1 in
+    rw (p.1, p.2) (ends_at_term c.args.no_calc _ c.args.tokens.now t Plus n Nothing u _ tt (first.0 ∙ same) is)
 
-pub returns-in-Ends-clause-answer : goal.returns-in-Ends-clause-answer
-returns-in-Ends-clause-answer c =
-    let s = c.loop-next.tokens in
-    let t = c.read_term.new.tokens in
-    let all = run_reading c.args.no_calc c.args.len (placed_tokens (options_of s) (left s)) c.loop-next.reading in
-    let reads = subst (λ p. ReadsOn c.args.no_calc c.args.len all s t (Ok p)) c.in-Ends.is (c.in_ok-next.ensures {u = tt}).progress in
-    sym reads.0 ∙ c.loop-next.invariant.same_run
+pub returns-in_err-read_operator-clause-answer : goal.returns-in_err-read_operator-clause-answer
+returns-in_err-read_operator-clause-answer c =
+    let s = c.read_number.new.tokens in
+    let t = c.read_unit.new.tokens in
+    let n = c.in_ok-number.number in
+    let tally = One c.in_ok-first.first in
+    let first = (c.in_ok-number.ensures {u = tt}).number c.args.no_calc None Nothing in
+    let same = behind_term c.args.no_calc s t Plus n Nothing c.in_ok-unit.unit (Ok tally) ((c.in_ok-unit.ensures {u = tt}).unit Plus n Nothing) (ap first_added (c.in_ok-first.ensures {u = tt})) in
+    let p = err_from_is_err_and c.from_residual-in_err-read_operator.result c.from_residual-in_err-read_operator.ensures.1 in
+    rw (p.1, p.2)
+    (ends_on _ _ c.args.tokens.now t c.read_operator.new.tokens _ (first.0 ∙ same) (c.read_unit.ensures.source ∙ c.read_number.ensures.source)
+    ((c.in_err-read_operator.ensures {u = tt}).operator tally))
+
+pub returns-in-None-clause-answer : goal.returns-in-None-clause-answer
+returns-in-None-clause-answer c =
+    let s = c.read_number.new.tokens in
+    let t = c.read_unit.new.tokens in
+    let v = c.read_operator.new.tokens in
+    let n = c.in_ok-number.number in
+    let tally = One c.in_ok-first.first in
+    let first = (c.in_ok-number.ensures {u = tt}).number c.args.no_calc None Nothing in
+    let same = behind_term c.args.no_calc s t Plus n Nothing c.in_ok-unit.unit (Ok tally) ((c.in_ok-unit.ensures {u = tt}).unit Plus n Nothing) (ap first_added (c.in_ok-first.ensures {u = tt})) in
+    let next = subst (λ r. ReadsOperator c.args.no_calc t v tally (Ok r)) c.in-None.is ((c.in_ok-read_operator.ensures {u = tt}).operator tally) in
+    ends_with_tally _ c.args.tokens.now t v tally c.args.no_calc tt (first.0 ∙ same) (c.read_unit.ensures.source ∙ c.read_number.ensures.source) next
+
+pub read_later-requires : goal.read_later-requires
+read_later-requires c =
+    let tally = One c.in_ok-first.first in
+    (subst (λ r. ReadsOperator c.args.no_calc c.read_unit.new.tokens c.read_operator.new.tokens tally (Ok r)) c.in-Some.is ((c.in_ok-read_operator.ensures {u = tt}).operator tally)).2
+
+pub returns-in-Some-clause-answer : goal.returns-in-Some-clause-answer
+returns-in-Some-clause-answer c =
+    let s = c.read_number.new.tokens in
+    let t = c.read_unit.new.tokens in
+    let w = c.read_operator.new.tokens in
+    let n = c.in_ok-number.number in
+    let tally = One c.in_ok-first.first in
+    let first = (c.in_ok-number.ensures {u = tt}).number c.args.no_calc None Nothing in
+    let same = behind_term c.args.no_calc s t Plus n Nothing c.in_ok-unit.unit (Ok tally) ((c.in_ok-unit.ensures {u = tt}).unit Plus n Nothing) (ap first_added (c.in_ok-first.ensures {u = tt})) in
+    let next = subst (λ r. ReadsOperator c.args.no_calc t w tally (Ok r)) c.in-Some.is ((c.in_ok-read_operator.ensures {u = tt}).operator tally) in
+    ends_on _ _ c.args.tokens.now w c.read_later.new.tokens _ (first.0 ∙ same ∙ next.0) (c.read_operator.ensures.source ∙ c.read_unit.ensures.source ∙ c.read_number.ensures.source)
+    c.read_later.ensures.answer

@@ -1,0 +1,11 @@
+use Rattle.std.proofs.Common.{subst}
+use Rattle.duration_str.specs.Tokens.{IsSign}
+use Rattle.duration_str.proofs.TokensLemmas.{one_sort, takes_sign}
+use Rattle.duration_str.proofs.token.Tokens.take_sign.Goals as goal
+
+pub returns : goal.returns
+returns c sort h =
+    let s = c.args.self.now in
+    let e = c.advance.ensures in
+    let sign = subst IsSign (one_sort s c.requires.0 sort c.requires.2 h) c.requires.1 in
+    takes_sign s c.advance.new.self sort sign h e.source e.options e.past
