@@ -155,6 +155,3 @@ pub fn deserialize_option_duration_time<'de>(
 {
     deserialize_option_duration_chrono(value)
 }
-
-#[cfg(test)]
-mod tests;

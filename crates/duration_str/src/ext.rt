@@ -216,4 +216,19 @@ impl HumanFormat for Duration {
 }
 
 #[cfg(test)]
-mod tests;
+mod tests {
+    use super::text_of;
+    use refusing::Refusing;
+    use std::alloc::AllocError;
+    use std::time::Duration;
+
+    #[test]
+    fn asks_for_memory_once(rt: HostRuntime) {
+        let length = Duration::new(193, 29_000_000);
+        let refused = text_of(length, &Refusing::new(rt.alloc(), 0)).err();
+        assert_eq!(rt; refused, Some(AllocError));
+        let memory = Refusing::new(rt.alloc(), 1);
+        let copied = text_of(length, &memory).ok();
+        assert!(rt; copied.is_some_and(|text| text.as_str() == "3min 13s 29ms"));
+    }
+}

@@ -133,6 +133,3 @@ impl fmt::Display for Fault<'_> {
         write!(f, "{text}\n{spaces}^\n{line}")
     }
 }
-
-#[cfg(test)]
-mod tests;

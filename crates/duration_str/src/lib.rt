@@ -15,8 +15,6 @@ mod reader;
 pub mod token;
 pub mod top;
 pub mod unit;
-#[cfg(test)]
-mod vectors;
 
 pub use error::{DError, DResult};
 pub use ext::{HumanFormat, write_human};

@@ -89,6 +89,3 @@ impl Fault<'_> {
         put_caret(buffer, self.text, place, line)
     }
 }
-
-#[cfg(test)]
-mod tests;

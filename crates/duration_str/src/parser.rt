@@ -143,6 +143,3 @@ fn piece_at<'a>(mut tokens: Tokens<'a>, place: usize) -> Option<&'a str>
     }
     None
 }
-
-#[cfg(test)]
-mod tests;

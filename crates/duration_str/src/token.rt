@@ -339,6 +339,3 @@ fn is_blank(c: char) -> bool
 {
     c <= ' ' && matches!(c, ' ' | '\t' | '\r' | '\n')
 }
-
-#[cfg(test)]
-mod tests;

@@ -153,6 +153,3 @@ pub fn after_naive_date(moment: Timestamp, input: &str) -> Result<Date, Fault<'_
         Err(fault) => Err(fault),
     }
 }
-
-#[cfg(test)]
-mod tests;

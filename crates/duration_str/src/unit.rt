@@ -263,6 +263,3 @@ impl fmt::Display for CondUnit {
         }
     }
 }
-
-#[cfg(test)]
-mod tests;

@@ -4,9 +4,8 @@ ghost use Rattle.std.specs.List.{list_all};
 ghost use Rattle.std.specs.Str.{chars};
 ghost use Rattle.duration_str.specs.Text.{is_digit};
 
-use super::{CondUnit, Options, TimeUnit};
-use crate::fault::Cause;
 use crate::vectors::{CN_UNIT, LOWERCASE, NO_CALC};
+use duration_str::{Cause, CondUnit, Options, TimeUnit};
 use std::test::Fail;
 
 /// Each unit with its length in nanoseconds, its printed name, its names, and those that `cn_unit` adds.
@@ -139,30 +138,6 @@ fn knows_no_other_word(rt: HostRuntime) {
         "nys", "", "mxyz", "\u{b5}", " m", "m ", "分s", "秒秒", "毫", "1m",
     ] {
         assert_eq!(rt; TimeUnit::from_word(word, CN_UNIT), None, "{word}");
-    }
-}
-
-#[test]
-fn values_terms(rt: HostRuntime) {
-    let place = Some(0);
-    for (unit, number, value) in [
-        (TimeUnit::Year, Some(0), Ok(0)),
-        (TimeUnit::Minute, Some(3), Ok(180_000_000_000)),
-        (TimeUnit::Year, Some(584), Ok(18_417_024_000_000_000_000)),
-        (TimeUnit::Year, Some(585), Err(Cause::Overflow { place })),
-        (TimeUnit::NanoSecond, Some(u64::MAX), Ok(u64::MAX)),
-        (
-            TimeUnit::MicroSecond,
-            Some(u64::MAX),
-            Err(Cause::Overflow { place }),
-        ),
-        (
-            TimeUnit::NanoSecond,
-            None,
-            Err(Cause::NumberTooLarge { place }),
-        ),
-    ] {
-        assert_eq!(rt; unit.times(number, place), value);
     }
 }
 

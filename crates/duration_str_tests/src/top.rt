@@ -3,9 +3,16 @@ ghost use Rattle.std.specs.Option.{ForSome};
 ghost use Rattle.std.specs.Str.{IsCharBoundary};
 ghost use Rattle.duration_str.specs.Faults.{place_of};
 
-use super::*;
 use crate::vectors::{AFTER_NUMBER, VALUES};
+use duration_str::{
+    Cause, Fault, HumanFormat, after_naive_date, after_naive_date_time, before_naive_date,
+    before_naive_date_time, parse_chrono, parse_time,
+};
+use jiff::civil::{Date, DateTime};
+use jiff::tz::Offset;
+use jiff::{SignedDuration, Timestamp};
 use std::test::Fail;
+use std::time::Duration;
 
 /// The texts that are printed for what is read from the first.
 const PRINTED: [(&str, &str); 6] = [

@@ -1,6 +1,5 @@
 // Faults written into buffers that have just room, more, and one byte less.
-use crate::fault::Fault;
-use crate::parser::parse;
+use duration_str::{Fault, parse};
 use std::process::Abort;
 
 /// The refusal of a text that is none.

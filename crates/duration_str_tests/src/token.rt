@@ -1,7 +1,6 @@
 // The pieces of texts, and how often their characters are looked at.
-use super::{Token, Tokens, What};
-use crate::unit::{CondUnit, Options, TimeUnit};
 use crate::vectors::{CN_UNIT, LOWERCASE};
+use duration_str::{CondUnit, Options, TimeUnit, Token, Tokens, What};
 use std::process::Abort;
 
 /// The text is cut into these pieces, and then ends for good.

@@ -1,6 +1,5 @@
 //! What tests share: choices of options, what can stand at a place, and texts with their values.
-use crate::fault::{Cause, Expected};
-use crate::unit::Options;
+use duration_str::{Cause, Expected, Options};
 
 /// One option on, the other two off.
 pub const NO_CALC: Options = Options {

@@ -1,10 +1,15 @@
 // Durations in configuration values.
-use super::*;
-use crate::unit::Options;
 use crate::vectors::{AFTER_NUMBER, START};
-use serde_json::json;
+use duration_str::{
+    Cause, Expected, Fault, Options, deserialize_duration, deserialize_duration_chrono,
+    deserialize_duration_time, deserialize_option_duration, deserialize_option_duration_chrono,
+    deserialize_option_duration_time, parse,
+};
+use jiff::SignedDuration;
+use serde_json::{Value, json};
 use std::process::Abort;
 use std::test::Fail;
+use std::time::Duration;
 
 /// Each call reads the required value as so many seconds.
 fn assert_required_is(rt: &impl Abort, value: &Value, secs: u32) {

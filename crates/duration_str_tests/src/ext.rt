@@ -1,6 +1,5 @@
-// Printed texts, and what happens where memory is refused.
-use super::{HumanFormat, text_of, write_human};
-use refusing::Refusing;
+// Printed texts.
+use duration_str::{HumanFormat, write_human};
 use std::alloc::{AllocError, Global};
 use std::test::Fail;
 use std::time::Duration;
@@ -128,13 +127,4 @@ fn leaves_nothing_of_an_earlier_text(rt: HostRuntime) {
     assert_eq!(rt; write_human(&longest(), &mut buffer), LONGEST_TEXT);
     assert_eq!(rt; write_human(&Duration::ZERO, &mut buffer), "0s");
     assert_eq!(rt; write_human(&longest(), &mut buffer), LONGEST_TEXT);
-}
-
-#[test]
-fn asks_for_memory_once(rt: HostRuntime) {
-    let refused = text_of(longest(), &Refusing::new(rt.alloc(), 0)).err();
-    assert_eq!(rt; refused, Some(AllocError));
-    let memory = Refusing::new(rt.alloc(), 1);
-    let copied = text_of(longest(), &memory).ok();
-    assert!(rt; copied.is_some_and(|text| text.as_str() == LONGEST_TEXT));
 }

@@ -1,10 +1,8 @@
 // The texts of faults.
-use super::{Cause, Fault};
-use crate::parser::parse_with;
-use crate::unit::{CondUnit, Options};
 use crate::vectors::{
     AFTER_NUMBER, AFTER_UNIT, ALONE_AFTER_NUMBER, ALONE_AFTER_UNIT, CN_UNIT, START, syntax,
 };
+use duration_str::{Cause, CondUnit, Fault, Options, parse_with};
 use std::process::Abort;
 use std::test::Fail;
 
@@ -21,7 +19,12 @@ const OVERFLOW: &str = "overflow error";
 
 /// A fault whose place is tested here.
 fn fault_of<'a>(rt: &impl Abort, text: &'a str, cause: Cause) -> Fault<'a> {
-    if let Some(place) = cause.place() {
+    let place = match cause {
+        Cause::Syntax { place, .. } => Some(place),
+        Cause::NumberTooLarge { place } | Cause::Overflow { place } => place,
+        Cause::Empty | Cause::Mixed { .. } | Cause::OutOfRange | Cause::NotText { .. } => None,
+    };
+    if let Some(place) = place {
         assert!(rt; text.is_char_boundary(place));
     }
     Fault { text, cause }

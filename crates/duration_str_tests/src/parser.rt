@@ -1,10 +1,9 @@
 // What texts are read as, and why they are refused.
-use super::{Cause, parse, parse_looked, parse_std, parse_with};
-use crate::unit::{CondUnit, Options};
 use crate::vectors::{
     AFTER_NUMBER, AFTER_UNIT, ALONE_AFTER_NUMBER, ALONE_AFTER_UNIT, CN_UNIT, LOWERCASE, NO_CALC,
     START, VALUES, syntax,
 };
+use duration_str::{Cause, CondUnit, Options, parse, parse_looked, parse_std, parse_with};
 use std::process::Abort;
 use std::test::Fail;
 use std::time::Duration;

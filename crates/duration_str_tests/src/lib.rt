@@ -1,0 +1,23 @@
+//! Tests of what the library's public calls answer.
+//!
+//! Those that refuse memory stand in the library, beside the private functions that take any allocator.
+#![tactic(auto)]
+
+#[cfg(test)]
+mod config;
+#[cfg(test)]
+mod ext;
+#[cfg(test)]
+mod fault;
+#[cfg(test)]
+mod message;
+#[cfg(test)]
+mod parser;
+#[cfg(test)]
+mod token;
+#[cfg(test)]
+mod top;
+#[cfg(test)]
+mod unit;
+#[cfg(test)]
+mod vectors;
