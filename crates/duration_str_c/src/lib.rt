@@ -3,7 +3,7 @@
 //! Nothing takes memory. Bytes that are no UTF-8 are refused.
 #![tactic(auto)]
 
-ghost use Rattle.std.specs.Prelude.{◌≡◌, ℕ, ◌+◌, ◌*◌, ◌<◌, ◌≤◌, false, IsTrue, IsFalse, IsUtf8, take, length};
+ghost use Rattle.std.specs.Prelude.{◌≡◌, ℕ, ◌+◌, ◌*◌, ◌<◌, ◌≤◌, false, IsTrue, IsFalse, IfSome, IfNone, IsUtf8, take, length};
 ghost use Rattle.std.specs.Str.{chars};
 ghost use Rattle.duration_str.specs.Units.{off};
 ghost use Rattle.duration_str.specs.Reading.{IsRead};
@@ -108,7 +108,7 @@ pub extern "C" fn duration_str_parse(text: &[u8], nanos: &mut u64) -> bool
     ensures utf8 { IsTrue result → IsUtf8 text.now }
     ensures refused { IsFalse result → nanos.new ≡ nanos.old }
 {
-    let Ok(text) = str::from_utf8(text) else {
+    let Some(text) = text_of(text) else {
         return false;
     };
     match duration_str::parse(text) {
@@ -144,12 +144,12 @@ pub extern "C" fn duration_str_parse_with(text: &[u8], options: &Choice, answer:
     ensures told { IsUtf8 text.now → IsTold (chosen options.now) (chars text.now) answer.new }
     ensures not_text { ¬ (IsUtf8 text.now) → answer.new ≡ refusal_told (NotText false) }
 {
-    *answer = match str::from_utf8(text) {
-        Ok(text) => match duration_str::parse_with(text, options.options()) {
+    *answer = match text_of(text) {
+        Some(text) => match duration_str::parse_with(text, options.options()) {
             Ok(length) => Answer::value(length.as_nanos() as u64),
             Err(fault) => Answer::refusal(fault.cause()),
         },
-        Err(_) => Answer::refusal(Cause::NotText { optional: false }),
+        None => Answer::refusal(Cause::NotText { optional: false }),
     };
 }
 
@@ -161,13 +161,25 @@ pub extern "C" fn duration_str_fault_text(text: &[u8], options: &Choice, buffer:
     ensures told { IsUtf8 text.now → IsMessage (chosen options.now) text.now buffer.old result buffer.new }
     ensures not_text { ¬ (IsUtf8 text.now) → (result ≡ 0) × (buffer.new ≡ buffer.old) }
 {
-    let Ok(text) = str::from_utf8(text) else {
+    let Some(text) = text_of(text) else {
         return 0;
     };
     match duration_str::parse_with(text, options.options()) {
         Ok(_) => 0,
         Err(fault) => fault.write_message(buffer).unwrap_or(0),
     }
+}
+
+/// The bytes as a text, where they are UTF-8. Most are ASCII, for which there is a shorter test.
+#[inline(always)]
+fn text_of(bytes: &[u8]) -> Option<&str>
+    ensures text { IfSome result (λ text. (text.now ≡ bytes.now) × IsUtf8 bytes.now) }
+    ensures not_text { IfNone result (¬ (IsUtf8 bytes.now)) }
+{
+    if bytes.is_ascii() {
+        return Some(unsafe { str::from_utf8_unchecked(bytes) });
+    }
+    str::from_utf8(bytes).ok()
 }
 
 /// The number of a cause.

@@ -5,7 +5,7 @@ ghost use Rattle.duration_str.specs.declared.fault.Cause.TheVariants.{OutOfRange
 ghost use Rattle.duration_str_c.specs.Told.{number_of};
 ghost use Rattle.duration_str_c.specs.Moments.{instant_of, IsMoment, IsMoved};
 
-use crate::number_of;
+use crate::{number_of, text_of};
 use duration_str::{Cause, after_naive_date_time, before_naive_date_time};
 use jiff::Timestamp;
 use jiff::civil::DateTime;
@@ -71,7 +71,7 @@ pub extern "C" fn duration_str_after(text: &[u8], moment: &mut Moment) -> u32
     let Some(from) = timestamp_of(*moment) else {
         return number_of(Cause::OutOfRange);
     };
-    let Ok(text) = str::from_utf8(text) else {
+    let Some(text) = text_of(text) else {
         return number_of(Cause::NotText { optional: false });
     };
     match after_naive_date_time(from, text) {
@@ -93,7 +93,7 @@ pub extern "C" fn duration_str_before(text: &[u8], moment: &mut Moment) -> u32
     let Some(from) = timestamp_of(*moment) else {
         return number_of(Cause::OutOfRange);
     };
-    let Ok(text) = str::from_utf8(text) else {
+    let Some(text) = text_of(text) else {
         return number_of(Cause::NotText { optional: false });
     };
     match before_naive_date_time(from, text) {
