@@ -1,7 +1,8 @@
 -- The classes of characters exclude one another, and a run is of one class.
-use Rattle.std.proofs.Common.{◌≡◌, ℕ, ◌≤◌, Bool, true, false, ◌&&◌, ◌||◌, ◌⊎◌, inl, inr, ◌==◌, Some, None, if◌then◌else◌, arith, refl}
-use Rattle.std.proofs.lemmas.Bool.{false_from_ne_true, or_cases, and_parts, eqb-true}
+use Rattle.std.proofs.Common.{◌≡◌, ℕ, ◌≤◌, Bool, true, false, ◌&&◌, ◌||◌, ◌⊎◌, inl, inr, ◌==◌, Some, None, if◌then◌else◌, arith, refl, sym, ◌∙◌}
+use Rattle.std.proofs.lemmas.Bool.{true≢false, false_from_ne_true, or_cases, and_parts, eqb-true}
 use Rattle.std.proofs.lemmas.Bool.Decides.{nat_tests}
+use Rattle.std.specs.Char.{is_ascii, is_ascii_alphabetic}
 use Rattle.duration_str.specs.declared.unit.Options.{Options}
 use Rattle.duration_str.specs.declared.unit.CondUnit.{CondUnit}
 use Rattle.duration_str.specs.declared.unit.CondUnit.TheVariants.{Plus, Star}
@@ -41,6 +42,20 @@ pub letter-not_digit : (o : Options) (c : ℕ) → is_unit_letter o c ≡ true �
 letter-not_digit o c e =
     let above : 65 ≤ c = letter_above o c e in
     false_from_ne_true _ (λ (t : is_digit c ≡ true). let below : c ≤ 57 = digit_below c t in omega arith)
+
+pub letter_of_ascii : (o : Options) (c : ℕ) → is_ascii_alphabetic c ≡ true → is_unit_letter o c ≡ true
+letter_of_ascii o c e = rw e refl
+
+-- the unit letters of ASCII are its letters
+pub no_letter_of_ascii : (o : Options) (c : ℕ) → is_ascii c ≡ true → is_ascii_alphabetic c ≡ false → is_unit_letter o c ≡ false
+no_letter_of_ascii o c small e = grind (arith, nat_tests)
+
+pub ascii_letter : (o : Options) (c : ℕ) → is_unit_letter o c ≡ true → is_ascii c ≡ true → is_ascii_alphabetic c ≡ true
+ascii_letter o c letter small = by_test (is_ascii_alphabetic c) refl
+  where
+    by_test : (b : Bool) → is_ascii_alphabetic c ≡ b → b ≡ true
+    by_test true e = refl
+    by_test false e = absurd (true≢false (sym letter ∙ no_letter_of_ascii o c small e))
 
 -- The tests a, b, c are of digits and p, q, r of unit letters, at three characters of which the first two are of one run.
 same_class : (a b c p q r : Bool) → (a ≡ true → p ≡ false) → (b ≡ true → q ≡ false) → ((a && b) || (p && q)) ≡ true

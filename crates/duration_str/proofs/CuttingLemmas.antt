@@ -3,7 +3,7 @@ use Rattle.std.proofs.Common.{◌≡◌, ℕ, ◌+◌, ◌-◌, ◌*◌, ◌%◌
 use Rattle.std.specs.Prelude.{is_some, IsSome, IfSome, IsTrue, slice_range, if◌then◌else◌}
 use Rattle.std.specs.List.{list_all}
 use Rattle.std.specs.Char.{is_ascii_alphabetic}
-use Rattle.std.proofs.lemmas.Bool.{and_from, and_parts, true≢false}
+use Rattle.std.proofs.lemmas.Bool.{and_from, and_parts}
 use Rattle.std.proofs.lemmas.List.Folds.{list_all-append}
 use Rattle.std.specs.Option.{ForSome}
 use Rattle.std.specs.Str.{IsCharBoundary, chars}
@@ -20,7 +20,9 @@ use Rattle.duration_str.specs.Text.{width, byte_len, is_blank, IsBlank, is_digit
 use Rattle.duration_str.specs.Units.{unit_of_word}
 use Rattle.duration_str.specs.Value.{kept}
 use Rattle.duration_str.specs.Packed.{unit_of_packed}
-use Rattle.duration_str.specs.Cutting.{ahead, StandsAt, Between, Passes, Stops, TakesDigits, TakesNumber, TakesLetters, TakesWord, packed_after}
+use Rattle.duration_str.specs.Cutting.{ahead, StandsAt, Between, Passes, Stops, TakesDigits, TakesLetters, TakesWord, packed_after}
+use Rattle.duration_str.proofs.CharacterLemmas.{letter_of_ascii}
+use Rattle.duration_str.proofs.SpellingLemmas.{all_weaker}
 use Rattle.duration_str.proofs.TextLemmas.{width_some, byte_len-append}
 use Rattle.duration_str.proofs.NumberLemmas.{kept_some, number_below}
 use Rattle.duration_str.proofs.PackedLemmas.{exact, unit_by_number}
@@ -90,6 +92,24 @@ passes_more test text place at next c passed stands e =
       all = list_all-push test passed.characters c passed.all e;
     }
 
+-- what follows passes the test too
+pub passes_on : (test : ℕ → Bool) (text : List ℕ) (place at next : ℕ) → Passes test text place at → Passes test text at next → Passes test text place next
+passes_on test text place at next passed more =
+    let len = byte_len-append passed.characters more.characters in
+    record {
+      characters = passed.characters ++ more.characters;
+      between = record {
+        cut = passed.between.cut ∙ ap (λ l. passed.characters ++ l) more.between.cut ∙ sym (append_assoc passed.characters more.characters (ahead text next));
+        bytes = omega (arith, len, passed.between.bytes, more.between.bytes);
+      };
+      all = list_all-append test passed.characters more.characters ∙ and_from _ _ passed.all more.all;
+    }
+
+-- the same characters pass a weaker test
+pub passes_weaker : (test weaker : ℕ → Bool) (text : List ℕ) (place next : ℕ) → ((c : ℕ) → test c ≡ true → weaker c ≡ true) → Passes test text place next → Passes weaker text place next
+passes_weaker test weaker text place next follows passed =
+    record { characters = passed.characters; between = passed.between; all = all_weaker test weaker passed.characters follows passed.all }
+
 -- the text is shorter ahead of the next place
 pub ahead_shorter : (text : List ℕ) (place next c : ℕ) → StandsAt text place next c → length (ahead text next) < length (ahead text place)
 ahead_shorter text place next c stands = let len = ap length stands.head in omega (arith, len)
@@ -130,32 +150,21 @@ digits_head text left place at next head c value value' same taken is stands e m
       number = omega (arith, more, push, before);
     }
 
-pub letters_none : (o : Options) (text : List ℕ) (place : ℕ) → TakesLetters o text place place 0 true
+pub letters_none : (text : List ℕ) (place : ℕ) → TakesLetters text place place 0
 unfolding passes_none
-letters_none o text place = record { run = passes_none (is_unit_letter o) text place; ascii = λ p. refl; number = λ p. refl }
+letters_none text place = record { run = passes_none is_ascii_alphabetic text place; number = refl }
 
 -- one more ASCII letter
-pub letters_head : (o : Options) (text left : List ℕ) (place at next : ℕ) (head : Option ℕ) (c value value' : ℕ) → left ≡ text
-    → TakesLetters o text place at value true → head ≡ Some c → ForSome head (StandsAt left at next) → is_ascii_alphabetic c ≡ true
-    → value' ≡ (value * 32 % 2 ^ 64 + c % 32) % 2 ^ 64 → TakesLetters o text place next value' true
+pub letters_head : (text left : List ℕ) (place at next : ℕ) (head : Option ℕ) (c value value' : ℕ) → left ≡ text → TakesLetters text place at value → head ≡ Some c
+    → ForSome head (StandsAt left at next) → is_ascii_alphabetic c ≡ true → value' ≡ (value * 32 % 2 ^ 64 + c % 32) % 2 ^ 64 → TakesLetters text place next value'
 unfolding passes_head passes_more
-letters_head o text left place at next head c value value' same taken is stands e more =
+letters_head text left place at next head c value value' same taken is stands e more =
     let push = packed_after-push 0 taken.run.characters c in
+    let before = taken.number in
     record {
-      run = passes_head (is_unit_letter o) text left place at next head c same taken.run is stands (rw e refl);
-      ascii = λ p. list_all-push is_ascii_alphabetic taken.run.characters c (taken.ascii p) e;
-      number = λ p. let before = taken.number p in omega (arith, more, push, before);
+      run = passes_head is_ascii_alphabetic text left place at next head c same taken.run is stands e;
+      number = omega (arith, more, push, before);
     }
-
--- one more letter, behind which nothing is said of the packed number
-pub letters_wide : (o : Options) (text left : List ℕ) (place at next : ℕ) (head : Option ℕ) (c value : ℕ) (plain : Bool) → left ≡ text
-    → TakesLetters o text place at value plain → head ≡ Some c → ForSome head (StandsAt left at next) → is_unit_letter o c ≡ true
-    → TakesLetters o text place next value false
-letters_wide o text left place at next head c value plain same taken is stands e = record {
-  run = passes_head (is_unit_letter o) text left place at next head c same taken.run is stands e;
-  ascii = λ p. absurd (true≢false (sym p));
-  number = λ p. absurd (true≢false (sym p));
-}
 
 -- ---- what stands between two places
 
@@ -168,54 +177,46 @@ pub between_count : (text : List ℕ) (place next n : ℕ) (cs : List ℕ) → B
 between_count text place next n cs between few = let len = length-le-byte_len cs in let bytes = between.bytes in omega (arith, len, bytes, few)
 
 -- the slice between two places has these characters
-pub chars_between : (text : List ℕ) (place next : ℕ) (cs : List ℕ) → Between text place next cs → IsUtf8 (slice_range text place next) → chars (slice_range text place next) ≡ cs
-chars_between text place next cs between slice =
+pub chars_between : (text : List ℕ) (place next : ℕ) (cs slice : List ℕ) → Between text place next cs → slice ≡ slice_range text place next → IsUtf8 slice → chars slice ≡ cs
+chars_between text place next cs slice between is utf8 =
     let order : place ≤ next = omega (arith, between.bytes) in
     let there : drop (next - place) (drop place text) ≡ drop next text = drop-drop (next - place) place text ∙ ap (λ n. drop n text) (let e : place + (next - place) ≡ next = omega (arith, order) in e) in
-    let parts : slice_range text place next ++ drop next text ≡ drop place text = ap (λ l. slice_range text place next ++ l) (sym there) ∙ take-append-drop (next - place) (drop place text) in
-    append_cancel_right (chars (slice_range text place next)) cs (ahead text next)
-    (sym (chars-append (slice_range text place next) (drop next text) slice) ∙ ap chars parts ∙ between.cut)
+    let parts : slice ++ drop next text ≡ drop place text = (λ i. is i ++ sym there i) ∙ take-append-drop (next - place) (drop place text) in
+    append_cancel_right (chars slice) cs (ahead text next) (sym (chars-append slice (drop next text) utf8) ∙ ap chars parts ∙ between.cut)
 
 -- ---- numbers and words
 
-pub short_number : (text : List ℕ) (place next value : ℕ) → TakesDigits text place next value → next - place ≤ 19 → TakesNumber text place next (Some value)
-short_number text place next value taken short =
-    let cs = taken.run.characters in
-    let few : length cs ≤ 19 = between_count text place next 19 cs taken.run.between short in
-    let less = number_below 0 cs taken.run.all in
+-- few digits come to less than 2^64
+pub short_number : (digits : List ℕ) (low : ℕ) → IsUtf8 digits → IsNumber (chars digits) → low ≡ number_of (chars digits) % 2 ^ 64 → length digits ≤ 19
+    → Some low ≡ kept (number_of (chars digits))
+short_number digits low utf8 number same short =
+    let cs = chars digits in
+    let count = chars_short digits utf8 in
+    let few : length cs ≤ 19 = omega (arith, count, short) in
+    let less = number_below 0 cs number.1 in
     let pow : 10 ^ length cs ≤ 10 ^ 19 = pow-le-pow_right (lit< tt) few in
     let small : number_of cs < 2 ^ 64 = omega (arith, less, pow) in
-    let same : value ≡ number_of cs = (let v = taken.number in omega (arith, v, small)) in
-    record { run = taken.run; number = ap Some same ∙ sym (kept_some (number_of cs) small) }
+    let whole : low ≡ number_of cs = omega (arith, same, small) in
+    ap Some whole ∙ sym (kept_some (number_of cs) small)
 
-some_character : (cs : List ℕ) → 0 < byte_len cs → 0 < length cs
-some_character [] h = absurd (omega (arith, h))
-some_character (c ∷ cs) h = omega arith
-
--- the slice of many digits is a number
-pub long_digits : (text : List ℕ) (place next value : ℕ) (slice : List ℕ) → TakesDigits text place next value → 19 < next - place → slice ≡ slice_range text place next → IsUtf8 slice
-    → IsNumber (chars slice)
-long_digits text place next value slice taken long is utf8 =
-    let cs = taken.run.characters in
-    let same : chars slice ≡ cs = ap chars is ∙ chars_between text place next cs taken.run.between (subst IsUtf8 is utf8) in
-    subst IsNumber (sym same) (some_character cs (let bytes = taken.run.between.bytes in omega (arith, bytes, long)), taken.run.all)
-
-pub long_number : (text : List ℕ) (place next value : ℕ) (slice : List ℕ) (number : Option ℕ) → TakesDigits text place next value → slice ≡ slice_range text place next → IsUtf8 slice
-    → number ≡ kept (number_of (chars slice)) → TakesNumber text place next number
-long_number text place next value slice number taken is utf8 found =
-    record { run = taken.run; number = found ∙ ap (λ cs. kept (number_of cs)) (ap chars is ∙ chars_between text place next taken.run.characters taken.run.between (subst IsUtf8 is utf8)) }
-
-pub short_word : (o : Options) (text : List ℕ) (place next value : ℕ) (plain : Bool) (unit : Option TimeUnit) → TakesLetters o text place next value plain → IsTrue plain → o.lowercase ≡ false
-    → next - place ≤ 12 → unit ≡ unit_of_packed value → TakesWord o text place next unit
-short_word o text place next value plain unit taken ascii off short found =
+-- a word of ASCII letters, few enough that their packed number tells them
+pub short_word : (o : Options) (text : List ℕ) (place next value : ℕ) (unit : Option TimeUnit) → TakesLetters text place next value → o.lowercase ≡ false → next - place ≤ 12
+    → unit ≡ unit_of_packed value → TakesWord o text place next unit
+unfolding passes_weaker
+short_word o text place next value unit taken off short found =
     let cs = taken.run.characters in
     let few : length cs ≤ 12 = between_count text place next 12 cs taken.run.between short in
-    record { run = taken.run; named = found ∙ ap unit_of_packed (exact cs value few (taken.number ascii)) ∙ sym (unit_by_number o cs off (taken.ascii ascii)) }
+    record {
+      run = passes_weaker is_ascii_alphabetic (is_unit_letter o) text place next (letter_of_ascii o) taken.run;
+      named = found ∙ ap unit_of_packed (exact cs value few taken.number) ∙ sym (unit_by_number o cs off taken.run.all);
+    }
 
-pub long_word : (o : Options) (text : List ℕ) (place next value : ℕ) (plain : Bool) (slice : List ℕ) (unit : Option TimeUnit) → TakesLetters o text place next value plain
-    → slice ≡ slice_range text place next → IsUtf8 slice → unit ≡ unit_of_word o (chars slice) → TakesWord o text place next unit
-long_word o text place next value plain slice unit taken is utf8 found =
-    record { run = taken.run; named = found ∙ ap (unit_of_word o) (ap chars is ∙ chars_between text place next taken.run.characters taken.run.between (subst IsUtf8 is utf8)) }
+-- a word by its slice, in which any unit letters follow the ASCII letters
+pub long_word : (o : Options) (text : List ℕ) (place at next value : ℕ) (slice : List ℕ) (unit : Option TimeUnit) → TakesLetters text place at value
+    → Passes (is_unit_letter o) text at next → slice ≡ slice_range text place next → IsUtf8 slice → unit ≡ unit_of_word o (chars slice) → TakesWord o text place next unit
+long_word o text place at next value slice unit taken passed is utf8 found =
+    let run = passes_on (is_unit_letter o) text place at next (passes_weaker is_ascii_alphabetic (is_unit_letter o) text place at (letter_of_ascii o) taken.run) passed in
+    record { run = run; named = found ∙ ap (unit_of_word o) (chars_between text place next run.characters slice run.between is utf8) }
 
 -- the slice of a text that stayed, from a place that was kept
 pub same_slice : (slice text text' : List ℕ) (start place next : ℕ) → slice ≡ slice_range text start next → text ≡ text' → start ≡ place → slice ≡ slice_range text' place next

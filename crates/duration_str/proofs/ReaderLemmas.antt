@@ -10,15 +10,16 @@ use Rattle.duration_str.specs.declared.fault.Expected.{Expected}
 use Rattle.duration_str.specs.declared.fault.Cause.TheVariants.{Syntax, Overflow}
 use Rattle.duration_str.specs.declared.token.Sort.{Sort}
 use Rattle.duration_str.specs.declared.token.Sort.TheVariants as sorts
+use Rattle.duration_str.specs.declared.token.Number.{Number}
 use Rattle.duration_str.specs.declared.token.Tokens.{Tokens}
 use Rattle.duration_str.specs.Units.{nanos_of}
 use Rattle.duration_str.specs.Value.{second, kept, fits, term_value}
 use Rattle.duration_str.specs.Grammar.{Token, number, word, operator, other, token_of}
 use Rattle.duration_str.specs.Pieces.{Piece}
 use Rattle.duration_str.specs.Sorts.{sort_of}
-use Rattle.duration_str.specs.Tokens.{source, options_of, place_of, left, IsAhead, LooksAhead, TakesPiece, TakesNumberPiece}
+use Rattle.duration_str.specs.Tokens.{source, options_of, place_of, left, kept_of, IsAhead, LooksAhead, TakesPiece, TakesNumberPiece}
 use Rattle.duration_str.specs.Machine.{Placed, placed_tokens, Last, at_start, at_number, at_word, at_operator, Tally, One, More, Held, nothing_of, first_added, sum_added, later_added, later_tally, added, tallied, tallied_on, expected_after, with_last, moved, at_end, on_ok, run, IsCutTo}
-use Rattle.duration_str.specs.Passing.{comes, comes_behind, EndsWith, ReadsNumber, ReadsUnit, ReadsOperator, HoldsNoSyntax, IsSum}
+use Rattle.duration_str.specs.Passing.{comes, comes_behind, EndsWith, ReadsNumber, ReadsUnit, ReadsOperator, HoldsNoSyntax, so_far, mixed, IsSum}
 use Rattle.duration_str.proofs.PlaceLemmas.{LeavesNoSyntax, added_no_syntax, tallied_no_syntax, fault_cut, result_cut}
 use Rattle.duration_str.proofs.TokensLemmas.{none_left, first_left}
 
@@ -120,10 +121,10 @@ number_taken no_calc s m t last op tally value look taken moves = (
   fewer s m t _ _ look taken.1,
 )
 
-pub number_read : (no_calc : Bool) (s m t : Tokens) (behind : Option CondUnit) (tally : Tally) (value : Option ℕ) → LooksAhead s m (Some sorts.Number) → TakesNumberPiece m t value
-    → ReadsNumber no_calc s t behind tally (Ok value)
-number_read no_calc s m t None tally value look taken = number_taken no_calc s m t at_start Plus tally value look taken (λ n at. refl)
-number_read no_calc s m t (Some op) tally value look taken = number_taken no_calc s m t (at_operator op) op tally value look taken (λ n at. refl)
+pub number_read : (no_calc : Bool) (s m t : Tokens) (behind : Option CondUnit) (tally : Tally) (n : Number) → LooksAhead s m (Some sorts.Number) → TakesNumberPiece m t (kept_of n)
+    → ReadsNumber no_calc s t behind tally (Ok n)
+number_read no_calc s m t None tally n look taken = number_taken no_calc s m t at_start Plus tally _ look taken (λ n at. refl)
+number_read no_calc s m t (Some op) tally n look taken = number_taken no_calc s m t (at_operator op) op tally _ look taken (λ n at. refl)
 
 pub no_number : (no_calc : Bool) (s m : Tokens) (behind : Option CondUnit) (tally : Tally) (sort : Sort) (place : ℕ) → LooksAhead s m (Some sort)
     → is_expected (expected_after no_calc at_start) sort ≡ false → place ≡ place_of m
@@ -259,50 +260,87 @@ pub ends_with_tally : (all : Result ℕ Cause) (s t v : Tokens) (tally : Tally) 
 ends_with_tally all s t v tally no_calc holds same text reads =
     (same ∙ reads.0, result_cut (tallied tally) (length (source s)) (place_of v) (tallied_no_syntax tally holds) (reads.1 ∙ ap length text))
 
--- ---- the first operator is set
+-- ---- an operator is set, or mixed
 
-same_added : (first : ℕ) (op : CondUnit) (n : Option ℕ) (length : ℕ) → added false (One first) op n length ≡ added false (More first op (nothing_of op)) op n length
-same_added first Plus n length = refl
-same_added first Star n length = refl
+-- two tallies to which each term behind this operator is added with the same result
+abbrev AddAlike : CondUnit → Tally → Tally → Type 0
+AddAlike op tally tally' = (n : Option ℕ) (length : ℕ) → added false tally op n length ≡ added false tally' op n length
 
-same_run : (first len : ℕ) (op : CondUnit) (n : Option ℕ) (ps : List Placed)
-    → run false len ps (record { last = at_number op n; tally = One first }) ≡ run false len ps (record { last = at_number op n; tally = More first op (nothing_of op) })
+number_run : (len : ℕ) (op : CondUnit) (tally tally' : Tally) → AddAlike op tally tally' → (n : Option ℕ) (ps : List Placed)
+    → run false len ps (record { last = at_number op n; tally = tally }) ≡ run false len ps (record { last = at_number op n; tally = tally' })
 unfolding run
-same_run first len op n [] = ap tallied_on (same_added first op n second)
-same_run first len op n (p ∷ ps) = over p.token
+number_run len op tally tally' same n [] = ap tallied_on (same n second)
+number_run len op tally tally' same n (p ∷ ps) = over p.token
   where
-    over : (token : Token) → on_ok (moved false (at_number op n) (One first) p.start token) (run false len ps)
-        ≡ on_ok (moved false (at_number op n) (More first op (nothing_of op)) p.start token) (run false len ps)
+    over : (token : Token) → on_ok (moved false (at_number op n) tally p.start token) (run false len ps) ≡ on_ok (moved false (at_number op n) tally' p.start token) (run false len ps)
     over (number m) = refl
     over (word None) = refl
-    over (word (Some u)) = ap (λ r. on_ok (with_last at_word r) (run false len ps)) (same_added first op n (nanos_of u))
-    over (operator next) = ap (λ r. on_ok (with_last (at_operator next) r) (run false len ps)) (same_added first op n second)
+    over (word (Some u)) = ap (λ r. on_ok (with_last at_word r) (run false len ps)) (same n (nanos_of u))
+    over (operator next) = ap (λ r. on_ok (with_last (at_operator next) r) (run false len ps)) (same n second)
     over other = refl
 
-operator_run : (first len : ℕ) (op : CondUnit) (ps : List Placed)
-    → run false len ps (record { last = at_operator op; tally = One first }) ≡ run false len ps (record { last = at_operator op; tally = More first op (nothing_of op) })
+operator_run : (len : ℕ) (op : CondUnit) (tally tally' : Tally) → AddAlike op tally tally' → (ps : List Placed)
+    → run false len ps (record { last = at_operator op; tally = tally }) ≡ run false len ps (record { last = at_operator op; tally = tally' })
 unfolding run
-operator_run first len op [] = refl
-operator_run first len op (p ∷ ps) = over p.token
+operator_run len op tally tally' same [] = refl
+operator_run len op tally tally' same (p ∷ ps) = over p.token
   where
-    over : (token : Token) → on_ok (moved false (at_operator op) (One first) p.start token) (run false len ps)
-        ≡ on_ok (moved false (at_operator op) (More first op (nothing_of op)) p.start token) (run false len ps)
-    over (number m) = same_run first len op (kept m) ps
+    over : (token : Token) → on_ok (moved false (at_operator op) tally p.start token) (run false len ps) ≡ on_ok (moved false (at_operator op) tally' p.start token) (run false len ps)
+    over (number m) = number_run len op tally tally' same (kept m) ps
     over (word u) = refl
     over (operator next) = refl
     over other = refl
 
+plus_is_no_star : Star ≡ Plus → ⊥
+plus_is_no_star e = cc
+
+set_by : (first : ℕ) (op : CondUnit) → AddAlike op (One first) (More first op (nothing_of op))
+set_by first Plus n length = refl
+set_by first Star n length = refl
+
 -- The operator before the second term is set.
 pub operator_set : (no_calc : Bool) (s : Tokens) (first : ℕ) (set : CondUnit) → (IsTrue no_calc → set ≡ Plus)
     → comes no_calc s (at_operator set) (One first) ≡ comes no_calc s (at_operator set) (later_tally no_calc first set (Ok (nothing_of set)))
-operator_set false s first set plus = operator_run first (length (source s)) set (placed_tokens (options_of s) (left s))
+operator_set false s first set plus = operator_run (length (source s)) set _ _ (set_by first set) (placed_tokens (options_of s) (left s))
 operator_set true s first set plus =
     ap (λ sum. comes true s (at_operator set) (One sum)) (sym (add-zero first) ∙ ap (λ op. first + nothing_of op) (sym (plus refl)))
 
--- ---- the terms of a sum
+-- Behind another operator than the one that was set a fault is held back.
+pub operator_next : (no_calc : Bool) (s : Tokens) (first : ℕ) (set next : CondUnit) (total : ℕ) (fault : Option Cause) → (IsTrue no_calc → (set ≡ Plus) × (next ≡ Plus))
+    → comes no_calc s (at_operator next) (later_tally no_calc first set (so_far total fault)) ≡ comes no_calc s (at_operator next) (later_tally no_calc first set (so_far total (mixed set fault next)))
+operator_next no_calc s first set next total (Some fault) plus = refl
+operator_next no_calc s first Plus Plus total None plus = refl
+operator_next no_calc s first Star Star total None plus = refl
+operator_next false s first Plus Star total None plus = operator_run (length (source s)) Star _ _ (λ n length. refl) (placed_tokens (options_of s) (left s))
+operator_next false s first Star Plus total None plus = operator_run (length (source s)) Plus _ _ (λ n length. refl) (placed_tokens (options_of s) (left s))
+operator_next true s first Plus Star total None plus = absurd (plus_is_no_star (plus refl).1)
+operator_next true s first Star Plus total None plus = absurd (plus_is_no_star (plus refl).0)
 
-plus_is_no_star : Star ≡ Plus → ⊥
-plus_is_no_star e = cc
+-- Where no fault is held back, the operator is the one that was set.
+pub operator_kept : (set next : CondUnit) (fault : Option Cause) → mixed set fault next ≡ None → next ≡ set
+operator_kept set next (Some fault) is = absurd cc
+operator_kept Plus Plus None is = refl
+operator_kept Star Star None is = refl
+operator_kept Plus Star None is = absurd cc
+operator_kept Star Plus None is = absurd cc
+
+-- Behind one more operator no syntax fault is held back.
+pub held_on : (no_calc : Bool) (first : ℕ) (set next : CondUnit) (total : ℕ) (fault : Option Cause) → HoldsNoSyntax (later_tally no_calc first set (so_far total fault))
+    → HoldsNoSyntax (later_tally no_calc first set (so_far total (mixed set fault next)))
+held_on no_calc first set next total (Some fault) holds = holds
+held_on no_calc first Plus Plus total None holds = holds
+held_on no_calc first Star Star total None holds = holds
+held_on no_calc first Plus Star total None holds = tt
+held_on no_calc first Star Plus total None holds = tt
+
+-- Behind one more plus a sum stays a sum.
+pub sum_on : (first : ℕ) (set next : CondUnit) (total : ℕ) (fault : Option Cause) → set ≡ Plus → next ≡ Plus → IsSum first set (so_far total fault) → IsSum first set (so_far total (mixed set fault next))
+sum_on first set next total (Some fault) e f sum = sum
+sum_on first Plus Plus total None e f sum = sum
+sum_on first Star next total None e f sum = absurd (plus_is_no_star e)
+sum_on first Plus Star total None e f sum = absurd (plus_is_no_star f)
+
+-- ---- the terms of a sum
 
 abbrev or_held : Result Tally Cause → Tally
 or_held (Ok tally) = tally
@@ -386,16 +424,19 @@ comes_to_sum true first Plus (Ok total) sums = of_fit (fits (first + total)) (su
     of_fit true e = refl
     of_fit false e = absurd cc
 
--- One more later term is read, and the pass goes on behind it.
-pub later_read : (no_calc : Bool) (all : Result ℕ Cause) (s a b : Tokens) (first : ℕ) (set op : CondUnit) (n : Option ℕ) (u : TimeUnit) (r r' : Result ℕ Cause)
-    → all ≡ comes no_calc s (at_operator op) (later_tally no_calc first set r) → HoldsNoSyntax (later_tally no_calc first set r)
-    → ReadsNumber no_calc s a (Some op) (later_tally no_calc first set r) (Ok n) → ReadsUnit no_calc a b op n (later_tally no_calc first set r) (Ok u)
-    → Ok (later_tally false first set r') ≡ added false (later_tally false first set r) op n (nanos_of u)
-    → (IsTrue no_calc → (set ≡ Plus) × (op ≡ Plus) × IsSum first set r × IsSum first set r')
-    → (all ≡ comes no_calc b at_word (later_tally no_calc first set r')) × HoldsNoSyntax (later_tally no_calc first set r')
-later_read no_calc all s a b first set op n u r r' same holds comes_number ends is sums =
-    let tally = later_tally no_calc first set r in
-    let adds = term_added no_calc first set op r r' n (nanos_of u) sums is in (
-      same ∙ comes_number.0 ∙ behind_term no_calc a b op n tally u (Ok (later_tally no_calc first set r')) ends adds,
-      subst LeavesNoSyntax (sym adds) (added_no_syntax no_calc tally op n (nanos_of u) holds),
+-- Behind a later term the pass goes on to `all`, and holds no syntax fault back.
+abbrev pub GoesOn : Bool → Result ℕ Cause → Tokens → ℕ → CondUnit → Result ℕ Cause → Type 0
+GoesOn no_calc all s first set later = (all ≡ comes no_calc s at_word (later_tally no_calc first set later)) × HoldsNoSyntax (later_tally no_calc first set later)
+
+-- One more later term is read.
+pub later_read : (no_calc : Bool) (all : Result ℕ Cause) (s a b : Tokens) (first : ℕ) (set op : CondUnit) (n : Number) (u : TimeUnit) (before after : Result ℕ Cause)
+    → all ≡ comes no_calc s (at_operator op) (later_tally no_calc first set before) → HoldsNoSyntax (later_tally no_calc first set before)
+    → ((behind : Option CondUnit) (tally : Tally) → ReadsNumber no_calc s a behind tally (Ok n)) → ((op : CondUnit) (n : Option ℕ) (tally : Tally) → ReadsUnit no_calc a b op n tally (Ok u))
+    → Ok (later_tally false first set after) ≡ added false (later_tally false first set before) op (kept_of n) (nanos_of u)
+    → (IsTrue no_calc → (set ≡ Plus) × (op ≡ Plus)) → (IsTrue no_calc → IsSum first set before) → (IsTrue no_calc → IsSum first set after) → GoesOn no_calc all b first set after
+later_read no_calc all s a b first set op n u before after same holds comes_number ends is plus sum_before sum_after =
+    let tally = later_tally no_calc first set before in
+    let adds = term_added no_calc first set op before after (kept_of n) (nanos_of u) (λ yes. ((plus yes).0, (plus yes).1, sum_before yes, sum_after yes)) is in (
+      same ∙ (comes_number (Some op) tally).0 ∙ behind_term no_calc a b op (kept_of n) tally u (Ok (later_tally no_calc first set after)) (ends op (kept_of n) tally) adds,
+      subst LeavesNoSyntax (sym adds) (added_no_syntax no_calc tally op (kept_of n) (nanos_of u) holds),
     )

@@ -1,5 +1,5 @@
 -- Pieces by their first character.
-use Rattle.std.proofs.Common.{◌≡◌, ℕ, ◌+◌, Bool, true, false, ◌&&◌, ◌||◌, List, [], ◌∷◌, ◌++◌, Option, Some, None, refl, sym, ap, subst, ◌∙◌, add-zero}
+use Rattle.std.proofs.Common.{◌≡◌, ℕ, ◌+◌, Bool, true, false, ◌&&◌, ◌||◌, List, [], ◌∷◌, ◌++◌, Option, Some, None, refl, sym, ap, subst, ◌∙◌, add-zero, arith}
 use Rattle.std.proofs.lemmas.Bool.{true≢false, and_parts}
 use Rattle.std.specs.Prelude.{IsTrue, if◌then◌else◌}
 use Rattle.std.specs.List.{list_all}
@@ -8,12 +8,11 @@ use Rattle.duration_str.specs.declared.unit.TimeUnit.{TimeUnit}
 use Rattle.duration_str.specs.declared.unit.CondUnit.{CondUnit}
 use Rattle.duration_str.specs.declared.token.Sort.{Sort}
 use Rattle.duration_str.specs.declared.token.Sort.TheVariants.{Number, Word}
-use Rattle.duration_str.specs.Text.{width, byte_len, is_blank, is_digit, is_unit_letter, operator_of, number_of, IsBlank}
+use Rattle.duration_str.specs.Text.{width, byte_len, is_blank, is_digit, is_unit_letter, operator_of, number_of, IsBlank, IsNumber}
 use Rattle.duration_str.specs.Units.{unit_of_word}
-use Rattle.duration_str.specs.Value.{kept}
 use Rattle.duration_str.specs.Grammar.{number, word, operator_or_other, sign_token, token_of}
 use Rattle.duration_str.specs.Pieces.{Piece, are_of_one_run, goes_on, IsPiece, ArePieces, pieces_from}
-use Rattle.duration_str.specs.Cutting.{ahead, StandsAt, Between, Stops, TakesNumber, TakesWord}
+use Rattle.duration_str.specs.Cutting.{ahead, StandsAt, Between, Passes, Stops, TakesWord}
 use Rattle.duration_str.specs.Sorts.{sign_sort, sort_at, sort_of, StandsPiece}
 use Rattle.duration_str.specs.Tokens.{IsSign}
 use Rattle.duration_str.proofs.CharacterLemmas.{digit-not_letter, letter-not_digit}
@@ -46,23 +45,22 @@ letters_mean o c cs all =
     rw (first, all) refl
 
 -- a number
-pub number_stands : (o : Options) (text : List ℕ) (place next at c : ℕ) (value : Option ℕ) → TakesNumber text place next value → Stops is_digit (ahead text next) → StandsAt text place at c
-    → is_digit c ≡ true → (n : ℕ) × StandsPiece o text place next (number n) × (value ≡ kept n)
-number_stands o text place next at c value taken stops stands e = by_characters taken.run.characters refl
+pub number_stands : (o : Options) (text : List ℕ) (place next at c : ℕ) (run : Passes is_digit text place next) → Stops is_digit (ahead text next) → StandsAt text place at c → is_digit c ≡ true
+    → IsNumber run.characters × StandsPiece o text place next (number (number_of run.characters))
+number_stands o text place next at c run stops stands e = by_characters run.characters refl
   where
-    by_characters : (cs : List ℕ) → taken.run.characters ≡ cs → (n : ℕ) × StandsPiece o text place next (number n) × (value ≡ kept n)
-    by_characters [] is = absurd (some_passed is_digit text place next at c taken.run.characters taken.run.between stops stands e is)
+    by_characters : (cs : List ℕ) → run.characters ≡ cs → IsNumber cs × StandsPiece o text place next (number (number_of cs))
+    by_characters [] is = absurd (some_passed is_digit text place next at c run.characters run.between stops stands e is)
     by_characters (d ∷ cs) is =
-        let all : IsTrue (list_all is_digit (d ∷ cs)) = subst (λ l. IsTrue (list_all is_digit l)) is taken.run.all in (
-          number_of (d ∷ cs),
+        let all : IsTrue (list_all is_digit (d ∷ cs)) = subst (λ l. IsTrue (list_all is_digit l)) is run.all in (
+          (omega arith, all),
           record {
             characters = d ∷ cs;
-            between = subst (Between text place next) is taken.run.between;
+            between = subst (Between text place next) is run.between;
             is_piece = digits_are_piece o d cs all;
             ends = digits_end o d (ahead text next) (and_parts (is_digit d) (list_all is_digit cs) all).0 stops;
             is_token = sym (digits_mean o d cs all);
           },
-          taken.number ∙ ap (λ l. kept (number_of l)) is,
         )
 
 -- a word

@@ -1,5 +1,5 @@
 -- The steps of `Tokens`: what lies ahead, and the next piece.
-use Rattle.std.proofs.Common.{◌≡◌, ℕ, ◌-◌, ◌≤◌, drop, length-drop, arith, List, [], ◌∷◌, length, Option, Some, None, IsUtf8, refl, sym, ap, subst, ◌∙◌}
+use Rattle.std.proofs.Common.{◌≡◌, ℕ, ◌-◌, ◌%◌, ◌^◌, ◌≤◌, drop, length-drop, arith, true, List, [], ◌∷◌, length, Option, Some, None, IsUtf8, refl, sym, ap, subst, ◌∙◌}
 use Rattle.std.specs.Prelude.{slice_range}
 use Rattle.std.specs.Str.{IsCharBoundary, chars}
 use Rattle.std.proofs.lemmas.List.{length-take-le}
@@ -12,12 +12,14 @@ use Rattle.duration_str.specs.declared.token.Sort.TheVariants.{Number, Word, Ope
 use Rattle.duration_str.specs.declared.token.Token.{Token as TokenPiece}
 use Rattle.duration_str.specs.declared.token.Tokens.{Tokens}
 use Rattle.duration_str.specs.Grammar.{Token, number, word, operator, other, operator_or_other, token_of}
-use Rattle.duration_str.specs.Text.{is_blank, is_digit, is_unit_letter, operator_of}
+use Rattle.duration_str.specs.Text.{is_blank, is_digit, is_unit_letter, operator_of, number_of, IsNumber}
+use Rattle.duration_str.specs.Units.{unit_of_word}
 use Rattle.duration_str.specs.Pieces.{Piece, pieces_from}
-use Rattle.duration_str.specs.Cutting.{ahead, StandsAt, Passes, Stops, TakesNumber, TakesWord}
+use Rattle.duration_str.specs.Cutting.{ahead, StandsAt, Passes, Stops, TakesDigits, TakesLetters, TakesWord}
 use Rattle.duration_str.specs.Sorts.{sort_at, sort_of, StandsPiece}
+use Rattle.duration_str.specs.Value.{kept}
 use Rattle.duration_str.specs.Tokens.{source, options_of, place_of, left, what_of, IsAhead, LooksAhead, IsSign, TakesPiece, TakesNumberPiece, tokens_steps}
-use Rattle.duration_str.proofs.CuttingLemmas.{chars_between, blanks_passed, piece_taken, place_at_end}
+use Rattle.duration_str.proofs.CuttingLemmas.{chars_between, long_word, same_slice, blanks_passed, piece_taken, place_at_end}
 use Rattle.duration_str.proofs.SortLemmas.{number_stands, word_stands, sign_stands, digit_of_sort, letter_of_sort, sign_of_sort, sign_sorts, first_piece}
 
 -- what is left of the text from a place on, after the source and the options stayed
@@ -54,6 +56,13 @@ one_sort s a b h k =
     let same : h.0 ≡ k.0 = cc in
     h.3 ∙ ap (sort_at (options_of s)) same ∙ sym k.3
 
+-- a word begins with a unit letter
+pub letter_ahead : (s : Tokens) (c : ℕ) → IsAhead s (Some Word) → s.head ≡ Some c → is_unit_letter (options_of s) c ≡ true
+letter_ahead s c h is =
+    let heads = sym h.1 ∙ is in
+    let same : h.0 ≡ c = cc in
+    ap (is_unit_letter (options_of s)) (sym same) ∙ letter_of_sort (options_of s) h.0 h.3
+
 -- ---- the next piece
 
 takes_piece : (s t : Tokens) (token : Token) → source t ≡ source s → options_of t ≡ options_of s → StandsPiece (options_of s) (source s) (place_of s) (place_of t) token → TakesPiece s t token
@@ -67,12 +76,18 @@ takes_piece s t token text o piece = record {
   is_token = piece.is_token;
 }
 
-pub takes_number : (s t : Tokens) (value : Option ℕ) → IsAhead s (Some Number) → source t ≡ source s → options_of t ≡ options_of s
-    → TakesNumber (source s) (place_of s) (place_of t) value → Stops is_digit (ahead (source t) (place_of t)) → TakesNumberPiece s t value
-takes_number s t value h text o taken stops =
-    let piece = number_stands (options_of s) (source s) (place_of s) (place_of t) s.eye.next h.0 value taken (subst (λ l. Stops is_digit (ahead l (place_of t))) text stops)
-    (s.some h.0 h.1) (digit_of_sort (options_of s) h.0 h.3) in
-    (piece.0, takes_piece s t _ text o piece.1, piece.2)
+-- The slice from s to t is the number ahead, and low is what it comes to but for a multiple of 2^64.
+pub takes_number : (s t : Tokens) (low start : ℕ) (slice : List ℕ) → IsAhead s (Some Number) → source t ≡ source s → options_of t ≡ options_of s
+    → TakesDigits (source s) (place_of s) (place_of t) low → Stops is_digit (ahead (source t) (place_of t)) → start ≡ place_of s → slice ≡ slice_range (source t) start (place_of t) → IsUtf8 slice
+    → IsNumber (chars slice) × (low ≡ number_of (chars slice) % 2 ^ 64) × TakesNumberPiece s t (kept (number_of (chars slice)))
+takes_number s t low start slice h text o taken stops there is utf8 =
+    let same = chars_between (source s) (place_of s) (place_of t) taken.run.characters slice taken.run.between (same_slice slice (source t) (source s) start (place_of s) (place_of t) is text there) utf8 in
+    let piece = number_stands (options_of s) (source s) (place_of s) (place_of t) s.eye.next h.0 taken.run (subst (λ l. Stops is_digit (ahead l (place_of t))) text stops) (s.some h.0 h.1)
+    (digit_of_sort (options_of s) h.0 h.3) in (
+      subst IsNumber (sym same) piece.0,
+      taken.number ∙ ap (λ l. number_of l % 2 ^ 64) (sym same),
+      (number_of taken.run.characters, takes_piece s t _ text o piece.1, ap (λ l. kept (number_of l)) same),
+    )
 
 pub takes_word : (s t : Tokens) (unit : Option TimeUnit) → IsAhead s (Some Word) → source t ≡ source s → options_of t ≡ options_of s
     → TakesWord (options_of s) (source s) (place_of s) (place_of t) unit → Stops (is_unit_letter (options_of s)) (ahead (source t) (place_of t)) → TakesPiece s t (word unit)
@@ -80,6 +95,18 @@ takes_word s t unit h text o taken stops =
     takes_piece s t (word unit) text o
     (word_stands (options_of s) (source s) (place_of s) (place_of t) s.eye.next h.0 unit taken (subst (λ l. Stops (is_unit_letter (options_of s)) (ahead l (place_of t))) text stops)
     (s.some h.0 h.1) (letter_of_sort (options_of s) h.0 h.3))
+
+-- a word by its slice: ASCII letters from s to m, and any unit letters from there to t
+pub takes_long_word : (s m t : Tokens) (value start : ℕ) (slice : List ℕ) (unit : Option TimeUnit) → IsAhead s (Some Word) → source m ≡ source s → options_of m ≡ options_of s
+    → TakesLetters (source s) (place_of s) (place_of m) value → source t ≡ source m → options_of t ≡ options_of m
+    → Passes (is_unit_letter (options_of m)) (source m) (place_of m) (place_of t) → Stops (is_unit_letter (options_of m)) (ahead (source t) (place_of t))
+    → start ≡ place_of s → slice ≡ slice_range (source t) start (place_of t) → IsUtf8 slice → unit ≡ unit_of_word (options_of t) (chars slice) → TakesPiece s t (word unit)
+takes_long_word s m t value start slice unit h text o letters later_text later_o passed stops there is utf8 found =
+    let run = subst (λ l. Passes (is_unit_letter (options_of s)) l (place_of m) (place_of t)) text (subst (λ o. Passes (is_unit_letter o) (source m) (place_of m) (place_of t)) o passed) in
+    takes_word s t unit h (later_text ∙ text) (later_o ∙ o)
+    (long_word (options_of s) (source s) (place_of s) (place_of m) (place_of t) value slice unit letters run
+    (same_slice slice (source t) (source s) start (place_of s) (place_of t) is (later_text ∙ text) there) utf8 (found ∙ ap (λ o. unit_of_word o (chars slice)) (later_o ∙ o)))
+    (subst (λ o. Stops (is_unit_letter o) (ahead (source t) (place_of t))) o stops)
 
 -- from s past the character ahead
 pub takes_sign : (s t : Tokens) (sort : Sort) → IsSign sort → IsAhead s (Some sort) → source t ≡ source s → options_of t ≡ options_of s
@@ -110,7 +137,7 @@ pub takes_token : (s m t : Tokens) (x : TokenPiece) (token : Token) → source m
     → IsCharBoundary (source t) (place_of t) → tokens_steps s (Some x) t
 takes_token s m t x token text o same taken there is utf8 sort before boundary =
     let slice : x.text.now ≡ slice_range (source m) (place_of m) (place_of t) = is ∙ (λ i. slice_range (taken.same_source i) (there i) (place_of t)) in
-    let cs : chars x.text.now ≡ taken.characters = ap chars slice ∙ chars_between (source m) (place_of m) (place_of t) taken.characters taken.between (subst IsUtf8 slice utf8) in
+    let cs : chars x.text.now ≡ taken.characters = chars_between (source m) (place_of m) (place_of t) taken.characters x.text.now taken.between slice utf8 in
     let order : x.start ≤ place_of t = omega (arith, taken.between.bytes, there) in
     let len : length x.text.now ≡ place_of t - x.start =
     ap length is ∙ length-take-le (place_of t - x.start) (drop x.start (source t)) (simp length-drop (omega (arith, boundary.0, order))) in (

@@ -7,7 +7,6 @@ use Rattle.duration_str.specs.declared.unit.Options.{Options}
 use Rattle.duration_str.specs.declared.unit.TimeUnit.{TimeUnit}
 use Rattle.duration_str.specs.Text.{width, byte_len, is_digit, is_unit_letter, number_of}
 use Rattle.duration_str.specs.Units.{unit_of_word}
-use Rattle.duration_str.specs.Value.{kept}
 
 -- the characters from a byte on
 abbrev pub ahead : List ℕ → ℕ → List ℕ
@@ -47,17 +46,10 @@ pub record TakesDigits (text : List ℕ) (place next value : ℕ) : Type 0 where
   pub run : Passes is_digit text place next
   pub number : value ≡ number_of run.characters % 2 ^ 64
 
--- From `place` to `next` stand digits, and this is their number where it is below 2^64.
-pub record TakesNumber (text : List ℕ) (place next : ℕ) (value : Option ℕ) : Type 0 where
-  pub run : Passes is_digit text place next
-  pub number : value ≡ kept (number_of run.characters)
-
--- From `place` to `next` stand unit letters. Where `plain` says that all are ASCII letters, they pack to this number
--- but for a multiple of 2^64.
-pub record TakesLetters (o : Options) (text : List ℕ) (place next value : ℕ) (plain : Bool) : Type 0 where
-  pub run : Passes (is_unit_letter o) text place next
-  pub ascii : IsTrue plain → IsTrue (list_all is_ascii_alphabetic run.characters)
-  pub number : IsTrue plain → value ≡ packed run.characters % 2 ^ 64
+-- From `place` to `next` stand ASCII letters, and they pack to this number but for a multiple of 2^64.
+pub record TakesLetters (text : List ℕ) (place next value : ℕ) : Type 0 where
+  pub run : Passes is_ascii_alphabetic text place next
+  pub number : value ≡ packed run.characters % 2 ^ 64
 
 -- From `place` to `next` stand unit letters, and this is the unit that they name.
 pub record TakesWord (o : Options) (text : List ℕ) (place next : ℕ) (unit : Option TimeUnit) : Type 0 where

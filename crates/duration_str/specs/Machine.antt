@@ -63,6 +63,11 @@ abbrev pub sum_added : ℕ → Result ℕ Cause → Result Tally Cause
 sum_added sum (Ok x) = if fits (sum + x) then Ok (One (sum + x)) else Err (Overflow None)
 sum_added sum (Err cause) = Err cause
 
+-- what later terms come to with one more of this value
+abbrev pub with_term : CondUnit → ℕ → Result ℕ Cause → Result ℕ Cause
+with_term set total (Ok x) = within (kept (joined set total x))
+with_term set total (Err cause) = Err cause
+
 abbrev pub later_added : ℕ → CondUnit → ℕ → Result ℕ Cause → Tally
 later_added first set total (Ok x) = if fits (joined set total x) then More first set (joined set total x) else Held (Overflow None)
 later_added first set total (Err cause) = Held cause

@@ -1,13 +1,16 @@
 -- The reader's steps: what each says of the pass over the tokens that are left.
-use Rattle.std.specs.Prelude.{IsTrue, ◌≡◌, ℕ, Bool, false, ◌<◌, ◌≤◌, length, Option, Some, None, unwrap_or, Result, Ok, Err}
+use Rattle.std.specs.Prelude.{IsTrue, ◌≡◌, ℕ, Bool, false, ◌<◌, ◌≤◌, length, Option, Some, None, unwrap_or, if◌then◌else◌, Result, Ok, Err}
 use Rattle.duration_str.specs.declared.unit.TimeUnit.{TimeUnit}
 use Rattle.duration_str.specs.declared.unit.CondUnit.{CondUnit}
 use Rattle.duration_str.specs.declared.unit.CondUnit.TheVariants.{Plus}
 use Rattle.duration_str.specs.declared.fault.Cause.{Cause}
-use Rattle.duration_str.specs.declared.fault.Cause.TheVariants.{Syntax}
+use Rattle.duration_str.specs.declared.fault.Cause.TheVariants.{Syntax, Mixed}
+use Rattle.duration_str.specs.declared.reader.Later.{Later}
+use Rattle.duration_str.specs.declared.token.Number.{Number}
 use Rattle.duration_str.specs.declared.token.Tokens.{Tokens}
 use Rattle.duration_str.specs.Units.{nanos_of}
-use Rattle.duration_str.specs.Tokens.{source, options_of, place_of, left}
+use Rattle.duration_str.specs.Value.{is_same_operator}
+use Rattle.duration_str.specs.Tokens.{source, options_of, place_of, left, kept_of}
 use Rattle.duration_str.specs.Machine.{placed_tokens, Last, awaits, at_number, at_word, at_operator, Tally, Held, added, later_tally, tallied, run, IsCutTo}
 
 -- what the tokens that are left come to, from the last piece and the tally
@@ -24,9 +27,9 @@ abbrev pub EndsWith : Result ℕ Cause → Tokens → Tokens → Result ℕ Caus
 EndsWith all old new result = (all ≡ result) × IsCutTo result (length (source old)) (place_of new)
 
 -- At the start, or behind an operator, the number of a term comes.
-abbrev pub ReadsNumber : Bool → Tokens → Tokens → Option CondUnit → Tally → Result (Option ℕ) Cause → Type 0
+abbrev pub ReadsNumber : Bool → Tokens → Tokens → Option CondUnit → Tally → Result Number Cause → Type 0
 ReadsNumber no_calc old new behind tally (Ok n) =
-    (comes no_calc old (awaits behind) tally ≡ comes no_calc new (at_number (unwrap_or behind Plus) n) tally) × (length (left new) < length (left old))
+    (comes no_calc old (awaits behind) tally ≡ comes no_calc new (at_number (unwrap_or behind Plus) (kept_of n)) tally) × (length (left new) < length (left old))
 ReadsNumber no_calc old new behind tally (Err cause) = EndsWith (comes no_calc old (awaits behind) tally) old new (Err cause)
 
 -- Behind a number the term ends with this unit.
@@ -42,6 +45,7 @@ ReadsOperator no_calc old new tally (Ok (Some op)) =
 ReadsOperator no_calc old new tally (Ok None) = (comes no_calc old at_word tally ≡ tallied tally) × (place_of new ≡ length (source old))
 ReadsOperator no_calc old new tally (Err cause) = EndsWith (comes no_calc old at_word tally) old new (Err cause)
 
+-- a cause that is no fault of the syntax
 abbrev pub IsNoSyntax : Cause → Type 0
 IsNoSyntax (Syntax place expected) = ⊥
 IsNoSyntax _ = Unit {0}
@@ -50,6 +54,19 @@ IsNoSyntax _ = Unit {0}
 abbrev pub HoldsNoSyntax : Tally → Type 0
 HoldsNoSyntax (Held cause) = IsNoSyntax cause
 HoldsNoSyntax _ = Unit {0}
+
+-- what the later terms come to, or the first fault of one
+abbrev pub so_far : ℕ → Option Cause → Result ℕ Cause
+so_far total None = Ok total
+so_far total (Some fault) = Err fault
+
+abbrev pub come_to : Later → Result ℕ Cause
+come_to later = so_far later.total later.fault
+
+-- the first fault behind one more operator
+abbrev pub mixed : CondUnit → Option Cause → CondUnit → Option Cause
+mixed set (Some fault) next = Some fault
+mixed set None next = if is_same_operator set next then None else Some (Mixed set next)
 
 -- The first term and the later ones come to a sum below 2^64.
 abbrev pub IsSum : ℕ → CondUnit → Result ℕ Cause → Type 0

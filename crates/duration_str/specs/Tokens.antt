@@ -8,12 +8,13 @@ use Rattle.duration_str.specs.declared.token.What.TheVariants as whats
 use Rattle.duration_str.specs.declared.token.Sort.{Sort}
 use Rattle.duration_str.specs.declared.token.Sort.TheVariants as sorts
 use Rattle.duration_str.specs.declared.token.Token.{Token as TokenPiece}
+use Rattle.duration_str.specs.declared.token.Number.{Number}
 use Rattle.duration_str.specs.declared.token.Tokens.{Tokens}
 use Rattle.duration_str.specs.Grammar.{Token, number, word, operator, other, token_of}
 use Rattle.duration_str.specs.Pieces.{Piece, pieces_from}
 use Rattle.duration_str.specs.Cutting.{ahead, Between}
 use Rattle.duration_str.specs.Sorts.{sort_at}
-use Rattle.duration_str.specs.Text.{is_blank}
+use Rattle.duration_str.specs.Text.{is_blank, number_of}
 use Rattle.duration_str.specs.Value.{kept}
 
 -- the sort of a piece that means this token
@@ -79,6 +80,10 @@ pub record TakesPiece (old new : Tokens) (token : Token) : Type 0 where
   pub first : left old ≡ record { start = place_of old; characters = characters } ∷ left new
   pub between : Between (source old) (place_of old) (place_of new) characters
   pub is_token : token ≡ token_of (options_of old) characters
+
+-- a number where it is below 2^64
+abbrev pub kept_of : Number → Option ℕ
+kept_of n = kept (number_of (chars n.digits.now))
 
 -- The first piece that is left is taken, a number, and this is the number where it is below 2^64.
 abbrev pub TakesNumberPiece : Tokens → Tokens → Option ℕ → Type 0

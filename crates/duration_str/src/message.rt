@@ -74,7 +74,7 @@ impl Fault<'_> {
     ///
     /// ```text
     /// let mut buffer = [0; 64];
-    /// parse("").unwrap_err().write_message(&mut buffer) // Some(11), behind which `buffer` begins with "Empty input"
+    /// parse("").unwrap_err().write_message(&mut buffer) // Some(11), and `buffer` begins with "Empty input"
     /// ```
     pub fn write_message(&self, buffer: &mut [u8]) -> Option<usize>
         ensures { IsInFront (fault_text self.now.text.now self.now.cause) result buffer.new }

@@ -1,24 +1,16 @@
 //! The one pass over the pieces of a text.
-ghost use Rattle.std.specs.Prelude.{◌≡◌, ℕ, Bool, true, false, Ok, Err, IsTrue, IsOk, IfErr, Option};
-ghost use Rattle.duration_str.specs.Value.{joined, kept};
+ghost use Rattle.std.specs.Prelude.{◌≡◌, ℕ, Bool, true, false, None, Ok, Err, IsTrue, IsOk, IfErr, Option};
+ghost use Rattle.duration_str.specs.Value.{joined, kept, term_value};
 ghost use Rattle.duration_str.specs.Units.{nanos_of};
-ghost use Rattle.duration_str.specs.Machine.{Tally, Nothing, One, nothing_of, added, within, later_tally, tallied, at_start, at_operator};
-ghost use Rattle.duration_str.specs.Passing.{comes, EndsWith, ReadsNumber, ReadsUnit, ReadsOperator, IsSum};
-ghost use Rattle.duration_str.specs.Tokens.{source};
+ghost use Rattle.duration_str.specs.Machine.{Tally, Nothing, One, nothing_of, within, later_tally, tallied, with_term, at_start, at_operator};
+ghost use Rattle.duration_str.specs.Passing.{comes, EndsWith, ReadsNumber, ReadsUnit, ReadsOperator};
+ghost use Rattle.duration_str.specs.Tokens.{source, kept_of};
 ghost use Rattle.duration_str.specs.declared.unit.CondUnit.{CondUnit as AnOperator};
 ghost use Rattle.duration_str.specs.declared.unit.CondUnit.TheVariants.{Plus};
 
 use crate::fault::{Cause, Expected};
-use crate::token::{Sort, Tokens};
+use crate::token::{Number, Sort, Tokens};
 use crate::unit::{CondUnit, TimeUnit};
-
-/// A later term: the operator before it, its number, which is `None` from 2^64 on, and its unit.
-#[derive(Clone, Copy)]
-pub(crate) struct Term {
-    operator: CondUnit,
-    number: Option<u64>,
-    unit: TimeUnit,
-}
 
 /// What the pieces of a text are read as.
 #[inline(always)]
@@ -28,7 +20,7 @@ pub(crate) fn read(tokens: &mut Tokens<'_>, no_calc: bool) -> Result<u64, Cause>
 {
     let number = read_number(tokens)?;
     let unit = read_unit(tokens, no_calc)?;
-    let first = unit.times(number, Some(0))?;
+    let first = unit.times(number.value(), Some(0))?;
     match read_operator(tokens, no_calc)? {
         None => Ok(first),
         Some(set) => read_later(tokens, no_calc, first, set),
@@ -48,28 +40,25 @@ fn read_later(
     ensures answer { EndsWith (comes no_calc tokens.old (at_operator set) (One first)) tokens.old tokens.new result }
     ensures source { source tokens.new ≡ source tokens.old }
 {
-    let mut later = Ok(nothing_of(set));
-    let mut operator = set;
+    let mut later = Later {
+        total: nothing_of(set),
+        fault: None,
+    };
     loop {
         let number = read_number(tokens)?;
         let unit = read_unit(tokens, no_calc)?;
-        let term = Term {
-            operator,
-            number,
-            unit,
-        };
-        later = later_joined(set, later, term);
-        sum_checked(no_calc, first, set, later)?;
+        later.add(set, number, unit);
+        later.sum_checked(no_calc, first, set)?;
         match read_operator(tokens, no_calc)? {
-            None => return all_joined(first, set, later),
-            Some(next) => operator = next,
+            None => return later.joined(first, set),
+            Some(next) => later.go_on(set, next),
         }
     }
 }
 
 /// Reads the number that has to come, at the start and behind an operator.
 #[inline(always)]
-fn read_number(tokens: &mut Tokens<'_>) -> Result<Option<u64>, Cause>
+fn read_number<'a>(tokens: &mut Tokens<'a>) -> Result<Number<'a>, Cause>
     ensures source { source tokens.new ≡ source tokens.old }
     ensures number { (no_calc : Bool) (behind : Option AnOperator) (tally : Tally) → ReadsNumber no_calc tokens.old tokens.new behind tally result }
 {
@@ -101,7 +90,7 @@ fn read_unit(tokens: &mut Tokens<'_>, no_calc: bool) -> Result<TimeUnit, Cause>
     ensures source { source tokens.new ≡ source tokens.old }
     ensures unit { (op : AnOperator) (number : Option ℕ) (tally : Tally) → ReadsUnit no_calc tokens.old tokens.new op number tally result }
 {
-    let ahead = tokens.sort_ahead();
+    let ahead = tokens.sort_behind_number();
     let expected = Expected {
         number: false,
         unit_word: true,
@@ -166,49 +155,78 @@ fn read_operator(tokens: &mut Tokens<'_>, no_calc: bool) -> Result<Option<CondUn
     }
 }
 
-/// What the later terms come to, or their first fault, with one more term.
-#[inline(always)]
-fn later_joined(set: CondUnit, later: Result<u64, Cause>, term: Term) -> Result<u64, Cause>
-    ensures { (first : ℕ) → Ok (later_tally false first set result) ≡ added false (later_tally false first set later) term.operator term.number (nanos_of term.unit) }
-{
-    let total = later?;
-    if term.operator != set {
-        return Err(Cause::Mixed {
-            first: set,
-            later: term.operator,
-        });
+/// What the later terms come to, and the first fault of one, which is held back.
+#[derive(Drop)]
+pub(crate) struct Later {
+    total: u64,
+    fault: Option<Cause>,
+}
+
+impl Later {
+    ghost use Rattle.duration_str.specs.Machine.{added};
+    ghost use Rattle.duration_str.specs.Passing.{mixed, come_to, IsSum};
+
+    /// Adds a term. Nothing is added behind a fault.
+    #[inline(always)]
+    fn add(&mut self, set: CondUnit, number: Number<'_>, unit: TimeUnit)
+        ensures { (first : ℕ) (op : AnOperator) → (self.old.fault ≡ None → op ≡ set) → Ok (later_tally false first set (come_to self.new)) ≡ added false (later_tally false first set (come_to self.old)) op (kept_of number.entry) (nanos_of unit) }
+    {
+        if self.fault.is_none() {
+            match with_term(set, self.total, number, unit) {
+                Ok(total) => self.total = total,
+                Err(fault) => self.fault = Some(fault),
+            }
+        }
     }
-    let value = term.unit.times(term.number, None)?;
+
+    /// Goes on behind an operator, which has to be the one that was set.
+    #[inline(always)]
+    fn go_on(&mut self, set: CondUnit, next: CondUnit)
+        ensures total { self.new.total ≡ self.old.total }
+        ensures fault { self.new.fault ≡ mixed set self.old.fault next }
+    {
+        if self.fault.is_none() && next != set {
+            self.fault = Some(Cause::Mixed {
+                first: set,
+                later: next,
+            });
+        }
+    }
+
+    /// What they come to with the first term, or the first fault of one.
+    #[inline(always)]
+    fn joined(&self, first: u64, set: CondUnit) -> Result<u64, Cause>
+        ensures { result ≡ tallied (later_tally false first set (come_to self.now)) }
+    {
+        match self.fault {
+            Some(fault) => Err(fault),
+            None => within(joined(set, first, self.total)),
+        }
+    }
+
+    /// Under `no_calc` the fault of a term, which is not held back, or of the sum of all, which has to be below 2^64.
+    #[inline(always)]
+    fn sum_checked(&self, no_calc: bool, first: u64, set: CondUnit) -> Result<(), Cause>
+        ensures sum { IsOk result → IsTrue no_calc → IsSum first set (come_to self.now) }
+        ensures fault { IfErr result (λ cause. (no_calc ≡ true) × (tallied (later_tally false first set (come_to self.now)) ≡ Err cause)) }
+    {
+        if !no_calc {
+            return Ok(());
+        }
+        match self.joined(first, set) {
+            Ok(_) => Ok(()),
+            Err(cause) => Err(cause),
+        }
+    }
+}
+
+/// What later terms come to with one more.
+#[inline(always)]
+fn with_term(set: CondUnit, total: u64, number: Number<'_>, unit: TimeUnit) -> Result<u64, Cause>
+    ensures { result ≡ with_term set total (term_value None (kept_of number.entry) (nanos_of unit)) }
+{
+    let value = unit.times(number.value(), None)?;
     within(joined(set, total, value))
-}
-
-/// What all terms come to, or the first fault of a later one.
-#[inline(always)]
-fn all_joined(first: u64, set: CondUnit, later: Result<u64, Cause>) -> Result<u64, Cause>
-    ensures { result ≡ tallied (later_tally false first set later) }
-{
-    let total = later?;
-    within(joined(set, first, total))
-}
-
-/// Under `no_calc` the fault of a term, which is not held back, or of the sum of all, which has to be below 2^64.
-#[inline]
-fn sum_checked(
-    no_calc: bool,
-    first: u64,
-    set: CondUnit,
-    later: Result<u64, Cause>,
-) -> Result<(), Cause>
-    ensures sum { IsOk result → IsTrue no_calc → IsSum first set later }
-    ensures fault { IfErr result (λ cause. (no_calc ≡ true) × (tallied (later_tally false first set later) ≡ Err cause)) }
-{
-    if !no_calc {
-        return Ok(());
-    }
-    match all_joined(first, set, later) {
-        Ok(_) => Ok(()),
-        Err(cause) => Err(cause),
-    }
 }
 
 /// The value, or the fault that it is 2^64 or more.

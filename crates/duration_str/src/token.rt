@@ -1,12 +1,14 @@
 //! The pieces of a text: numbers, words, operators, and single other characters.
-ghost use Rattle.std.specs.Prelude.{◌≡◌, ◌+◌, ◌≤◌, ◌<◌, [], ◌&&◌, ◌||◌, ◌==◌, length, take, is_some, IsSome, IsTrue, IfSome, if◌then◌else◌, true, false, Some};
+ghost use Rattle.std.specs.Prelude.{◌≡◌, ◌+◌, ◌%◌, ◌^◌, ◌≤◌, ◌<◌, [], ◌&&◌, ◌||◌, ◌==◌, length, take, is_some, IsSome, IsTrue, IfSome, if◌then◌else◌, true, false, Some, IsUtf8};
 ghost use Rattle.std.specs.Option.{ForSome, ForNone};
+ghost use Rattle.std.specs.Char.{is_ascii_alphabetic};
 ghost use Rattle.std.specs.Str.{chars};
 ghost use Rattle.std.specs.Iterator.{item_count};
-ghost use Rattle.duration_str.specs.Text.{is_blank, is_digit, is_unit_letter, is_chinese};
+ghost use Rattle.duration_str.specs.Text.{is_blank, is_digit, is_unit_letter, is_chinese, IsNumber, number_of};
 ghost use Rattle.duration_str.specs.Pieces.{pieces_of};
 ghost use Rattle.duration_str.specs.Cutting.{ahead, StandsAt, Passes, Stops, TakesDigits, TakesLetters};
 ghost use Rattle.duration_str.specs.Sorts.{sort_at};
+ghost use Rattle.duration_str.specs.Units.{unit_of_word};
 ghost use Rattle.duration_str.specs.declared.token.Sort.{Sort};
 ghost use Rattle.duration_str.specs.declared.token.Sort.TheVariants.{Number as a_number, Word as a_word};
 
@@ -44,6 +46,34 @@ pub(crate) enum Sort {
     Other,
 }
 
+/// A number: its digits, and what they come to but for a multiple of 2^64.
+#[derive(Clone, Copy)]
+pub(crate) struct Number<'a> {
+    digits: &'a str,
+    low: u64,
+    ghost utf8: { ∥ IsUtf8 digits.now ∥₁ },
+    ghost number: { IsNumber (chars digits.now) },
+    ghost same: { low ≡ number_of (chars digits.now) % 2 ^ 64 },
+}
+
+impl<'a> Number<'a> {
+    ghost use Rattle.duration_str.specs.Tokens.{kept_of};
+
+    /// The number, where it is below 2^64.
+    #[inline(always)]
+    pub(crate) fn value(self) -> Option<u64>
+        ensures { result ≡ kept_of self.entry }
+    {
+        if self.digits.len() <= MOST_DIGITS {
+            Some(self.low)
+        } else {
+            // `?` keeps this way apart, as in `take_word`.
+            let number = number_of(self.digits)?;
+            Some(number)
+        }
+    }
+}
+
 /// The pieces of a text, in order. Each character is looked at once, when it comes.
 #[derive(Drop)]
 pub struct Tokens<'a> {
@@ -59,7 +89,7 @@ pub struct Tokens<'a> {
 impl<'a> Tokens<'a> {
     ghost use Rattle.duration_str.specs.Grammar.{Token as PieceToken, word};
     ghost use Rattle.duration_str.specs.Sorts.{sort_of};
-    ghost use Rattle.duration_str.specs.Tokens.{source, options_of, place_of, looks_of, left, what_of, IsAhead, LooksAhead, IsSign, TakesNumberPiece, TakesPiece};
+    ghost use Rattle.duration_str.specs.Tokens.{source, options_of, place_of, looks_of, left, what_of, IsAhead, LooksAhead, IsSign, kept_of, TakesNumberPiece, TakesPiece};
 
     /// The pieces of a text, cut under these options.
     #[inline(always)]
@@ -142,57 +172,61 @@ impl<'a> Tokens<'a> {
         number
     }
 
-    /// Takes the number ahead, and gives it where it is below 2^64.
+    /// Takes the number ahead.
     #[inline(always)]
-    pub(crate) fn take_number(&mut self) -> Option<u64>
+    pub(crate) fn take_number(&mut self) -> Number<'a>
         requires { IsAhead self.old (Some a_number) }
-        ensures { TakesNumberPiece self.old self.new result }
+        ensures { TakesNumberPiece self.old self.new (kept_of result) }
     {
         let start = self.eye.place();
-        let number = self.take_digits();
-        if self.eye.place() - start <= MOST_DIGITS {
-            Some(number)
-        } else {
-            number_of(self.eye.since(start))
+        let low = self.take_digits();
+        Number {
+            digits: self.eye.since(start),
+            low,
         }
     }
 
-    /// Moves past the ASCII letters, and gives them packed but for a multiple of 2^64.
+    /// Moves past the ASCII letters that the word ahead begins with, and gives them packed but for a multiple of 2^64.
+    /// Its first character is a unit letter, so there the test for ASCII is enough.
     #[inline(always)]
     fn take_ascii_letters(&mut self) -> u64
+        requires { IsAhead self.old (Some a_word) }
         ensures source { source self.new ≡ source self.old }
         ensures options { options_of self.new ≡ options_of self.old }
-        ensures letters { TakesLetters (options_of self.old) (source self.old) (place_of self.old) (place_of self.new) result true }
+        ensures letters { TakesLetters (source self.old) (place_of self.old) (place_of self.new) result }
+        ensures stops { ForSome self.new.head (λ c. is_ascii_alphabetic c ≡ false) }
     {
         let mut packed = 0u64;
-        while let Some(c) = self.head
-            && c.is_ascii_alphabetic()
+        if let Some(first) = self.head
+            && first.is_ascii()
         {
-            packed = packed
-                .wrapping_mul(32)
-                .wrapping_add(u64::from(c as u32 % 32));
+            packed = u64::from(first as u32 % 32);
             self.advance();
+            while let Some(c) = self.head
+                && c.is_ascii_alphabetic()
+            {
+                packed = packed
+                    .wrapping_mul(32)
+                    .wrapping_add(u64::from(c as u32 % 32));
+                self.advance();
+            }
         }
         packed
     }
 
-    /// Moves past the unit letters. Gives whether all are ASCII letters, and these packed but for a multiple of 2^64.
+    /// Moves past the unit letters.
     #[inline(always)]
-    fn take_letters(&mut self) -> (u64, bool)
+    fn skip_letters(&mut self)
         ensures source { source self.new ≡ source self.old }
         ensures options { options_of self.new ≡ options_of self.old }
-        ensures letters { TakesLetters (options_of self.old) (source self.old) (place_of self.old) (place_of self.new) result.0 result.1 }
+        ensures letters { Passes (is_unit_letter (options_of self.old)) (source self.old) (place_of self.old) (place_of self.new) }
         ensures stops { Stops (is_unit_letter (options_of self.old)) (ahead (source self.new) (place_of self.new)) }
     {
-        let packed = self.take_ascii_letters();
-        let mut plain = true;
         while let Some(c) = self.head
             && is_unit_letter(c, self.options)
         {
-            plain = false;
             self.advance();
         }
-        (packed, plain)
     }
 
     /// Takes the word ahead, and gives the unit that it names.
@@ -202,22 +236,25 @@ impl<'a> Tokens<'a> {
         ensures { TakesPiece self.old self.new (word result) }
     {
         let start = self.eye.place();
-        let (packed, plain) = self.take_letters();
-        if plain && !self.options.lowercase && self.eye.place() - start <= MOST_LETTERS {
+        let packed = self.take_ascii_letters();
+        // No letter beyond ASCII follows.
+        let ended = match self.head {
+            Some(c) => c.is_ascii(),
+            None => true,
+        };
+        if ended && !self.options.lowercase && self.eye.place() - start <= MOST_LETTERS {
             unit_of_packed(packed)
         } else {
-            // A copy: the address of `self.options` would keep all of `self` in memory.
+            self.skip_letters();
+            // The flags one by one: the address of `self.options` would keep all of `self` in memory.
             let Options {
                 no_calc,
                 lowercase,
                 cn_unit,
             } = self.options;
-            let options = Options {
-                no_calc,
-                lowercase,
-                cn_unit,
-            };
-            TimeUnit::from_word(self.eye.since(start), options)
+            // By `?` the compiler keeps this way apart from the usual one, whose answer it then needn't test again.
+            let unit = unit_by_name(self.eye.since(start), no_calc, lowercase, cn_unit)?;
+            Some(unit)
         }
     }
 
@@ -262,6 +299,19 @@ impl<'a> Tokens<'a> {
         let first = self.head?;
         Some(sort_at(first, self.options))
     }
+
+    /// The sort of the piece ahead, as `sort_ahead` gives it. Behind a number it is mostly a word, so a letter is tested for first.
+    #[inline(always)]
+    pub(crate) fn sort_behind_number(&mut self) -> Option<Sort>
+        ensures { LooksAhead self.old self.new result }
+    {
+        if let Some(c) = self.head
+            && c.is_ascii_alphabetic()
+        {
+            return Some(Sort::Word);
+        }
+        self.sort_ahead()
+    }
 }
 
 impl<'a> Iterator for Tokens<'a> {
@@ -303,6 +353,22 @@ fn sort_at(first: char, o: Options) -> Sort
         Some(operator) => Sort::Operator(operator),
         None => Sort::Other,
     }
+}
+
+/// The unit that a word names, one of many letters or with letters beyond ASCII, or any under `lowercase`.
+#[cold]
+#[inline(never)]
+fn unit_by_name(word: &str, no_calc: bool, lowercase: bool, cn_unit: bool) -> Option<TimeUnit>
+    ensures { result ≡ unit_of_word (record { no_calc = no_calc; lowercase = lowercase; cn_unit = cn_unit }) (chars word.now) }
+{
+    TimeUnit::from_word(
+        word,
+        Options {
+            no_calc,
+            lowercase,
+            cn_unit,
+        },
+    )
 }
 
 /// Whether a character is a unit letter under these options.

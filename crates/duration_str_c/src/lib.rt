@@ -4,6 +4,7 @@
 #![tactic(auto)]
 
 ghost use Rattle.std.specs.Prelude.{◌≡◌, ℕ, ◌+◌, ◌*◌, ◌<◌, ◌≤◌, false, IsTrue, IsFalse, IfSome, IfNone, IsUtf8, take, length};
+ghost use Rattle.std.specs.Bool.{MatchBool};
 ghost use Rattle.std.specs.Str.{chars};
 ghost use Rattle.duration_str.specs.Units.{off};
 ghost use Rattle.duration_str.specs.Reading.{IsRead};
@@ -176,10 +177,20 @@ fn text_of(bytes: &[u8]) -> Option<&str>
     ensures text { IfSome result (λ text. (text.now ≡ bytes.now) × IsUtf8 bytes.now) }
     ensures not_text { IfNone result (¬ (IsUtf8 bytes.now)) }
 {
-    if bytes.is_ascii() {
-        return Some(unsafe { str::from_utf8_unchecked(bytes) });
+    if bytes.is_ascii() || is_utf8(bytes) {
+        Some(unsafe { str::from_utf8_unchecked(bytes) })
+    } else {
+        None
     }
-    str::from_utf8(bytes).ok()
+}
+
+/// Whether the bytes are UTF-8.
+#[cold]
+#[inline(never)]
+fn is_utf8(bytes: &[u8]) -> bool
+    ensures { MatchBool result (IsUtf8 bytes.now) (¬ (IsUtf8 bytes.now)) }
+{
+    str::from_utf8(bytes).is_ok()
 }
 
 /// The number of a cause.

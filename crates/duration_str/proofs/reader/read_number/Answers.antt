@@ -5,7 +5,7 @@ use Rattle.duration_str.proofs.reader.read_number.Goals as goal
 
 pub returns-in-Number-clause-number : goal.returns-in-Number-clause-number
 returns-in-Number-clause-number c no_calc behind tally =
-    number_read no_calc c.args.tokens.now c.sort_ahead-ahead.new.self c.take_number.new.self behind tally _
+    number_read no_calc c.args.tokens.now c.sort_ahead-ahead.new.self c.take_number.new.self behind tally c.take_number.result
     (subst (LooksAhead c.args.tokens.now c.sort_ahead-ahead.new.self) (c.in-Some.is ∙ ap Some c.in-Number.is) c.sort_ahead-ahead.ensures) c.take_number.ensures
 
 pub returns-in-Word-clause-number : goal.returns-in-Word-clause-number

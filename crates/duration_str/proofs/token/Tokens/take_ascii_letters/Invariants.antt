@@ -1,13 +1,13 @@
-use Rattle.std.proofs.Common.{◌≡◌, true, length}
+use Rattle.std.proofs.Common.{◌≡◌, length}
 use Rattle.duration_str.specs.Cutting.{ahead, TakesLetters}
 use Rattle.duration_str.specs.Tokens.{source, options_of, place_of}
 use Rattle.duration_str.proofs.token.Tokens.take_ascii_letters.Given as goal
 
 abbrev pub invariant-loop-self : goal.invariant-loop-self
 invariant-loop-self l = record {
-  same_source : source l.self ≡ source l.initial.self;
-  same_options : options_of l.self ≡ options_of l.initial.self;
-  letters : TakesLetters (options_of l.initial.self) (source l.initial.self) (place_of l.initial.self) (place_of l.self) l.packed true;
+  same_source : source l.self ≡ source l.fn.self;
+  same_options : options_of l.self ≡ options_of l.fn.self;
+  letters : TakesLetters (source l.fn.self) (place_of l.fn.self) (place_of l.self) l.packed;
 }
 
 abbrev pub decreases-loop-self : goal.decreases-loop-self

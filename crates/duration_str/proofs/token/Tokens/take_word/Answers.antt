@@ -1,29 +1,39 @@
-use Rattle.std.proofs.Common.{◌≡◌, ◌∙◌, ap, sym, arith}
-use Rattle.std.specs.Str.{chars}
-use Rattle.duration_str.specs.Units.{unit_of_word}
+use Rattle.std.proofs.Common.{◌∙◌, ap, sym, subst, arith}
+use Rattle.duration_str.specs.Text.{is_unit_letter}
+use Rattle.duration_str.specs.Cutting.{ahead, Stops}
 use Rattle.duration_str.specs.Tokens.{source, options_of, place_of}
-use Rattle.duration_str.proofs.CuttingLemmas.{short_word, long_word, same_slice}
-use Rattle.duration_str.proofs.TokensLemmas.{takes_word}
+use Rattle.duration_str.proofs.CharacterLemmas.{no_letter_of_ascii}
+use Rattle.duration_str.proofs.CuttingLemmas.{short_word, stops_at}
+use Rattle.duration_str.proofs.TokensLemmas.{takes_word, takes_long_word}
+use Rattle.duration_str.proofs.token.Tokens.take_word.Goals.{in-Some, in-None}
 use Rattle.duration_str.proofs.token.Tokens.take_word.Goals as goal
 
 pub returns-then-place-start-le-MOST_LETTERS : goal.returns-then-place-start-le-MOST_LETTERS
 returns-then-place-start-le-MOST_LETTERS c =
     let s = c.args.self.now in
-    let taken = c.take_letters-packed in
-    takes_word s taken.new.self c.unit_of_packed.result c.requires taken.ensures.source taken.ensures.options
-    (short_word (options_of s) (source s) (place_of s) (place_of taken.new.self) taken.result.0 taken.result.1 c.unit_of_packed.result taken.ensures.letters c.if-plain.true
-    (ap (λ o. o.lowercase) (sym taken.ensures.options) ∙ c.if-not-self.true)
+    let t = c.take_ascii_letters-packed.new.self in
+    let e = c.take_ascii_letters-packed.ensures in
+    let o = options_of s in
+    let stops : Stops (is_unit_letter o) (ahead (source t) (place_of t)) = elim c.match-self.branch [
+      | in-Some w ↦ stops_at (is_unit_letter o) (source t) (place_of t) t.eye.next w.in-Some.c (t.some w.in-Some.c w.in-Some.is)
+          (no_letter_of_ascii o w.in-Some.c (sym w.is_ascii-ended.ensures ∙ sym w.ended-is ∙ c.if-ended.true) (e.stops w.in-Some.c w.in-Some.is))
+      | in-None w ↦ subst (Stops (is_unit_letter o)) (sym (t.none w.in-None.is)) tt
+    ] in
+    takes_word s t c.unit_of_packed.result c.requires e.source e.options
+    (short_word o (source s) (place_of s) (place_of t) c.take_ascii_letters-packed.result c.unit_of_packed.result e.letters (ap (λ o. o.lowercase) (sym e.options) ∙ c.if-not-self.true)
     (let h = c.if-place-start-le-MOST_LETTERS.true in omega (arith, h, c.place.ensures, c.place-start.ensures)) c.unit_of_packed.ensures)
-    taken.ensures.stops
+    stops
 
-pub returns-else-plain : goal.returns-else-plain
-returns-else-plain c =
-    let s = c.args.self.now in
-    let taken = c.take_letters-packed in
-    let t = taken.new.self in
-    let found : c.from_word.result ≡ unit_of_word (options_of t) (chars c.since.result.now) = c.from_word.ensures in
-    takes_word s t c.from_word.result c.requires taken.ensures.source taken.ensures.options
-    (long_word (options_of s) (source s) (place_of s) (place_of t) taken.result.0 taken.result.1 c.since.result.now c.from_word.result taken.ensures.letters
-    (same_slice c.since.result.now (source t) (source s) c.place-start.result (place_of s) (place_of t) c.since.ensures taken.ensures.source c.place-start.ensures) c.since.utf8
-    (found ∙ ap (λ o. unit_of_word o (chars c.since.result.now)) taken.ensures.options))
-    taken.ensures.stops
+pub returns-in_err-unit : goal.returns-in_err-unit
+returns-in_err-unit c =
+    let m = c.take_ascii_letters-packed in
+    let t = c.skip_letters in
+    takes_long_word c.args.self.now m.new.self t.new.self m.result c.place-start.result c.since.result.now _ c.requires m.ensures.source m.ensures.options m.ensures.letters t.ensures.source t.ensures.options
+    t.ensures.letters t.ensures.stops c.place-start.ensures c.since.ensures c.since.utf8 (c.from_residual.ensures ∙ sym (c.in_err-unit.was {u = tt}) ∙ c.unit_by_name.ensures)
+
+pub returns-in_ok-unit : goal.returns-in_ok-unit
+returns-in_ok-unit c =
+    let m = c.take_ascii_letters-packed in
+    let t = c.skip_letters in
+    takes_long_word c.args.self.now m.new.self t.new.self m.result c.place-start.result c.since.result.now _ c.requires m.ensures.source m.ensures.options m.ensures.letters t.ensures.source t.ensures.options
+    t.ensures.letters t.ensures.stops c.place-start.ensures c.since.ensures c.since.utf8 (sym (c.in_ok-unit.was {u = tt}) ∙ c.unit_by_name.ensures)

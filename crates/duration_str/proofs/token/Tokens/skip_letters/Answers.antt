@@ -1,17 +1,21 @@
-use Rattle.std.proofs.Common.{◌≡◌, ℕ, Bool, ap, ◌<◌, ◌∙◌, sym, subst, length}
+use Rattle.std.proofs.Common.{◌≡◌, ℕ, Bool, ap, ◌<◌, ◌∙◌, refl, sym, subst, length}
 use Rattle.duration_str.specs.declared.unit.Options.{Options}
 use Rattle.duration_str.specs.Text.{is_unit_letter}
 use Rattle.duration_str.specs.Cutting.{ahead}
 use Rattle.duration_str.specs.Tokens.{source, options_of, place_of}
-use Rattle.duration_str.proofs.CuttingLemmas.{letters_wide, ahead_shorter, stops_at}
-use Rattle.duration_str.proofs.token.Tokens.take_letters.Goals as goal
+use Rattle.duration_str.proofs.CuttingLemmas.{passes_none, passes_head, ahead_shorter, stops_at}
+use Rattle.duration_str.proofs.token.Tokens.skip_letters.Goals as goal
 
 -- the options stayed, so the test is that of the beginning
 letter_test : (o o' : Options) (c : ℕ) (r b : Bool) → o' ≡ o → r ≡ is_unit_letter o' c → r ≡ b → is_unit_letter o c ≡ b
 letter_test o o' c r b same is e = ap (λ x. is_unit_letter x c) (sym same) ∙ sym is ∙ e
 
 pub loop-self-init : goal.loop-self-init
-loop-self-init c = let e = c.take_ascii_letters-packed.ensures in record { same_source = e.source; same_options = e.options; letters = e.letters }
+loop-self-init c = record {
+  same_source = refl;
+  same_options = refl;
+  letters = passes_none (is_unit_letter (options_of c.args.self.now)) (source c.args.self.now) (place_of c.args.self.now);
+}
 
 pub loop-self-preserved : goal.loop-self-preserved
 loop-self-preserved c =
@@ -21,7 +25,7 @@ loop-self-preserved c =
     record {
       same_source = c.advance.ensures.source ∙ inv.same_source;
       same_options = c.advance.ensures.options ∙ inv.same_options;
-      letters = letters_wide (options_of start) (source start) (source s) (place_of start) (place_of s) (place_of c.advance.new.self) s.head c.in-Some.c _ c.loop-self.plain inv.same_source inv.letters c.in-Some.is
+      letters = passes_head (is_unit_letter (options_of start)) (source start) (source s) (place_of start) (place_of s) (place_of c.advance.new.self) s.head c.in-Some.c inv.same_source inv.letters c.in-Some.is
           c.advance.ensures.past (letter_test (options_of start) s.options c.in-Some.c c.is_unit_letter.result _ inv.same_options c.is_unit_letter.ensures c.if-is_unit_letter.true);
     }
 

@@ -1,0 +1,15 @@
+use Rattle.std.proofs.Common.{◌≡◌, length}
+use Rattle.duration_str.specs.Text.{is_unit_letter}
+use Rattle.duration_str.specs.Cutting.{ahead, Passes}
+use Rattle.duration_str.specs.Tokens.{source, options_of, place_of}
+use Rattle.duration_str.proofs.token.Tokens.skip_letters.Given as goal
+
+abbrev pub invariant-loop-self : goal.invariant-loop-self
+invariant-loop-self l = record {
+  same_source : source l.self ≡ source l.initial.self;
+  same_options : options_of l.self ≡ options_of l.initial.self;
+  letters : Passes (is_unit_letter (options_of l.initial.self)) (source l.initial.self) (place_of l.initial.self) (place_of l.self);
+}
+
+abbrev pub decreases-loop-self : goal.decreases-loop-self
+decreases-loop-self l = length (ahead (source l.self) (place_of l.self))
