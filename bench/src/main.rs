@@ -56,23 +56,8 @@ fn their_printing(length: Duration) -> [u8; 64] {
     buffer
 }
 
-/// Expressions of one to five terms, longest unit first, by a fixed sequence of numbers.
-fn expressions() -> Vec<String> {
-    const UNITS: [&str; 9] = ["years", "months", "days", "h", "min", "s", "ms", "us", "ns"];
-    let mut state = 20_260_301u64;
-    let mut next = |below: u64| {
-        state = state.wrapping_mul(6_364_136_223_846_793_005).wrapping_add(1_442_695_040_888_963_407);
-        (state >> 33) % below
-    };
-    (0..1000)
-        .map(|_| {
-            let count = 1 + next(5) as usize;
-            let first = next((UNITS.len() - count + 1) as u64) as usize;
-            let terms: Vec<String> = UNITS[first..first + count].iter().map(|unit| format!("{}{unit}", 1 + next(59))).collect();
-            terms.join(" ")
-        })
-        .collect()
-}
+/// A thousand expressions of one to five terms, the longest unit first, with all the names that both libraries read.
+const EXPRESSIONS: &str = include_str!("../expressions.txt");
 
 /// A text of so many bytes: terms of one nanosecond, and blanks.
 fn long_text(bytes: usize) -> String {
@@ -83,30 +68,39 @@ fn long_text(bytes: usize) -> String {
     text
 }
 
-/// The best of nine rounds, in nanoseconds a call.
-fn nanos_a_call(calls: usize, round: impl Fn()) -> f64 {
+/// Nanoseconds a call: of each side the least of the rounds, which take turns, since the machine's speed may change.
+fn nanos_a_call(calls: usize, ours: impl Fn(), theirs: impl Fn()) -> (f64, f64) {
+    const ROUNDS: usize = 25;
     const REPEATS: usize = 100;
-    (0..9)
-        .map(|_| {
-            let start = Instant::now();
-            for _ in 0..REPEATS {
-                round();
-            }
-            start.elapsed().as_nanos() as f64 / (REPEATS * calls) as f64
-        })
-        .fold(f64::INFINITY, f64::min)
+    let round = |side: &dyn Fn()| {
+        let start = Instant::now();
+        for _ in 0..REPEATS {
+            side();
+        }
+        start.elapsed().as_nanos() as f64 / (REPEATS * calls) as f64
+    };
+    (0..ROUNDS).map(|_| (round(&ours), round(&theirs))).fold((f64::INFINITY, f64::INFINITY), |least, taken| {
+        (least.0.min(taken.0), least.1.min(taken.1))
+    })
 }
 
 fn times() {
-    let texts = expressions();
+    let texts: Vec<&str> = EXPRESSIONS.lines().collect();
     let lengths: Vec<Duration> = texts.iter().map(|text| their_reading(text)).collect();
-    let ours = nanos_a_call(texts.len(), || texts.iter().for_each(|text| { black_box(our_reading(black_box(text))); }));
-    let theirs = nanos_a_call(texts.len(), || texts.iter().for_each(|text| { black_box(their_reading(black_box(text))); }));
+    let (ours, theirs) = nanos_a_call(
+        texts.len(),
+        || texts.iter().for_each(|text| { black_box(our_reading(black_box(text))); }),
+        || texts.iter().for_each(|text| { black_box(their_reading(black_box(text))); }),
+    );
     println!("read {ours:.1} {theirs:.1}");
-    let ours = nanos_a_call(texts.len(), || lengths.iter().for_each(|length| { black_box(our_printing(black_box(*length))); }));
-    let theirs = nanos_a_call(texts.len(), || lengths.iter().for_each(|length| { black_box(their_printing(black_box(*length))); }));
+    let our_print = || lengths.iter().for_each(|length| { black_box(our_printing(black_box(*length))); });
+    let (ours, theirs) = nanos_a_call(lengths.len(), our_print, || {
+        lengths.iter().for_each(|length| { black_box(their_printing(black_box(*length))); });
+    });
     println!("print {ours:.1} {theirs:.1}");
-    let theirs = nanos_a_call(texts.len(), || lengths.iter().for_each(|length| { black_box(humantime::format_duration(black_box(*length)).to_string()); }));
+    let (ours, theirs) = nanos_a_call(lengths.len(), our_print, || {
+        lengths.iter().for_each(|length| { black_box(humantime::format_duration(black_box(*length)).to_string()); });
+    });
     println!("print-string {ours:.1} {theirs:.1}");
 }
 

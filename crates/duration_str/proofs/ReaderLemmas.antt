@@ -1,5 +1,5 @@
 -- The reader's steps along the pass over the tokens.
-use Rattle.std.proofs.Common.{◌≡◌, ℕ, ◌+◌, ◌^◌, ◌<◌, ◌≤◌, IsTrue, add-zero, if◌then◌else◌, Bool, true, false, List, [], ◌∷◌, length, Option, Some, None, Result, Ok, Err, refl, sym, ap, subst, ◌∙◌, arith}
+use Rattle.std.proofs.Common.{◌≡◌, ℕ, ◌+◌, ◌^◌, ◌<◌, ◌≤◌, IsTrue, add-zero, if◌then◌else◌, Bool, true, false, List, [], ◌∷◌, length, Option, Some, None, unwrap_or, Result, Ok, Err, refl, sym, ap, subst, ◌∙◌, arith}
 use Rattle.std.proofs.lemmas.Bool.{true≢false, false_from_ne_true, lt-ltb, ltb-true}
 use Rattle.duration_str.specs.declared.unit.TimeUnit.{TimeUnit}
 use Rattle.duration_str.specs.declared.unit.CondUnit.{CondUnit}
@@ -10,16 +10,15 @@ use Rattle.duration_str.specs.declared.fault.Expected.{Expected}
 use Rattle.duration_str.specs.declared.fault.Cause.TheVariants.{Syntax, Overflow}
 use Rattle.duration_str.specs.declared.token.Sort.{Sort}
 use Rattle.duration_str.specs.declared.token.Sort.TheVariants as sorts
-use Rattle.duration_str.specs.declared.token.Number.{Number}
 use Rattle.duration_str.specs.declared.token.Tokens.{Tokens}
 use Rattle.duration_str.specs.Units.{nanos_of}
 use Rattle.duration_str.specs.Value.{second, kept, fits, term_value}
 use Rattle.duration_str.specs.Grammar.{Token, number, word, operator, other, token_of}
 use Rattle.duration_str.specs.Pieces.{Piece}
 use Rattle.duration_str.specs.Sorts.{sort_of}
-use Rattle.duration_str.specs.Tokens.{source, options_of, place_of, left, kept_of, IsAhead, LooksAhead, TakesPiece, TakesNumberPiece}
-use Rattle.duration_str.specs.Machine.{Placed, placed_tokens, Last, at_start, at_number, at_word, at_operator, Tally, One, More, Held, nothing_of, first_added, sum_added, later_added, later_tally, added, tallied, tallied_on, expected_after, with_last, moved, at_end, on_ok, run, IsCutTo}
-use Rattle.duration_str.specs.Passing.{comes, comes_behind, EndsWith, ReadsNumber, ReadsUnit, ReadsOperator, HoldsNoSyntax, so_far, mixed, IsSum}
+use Rattle.duration_str.specs.Tokens.{source, options_of, place_of, left, IsAhead, LooksAhead, is_number, TakesPiece, TakesNumberPiece}
+use Rattle.duration_str.specs.Machine.{Placed, placed_tokens, Last, at_start, at_number, at_word, at_operator, awaits, Tally, Nothing, One, More, Held, nothing_of, first_added, sum_added, later_added, later_tally, added, tallied, tallied_on, expected_after, with_last, moved, at_end, on_ok, run, IsCutTo}
+use Rattle.duration_str.specs.Passing.{comes, comes_behind, EndsWith, LacksNumber, ReadsUnit, ReadsOperator, HoldsNoSyntax, so_far, mixed, IsSum}
 use Rattle.duration_str.proofs.PlaceLemmas.{LeavesNoSyntax, added_no_syntax, tallied_no_syntax, fault_cut, result_cut}
 use Rattle.duration_str.proofs.TokensLemmas.{none_left, first_left}
 
@@ -52,6 +51,10 @@ comes_ahead no_calc s m sort last tally look =
 
 fewer : (s m t : Tokens) (sort : Option Sort) (token : Token) → LooksAhead s m sort → TakesPiece m t token → length (left t) < length (left s)
 fewer s m t sort token look taken = omega (arith, ap length taken.first, ap length look.same_left)
+
+-- The pass goes on from t as from s.
+pub ends_on : (all all' : Result ℕ Cause) (s t v : Tokens) (r : Result ℕ Cause) → all ≡ all' → source t ≡ source s → EndsWith all' t v r → EndsWith all s v r
+ends_on all all' s t v r same text ends = (same ∙ ends.0, subst (λ bytes. IsCutTo r (length bytes) (place_of v)) text ends.1)
 
 -- ---- a syntax fault
 
@@ -121,21 +124,41 @@ number_taken no_calc s m t last op tally value look taken moves = (
   fewer s m t _ _ look taken.1,
 )
 
-pub number_read : (no_calc : Bool) (s m t : Tokens) (behind : Option CondUnit) (tally : Tally) (n : Number) → LooksAhead s m (Some sorts.Number) → TakesNumberPiece m t (kept_of n)
-    → ReadsNumber no_calc s t behind tally (Ok n)
+-- At the start, or behind an operator, a number is taken.
+abbrev pub ReadsNumber : Bool → Tokens → Tokens → Option CondUnit → Tally → Option ℕ → Type 0
+ReadsNumber no_calc old new behind tally n = (comes no_calc old (awaits behind) tally ≡ comes no_calc new (at_number (unwrap_or behind Plus) n) tally) × (length (left new) < length (left old))
+
+pub number_read : (no_calc : Bool) (s m t : Tokens) (behind : Option CondUnit) (tally : Tally) (n : Option ℕ) → LooksAhead s m (Some sorts.Number) → TakesNumberPiece m t n
+    → ReadsNumber no_calc s t behind tally n
 number_read no_calc s m t None tally n look taken = number_taken no_calc s m t at_start Plus tally _ look taken (λ n at. refl)
 number_read no_calc s m t (Some op) tally n look taken = number_taken no_calc s m t (at_operator op) op tally _ look taken (λ n at. refl)
 
-pub no_number : (no_calc : Bool) (s m : Tokens) (behind : Option CondUnit) (tally : Tally) (sort : Sort) (place : ℕ) → LooksAhead s m (Some sort)
-    → is_expected (expected_after no_calc at_start) sort ≡ false → place ≡ place_of m
-    → ReadsNumber no_calc s m behind tally (Err (Syntax place (expected_after no_calc at_start)))
-no_number no_calc s m None tally sort place look h there = ends_at_place no_calc s m at_start tally sort place look h there
-no_number no_calc s m (Some op) tally sort place look h there = ends_at_place no_calc s m (at_operator op) tally sort place look h there
+-- the number that the text begins with
+pub first_number : (no_calc : Bool) (s m t : Tokens) (n : Option ℕ) → LooksAhead s m (Some sorts.Number) → TakesNumberPiece m t n
+    → (comes no_calc s at_start Nothing ≡ comes no_calc t (at_number Plus n) Nothing) × (source t ≡ source s)
+first_number no_calc s m t n look taken = ((number_read no_calc s m t None Nothing n look taken).0, taken.1.same_source ∙ look.same_source)
 
-pub no_number_at_end : (no_calc : Bool) (s m : Tokens) (behind : Option CondUnit) (tally : Tally) (place : ℕ) → LooksAhead s m None → place ≡ place_of m
-    → ReadsNumber no_calc s m behind tally (Err (Syntax place (expected_after no_calc at_start)))
-no_number_at_end no_calc s m None tally place look there = ends_too_early no_calc s m at_start tally place look (λ len. refl) there
-no_number_at_end no_calc s m (Some op) tally place look there = ends_too_early no_calc s m (at_operator op) tally place look (λ len. refl) there
+-- a number that is ahead
+pub number_here : (no_calc : Bool) (s t : Tokens) (behind : Option CondUnit) (tally : Tally) (n : Option ℕ) → IsAhead s (Some sorts.Number) → TakesNumberPiece s t n → ReadsNumber no_calc s t behind tally n
+number_here no_calc s t behind tally n ahead taken = number_read no_calc s s t behind tally n (record { same_source = refl; same_options = refl; same_left = refl; ahead = ahead }) taken
+
+pub number_is : (sort : Option Sort) → is_number sort ≡ true → sort ≡ Some sorts.Number
+number_is None e = absurd cc
+number_is (Some sorts.Number) e = refl
+number_is (Some sorts.Word) e = absurd cc
+number_is (Some (sorts.Operator op)) e = absurd cc
+number_is (Some sorts.Other) e = absurd cc
+
+pub no_number : (s m : Tokens) (sort : Option Sort) (place : ℕ) → LooksAhead s m sort → is_number sort ≡ false → place ≡ place_of m → LacksNumber s m (Syntax place (expected_after false at_start))
+no_number s m None place look h there no_calc None tally = ends_too_early no_calc s m at_start tally place look (λ len. refl) there
+no_number s m None place look h there no_calc (Some op) tally = ends_too_early no_calc s m (at_operator op) tally place look (λ len. refl) there
+no_number s m (Some sorts.Number) place look h there no_calc behind tally = absurd cc
+no_number s m (Some sorts.Word) place look h there no_calc None tally = ends_at_place no_calc s m at_start tally sorts.Word place look refl there
+no_number s m (Some sorts.Word) place look h there no_calc (Some op) tally = ends_at_place no_calc s m (at_operator op) tally sorts.Word place look refl there
+no_number s m (Some (sorts.Operator next)) place look h there no_calc None tally = ends_at_place no_calc s m at_start tally (sorts.Operator next) place look refl there
+no_number s m (Some (sorts.Operator next)) place look h there no_calc (Some op) tally = ends_at_place no_calc s m (at_operator op) tally (sorts.Operator next) place look refl there
+no_number s m (Some sorts.Other) place look h there no_calc None tally = ends_at_place no_calc s m at_start tally sorts.Other place look refl there
+no_number s m (Some sorts.Other) place look h there no_calc (Some op) tally = ends_at_place no_calc s m (at_operator op) tally sorts.Other place look refl there
 
 -- ---- a unit
 
@@ -224,24 +247,42 @@ operator_left_out no_calc s m tally look =
           ∙ sym (comes_over no_calc m (at_operator Plus) tally (place_of m) first.0 first.1 first.2),
       omega (arith, ap length look.same_left),
       (λ yes. refl),
+      look.ahead,
     )
 
-pub operator_taken : (s m t : Tokens) (op : CondUnit) (tally : Tally) → LooksAhead s m (Some (sorts.Operator op))
-    → ((sort : Sort) → IsAhead m (Some sort) → (token : Token) × TakesPiece m t token × (sort ≡ sort_of token)) → ReadsOperator false s t tally (Ok (Some op))
-operator_taken s m t op tally look taken =
+-- an operator is taken
+operator_passed : (no_calc : Bool) (s m t : Tokens) (op : CondUnit) (tally : Tally) → no_calc ≡ false → LooksAhead s m (Some (sorts.Operator op))
+    → ((sort : Sort) → IsAhead m (Some sort) → (token : Token) × TakesPiece m t token × (sort ≡ sort_of token))
+    → (comes no_calc s at_word tally ≡ comes no_calc t (at_operator op) tally) × (length (left t) < length (left s)) × (source t ≡ source s)
+operator_passed true s m t op tally off look taken = absurd (true≢false off)
+operator_passed false s m t op tally off look taken =
     let sign = taken (sorts.Operator op) look.ahead in (
       comes_ahead false s m _ at_word tally look
           ∙ comes_past false m t at_word tally sign.0 sign.1
           ∙ ap (λ x. on_ok (moved false at_word tally (place_of m) x) (run false (length (source t)) (placed_tokens (options_of t) (left t)))) (operator_token sign.0 op sign.2),
-      omega (arith, fewer s m t _ _ look sign.1),
-      (λ yes. absurd (true≢false (sym yes))),
+      fewer s m t _ _ look sign.1,
+      sign.1.same_source ∙ look.same_source,
     )
 
--- ---- the terms behind each other
+-- A number follows it.
+pub operator_taken : (no_calc : Bool) (s m t w : Tokens) (op : CondUnit) (tally : Tally) → no_calc ≡ false → LooksAhead s m (Some (sorts.Operator op))
+    → ((sort : Sort) → IsAhead m (Some sort) → (token : Token) × TakesPiece m t token × (sort ≡ sort_of token)) → LooksAhead t w (Some sorts.Number) → ReadsOperator no_calc s w tally (Ok (Some op))
+operator_taken no_calc s m t w op tally off look taken follows =
+    let passed = operator_passed no_calc s m t op tally off look taken in (
+      passed.0 ∙ comes_ahead no_calc t w _ (at_operator op) tally follows,
+      omega (arith, passed.1, ap length follows.same_left),
+      (λ yes. absurd (true≢false (sym yes ∙ off))),
+      follows.ahead,
+    )
 
--- The pass goes on from t as from s.
-pub ends_on : (all all' : Result ℕ Cause) (s t v : Tokens) (r : Result ℕ Cause) → all ≡ all' → source t ≡ source s → EndsWith all' t v r → EndsWith all s v r
-ends_on all all' s t v r same text ends = (same ∙ ends.0, subst (λ bytes. IsCutTo r (length bytes) (place_of v)) text ends.1)
+-- No number follows it.
+pub operator_alone : (no_calc : Bool) (s m t w : Tokens) (op : CondUnit) (tally : Tally) (cause : Cause) → no_calc ≡ false → LooksAhead s m (Some (sorts.Operator op))
+    → ((sort : Sort) → IsAhead m (Some sort) → (token : Token) × TakesPiece m t token × (sort ≡ sort_of token)) → LacksNumber t w cause → ReadsOperator no_calc s w tally (Err cause)
+operator_alone no_calc s m t w op tally cause off look taken lacks =
+    let passed = operator_passed no_calc s m t op tally off look taken in
+    ends_on _ _ s t w _ passed.0 passed.2 (lacks no_calc (Some op) tally)
+
+-- ---- the terms behind each other
 
 -- A term ends with this unit, and is added with this result.
 pub behind_term : (no_calc : Bool) (s t : Tokens) (op : CondUnit) (n : Option ℕ) (tally : Tally) (u : TimeUnit) (r : Result Tally Cause) → ReadsUnit no_calc s t op n tally (Ok u)
@@ -428,15 +469,23 @@ comes_to_sum true first Plus (Ok total) sums = of_fit (fits (first + total)) (su
 abbrev pub GoesOn : Bool → Result ℕ Cause → Tokens → ℕ → CondUnit → Result ℕ Cause → Type 0
 GoesOn no_calc all s first set later = (all ≡ comes no_calc s at_word (later_tally no_calc first set later)) × HoldsNoSyntax (later_tally no_calc first set later)
 
+-- Behind the operator `op` a later term comes with the number ahead, and the pass goes on to `all`.
+pub record LaterComes (no_calc : Bool) (all : Result ℕ Cause) (s : Tokens) (first : ℕ) (set op : CondUnit) (fault : Option Cause) (later : Result ℕ Cause) : Type 0 where
+  pub kept : fault ≡ None → op ≡ set
+  pub plus : IsTrue no_calc → op ≡ Plus
+  pub number : IsAhead s (Some sorts.Number)
+  pub same : all ≡ comes no_calc s (at_operator op) (later_tally no_calc first set later)
+  pub held : HoldsNoSyntax (later_tally no_calc first set later)
+  pub sum : IsTrue no_calc → IsSum first set later
+
 -- One more later term is read.
-pub later_read : (no_calc : Bool) (all : Result ℕ Cause) (s a b : Tokens) (first : ℕ) (set op : CondUnit) (n : Number) (u : TimeUnit) (before after : Result ℕ Cause)
-    → all ≡ comes no_calc s (at_operator op) (later_tally no_calc first set before) → HoldsNoSyntax (later_tally no_calc first set before)
-    → ((behind : Option CondUnit) (tally : Tally) → ReadsNumber no_calc s a behind tally (Ok n)) → ((op : CondUnit) (n : Option ℕ) (tally : Tally) → ReadsUnit no_calc a b op n tally (Ok u))
-    → Ok (later_tally false first set after) ≡ added false (later_tally false first set before) op (kept_of n) (nanos_of u)
-    → (IsTrue no_calc → (set ≡ Plus) × (op ≡ Plus)) → (IsTrue no_calc → IsSum first set before) → (IsTrue no_calc → IsSum first set after) → GoesOn no_calc all b first set after
-later_read no_calc all s a b first set op n u before after same holds comes_number ends is plus sum_before sum_after =
+pub later_read : (no_calc : Bool) (all : Result ℕ Cause) (s a b : Tokens) (first : ℕ) (set op : CondUnit) (fault : Option Cause) (n : Option ℕ) (u : TimeUnit) (before after : Result ℕ Cause)
+    → LaterComes no_calc all s first set op fault before → TakesNumberPiece s a n → ((op : CondUnit) (n : Option ℕ) (tally : Tally) → ReadsUnit no_calc a b op n tally (Ok u))
+    → Ok (later_tally false first set after) ≡ added false (later_tally false first set before) op n (nanos_of u)
+    → (IsTrue no_calc → set ≡ Plus) → (IsTrue no_calc → IsSum first set after) → GoesOn no_calc all b first set after
+later_read no_calc all s a b first set op fault n u before after it taken ends is plus sum =
     let tally = later_tally no_calc first set before in
-    let adds = term_added no_calc first set op before after (kept_of n) (nanos_of u) (λ yes. ((plus yes).0, (plus yes).1, sum_before yes, sum_after yes)) is in (
-      same ∙ (comes_number (Some op) tally).0 ∙ behind_term no_calc a b op (kept_of n) tally u (Ok (later_tally no_calc first set after)) (ends op (kept_of n) tally) adds,
-      subst LeavesNoSyntax (sym adds) (added_no_syntax no_calc tally op (kept_of n) (nanos_of u) holds),
+    let adds = term_added no_calc first set op before after n (nanos_of u) (λ yes. (plus yes, it.plus yes, it.sum yes, sum yes)) is in (
+      it.same ∙ (number_here no_calc s a (Some op) tally _ it.number taken).0 ∙ behind_term no_calc a b op n tally u (Ok (later_tally no_calc first set after)) (ends op n tally) adds,
+      subst LeavesNoSyntax (sym adds) (added_no_syntax no_calc tally op n (nanos_of u) it.held),
     )

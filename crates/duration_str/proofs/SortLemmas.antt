@@ -14,7 +14,7 @@ use Rattle.duration_str.specs.Grammar.{number, word, operator_or_other, sign_tok
 use Rattle.duration_str.specs.Pieces.{Piece, are_of_one_run, goes_on, IsPiece, ArePieces, pieces_from}
 use Rattle.duration_str.specs.Cutting.{ahead, StandsAt, Between, Passes, Stops, TakesWord}
 use Rattle.duration_str.specs.Sorts.{sign_sort, sort_at, sort_of, StandsPiece}
-use Rattle.duration_str.specs.Tokens.{IsSign}
+use Rattle.duration_str.specs.Tokens.{is_number, IsSign}
 use Rattle.duration_str.proofs.CharacterLemmas.{digit-not_letter, letter-not_digit}
 use Rattle.duration_str.proofs.PieceLemmas.{pieces_are}
 use Rattle.duration_str.proofs.SpellingLemmas.{all_weaker, digits_are_piece, letters_are_piece}
@@ -105,6 +105,16 @@ digit_of_sort o c is = by_class (is_digit c) (is_unit_letter o c) (operator_of c
     by_class false true op h = absurd cc
     by_class false false None h = absurd cc
     by_class false false (Some op) h = absurd cc
+
+-- A piece is a number where its first character is a digit.
+pub digit_sort : (o : Options) (c : ℕ) → is_digit c ≡ is_number (Some (sort_at o c))
+digit_sort o c = by_class (is_digit c) (is_unit_letter o c) (operator_of c)
+  where
+    by_class : (d l : Bool) (op : Option CondUnit) → d ≡ is_number (Some (if d then Number else if l then Word else sign_sort op))
+    by_class true l op = refl
+    by_class false true op = refl
+    by_class false false None = refl
+    by_class false false (Some op) = refl
 
 pub letter_of_sort : (o : Options) (c : ℕ) → Word ≡ sort_at o c → is_unit_letter o c ≡ true
 letter_of_sort o c is = by_class (is_digit c) (is_unit_letter o c) (operator_of c) is

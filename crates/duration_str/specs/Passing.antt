@@ -1,16 +1,16 @@
 -- The reader's steps: what each says of the pass over the tokens that are left.
-use Rattle.std.specs.Prelude.{IsTrue, ◌≡◌, ℕ, Bool, false, ◌<◌, ◌≤◌, length, Option, Some, None, unwrap_or, if◌then◌else◌, Result, Ok, Err}
+use Rattle.std.specs.Prelude.{IsTrue, ◌≡◌, ℕ, Bool, false, ◌≤◌, length, Option, Some, None, if◌then◌else◌, Result, Ok, Err}
 use Rattle.duration_str.specs.declared.unit.TimeUnit.{TimeUnit}
 use Rattle.duration_str.specs.declared.unit.CondUnit.{CondUnit}
 use Rattle.duration_str.specs.declared.unit.CondUnit.TheVariants.{Plus}
 use Rattle.duration_str.specs.declared.fault.Cause.{Cause}
 use Rattle.duration_str.specs.declared.fault.Cause.TheVariants.{Syntax, Mixed}
 use Rattle.duration_str.specs.declared.reader.Later.{Later}
-use Rattle.duration_str.specs.declared.token.Number.{Number}
+use Rattle.duration_str.specs.declared.token.Sort.TheVariants.{Number}
 use Rattle.duration_str.specs.declared.token.Tokens.{Tokens}
 use Rattle.duration_str.specs.Units.{nanos_of}
 use Rattle.duration_str.specs.Value.{is_same_operator}
-use Rattle.duration_str.specs.Tokens.{source, options_of, place_of, left, kept_of}
+use Rattle.duration_str.specs.Tokens.{source, options_of, place_of, left, IsAhead}
 use Rattle.duration_str.specs.Machine.{placed_tokens, Last, awaits, at_number, at_word, at_operator, Tally, Held, added, later_tally, tallied, run, IsCutTo}
 
 -- what the tokens that are left come to, from the last piece and the tally
@@ -26,11 +26,9 @@ comes_behind no_calc s (Err cause) = Err cause
 abbrev pub EndsWith : Result ℕ Cause → Tokens → Tokens → Result ℕ Cause → Type 0
 EndsWith all old new result = (all ≡ result) × IsCutTo result (length (source old)) (place_of new)
 
--- At the start, or behind an operator, the number of a term comes.
-abbrev pub ReadsNumber : Bool → Tokens → Tokens → Option CondUnit → Tally → Result Number Cause → Type 0
-ReadsNumber no_calc old new behind tally (Ok n) =
-    (comes no_calc old (awaits behind) tally ≡ comes no_calc new (at_number (unwrap_or behind Plus) (kept_of n)) tally) × (length (left new) < length (left old))
-ReadsNumber no_calc old new behind tally (Err cause) = EndsWith (comes no_calc old (awaits behind) tally) old new (Err cause)
+-- At the start, or behind an operator, no number comes, and this is the cause.
+abbrev pub LacksNumber : Tokens → Tokens → Cause → Type 0
+LacksNumber old new cause = (no_calc : Bool) (behind : Option CondUnit) (tally : Tally) → EndsWith (comes no_calc old (awaits behind) tally) old new (Err cause)
 
 -- Behind a number the term ends with this unit.
 abbrev pub ReadsUnit : Bool → Tokens → Tokens → CondUnit → Option ℕ → Tally → Result TimeUnit Cause → Type 0
@@ -38,10 +36,10 @@ ReadsUnit no_calc old new op n tally (Ok u) =
     (comes no_calc old (at_number op n) tally ≡ comes_behind no_calc new (added no_calc tally op n (nanos_of u))) × (length (left new) ≤ length (left old))
 ReadsUnit no_calc old new op n tally (Err cause) = EndsWith (comes no_calc old (at_number op n) tally) old new (Err cause)
 
--- Behind a unit an operator comes, which is a plus where it is left out, or the text ends.
+-- Behind a unit an operator comes, which is a plus where it is left out, and a number behind it; or the text ends.
 abbrev pub ReadsOperator : Bool → Tokens → Tokens → Tally → Result (Option CondUnit) Cause → Type 0
 ReadsOperator no_calc old new tally (Ok (Some op)) =
-    (comes no_calc old at_word tally ≡ comes no_calc new (at_operator op) tally) × (length (left new) ≤ length (left old)) × (IsTrue no_calc → op ≡ Plus)
+    (comes no_calc old at_word tally ≡ comes no_calc new (at_operator op) tally) × (length (left new) ≤ length (left old)) × (IsTrue no_calc → op ≡ Plus) × IsAhead new (Some Number)
 ReadsOperator no_calc old new tally (Ok None) = (comes no_calc old at_word tally ≡ tallied tally) × (place_of new ≡ length (source old))
 ReadsOperator no_calc old new tally (Err cause) = EndsWith (comes no_calc old at_word tally) old new (Err cause)
 

@@ -1,5 +1,5 @@
 -- What callers see of `Tokens`.
-use Rattle.std.specs.Prelude.{◌≡◌, ℕ, ◌+◌, false, List, ◌∷◌, length, Option, Some, None, MatchOption, IfSome, slice_range}
+use Rattle.std.specs.Prelude.{◌≡◌, ℕ, ◌+◌, Bool, true, false, List, ◌∷◌, length, Option, Some, None, MatchOption, IfSome, slice_range}
 use Rattle.std.specs.Str.{chars}
 use Rattle.std.specs.Iterator.{YieldsFirstBy}
 use Rattle.duration_str.specs.declared.unit.Options.{Options}
@@ -65,6 +65,11 @@ pub record LooksAhead (old new : Tokens) (sort : Option Sort) : Type 0 where
   pub same_options : options_of new ≡ options_of old
   pub same_left : left new ≡ left old
   pub ahead : IsAhead new sort
+
+-- whether a number is ahead
+abbrev pub is_number : Option Sort → Bool
+is_number (Some sorts.Number) = true
+is_number _ = false
 
 -- The sort of a single character that is neither a digit nor a unit letter.
 abbrev pub IsSign : Sort → Type 0

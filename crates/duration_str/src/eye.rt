@@ -62,7 +62,8 @@ impl<'a> Eye<'a> {
         if self.place == self.text.len() {
             return None;
         }
-        let (c, next) = character_at(self.text, self.place);
+        let mut next = self.place;
+        let c = character_at(self.text, self.place, &mut next);
         self.next = next;
         self.looks += 1;
         Some(c)
@@ -89,19 +90,23 @@ impl<'a> Eye<'a> {
     }
 }
 
-/// The character at a place, and the place behind it.
+/// The character at a place. `next` becomes the place behind it; a pair of both as the result would be kept together as
+/// one value, whose parts the compiler does not tell apart.
 #[inline]
-fn character_at(text: &str, place: usize) -> (char, usize)
+fn character_at(text: &str, place: usize, next: &mut usize) -> char
     requires boundary { IsCharBoundary text.now place }
     requires inside { place < length text.now }
-    ensures stands { StandsAt text.now place result.1 result.0 }
-    ensures boundary { IsCharBoundary text.now result.1 }
+    ensures stands { StandsAt text.now place next.new result }
+    ensures boundary { IsCharBoundary text.now next.new }
 {
     let byte = text.as_bytes()[place];
     if byte < 128 {
-        (char::from(byte), place + 1)
+        *next = place + 1;
+        char::from(byte)
     } else {
-        decoded_at(text, place)
+        let (c, end) = decoded_at(text, place);
+        *next = end;
+        c
     }
 }
 

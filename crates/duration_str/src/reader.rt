@@ -3,8 +3,9 @@ ghost use Rattle.std.specs.Prelude.{◌≡◌, ℕ, Bool, true, false, None, Ok,
 ghost use Rattle.duration_str.specs.Value.{joined, kept, term_value};
 ghost use Rattle.duration_str.specs.Units.{nanos_of};
 ghost use Rattle.duration_str.specs.Machine.{Tally, Nothing, One, nothing_of, within, later_tally, tallied, with_term, at_start, at_operator};
-ghost use Rattle.duration_str.specs.Passing.{comes, EndsWith, ReadsNumber, ReadsUnit, ReadsOperator};
-ghost use Rattle.duration_str.specs.Tokens.{source, kept_of};
+ghost use Rattle.duration_str.specs.Passing.{comes, EndsWith, LacksNumber, ReadsUnit, ReadsOperator};
+ghost use Rattle.duration_str.specs.Tokens.{source, kept_of, IsAhead, LooksAhead};
+ghost use Rattle.duration_str.specs.declared.token.Sort.TheVariants.{Number as a_number};
 ghost use Rattle.duration_str.specs.declared.unit.CondUnit.{CondUnit as AnOperator};
 ghost use Rattle.duration_str.specs.declared.unit.CondUnit.TheVariants.{Plus};
 
@@ -18,7 +19,8 @@ pub(crate) fn read(tokens: &mut Tokens<'_>, no_calc: bool) -> Result<u64, Cause>
     ensures answer { EndsWith (comes no_calc tokens.old at_start Nothing) tokens.old tokens.new result }
     ensures source { source tokens.new ≡ source tokens.old }
 {
-    let number = read_number(tokens)?;
+    expect_number(tokens)?;
+    let number = tokens.take_number();
     let unit = read_unit(tokens, no_calc)?;
     let first = unit.times(number.value(), Some(0))?;
     match read_operator(tokens, no_calc)? {
@@ -36,7 +38,8 @@ fn read_later(
     first: u64,
     set: CondUnit,
 ) -> Result<u64, Cause>
-    requires { IsTrue no_calc → set ≡ Plus }
+    requires plus { IsTrue no_calc → set ≡ Plus }
+    requires number { IsAhead tokens.old (Some a_number) }
     ensures answer { EndsWith (comes no_calc tokens.old (at_operator set) (One first)) tokens.old tokens.new result }
     ensures source { source tokens.new ≡ source tokens.old }
 {
@@ -45,7 +48,7 @@ fn read_later(
         fault: None,
     };
     loop {
-        let number = read_number(tokens)?;
+        let number = tokens.take_number();
         let unit = read_unit(tokens, no_calc)?;
         later.add(set, number, unit);
         later.sum_checked(no_calc, first, set)?;
@@ -56,32 +59,26 @@ fn read_later(
     }
 }
 
-/// Reads the number that has to come, at the start and behind an operator.
+/// Moves to the number that has to come, at the start and behind an operator.
 #[inline(always)]
-fn read_number<'a>(tokens: &mut Tokens<'a>) -> Result<Number<'a>, Cause>
+fn expect_number(tokens: &mut Tokens<'_>) -> Result<(), Cause>
     ensures source { source tokens.new ≡ source tokens.old }
-    ensures number { (no_calc : Bool) (behind : Option AnOperator) (tally : Tally) → ReadsNumber no_calc tokens.old tokens.new behind tally result }
+    ensures number { IsOk result → LooksAhead tokens.old tokens.new (Some a_number) }
+    ensures fault { IfErr result (LacksNumber tokens.old tokens.new) }
 {
-    let ahead = tokens.sort_ahead();
+    if tokens.is_number_ahead() {
+        return Ok(());
+    }
     let expected = Expected {
         number: true,
         unit_word: false,
         operator: false,
         text_end: false,
     };
-    let fault = Cause::Syntax {
+    Err(Cause::Syntax {
         place: tokens.place(),
         expected,
-    };
-    let Some(sort) = ahead else {
-        return Err(fault);
-    };
-    match sort {
-        Sort::Number => Ok(tokens.take_number()),
-        Sort::Word => Err(fault),
-        Sort::Operator(_) => Err(fault),
-        Sort::Other => Err(fault),
-    }
+    })
 }
 
 /// Reads the unit behind a number. Seconds where an operator or the end stands there, which is not taken.
@@ -121,7 +118,7 @@ fn read_unit(tokens: &mut Tokens<'_>, no_calc: bool) -> Result<TimeUnit, Cause>
     }
 }
 
-/// Reads the operator behind a unit: a left-out one is a plus. `None` at the end.
+/// Reads the operator behind a unit up to the number that has to follow: a left-out one is a plus. `None` at the end.
 #[inline(always)]
 fn read_operator(tokens: &mut Tokens<'_>, no_calc: bool) -> Result<Option<CondUnit>, Cause>
     ensures source { source tokens.new ≡ source tokens.old }
@@ -148,6 +145,7 @@ fn read_operator(tokens: &mut Tokens<'_>, no_calc: bool) -> Result<Option<CondUn
                 return Err(fault);
             }
             tokens.take_sign();
+            expect_number(tokens)?;
             Ok(Some(operator))
         }
         Sort::Word => Err(fault),
@@ -166,15 +164,17 @@ impl Later {
     ghost use Rattle.duration_str.specs.Machine.{added};
     ghost use Rattle.duration_str.specs.Passing.{mixed, come_to, IsSum};
 
-    /// Adds a term. Nothing is added behind a fault.
+    /// Adds a term. Behind a fault nothing counts of it, and the total means nothing.
     #[inline(always)]
     fn add(&mut self, set: CondUnit, number: Number<'_>, unit: TimeUnit)
         ensures { (first : ℕ) (op : AnOperator) → (self.old.fault ≡ None → op ≡ set) → Ok (later_tally false first set (come_to self.new)) ≡ added false (later_tally false first set (come_to self.old)) op (kept_of number.entry) (nanos_of unit) }
     {
-        if self.fault.is_none() {
-            match with_term(set, self.total, number, unit) {
-                Ok(total) => self.total = total,
-                Err(fault) => self.fault = Some(fault),
+        match with_term(set, self.total, number, unit) {
+            Ok(total) => self.total = total,
+            Err(fault) => {
+                if self.fault.is_none() {
+                    self.fault = Some(fault);
+                }
             }
         }
     }
@@ -185,7 +185,7 @@ impl Later {
         ensures total { self.new.total ≡ self.old.total }
         ensures fault { self.new.fault ≡ mixed set self.old.fault next }
     {
-        if self.fault.is_none() && next != set {
+        if next != set && self.fault.is_none() {
             self.fault = Some(Cause::Mixed {
                 first: set,
                 later: next,
@@ -198,10 +198,10 @@ impl Later {
     fn joined(&self, first: u64, set: CondUnit) -> Result<u64, Cause>
         ensures { result ≡ tallied (later_tally false first set (come_to self.now)) }
     {
-        match self.fault {
-            Some(fault) => Err(fault),
-            None => within(joined(set, first, self.total)),
+        if let Some(fault) = self.fault {
+            return Err(fault);
         }
+        within(joined(set, first, self.total))
     }
 
     /// Under `no_calc` the fault of a term, which is not held back, or of the sum of all, which has to be below 2^64.

@@ -1,5 +1,5 @@
 //! The pieces of a text: numbers, words, operators, and single other characters.
-ghost use Rattle.std.specs.Prelude.{◌≡◌, ◌+◌, ◌%◌, ◌^◌, ◌≤◌, ◌<◌, [], ◌&&◌, ◌||◌, ◌==◌, length, take, is_some, IsSome, IsTrue, IfSome, if◌then◌else◌, true, false, Some, IsUtf8};
+ghost use Rattle.std.specs.Prelude.{◌≡◌, ◌+◌, ◌%◌, ◌^◌, ◌≤◌, ◌<◌, [], ◌&&◌, ◌||◌, ◌==◌, length, take, is_some, Option, IsSome, IsTrue, IfSome, if◌then◌else◌, true, false, Some, IsUtf8};
 ghost use Rattle.std.specs.Option.{ForSome, ForNone};
 ghost use Rattle.std.specs.Char.{is_ascii_alphabetic};
 ghost use Rattle.std.specs.Str.{chars};
@@ -89,7 +89,7 @@ pub struct Tokens<'a> {
 impl<'a> Tokens<'a> {
     ghost use Rattle.duration_str.specs.Grammar.{Token as PieceToken, word};
     ghost use Rattle.duration_str.specs.Sorts.{sort_of};
-    ghost use Rattle.duration_str.specs.Tokens.{source, options_of, place_of, looks_of, left, what_of, IsAhead, LooksAhead, IsSign, kept_of, TakesNumberPiece, TakesPiece};
+    ghost use Rattle.duration_str.specs.Tokens.{source, options_of, place_of, looks_of, left, what_of, IsAhead, LooksAhead, is_number, IsSign, kept_of, TakesNumberPiece, TakesPiece};
 
     /// The pieces of a text, cut under these options.
     #[inline(always)]
@@ -298,6 +298,18 @@ impl<'a> Tokens<'a> {
         self.skip_blanks();
         let first = self.head?;
         Some(sort_at(first, self.options))
+    }
+
+    /// Moves past the blanks, and tells whether a number is ahead.
+    #[inline(always)]
+    pub(crate) fn is_number_ahead(&mut self) -> bool
+        ensures { (sort : Option Sort) × LooksAhead self.old self.new sort × (result ≡ is_number sort) }
+    {
+        self.skip_blanks();
+        match self.head {
+            Some(c) => c.is_ascii_digit(),
+            None => false,
+        }
     }
 
     /// The sort of the piece ahead, as `sort_ahead` gives it. Behind a number it is mostly a word, so a letter is tested for first.

@@ -120,9 +120,9 @@ impl TimeUnit {
         let Some(n) = number else {
             return Err(Cause::NumberTooLarge { place });
         };
-        match n.checked_mul(self.nanos()) {
-            Some(value) => Ok(value),
-            None => Err(Cause::Overflow { place }),
+        match u64::try_from(n as u128 * self.nanos() as u128) {
+            Ok(value) => Ok(value),
+            Err(_) => Err(Cause::Overflow { place }),
         }
     }
 
