@@ -111,8 +111,8 @@ passes_weaker test weaker text place next follows passed =
     record { characters = passed.characters; between = passed.between; all = all_weaker test weaker passed.characters follows passed.all }
 
 -- the text is shorter ahead of the next place
-pub ahead_shorter : (text : List ℕ) (place next c : ℕ) → StandsAt text place next c → length (ahead text next) < length (ahead text place)
-ahead_shorter text place next c stands = let len = ap length stands.head in omega (arith, len)
+pub ahead_shorter : (text text' : List ℕ) (place next c : ℕ) → text' ≡ text → StandsAt text place next c → length (ahead text' next) < length (ahead text place)
+ahead_shorter text text' place next c same stands = let len = ap length stands.head in omega (arith, len, ap (λ t. length (ahead t next)) same)
 
 -- the text stops where its head fails the test
 pub stops_at : (test : ℕ → Bool) (text : List ℕ) (place next c : ℕ) → StandsAt text place next c → test c ≡ false → Stops test (ahead text place)

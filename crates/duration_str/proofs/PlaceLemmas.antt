@@ -19,7 +19,7 @@ use Rattle.duration_str.specs.Value.{Term, value_of_term, sum_of, together, join
 use Rattle.duration_str.specs.Reading.{standing_terms, place_behind, first_fault, running_fault, early_fault, late_fault}
 use Rattle.duration_str.specs.Answer.{is_whole, late_answer, answer_after, answer}
 use Rattle.duration_str.specs.Passing.{IsNoSyntax, HoldsNoSyntax}
-use Rattle.duration_str.specs.Machine.{Tally, Nothing, One, More, Held, nothing_of, first_added, sum_added, later_added, added, tallied, IsCutTo}
+use Rattle.duration_str.specs.Machine.{Tally, Nothing, One, More, Held, nothing_of, within, first_added, sum_added, later_tally, later_added, added, tallied, IsCutTo}
 use Rattle.duration_str.specs.Faults.{place_of}
 use Rattle.duration_str.proofs.TextLemmas.{width-scalar, byte_len-append}
 use Rattle.duration_str.proofs.PieceLemmas.{pieces_are}
@@ -222,7 +222,7 @@ sum_no_syntax sum (Err cause) h = h
 
 later_no_syntax : (first : ℕ) (set : CondUnit) (total : ℕ) (r : Result ℕ Cause) → HasNoSyntax r → HoldsNoSyntax (later_added first set total r)
 later_no_syntax first set total (Ok x) h =
-    if_holds HoldsNoSyntax (fits (joined set total x)) (More first set (joined set total x)) (Held (Overflow None)) tt tt
+    if_holds (λ sum. HoldsNoSyntax (later_tally false first set (within sum))) (fits (joined set total x)) (Some (joined set total x)) None tt tt
 later_no_syntax first set total (Err cause) h = h
 
 pub added_no_syntax : (no_calc : Bool) (tally : Tally) (op : CondUnit) (number : Option ℕ) (length : ℕ) → HoldsNoSyntax tally

@@ -1,5 +1,5 @@
 -- The reader's steps along the pass over the tokens.
-use Rattle.std.proofs.Common.{◌≡◌, ℕ, ◌+◌, ◌^◌, ◌<◌, ◌≤◌, IsTrue, add-zero, if◌then◌else◌, Bool, true, false, List, [], ◌∷◌, length, Option, Some, None, unwrap_or, Result, Ok, Err, refl, sym, ap, subst, ◌∙◌, arith}
+use Rattle.std.proofs.Common.{◌≡◌, ℕ, ◌+◌, ◌^◌, ◌<◌, ◌≤◌, IsTrue, add-zero, if◌then◌else◌, Bool, true, false, List, [], ◌∷◌, length, Option, Some, None, Result, Ok, Err, refl, sym, ap, subst, ◌∙◌, arith}
 use Rattle.std.proofs.lemmas.Bool.{true≢false, false_from_ne_true, lt-ltb, ltb-true}
 use Rattle.duration_str.specs.declared.unit.TimeUnit.{TimeUnit}
 use Rattle.duration_str.specs.declared.unit.CondUnit.{CondUnit}
@@ -17,7 +17,7 @@ use Rattle.duration_str.specs.Grammar.{Token, number, word, operator, other, tok
 use Rattle.duration_str.specs.Pieces.{Piece}
 use Rattle.duration_str.specs.Sorts.{sort_of}
 use Rattle.duration_str.specs.Tokens.{source, options_of, place_of, left, IsAhead, LooksAhead, is_number, TakesPiece, TakesNumberPiece}
-use Rattle.duration_str.specs.Machine.{Placed, placed_tokens, Last, at_start, at_number, at_word, at_operator, awaits, Tally, Nothing, One, More, Held, nothing_of, first_added, sum_added, later_added, later_tally, added, tallied, tallied_on, expected_after, with_last, moved, at_end, on_ok, run, IsCutTo}
+use Rattle.duration_str.specs.Machine.{Placed, placed_tokens, Last, at_start, at_number, at_word, at_operator, Tally, Nothing, One, More, Held, nothing_of, within, first_added, sum_added, later_added, later_tally, added, tallied, tallied_on, expected_after, with_last, moved, at_end, on_ok, run, IsCutTo}
 use Rattle.duration_str.specs.Passing.{comes, comes_behind, EndsWith, LacksNumber, ReadsUnit, ReadsOperator, HoldsNoSyntax, so_far, mixed, IsSum}
 use Rattle.duration_str.proofs.PlaceLemmas.{LeavesNoSyntax, added_no_syntax, tallied_no_syntax, fault_cut, result_cut}
 use Rattle.duration_str.proofs.TokensLemmas.{none_left, first_left}
@@ -124,24 +124,18 @@ number_taken no_calc s m t last op tally value look taken moves = (
   fewer s m t _ _ look taken.1,
 )
 
--- At the start, or behind an operator, a number is taken.
-abbrev pub ReadsNumber : Bool → Tokens → Tokens → Option CondUnit → Tally → Option ℕ → Type 0
-ReadsNumber no_calc old new behind tally n = (comes no_calc old (awaits behind) tally ≡ comes no_calc new (at_number (unwrap_or behind Plus) n) tally) × (length (left new) < length (left old))
-
-pub number_read : (no_calc : Bool) (s m t : Tokens) (behind : Option CondUnit) (tally : Tally) (n : Option ℕ) → LooksAhead s m (Some sorts.Number) → TakesNumberPiece m t n
-    → ReadsNumber no_calc s t behind tally n
-number_read no_calc s m t None tally n look taken = number_taken no_calc s m t at_start Plus tally _ look taken (λ n at. refl)
-number_read no_calc s m t (Some op) tally n look taken = number_taken no_calc s m t (at_operator op) op tally _ look taken (λ n at. refl)
-
--- the number that the text begins with
+-- The number at the start is taken.
 pub first_number : (no_calc : Bool) (s m t : Tokens) (n : Option ℕ) → LooksAhead s m (Some sorts.Number) → TakesNumberPiece m t n
     → (comes no_calc s at_start Nothing ≡ comes no_calc t (at_number Plus n) Nothing) × (source t ≡ source s)
-first_number no_calc s m t n look taken = ((number_read no_calc s m t None Nothing n look taken).0, taken.1.same_source ∙ look.same_source)
+first_number no_calc s m t n look taken = ((number_taken no_calc s m t at_start Plus Nothing n look taken (λ n at. refl)).0, taken.1.same_source ∙ look.same_source)
 
--- a number that is ahead
-pub number_here : (no_calc : Bool) (s t : Tokens) (behind : Option CondUnit) (tally : Tally) (n : Option ℕ) → IsAhead s (Some sorts.Number) → TakesNumberPiece s t n → ReadsNumber no_calc s t behind tally n
-number_here no_calc s t behind tally n ahead taken = number_read no_calc s s t behind tally n (record { same_source = refl; same_options = refl; same_left = refl; ahead = ahead }) taken
+-- The number behind an operator, which is ahead, is taken.
+pub later_number : (no_calc : Bool) (s t : Tokens) (op : CondUnit) (tally : Tally) (n : Option ℕ) → IsAhead s (Some sorts.Number) → TakesNumberPiece s t n
+    → (comes no_calc s (at_operator op) tally ≡ comes no_calc t (at_number op n) tally) × (length (left t) < length (left s))
+later_number no_calc s t op tally n ahead taken =
+    number_taken no_calc s s t (at_operator op) op tally n (record { same_source = refl; same_options = refl; same_left = refl; ahead = ahead }) taken (λ n at. refl)
 
+-- A sort that is a number's is `Number`.
 pub number_is : (sort : Option Sort) → is_number sort ≡ true → sort ≡ Some sorts.Number
 number_is None e = absurd cc
 number_is (Some sorts.Number) e = refl
@@ -289,6 +283,12 @@ pub behind_term : (no_calc : Bool) (s t : Tokens) (op : CondUnit) (n : Option �
     → r ≡ added no_calc tally op n (nanos_of u) → comes no_calc s (at_number op n) tally ≡ comes_behind no_calc t r
 behind_term no_calc s t op n tally u r reads is = reads.0 ∙ ap (comes_behind no_calc t) (sym is)
 
+-- The first term is read, and is added with this result.
+pub first_read : (no_calc : Bool) (s m a b : Tokens) (n : Option ℕ) (u : TimeUnit) (r : Result Tally Cause) → LooksAhead s m (Some sorts.Number) → TakesNumberPiece m a n → ReadsUnit no_calc a b Plus n Nothing (Ok u)
+    → source b ≡ source a → r ≡ first_added (term_value (Some 0) n (nanos_of u)) → (comes no_calc s at_start Nothing ≡ comes_behind no_calc b r) × (source b ≡ source s)
+first_read no_calc s m a b n u r look taken ends text is =
+    let first = first_number no_calc s m a n look taken in (first.0 ∙ behind_term no_calc a b Plus n Nothing u r ends is, text ∙ first.1)
+
 -- The fault of a term, which is no syntax fault, ends the pass wherever the text is cut.
 pub ends_at_term : (no_calc : Bool) (all : Result ℕ Cause) (s t : Tokens) (op : CondUnit) (n : Option ℕ) (tally : Tally) (u : TimeUnit) (cause : Cause) → HoldsNoSyntax tally
     → all ≡ Err cause → Err cause ≡ added no_calc tally op n (nanos_of u) → EndsWith all s t (Err cause)
@@ -396,7 +396,7 @@ stays_large : (n m : ℕ) → m ≤ n → fits m ≡ false → fits n ≡ false
 stays_large n m order large = false_from_ne_true (fits n) (λ h. true≢false (sym (lt-ltb m (2 ^ 64) (omega (arith, ltb-true n (2 ^ 64) h, order))) ∙ large))
 
 sum_fits : (first total x : ℕ) (b : Bool) → fits (total + x) ≡ b
-    → first_added (tallied (if b then More first Plus (total + x) else Held (Overflow None))) ≡ (if fits (first + total + x) then Ok (One (first + total + x)) else Err (Overflow None))
+    → first_added (tallied (later_tally false first Plus (within (if b then Some (total + x) else None)))) ≡ (if fits (first + total + x) then Ok (One (first + total + x)) else Err (Overflow None))
 sum_fits first total x true e =
     let same : first + (total + x) ≡ first + total + x = omega arith in
     by_fit (fits (first + (total + x))) (first + (total + x)) ∙ ap (λ n. if fits n then Ok (One n) else Err (Overflow None)) same
@@ -486,6 +486,6 @@ pub later_read : (no_calc : Bool) (all : Result ℕ Cause) (s a b : Tokens) (fir
 later_read no_calc all s a b first set op fault n u before after it taken ends is plus sum =
     let tally = later_tally no_calc first set before in
     let adds = term_added no_calc first set op before after n (nanos_of u) (λ yes. (plus yes, it.plus yes, it.sum yes, sum yes)) is in (
-      it.same ∙ (number_here no_calc s a (Some op) tally _ it.number taken).0 ∙ behind_term no_calc a b op n tally u (Ok (later_tally no_calc first set after)) (ends op n tally) adds,
+      it.same ∙ (later_number no_calc s a op tally _ it.number taken).0 ∙ behind_term no_calc a b op n tally u (Ok (later_tally no_calc first set after)) (ends op n tally) adds,
       subst LeavesNoSyntax (sym adds) (added_no_syntax no_calc tally op n (nanos_of u) it.held),
     )

@@ -8,7 +8,7 @@ use Rattle.duration_str.specs.declared.fault.Cause.{Cause}
 use Rattle.duration_str.specs.declared.fault.Cause.TheVariants.{NumberTooLarge, Overflow, Mixed}
 use Rattle.duration_str.specs.Value.{Term, second, kept, value_of_term, sum_of, together, joined, value_of, fits, or_else, unless, term_fault, term_value, later_fault, evaluation_fault, is_same_operator}
 use Rattle.duration_str.specs.Reading.{first_fault, running_fault, place_behind}
-use Rattle.duration_str.specs.Machine.{Tally, Nothing, One, More, Held, first_added, sum_added, later_added, added, tallied}
+use Rattle.duration_str.specs.Machine.{Tally, Nothing, One, More, Held, within, first_added, sum_added, later_tally, later_added, added, tallied}
 use Rattle.duration_str.proofs.FaultLemmas.{no_faults, term_no_fault_below}
 use Rattle.duration_str.proofs.SumLemmas.{AreAdded, sum-append, value_is_sum}
 use Rattle.duration_str.proofs.AnswerLemmas.{later_value}
@@ -43,6 +43,12 @@ held_unless : (b : Bool) (cause : Cause) (tally : Tally) → (if b then tally el
 held_unless true cause tally = refl
 held_unless false cause tally = refl
 
+-- The later terms come to the total where it is below 2^64, and else its fault is held back.
+step_held : (set : CondUnit) (first total : ℕ) (b : Bool)
+    → later_tally false first set (within (if b then Some total else None)) ≡ held_or (unless b (Overflow None)) (More first set total)
+step_held set first total true = refl
+step_held set first total false = refl
+
 later_held : (set : CondUnit) (first total x : ℕ) (fault : Option Cause)
     → later_added first set total (fault_or fault (Ok x)) ≡ held_or fault (later_added first set total (Ok x))
 later_held set first total x None = refl
@@ -68,8 +74,8 @@ later_step set first before t =
     ap (λ y. Ok (if is_same_operator set t.operator then y else Held (Mixed set t.operator)))
     (ap (later_added first set (together set before)) (value_told None t)
     ∙ later_held set first (together set before) (value_of_term t) (term_fault None t)
-    ∙ ap (λ n. held_or (term_fault None t) (if fits n then More first set n else Held (Overflow None))) (together-push set before t)
-    ∙ ap (held_or (term_fault None t)) (held_unless (fits next) (Overflow None) (More first set next)))
+    ∙ ap (λ n. held_or (term_fault None t) (later_tally false first set (within (kept n)))) (together-push set before t)
+    ∙ ap (held_or (term_fault None t)) (step_held set first next (fits next)))
     ∙ ap Ok (held_unless (is_same_operator set t.operator) (Mixed set t.operator) _)
 
 -- The terms that are left are added, and the tally comes to this fault, or else to this value.

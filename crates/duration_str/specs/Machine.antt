@@ -68,9 +68,15 @@ abbrev pub with_term : CondUnit → ℕ → Result ℕ Cause → Result ℕ Caus
 with_term set total (Ok x) = within (kept (joined set total x))
 with_term set total (Err cause) = Err cause
 
+-- the tally of a first term and of later ones that come to this, or of which one is at fault
+abbrev pub later_tally : Bool → ℕ → CondUnit → Result ℕ Cause → Tally
+later_tally true first set (Ok total) = One (first + total)
+later_tally false first set (Ok total) = More first set total
+later_tally no_calc first set (Err cause) = Held cause
+
+-- the tally of a first term and of later ones with one more of this value
 abbrev pub later_added : ℕ → CondUnit → ℕ → Result ℕ Cause → Tally
-later_added first set total (Ok x) = if fits (joined set total x) then More first set (joined set total x) else Held (Overflow None)
-later_added first set total (Err cause) = Held cause
+later_added first set total value = later_tally false first set (with_term set total value)
 
 -- one more term, behind the operator `op`; an `Err` is answered at once
 abbrev pub added : Bool → Tally → CondUnit → Option ℕ → ℕ → Result Tally Cause
@@ -80,12 +86,6 @@ added false (One first) op n length = Ok (later_added first op (nothing_of op) (
 added no_calc (More first set total) op n length =
     Ok (if is_same_operator set op then later_added first set total (term_value None n length) else Held (Mixed set op))
 added no_calc (Held cause) op n length = Ok (Held cause)
-
--- the tally of a first term and of later ones that come to this, or of which one is at fault
-abbrev pub later_tally : Bool → ℕ → CondUnit → Result ℕ Cause → Tally
-later_tally true first set (Ok total) = One (first + total)
-later_tally false first set (Ok total) = More first set total
-later_tally no_calc first set (Err cause) = Held cause
 
 -- what all terms come to
 abbrev pub tallied : Tally → Result ℕ Cause

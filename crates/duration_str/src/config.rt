@@ -109,6 +109,11 @@ impl<'de> DeserializeDuration<'de> for Option<SignedDuration> {
 /// deserialize_duration::<Duration>(&json!(in alloc; "1min+30")?)  // Ok, 90 s
 /// deserialize_duration::<Option<Duration>>(&Value::Null)          // Ok(None)
 /// ```
+///
+/// # Errors
+///
+/// The fault of a text that `parse` refuses; `NotText` for a value that is no text, and where it is optional not null
+/// either. Null and the empty text are `None` where the value is optional.
 pub fn deserialize_duration<'de, T: DeserializeDuration<'de>>(
     value: &'de Value,
 ) -> Result<T, Fault<'de>>
@@ -117,7 +122,7 @@ pub fn deserialize_duration<'de, T: DeserializeDuration<'de>>(
     T::deserialize_duration(value)
 }
 
-/// Reads a required value.
+/// What `deserialize_duration` answers for a `SignedDuration`.
 pub fn deserialize_duration_chrono<'de>(value: &'de Value) -> Result<SignedDuration, Fault<'de>>
     ensures { IsRequired signed_nanos (view value.now) result }
 {
@@ -131,14 +136,14 @@ pub fn deserialize_duration_time<'de>(value: &'de Value) -> Result<SignedDuratio
     deserialize_duration_chrono(value)
 }
 
-/// Reads an optional value.
+/// What `deserialize_duration` answers for an `Option<Duration>`.
 pub fn deserialize_option_duration<'de>(value: &'de Value) -> Result<Option<Duration>, Fault<'de>>
     ensures { IsOptional (λ d. pos (as_nanos d)) (view value.now) result }
 {
     Option::<Duration>::deserialize_duration(value)
 }
 
-/// Reads an optional value.
+/// What `deserialize_duration` answers for an `Option<SignedDuration>`.
 pub fn deserialize_option_duration_chrono<'de>(
     value: &'de Value,
 ) -> Result<Option<SignedDuration>, Fault<'de>>

@@ -11,9 +11,13 @@ use std::fmt;
 /// What could stand at the place of a syntax fault.
 #[derive(Clone, Copy, Debug, PartialEq, Eq)]
 pub struct Expected {
+    /// A number.
     pub number: bool,
+    /// A word that names a unit.
     pub unit_word: bool,
+    /// `+` or `*`.
     pub operator: bool,
+    /// The end of the text.
     pub text_end: bool,
 }
 
@@ -37,8 +41,14 @@ pub enum Cause {
 }
 
 impl Cause {
-    /// The byte at which the fault stands, if it has a place.
-    pub(crate) fn place(self) -> Option<usize>
+    /// The byte at which the fault stands, from 0 to the text's length: that of every syntax fault, and 0 for a first
+    /// term that is too large. Else `None`.
+    ///
+    /// ```text
+    /// parse("1m 3-5").unwrap_err().cause().place() // Some(4)
+    /// parse("580y*2").unwrap_err().cause().place() // None
+    /// ```
+    pub fn place(self) -> Option<usize>
         ensures { result ≡ place_of self }
     {
         match self {
@@ -52,7 +62,9 @@ impl Cause {
 /// A refusal: the text that was read, and the cause. It prints as what a person is told.
 #[derive(Clone, Copy, Debug, PartialEq, Eq)]
 pub struct Fault<'a> {
+    /// The whole text that was read, and for `NotText` the empty text.
     pub text: &'a str,
+    /// Why it is refused.
     pub cause: Cause,
     /// The place is a character boundary within the text.
     pub ghost placed: { ForSome (place_of cause) (IsCharBoundary text.now) },

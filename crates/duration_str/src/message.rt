@@ -1,7 +1,7 @@
 //! The text of a fault, in a buffer.
 //!
 //! A `Display` may fail for no reason that its contract names, so what is printed through one can't be promised.
-ghost use Rattle.std.specs.Prelude.{◌≤◌, ◌++◌, length, take, replicate, decimal, codes};
+ghost use Rattle.std.specs.Prelude.{◌≤◌, ◌++◌, length, take, replicate, decimal};
 ghost use Rattle.std.specs.Str.{IsCharBoundary};
 ghost use Rattle.duration_str.specs.FaultText.{fault_text, byte_text, caret_text};
 ghost use Rattle.duration_str.specs.Buffers.{IsInFront};

@@ -1,5 +1,5 @@
 //! The one pass over the pieces of a text.
-ghost use Rattle.std.specs.Prelude.{◌≡◌, ℕ, Bool, true, false, None, Ok, Err, IsTrue, IsOk, IfErr, Option};
+ghost use Rattle.std.specs.Prelude.{◌≡◌, ℕ, true, false, None, Ok, Err, IsTrue, IsOk, IfErr, Option};
 ghost use Rattle.duration_str.specs.Value.{joined, kept, term_value};
 ghost use Rattle.duration_str.specs.Units.{nanos_of};
 ghost use Rattle.duration_str.specs.Machine.{Tally, Nothing, One, nothing_of, within, later_tally, tallied, with_term, at_start, at_operator};
@@ -164,18 +164,17 @@ impl Later {
     ghost use Rattle.duration_str.specs.Machine.{added};
     ghost use Rattle.duration_str.specs.Passing.{mixed, come_to, IsSum};
 
-    /// Adds a term. Behind a fault nothing counts of it, and the total means nothing.
+    /// Adds a term. Behind a fault it is not valued any more.
     #[inline(always)]
     fn add(&mut self, set: CondUnit, number: Number<'_>, unit: TimeUnit)
         ensures { (first : ℕ) (op : AnOperator) → (self.old.fault ≡ None → op ≡ set) → Ok (later_tally false first set (come_to self.new)) ≡ added false (later_tally false first set (come_to self.old)) op (kept_of number.entry) (nanos_of unit) }
     {
+        if self.fault.is_some() {
+            return;
+        }
         match with_term(set, self.total, number, unit) {
             Ok(total) => self.total = total,
-            Err(fault) => {
-                if self.fault.is_none() {
-                    self.fault = Some(fault);
-                }
-            }
+            Err(fault) => self.fault = Some(fault),
         }
     }
 

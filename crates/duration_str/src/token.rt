@@ -1,5 +1,5 @@
 //! The pieces of a text: numbers, words, operators, and single other characters.
-ghost use Rattle.std.specs.Prelude.{◌≡◌, ◌+◌, ◌%◌, ◌^◌, ◌≤◌, ◌<◌, [], ◌&&◌, ◌||◌, ◌==◌, length, take, is_some, Option, IsSome, IsTrue, IfSome, if◌then◌else◌, true, false, Some, IsUtf8};
+ghost use Rattle.std.specs.Prelude.{◌≡◌, ◌+◌, ◌%◌, ◌^◌, ◌≤◌, [], ◌&&◌, ◌||◌, ◌==◌, length, take, is_some, Option, IsSome, if◌then◌else◌, false, Some, IsUtf8};
 ghost use Rattle.std.specs.Option.{ForSome, ForNone};
 ghost use Rattle.std.specs.Char.{is_ascii_alphabetic};
 ghost use Rattle.std.specs.Str.{chars};
@@ -29,11 +29,14 @@ pub enum What {
     Other,
 }
 
-/// A piece of a text: the slice of the source that begins at the byte `start`, and its sort.
+/// A piece of a text.
 #[derive(Clone, Copy, Debug, PartialEq, Eq)]
 pub struct Token<'a> {
+    /// The byte of the source at which it begins.
     pub start: usize,
+    /// The slice of the source that it is.
     pub text: &'a str,
+    /// Its sort.
     pub what: What,
 }
 

@@ -41,14 +41,22 @@ pub enum TimeUnit {
     Year,
     /// 30 days.
     Month,
+    /// 7 days.
     Week,
+    /// 24 hours.
     Day,
+    /// 60 minutes.
     Hour,
+    /// 60 seconds.
     Minute,
+    /// 1,000,000,000 nanoseconds.
     #[default]
     Second,
+    /// 1,000,000 nanoseconds.
     MilliSecond,
+    /// 1,000 nanoseconds.
     MicroSecond,
+    /// The smallest unit.
     NanoSecond,
 }
 

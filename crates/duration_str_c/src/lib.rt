@@ -3,13 +3,12 @@
 //! Nothing takes memory. Bytes that are no UTF-8 are refused.
 #![tactic(auto)]
 
-ghost use Rattle.std.specs.Prelude.{◌≡◌, ℕ, ◌+◌, ◌*◌, ◌<◌, ◌≤◌, false, IsTrue, IsFalse, IfSome, IfNone, IsUtf8, take, length};
+ghost use Rattle.std.specs.Prelude.{◌≡◌, ℕ, ◌+◌, ◌*◌, ◌<◌, ◌≤◌, false, IsTrue, IsFalse, IfSome, IfNone, IsUtf8, take};
 ghost use Rattle.std.specs.Bool.{MatchBool};
 ghost use Rattle.std.specs.Str.{chars};
 ghost use Rattle.duration_str.specs.Units.{off};
 ghost use Rattle.duration_str.specs.Reading.{IsRead};
 ghost use Rattle.duration_str.specs.Printing.{IsPrinted};
-ghost use Rattle.duration_str.specs.Faults.{place_of};
 ghost use Rattle.duration_str.specs.declared.fault.Cause.{Cause};
 ghost use Rattle.duration_str.specs.declared.fault.Cause.TheVariants.{NotText};
 ghost use Rattle.duration_str_c.specs.Told.{chosen, number_of, expected_of, refusal_told, IsTold, IsMessage};
@@ -23,23 +22,33 @@ use std::time::Duration;
 #[repr(C)]
 #[derive(Clone, Copy)]
 pub struct Choice {
+    /// No operator is read: terms are added as they come.
     pub no_calc: bool,
+    /// Words are compared as they stand; else their ASCII capitals are folded to small letters.
     pub lowercase: bool,
+    /// The Chinese names of the units are read too.
     pub cn_unit: bool,
 }
 
-/// What a text is read as: its nanoseconds where `cause` is 0, else the number of the cause, its place where it has
-/// one, and for a syntax fault what could stand there.
+/// What a text is read as, or why it is refused. What a case does not name is 0 or false.
 #[repr(C)]
 #[derive(Clone, Copy)]
 pub struct Answer {
+    /// The value in nanoseconds, where the text is read.
     pub nanos: u64,
+    /// The byte at which the fault stands, where it has a place.
     pub place: usize,
+    /// 0 where the text is read, else the number of the cause, from 1 for `Empty` to 7 for `NotText`.
     pub cause: u32,
+    /// Whether the fault has a place.
     pub has_place: bool,
+    /// For a syntax fault: a number could stand at the place.
     pub number: bool,
+    /// A unit could stand there.
     pub unit_word: bool,
+    /// `+` or `*` could stand there.
     pub is_operator: bool,
+    /// The text could end there.
     pub text_end: bool,
 }
 
@@ -87,7 +96,7 @@ impl Answer {
             operator,
             text_end,
         } = expected_of(cause);
-        let place = place_of(cause);
+        let place = cause.place();
         Answer {
             nanos: 0,
             place: place.unwrap_or(0),
@@ -205,17 +214,6 @@ fn number_of(cause: Cause) -> u32
         Cause::Mixed { .. } => 5,
         Cause::OutOfRange => 6,
         Cause::NotText { .. } => 7,
-    }
-}
-
-/// The byte at which the fault stands, if it has a place.
-fn place_of(cause: Cause) -> Option<usize>
-    ensures { result ≡ place_of cause }
-{
-    match cause {
-        Cause::Syntax { place, .. } => Some(place),
-        Cause::NumberTooLarge { place } | Cause::Overflow { place } => place,
-        Cause::Empty | Cause::Mixed { .. } | Cause::OutOfRange | Cause::NotText { .. } => None,
     }
 }
 

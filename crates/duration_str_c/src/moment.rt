@@ -1,5 +1,5 @@
 //! Moments, and those before and after them by the value of a text.
-ghost use Rattle.std.specs.Prelude.{◌≡◌, ◌<◌, false, ◌↔◌, ℤ, pos, ◌+ℤ◌, ◌-ℤ◌, IsUtf8, IsSome, IfSome, IfOk, IfErr};
+ghost use Rattle.std.specs.Prelude.{◌≡◌, false, ◌↔◌, ℤ, pos, ◌+ℤ◌, ◌-ℤ◌, IsUtf8, IsSome, IfSome};
 ghost use Rattle.duration_str.specs.Dates.{IsInRange, IsCivil};
 ghost use Rattle.duration_str.specs.declared.fault.Cause.TheVariants.{OutOfRange, NotText};
 ghost use Rattle.duration_str_c.specs.Told.{number_of};
@@ -13,11 +13,13 @@ use jiff::tz::Offset;
 
 const SECOND: i128 = 1_000_000_000;
 
-/// A moment: whole seconds since 1970-01-01T00:00:00Z, and the nanoseconds of a second behind them.
+/// A moment, counted from 1970-01-01T00:00:00Z.
 #[repr(C)]
 #[derive(Clone, Copy)]
 pub struct Moment {
+    /// The whole seconds, which are negative before 1970.
     pub secs: i64,
+    /// The nanoseconds behind them, below 1,000,000,000.
     pub nanos: u32,
 }
 

@@ -76,6 +76,33 @@ fn prints_each_unit_alone(rt: HostRuntime) {
     }
 }
 
+/// Years of every length, printed.
+const YEARS: [(u64, &str); 23] = [
+    (9, "9y"),
+    (10, "10y"),
+    (99, "99y"),
+    (100, "100y"),
+    (999, "999y"),
+    (1_000, "1000y"),
+    (9_999, "9999y"),
+    (10_000, "10000y"),
+    (99_999, "99999y"),
+    (100_000, "100000y"),
+    (999_999, "999999y"),
+    (1_000_000, "1000000y"),
+    (9_999_999, "9999999y"),
+    (10_000_000, "10000000y"),
+    (99_999_999, "99999999y"),
+    (100_000_000, "100000000y"),
+    (999_999_999, "999999999y"),
+    (1_000_000_000, "1000000000y"),
+    (9_999_999_999, "9999999999y"),
+    (10_000_000_000, "10000000000y"),
+    (99_999_999_999, "99999999999y"),
+    (100_000_000_000, "100000000000y"),
+    (584_942_417_355, "584942417355y"),
+];
+
 #[test]
 fn prints_counts_of_every_length(rt: HostRuntime) {
     let mut buffer = [0; 64];
@@ -88,33 +115,8 @@ fn prints_counts_of_every_length(rt: HostRuntime) {
     ] {
         assert_eq!(rt; write_human(&Duration::new(0, nanos), &mut buffer), text);
     }
-    for (years, text) in [
-        (9, "9y"),
-        (10, "10y"),
-        (99, "99y"),
-        (100, "100y"),
-        (999, "999y"),
-        (1_000, "1000y"),
-        (9_999, "9999y"),
-        (10_000, "10000y"),
-        (99_999, "99999y"),
-        (100_000, "100000y"),
-        (999_999, "999999y"),
-        (1_000_000, "1000000y"),
-        (9_999_999, "9999999y"),
-        (10_000_000, "10000000y"),
-        (99_999_999, "99999999y"),
-        (100_000_000, "100000000y"),
-        (999_999_999, "999999999y"),
-        (1_000_000_000, "1000000000y"),
-        (9_999_999_999, "9999999999y"),
-        (10_000_000_000, "10000000000y"),
-        (99_999_999_999, "99999999999y"),
-        (100_000_000_000, "100000000000y"),
-        (584_942_417_355, "584942417355y"),
-    ] {
-        let secs: u64 = years;
-        let secs = secs
+    for (years, text) in YEARS {
+        let secs = years
             .checked_mul(365 * DAY)
             .expect(&rt, "below 2^64 seconds");
         assert_eq!(rt; write_human(&Duration::new(secs, 0), &mut buffer), text);
@@ -124,7 +126,11 @@ fn prints_counts_of_every_length(rt: HostRuntime) {
 #[test]
 fn leaves_nothing_of_an_earlier_text(rt: HostRuntime) {
     let mut buffer = [0xff; 64];
+    assert_eq!(rt; write_human(&Duration::ZERO, &mut buffer), "0s");
+    assert_eq!(rt;
+        write_human(&Duration::MAX, &mut buffer),
+        "584942417355y 3w 5d 7h 15s 999ms 999µs 999ns"
+    );
     assert_eq!(rt; write_human(&longest(), &mut buffer), LONGEST_TEXT);
     assert_eq!(rt; write_human(&Duration::ZERO, &mut buffer), "0s");
-    assert_eq!(rt; write_human(&longest(), &mut buffer), LONGEST_TEXT);
 }

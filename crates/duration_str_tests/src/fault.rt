@@ -1,86 +1,58 @@
 // The texts of faults.
+use crate::refusal::refusal;
 use crate::vectors::{
-    AFTER_NUMBER, AFTER_UNIT, ALONE_AFTER_NUMBER, ALONE_AFTER_UNIT, CN_UNIT, START, syntax,
+    AFTER_NUMBER, CN_UNIT, LOWERCASE, NO_CALC, NUMBER, OFF, OPERATORS, UNITS, syntax,
 };
-use duration_str::{Cause, CondUnit, Fault, Options, parse_with};
-use std::process::Abort;
+use duration_str::{Options, parse_with};
 use std::test::Fail;
-
-const UNITS: &str =
-    "expected [\"y\", \"mon\", \"w\", \"d\", \"h\", \"m\", \"s\", \"ms\", \"µs\", \"us\", \"ns\"]";
-
-const OPERATORS: &str = "expected ['+', '*']";
-
-const NUMBER: &str = "expected number";
 
 const TOO_LARGE: &str = "number too large to fit in target type";
 
 const OVERFLOW: &str = "overflow error";
 
-/// A fault whose place is tested here.
-fn fault_of<'a>(rt: &impl Abort, text: &'a str, cause: Cause) -> Fault<'a> {
-    let place = match cause {
-        Cause::Syntax { place, .. } => Some(place),
-        Cause::NumberTooLarge { place } | Cause::Overflow { place } => place,
-        Cause::Empty | Cause::Mixed { .. } | Cause::OutOfRange | Cause::NotText { .. } => None,
-    };
-    if let Some(place) = place {
-        assert!(rt; text.is_char_boundary(place));
-    }
-    Fault { text, cause }
-}
+/// Texts that are refused under these options, each with what stands below it: the caret and the line.
+const POINTED: [(&str, Options, &str, &str); 24] = [
+    ("   ", OFF, "   ^", NUMBER),
+    ("1m+", OFF, "   ^", NUMBER),
+    ("+1m", OFF, "^", NUMBER),
+    ("1m++2", OFF, "   ^", NUMBER),
+    ("1m+2", NO_CALC, "  ^", NUMBER),
+    ("1 2", OFF, "  ^", UNITS),
+    ("0mxyz", OFF, " ^", UNITS),
+    ("0m+3-5", OFF, "    ^", UNITS),
+    ("1m 3-5", OFF, "    ^", UNITS),
+    ("1mx", OFF, " ^", UNITS),
+    ("1分", OFF, " ^", UNITS),
+    ("1M", LOWERCASE, " ^", UNITS),
+    ("1\u{3bc}s", OFF, " ^", UNITS),
+    ("1\u{b5} s", OFF, " ^", UNITS),
+    ("1+2", NO_CALC, " ^", UNITS),
+    ("0m3-5", NO_CALC, "   ^", UNITS),
+    (
+        "99999999999999999999 2",
+        OFF,
+        "                     ^",
+        UNITS,
+    ),
+    (
+        "99999999999999999999+1",
+        NO_CALC,
+        "                    ^",
+        UNITS,
+    ),
+    (" 1分+   31秒 + 2毫秒+  3纳秒  ", OFF, "  ^", UNITS),
+    ("3ms-2ms", OFF, "   ^", OPERATORS),
+    ("580y 580y x", OFF, "          ^", OPERATORS),
+    ("1µs 分", OFF, "    ^", OPERATORS),
+    ("10000000000000000y+60", OFF, "^", OVERFLOW),
+    ("99999999999999999999y-", OFF, "^", TOO_LARGE),
+];
 
 #[test]
 fn points_at_the_place(rt: HostRuntime) -> Result<(), Fail> {
-    let number_too_large = Cause::NumberTooLarge { place: Some(0) };
-    let overflow = Cause::Overflow { place: Some(0) };
-    for (text, cause, caret, line) in [
-        ("   ", syntax(3, START), "   ^", NUMBER),
-        ("1 2", syntax(2, AFTER_NUMBER), "  ^", UNITS),
-        ("0mxyz", syntax(1, AFTER_NUMBER), " ^", UNITS),
-        ("0m+3-5", syntax(4, AFTER_NUMBER), "    ^", UNITS),
-        ("3ms-2ms", syntax(3, AFTER_UNIT), "   ^", OPERATORS),
-        ("1m 3-5", syntax(4, AFTER_NUMBER), "    ^", UNITS),
-        ("1m+", syntax(3, START), "   ^", NUMBER),
-        ("+1m", syntax(0, START), "^", NUMBER),
-        ("1m++2", syntax(3, START), "   ^", NUMBER),
-        ("1mx", syntax(1, AFTER_NUMBER), " ^", UNITS),
-        ("10000000000000000y+60", overflow, "^", OVERFLOW),
-        ("99999999999999999999y-", number_too_large, "^", TOO_LARGE),
-        (
-            "580y 580y x",
-            syntax(10, AFTER_UNIT),
-            "          ^",
-            OPERATORS,
-        ),
-        (
-            " 1分+   31秒 + 2毫秒+  3纳秒  ",
-            syntax(2, AFTER_NUMBER),
-            "  ^",
-            UNITS,
-        ),
-        ("1µs 分", syntax(5, AFTER_UNIT), "    ^", OPERATORS),
-        ("1M", syntax(1, AFTER_NUMBER), " ^", UNITS),
-        ("1\u{3bc}s", syntax(1, AFTER_NUMBER), " ^", UNITS),
-        ("1\u{b5} s", syntax(1, AFTER_NUMBER), " ^", UNITS),
-        ("1+2", syntax(1, ALONE_AFTER_NUMBER), " ^", UNITS),
-        ("1m+2", syntax(2, ALONE_AFTER_UNIT), "  ^", NUMBER),
-        ("0m3-5", syntax(3, ALONE_AFTER_NUMBER), "   ^", UNITS),
-        (
-            "99999999999999999999 2",
-            syntax(21, AFTER_NUMBER),
-            "                     ^",
-            UNITS,
-        ),
-        (
-            "99999999999999999999+1",
-            syntax(20, ALONE_AFTER_NUMBER),
-            "                    ^",
-            UNITS,
-        ),
-    ] {
+    for (text, o, caret, line) in POINTED {
         let want = format!(in rt.alloc(); "{text}\n{caret}\n{line}")?;
-        let got = fault_of(&rt, text, cause).to_string(rt.alloc())?;
+        let got = refusal(&rt, text, o).to_string(rt.alloc())?;
         assert_eq!(rt; got.as_str(), want.as_str());
     }
     Ok(())
@@ -88,52 +60,27 @@ fn points_at_the_place(rt: HostRuntime) -> Result<(), Fail> {
 
 #[test]
 fn shows_the_line_alone(rt: HostRuntime) -> Result<(), Fail> {
-    let first = CondUnit::Plus;
-    let later = CondUnit::Star;
-    let number_too_large = Cause::NumberTooLarge { place: None };
-    let overflow = Cause::Overflow { place: None };
-    for (text, cause, line) in [
-        ("", Cause::Empty, "Empty input"),
-        ("580y*2", overflow, OVERFLOW),
-        ("580y 580y", overflow, OVERFLOW),
-        ("1s + 99999999999999999999", number_too_large, TOO_LARGE),
-        (
-            "1m 2s*3",
-            Cause::Mixed { first, later },
-            "not support '+' with '*' calculate",
-        ),
-        (
-            "1m*2*3+4",
-            Cause::Mixed {
-                first: later,
-                later: first,
-            },
-            "not support '*' with '+' calculate",
-        ),
-        ("1ns", Cause::OutOfRange, "date out of range"),
-        (
-            "",
-            Cause::NotText { optional: false },
-            "expect duration string, e.g: '1min+30'",
-        ),
-        (
-            "",
-            Cause::NotText { optional: true },
-            "expect duration string, null, or missing field",
-        ),
+    for (text, line) in [
+        ("", "Empty input"),
+        ("580y*2", OVERFLOW),
+        ("580y 580y", OVERFLOW),
+        ("1s + 99999999999999999999", TOO_LARGE),
+        ("1m 2s*3", "not support '+' with '*' calculate"),
+        ("1m*2*3+4", "not support '*' with '+' calculate"),
     ] {
-        assert_eq!(rt;
-            fault_of(&rt, text, cause).to_string(rt.alloc())?.as_str(),
-            line
-        );
+        let got = refusal(&rt, text, OFF).to_string(rt.alloc())?;
+        assert_eq!(rt; got.as_str(), line);
     }
     Ok(())
 }
 
 #[test]
 fn names_the_byte_where_there_are_lines(rt: HostRuntime) -> Result<(), Fail> {
-    let got = fault_of(&rt, "1m\n+\nx", syntax(5, START)).to_string(rt.alloc())?;
-    assert_eq!(rt; got.as_str(), "byte 5: expected number");
+    let behind_operator = refusal(&rt, "1m\n+\nx", OFF).to_string(rt.alloc())?;
+    assert_eq!(rt; behind_operator.as_str(), "byte 5: expected number");
+    let behind_number = refusal(&rt, "1\n2", OFF).to_string(rt.alloc())?;
+    let want = format!(in rt.alloc(); "byte 2: {UNITS}")?;
+    assert_eq!(rt; behind_number.as_str(), want.as_str());
     Ok(())
 }
 
@@ -141,7 +88,7 @@ fn names_the_byte_where_there_are_lines(rt: HostRuntime) -> Result<(), Fail> {
 fn points_behind_many_blanks(rt: HostRuntime) -> Result<(), Fail> {
     let blanks = " ".repeat(rt.alloc(), 100_000)?;
     let text = format!(in rt.alloc(); "{blanks}x")?;
-    let got = fault_of(&rt, &text, syntax(100_000, START)).to_string(rt.alloc())?;
+    let got = refusal(&rt, &text, OFF).to_string(rt.alloc())?;
     let want = format!(in rt.alloc(); "{blanks}x\n{blanks}^\nexpected number")?;
     assert_eq!(rt; got.as_str(), want.as_str());
     Ok(())
@@ -149,10 +96,25 @@ fn points_behind_many_blanks(rt: HostRuntime) -> Result<(), Fail> {
 
 #[test]
 fn gives_its_parts(rt: HostRuntime) {
-    let cause = syntax(1, AFTER_NUMBER);
-    let fault = fault_of(&rt, "1x", cause);
+    let fault = refusal(&rt, "1x", OFF);
     assert_eq!(rt; fault.text(), "1x");
-    assert_eq!(rt; fault.cause(), cause);
+    assert_eq!(rt; fault.cause(), syntax(1, AFTER_NUMBER));
+}
+
+#[test]
+fn tells_the_place(rt: HostRuntime) {
+    for (text, place) in [
+        ("1m 3-5", Some(4)),
+        ("   ", Some(3)),
+        ("10000000000000000y+60", Some(0)),
+        ("99999999999999999999y-", Some(0)),
+        ("1s + 99999999999999999999", None),
+        ("580y*2", None),
+        ("1m 2s*3", None),
+        ("", None),
+    ] {
+        assert_eq!(rt; refusal(&rt, text, OFF).cause().place(), place, "{text}");
+    }
 }
 
 #[test]
@@ -164,6 +126,7 @@ fn finds_the_piece_at_the_place(rt: HostRuntime) {
         ("3ms-2ms", CN_UNIT, Some("-")),
         ("1分", off, Some("分")),
         ("1m分秒", CN_UNIT, Some("m分秒")),
+        (" 1分+   31秒 + 2毫秒+  3纳秒  ", off, Some("分")),
         ("1\u{3bc}s", off, Some("\u{3bc}")),
         ("1\u{b5} s", off, Some("\u{b5}")),
         ("1m\u{3000}2", off, Some("\u{3000}")),

@@ -14,10 +14,11 @@ mod message;
 #[cfg(test)]
 mod parser;
 #[cfg(test)]
+mod refusal;
+#[cfg(test)]
 mod token;
 #[cfg(test)]
 mod top;
 #[cfg(test)]
 mod unit;
-#[cfg(test)]
-mod vectors;
+pub mod vectors;

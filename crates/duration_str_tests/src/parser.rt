@@ -86,15 +86,29 @@ fn multiplies_step_by_step(rt: HostRuntime) {
 }
 
 #[test]
+fn reads_what_is_printed_below_the_limit(rt: HostRuntime) {
+    let off = Options::off();
+    let last = "584y 11mon 1w 6d 23h 34min 33s 709ms 551µs 615ns";
+    assert_read(&rt, last, off, 18_446_744_073_709_551_615);
+    let next = "584y 11mon 1w 6d 23h 34min 33s 709ms 551µs 616ns";
+    assert_refused(&rt, next, off, OVERFLOW);
+    let greatest = "584942417355y 3w 5d 7h 15s 999ms 999µs 999ns";
+    assert_refused(&rt, greatest, off, FIRST_OVERFLOW);
+}
+
+#[test]
 fn says_what_can_stand_at_the_place(rt: HostRuntime) {
     for (text, place, expected) in [
         ("   ", 3, START),
         ("+1m", 0, START),
         ("1m+", 3, START),
         ("1m++2", 3, START),
+        ("1m\n+\nx", 5, START),
         ("1m*", 3, START),
         ("580y*2*x", 7, START),
         ("1 2", 2, AFTER_NUMBER),
+        ("1\n2", 2, AFTER_NUMBER),
+        ("1分", 1, AFTER_NUMBER),
         ("0mxyz", 1, AFTER_NUMBER),
         ("1mx", 1, AFTER_NUMBER),
         ("0m+3-5", 4, AFTER_NUMBER),

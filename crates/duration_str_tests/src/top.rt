@@ -15,10 +15,11 @@ use std::test::Fail;
 use std::time::Duration;
 
 /// The texts that are printed for what is read from the first.
-const PRINTED: [(&str, &str); 6] = [
+const PRINTED: [(&str, &str); 7] = [
     ("0s", "0s"),
     ("1y 12d 3s", "1y 1w 5d 3s"),
     ("751d 1mon 3week 5d 2ns", "2y 2mon 2w 3d 2ns"),
+    ("7h  0s", "7h"),
     ("    7h    ", "7h"),
     ("    7h  1s  ", "7h 1s"),
     ("    7h  0s  ", "7h"),

@@ -137,7 +137,9 @@ fn knows_no_other_word(rt: HostRuntime) {
     for word in [
         "nys", "", "mxyz", "\u{b5}", " m", "m ", "分s", "秒秒", "毫", "1m",
     ] {
-        assert_eq!(rt; TimeUnit::from_word(word, CN_UNIT), None, "{word}");
+        for o in [Options::off(), CN_UNIT] {
+            assert_eq!(rt; TimeUnit::from_word(word, o), None, "{word}");
+        }
     }
 }
 
@@ -157,6 +159,49 @@ fn value_of(unit: TimeUnit, number: &str) -> Option<Result<u64, Cause>> {
     }
 }
 
+/// The last number of each unit but the nanosecond whose value is below 2^64 nanoseconds, that value, and the next number.
+const LAST_VALUES: [(TimeUnit, &str, u64, &str); 9] = [
+    (TimeUnit::Year, "584", 18_417_024_000_000_000_000, "585"),
+    (TimeUnit::Month, "7116", 18_444_672_000_000_000_000, "7117"),
+    (TimeUnit::Week, "30500", 18_446_400_000_000_000_000, "30501"),
+    (
+        TimeUnit::Day,
+        "213503",
+        18_446_659_200_000_000_000,
+        "213504",
+    ),
+    (
+        TimeUnit::Hour,
+        "5124095",
+        18_446_742_000_000_000_000,
+        "5124096",
+    ),
+    (
+        TimeUnit::Minute,
+        "307445734",
+        18_446_744_040_000_000_000,
+        "307445735",
+    ),
+    (
+        TimeUnit::Second,
+        "18446744073",
+        18_446_744_073_000_000_000,
+        "18446744074",
+    ),
+    (
+        TimeUnit::MilliSecond,
+        "18446744073709",
+        18_446_744_073_709_000_000,
+        "18446744073710",
+    ),
+    (
+        TimeUnit::MicroSecond,
+        "18446744073709551",
+        18_446_744_073_709_551_000,
+        "18446744073709552",
+    ),
+];
+
 #[test]
 fn values_digits_up_to_the_limit(rt: HostRuntime) {
     for (unit, nanos, printed, _, _) in TABLE {
@@ -164,47 +209,7 @@ fn values_digits_up_to_the_limit(rt: HostRuntime) {
         assert_eq!(rt; value_of(unit, "1"), Some(Ok(nanos)), "{printed}");
     }
     let overflow = Some(Err(Cause::Overflow { place: None }));
-    for (unit, last, value, next) in [
-        (TimeUnit::Year, "584", 18_417_024_000_000_000_000, "585"),
-        (TimeUnit::Month, "7116", 18_444_672_000_000_000_000, "7117"),
-        (TimeUnit::Week, "30500", 18_446_400_000_000_000_000, "30501"),
-        (
-            TimeUnit::Day,
-            "213503",
-            18_446_659_200_000_000_000,
-            "213504",
-        ),
-        (
-            TimeUnit::Hour,
-            "5124095",
-            18_446_742_000_000_000_000,
-            "5124096",
-        ),
-        (
-            TimeUnit::Minute,
-            "307445734",
-            18_446_744_040_000_000_000,
-            "307445735",
-        ),
-        (
-            TimeUnit::Second,
-            "18446744073",
-            18_446_744_073_000_000_000,
-            "18446744074",
-        ),
-        (
-            TimeUnit::MilliSecond,
-            "18446744073709",
-            18_446_744_073_709_000_000,
-            "18446744073710",
-        ),
-        (
-            TimeUnit::MicroSecond,
-            "18446744073709551",
-            18_446_744_073_709_551_000,
-            "18446744073709552",
-        ),
-    ] {
+    for (unit, last, value, next) in LAST_VALUES {
         assert_eq!(rt; value_of(unit, last), Some(Ok(value)), "{last}");
         assert_eq!(rt; value_of(unit, next), overflow, "{next}");
     }

@@ -1,26 +1,38 @@
-//! What tests share: choices of options, what can stand at a place, and texts with their values.
+//! What tests share: choices of options, what can stand at a place, the lines that say it, and texts with their values.
+ghost use Rattle.std.specs.Prelude.{◌≡◌};
+ghost use Rattle.duration_str.specs.declared.fault.Cause.TheVariants.{Syntax};
+
 use duration_str::{Cause, Expected, Options};
 
-/// One option on, the other two off.
+/// All options off.
+pub const OFF: Options = Options {
+    no_calc: false,
+    lowercase: false,
+    cn_unit: false,
+};
+
+/// `no_calc` alone.
 pub const NO_CALC: Options = Options {
     no_calc: true,
     lowercase: false,
     cn_unit: false,
 };
 
+/// `lowercase` alone.
 pub const LOWERCASE: Options = Options {
     no_calc: false,
     lowercase: true,
     cn_unit: false,
 };
 
+/// `cn_unit` alone.
 pub const CN_UNIT: Options = Options {
     no_calc: false,
     lowercase: false,
     cn_unit: true,
 };
 
-/// What can stand behind nothing and behind an operator, behind a number, and behind a unit.
+/// What can stand at the start and behind an operator.
 pub const START: Expected = Expected {
     number: true,
     unit_word: false,
@@ -28,6 +40,7 @@ pub const START: Expected = Expected {
     text_end: false,
 };
 
+/// What can stand behind a number.
 pub const AFTER_NUMBER: Expected = Expected {
     number: false,
     unit_word: true,
@@ -35,6 +48,7 @@ pub const AFTER_NUMBER: Expected = Expected {
     text_end: true,
 };
 
+/// What can stand behind a unit.
 pub const AFTER_UNIT: Expected = Expected {
     number: true,
     unit_word: false,
@@ -42,7 +56,7 @@ pub const AFTER_UNIT: Expected = Expected {
     text_end: true,
 };
 
-/// The same where no operator is read.
+/// What can stand behind a number where no operator is read.
 pub const ALONE_AFTER_NUMBER: Expected = Expected {
     number: false,
     unit_word: true,
@@ -50,6 +64,7 @@ pub const ALONE_AFTER_NUMBER: Expected = Expected {
     text_end: true,
 };
 
+/// What can stand behind a unit where no operator is read.
 pub const ALONE_AFTER_UNIT: Expected = Expected {
     number: true,
     unit_word: false,
@@ -57,9 +72,22 @@ pub const ALONE_AFTER_UNIT: Expected = Expected {
     text_end: true,
 };
 
-pub fn syntax(place: usize, expected: Expected) -> Cause {
+/// A syntax fault.
+pub fn syntax(place: usize, expected: Expected) -> Cause
+    ensures { result ≡ Syntax place expected }
+{
     Cause::Syntax { place, expected }
 }
+
+/// The line of a syntax fault where a unit could stand.
+pub const UNITS: &str =
+    "expected [\"y\", \"mon\", \"w\", \"d\", \"h\", \"m\", \"s\", \"ms\", \"µs\", \"us\", \"ns\"]";
+
+/// The line where no unit could stand, but an operator.
+pub const OPERATORS: &str = "expected ['+', '*']";
+
+/// The line where neither could stand, but a number.
+pub const NUMBER: &str = "expected number";
 
 /// Each text with the nanoseconds that it is read as with all options off.
 pub const VALUES: [(&str, u64); 65] = [

@@ -4,65 +4,18 @@ use duration_str::{
     Cause, Expected, Fault, Options, after_naive_date, deserialize_duration, parse, parse_with,
     write_human,
 };
+use duration_str_tests::vectors::{
+    AFTER_NUMBER, AFTER_UNIT, CN_UNIT, NUMBER, OFF, OPERATORS, START, UNITS, syntax,
+};
 use durstr_run::run;
 use jiff::Timestamp;
 use jiff::civil::Date;
 use serde_json::{Value, json};
-use std::alloc::AllocError;
+use std::alloc::{AllocError, Global};
 use std::fmt::Write;
 use std::process::Abort;
 use std::test::Fail;
 use std::time::Duration;
-
-const UNITS: &str =
-    "expected [\"y\", \"mon\", \"w\", \"d\", \"h\", \"m\", \"s\", \"ms\", \"µs\", \"us\", \"ns\"]";
-
-const OPERATORS: &str = "expected ['+', '*']";
-
-const NUMBER: &str = "expected number";
-
-const OFF: Options = Options {
-    no_calc: false,
-    lowercase: false,
-    cn_unit: false,
-};
-
-const CN_UNIT: Options = Options {
-    no_calc: false,
-    lowercase: false,
-    cn_unit: true,
-};
-
-/// A syntax fault at the start and behind an operator, behind a number, and behind a unit.
-fn number_at(place: usize) -> Cause {
-    let expected = Expected {
-        number: true,
-        unit_word: false,
-        operator: false,
-        text_end: false,
-    };
-    Cause::Syntax { place, expected }
-}
-
-fn behind_number_at(place: usize) -> Cause {
-    let expected = Expected {
-        number: false,
-        unit_word: true,
-        operator: true,
-        text_end: true,
-    };
-    Cause::Syntax { place, expected }
-}
-
-fn behind_unit_at(place: usize) -> Cause {
-    let expected = Expected {
-        number: true,
-        unit_word: false,
-        operator: true,
-        text_end: true,
-    };
-    Cause::Syntax { place, expected }
-}
 
 /// The part so many times, between a head and a tail.
 fn long(
@@ -97,51 +50,46 @@ fn reads_long_texts(rt: HostRuntime) -> Result<(), Fail> {
     Ok(())
 }
 
+/// A head, a part, how many times it stands, a tail, and the options; then the place of the syntax fault, what could stand
+/// there, and the line.
+const SYNTAX_FAULTS: [(&str, &str, usize, &str, Options, usize, Expected, &str); 7] = [
+    ("", "9", 100_000, " 2", OFF, 100_001, AFTER_NUMBER, UNITS),
+    ("1s", " ", 100_000, "x", OFF, 100_002, AFTER_UNIT, OPERATORS),
+    ("", " ", 100_000, "", OFF, 100_000, START, NUMBER),
+    ("1", "m", 100_000, "", OFF, 1, AFTER_NUMBER, UNITS),
+    ("1", "分", 1_000, "", CN_UNIT, 1, AFTER_NUMBER, UNITS),
+    ("1s", "+1s", 10_000, "+", OFF, 30_003, START, NUMBER),
+    ("1s", "-", 100_000, "", OFF, 2, AFTER_UNIT, OPERATORS),
+];
+
+/// The text is refused for this cause, and the fault shows the whole text and this line.
+fn assert_refused(
+    rt: &impl Abort,
+    alloc: Global,
+    text: &str,
+    o: Options,
+    cause: Cause,
+    line: &str,
+) -> Result<(), AllocError> {
+    let fault = refusal(rt, text, o);
+    assert_eq!(rt; fault.cause(), cause, "{line}");
+    assert_eq!(rt; fault.text(), text, "{line}");
+    let shown = fault.to_string(alloc)?;
+    assert!(rt; shown.starts_with(text), "{line}");
+    assert!(rt; shown.ends_with(line), "{line}");
+    Ok(())
+}
+
 #[test]
 fn refuses_long_texts(rt: HostRuntime) -> Result<(), Fail> {
-    let too_large = Cause::NumberTooLarge { place: Some(0) };
-    for (head, part, times, tail, o, cause, line) in [
-        (
-            "",
-            "9",
-            100_000,
-            "",
-            OFF,
-            too_large,
-            "number too large to fit in target type",
-        ),
-        (
-            "",
-            "9",
-            100_000,
-            " 2",
-            OFF,
-            behind_number_at(100_001),
-            UNITS,
-        ),
-        (
-            "1s",
-            " ",
-            100_000,
-            "x",
-            OFF,
-            behind_unit_at(100_002),
-            OPERATORS,
-        ),
-        ("", " ", 100_000, "", OFF, number_at(100_000), NUMBER),
-        ("1", "m", 100_000, "", OFF, behind_number_at(1), UNITS),
-        ("1", "分", 1_000, "", CN_UNIT, behind_number_at(1), UNITS),
-        ("1s", "+1s", 10_000, "+", OFF, number_at(30_003), NUMBER),
-        ("1s", "-", 100_000, "", OFF, behind_unit_at(2), OPERATORS),
-    ] {
+    for (head, part, times, tail, o, place, expected, line) in SYNTAX_FAULTS {
         let text = long(&rt, head, part, times, tail)?;
-        let fault = refusal(&rt, &text, o);
-        assert_eq!(rt; fault.cause(), cause, "{part}");
-        assert_eq!(rt; fault.text(), text.as_str(), "{part}");
-        let shown = fault.to_string(rt.alloc())?;
-        assert!(rt; shown.starts_with(text.as_str()), "{part}");
-        assert!(rt; shown.ends_with(line), "{part}");
+        assert_refused(&rt, rt.alloc(), &text, o, syntax(place, expected), line)?;
     }
+    let number = "9".repeat(rt.alloc(), 100_000)?;
+    let too_large = Cause::NumberTooLarge { place: Some(0) };
+    let line = "number too large to fit in target type";
+    assert_refused(&rt, rt.alloc(), &number, OFF, too_large, line)?;
     Ok(())
 }
 
@@ -168,22 +116,22 @@ fn counts_blanks_before_the_caret(rt: HostRuntime) -> Result<(), Fail> {
 #[test]
 fn takes_look_alikes_for_what_they_are(rt: HostRuntime) {
     for (text, cause, found) in [
-        ("*1m", number_at(0), "*"),
-        ("1m\u{3000}2", behind_unit_at(2), "\u{3000}"),
-        ("1m\u{a0}2", behind_unit_at(2), "\u{a0}"),
-        ("1m\u{2003}2", behind_unit_at(2), "\u{2003}"),
-        ("1m\u{85}2", behind_unit_at(2), "\u{85}"),
-        ("1m\u{feff}2", behind_unit_at(2), "\u{feff}"),
-        ("1m\u{b}2", behind_unit_at(2), "\u{b}"),
-        ("1m\u{c}2", behind_unit_at(2), "\u{c}"),
-        ("1m\u{0}2", behind_unit_at(2), "\u{0}"),
-        ("\u{ff11}m", number_at(0), "\u{ff11}"),
-        ("1\u{ff4d}", behind_number_at(1), "\u{ff4d}"),
-        ("1m\u{ff0b}2", behind_unit_at(2), "\u{ff0b}"),
-        ("\u{661}m", number_at(0), "\u{661}"),
-        ("1wee\u{212a}", behind_number_at(1), "wee"),
-        ("1\u{17f}", behind_number_at(1), "\u{17f}"),
-        ("1\u{1f600}", behind_number_at(1), "\u{1f600}"),
+        ("*1m", syntax(0, START), "*"),
+        ("1m\u{3000}2", syntax(2, AFTER_UNIT), "\u{3000}"),
+        ("1m\u{a0}2", syntax(2, AFTER_UNIT), "\u{a0}"),
+        ("1m\u{2003}2", syntax(2, AFTER_UNIT), "\u{2003}"),
+        ("1m\u{85}2", syntax(2, AFTER_UNIT), "\u{85}"),
+        ("1m\u{feff}2", syntax(2, AFTER_UNIT), "\u{feff}"),
+        ("1m\u{b}2", syntax(2, AFTER_UNIT), "\u{b}"),
+        ("1m\u{c}2", syntax(2, AFTER_UNIT), "\u{c}"),
+        ("1m\u{0}2", syntax(2, AFTER_UNIT), "\u{0}"),
+        ("\u{ff11}m", syntax(0, START), "\u{ff11}"),
+        ("1\u{ff4d}", syntax(1, AFTER_NUMBER), "\u{ff4d}"),
+        ("1m\u{ff0b}2", syntax(2, AFTER_UNIT), "\u{ff0b}"),
+        ("\u{661}m", syntax(0, START), "\u{661}"),
+        ("1wee\u{212a}", syntax(1, AFTER_NUMBER), "wee"),
+        ("1\u{17f}", syntax(1, AFTER_NUMBER), "\u{17f}"),
+        ("1\u{1f600}", syntax(1, AFTER_NUMBER), "\u{1f600}"),
     ] {
         let fault = refusal(&rt, text, OFF);
         assert_eq!(rt; fault.cause(), cause, "{text}");

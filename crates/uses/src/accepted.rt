@@ -13,7 +13,9 @@ use std::time::Duration;
 /// An accepted text and its duration. Reading the text again is never refused, and gives no other duration.
 #[derive(Clone, Copy)]
 pub struct Accepted<'a> {
+    /// The text.
     pub text: &'a str,
+    /// The duration that it is read as.
     pub length: Duration,
     pub ghost never_refused: { IsNeverRefused (chars text.now) },
     pub ghost no_other: { HasNoOtherValue (chars text.now) (as_nanos length) },

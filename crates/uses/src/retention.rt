@@ -15,6 +15,7 @@ use std::time::Duration;
 /// An accepted text without `*`, so that another one can be added to it.
 #[derive(Clone, Copy)]
 pub struct Period<'a> {
+    /// The text with its duration.
     pub accepted: Accepted<'a>,
     pub ghost plain: { HasNoStar (chars accepted.text.now) },
 }

@@ -1,6 +1,5 @@
 //! The durations of a service, read from its configuration.
-ghost use Rattle.std.specs.Prelude.{◌≡◌, None, codes, IfOk, IfErr};
-ghost use Rattle.serde_json.specs.Find.{get};
+ghost use Rattle.std.specs.Prelude.{IfOk, IfErr};
 ghost use Rattle.serde_json.specs.View.{view};
 ghost use Rattle.uses.specs.Settings.{IsSettings, IsFault};
 

@@ -13,16 +13,22 @@ use std::time::Duration;
 /// What a duration is for.
 #[derive(Clone, Copy, Debug, PartialEq, Eq)]
 pub enum Key {
+    /// Until a connection is made.
     Connect,
+    /// Until a connection that is not used is closed.
     Idle,
+    /// Until a session ends.
     Session,
 }
 
 /// The durations of a server, each with its text.
 #[derive(Clone, Copy)]
 pub struct Table<'a> {
+    /// The one for `Key::Connect`.
     pub connect: Accepted<'a>,
+    /// The one for `Key::Idle`.
     pub idle: Accepted<'a>,
+    /// The one for `Key::Session`.
     pub session: Accepted<'a>,
 }
 

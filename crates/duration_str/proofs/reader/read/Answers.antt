@@ -1,4 +1,4 @@
-use Rattle.std.proofs.Common.{None, Some, Ok, Err, refl, ap, subst, ◌∙◌}
+use Rattle.std.proofs.Common.{None, Some, Ok, refl, ap, subst, ◌∙◌}
 use Rattle.std.proofs.lemmas.Result.{err_from_is_err_and}
 use Rattle.duration_str.specs.declared.unit.CondUnit.TheVariants.{Plus}
 use Rattle.duration_str.specs.Machine.{first_added, Nothing, One}
@@ -6,7 +6,7 @@ use Rattle.duration_str.specs.Passing.{ReadsOperator}
 use Rattle.duration_str.specs.Tokens.{kept_of}
 use Rattle.duration_str.specs.Units.{nanos_of}
 use Rattle.duration_str.specs.Value.{term_value}
-use Rattle.duration_str.proofs.ReaderLemmas.{first_number, ends_on, behind_term, ends_at_term, ends_with_tally}
+use Rattle.duration_str.proofs.ReaderLemmas.{first_number, first_read, ends_on, ends_at_term, ends_with_tally}
 use Rattle.duration_str.proofs.reader.read.Goals as goal
 
 pub returns-in_err-expect_number-clause-answer : goal.returns-in_err-expect_number-clause-answer
@@ -24,40 +24,34 @@ returns-in_err-unit-clause-answer c =
 
 pub returns-in_err-first-clause-answer : goal.returns-in_err-first-clause-answer
 returns-in_err-first-clause-answer c =
-    let s = c.take_number-number.new.self in
     let t = c.read_unit.new.tokens in
-    let n = kept_of c.take_number-number.result in
     let u = c.in_ok-unit.unit in
-    let first = first_number c.args.no_calc c.args.tokens.now c.expect_number.new.tokens c.take_number-number.new.self _ ((c.in_ok-expect_number.ensures {u = tt}).number refl) c.take_number-number.ensures in
     let is = ap first_added (c.in_err-first.ensures {u = tt} ∙ ap (λ v. term_value (Some 0) v (nanos_of u)) c.value.ensures) in
-    let same = behind_term c.args.no_calc s t Plus n Nothing u (Err _) ((c.in_ok-unit.ensures {u = tt}).unit Plus n Nothing) is in
+    let unit = (c.in_ok-unit.ensures {u = tt}).unit Plus (kept_of c.take_number-number.result) Nothing in
+    let first = first_read c.args.no_calc c.args.tokens.now c.expect_number.new.tokens c.take_number-number.new.self t _ u _ ((c.in_ok-expect_number.ensures {u = tt}).number refl) c.take_number-number.ensures unit c.read_unit.ensures.source is in
     let p = err_from_is_err_and c.from_residual-in_err-first.result c.from_residual-in_err-first.ensures.1 in
-    rw (p.1, p.2) (ends_at_term c.args.no_calc _ c.args.tokens.now t Plus n Nothing u _ tt (first.0 ∙ same) is)
+    rw (p.1, p.2) (ends_at_term c.args.no_calc _ c.args.tokens.now t Plus (kept_of c.take_number-number.result) Nothing u _ tt first.0 is)
 
 pub returns-in_err-read_operator-clause-answer : goal.returns-in_err-read_operator-clause-answer
 returns-in_err-read_operator-clause-answer c =
-    let s = c.take_number-number.new.self in
     let t = c.read_unit.new.tokens in
-    let n = kept_of c.take_number-number.result in
     let tally = One c.in_ok-first.first in
-    let first = first_number c.args.no_calc c.args.tokens.now c.expect_number.new.tokens c.take_number-number.new.self _ ((c.in_ok-expect_number.ensures {u = tt}).number refl) c.take_number-number.ensures in
-    let same = behind_term c.args.no_calc s t Plus n Nothing c.in_ok-unit.unit (Ok tally) ((c.in_ok-unit.ensures {u = tt}).unit Plus n Nothing) (ap first_added (c.in_ok-first.ensures {u = tt} ∙ ap (λ v. term_value (Some 0) v (nanos_of c.in_ok-unit.unit)) c.value.ensures)) in
+    let is = ap first_added (c.in_ok-first.ensures {u = tt} ∙ ap (λ v. term_value (Some 0) v (nanos_of c.in_ok-unit.unit)) c.value.ensures) in
+    let unit = (c.in_ok-unit.ensures {u = tt}).unit Plus (kept_of c.take_number-number.result) Nothing in
+    let first = first_read c.args.no_calc c.args.tokens.now c.expect_number.new.tokens c.take_number-number.new.self t _ c.in_ok-unit.unit (Ok tally) ((c.in_ok-expect_number.ensures {u = tt}).number refl) c.take_number-number.ensures unit c.read_unit.ensures.source is in
     let p = err_from_is_err_and c.from_residual-in_err-read_operator.result c.from_residual-in_err-read_operator.ensures.1 in
-    rw (p.1, p.2)
-    (ends_on _ _ c.args.tokens.now t c.read_operator.new.tokens _ (first.0 ∙ same) (c.read_unit.ensures.source ∙ first.1)
-    ((c.in_err-read_operator.ensures {u = tt}).operator tally))
+    rw (p.1, p.2) (ends_on _ _ c.args.tokens.now t c.read_operator.new.tokens _ first.0 first.1 ((c.in_err-read_operator.ensures {u = tt}).operator tally))
 
 pub returns-in-None-clause-answer : goal.returns-in-None-clause-answer
 returns-in-None-clause-answer c =
-    let s = c.take_number-number.new.self in
     let t = c.read_unit.new.tokens in
-    let v = c.read_operator.new.tokens in
-    let n = kept_of c.take_number-number.result in
     let tally = One c.in_ok-first.first in
-    let first = first_number c.args.no_calc c.args.tokens.now c.expect_number.new.tokens c.take_number-number.new.self _ ((c.in_ok-expect_number.ensures {u = tt}).number refl) c.take_number-number.ensures in
-    let same = behind_term c.args.no_calc s t Plus n Nothing c.in_ok-unit.unit (Ok tally) ((c.in_ok-unit.ensures {u = tt}).unit Plus n Nothing) (ap first_added (c.in_ok-first.ensures {u = tt} ∙ ap (λ v. term_value (Some 0) v (nanos_of c.in_ok-unit.unit)) c.value.ensures)) in
+    let is = ap first_added (c.in_ok-first.ensures {u = tt} ∙ ap (λ v. term_value (Some 0) v (nanos_of c.in_ok-unit.unit)) c.value.ensures) in
+    let unit = (c.in_ok-unit.ensures {u = tt}).unit Plus (kept_of c.take_number-number.result) Nothing in
+    let first = first_read c.args.no_calc c.args.tokens.now c.expect_number.new.tokens c.take_number-number.new.self t _ c.in_ok-unit.unit (Ok tally) ((c.in_ok-expect_number.ensures {u = tt}).number refl) c.take_number-number.ensures unit c.read_unit.ensures.source is in
+    let v = c.read_operator.new.tokens in
     let next = subst (λ r. ReadsOperator c.args.no_calc t v tally (Ok r)) c.in-None.is ((c.in_ok-read_operator.ensures {u = tt}).operator tally) in
-    ends_with_tally _ c.args.tokens.now t v tally c.args.no_calc tt (first.0 ∙ same) (c.read_unit.ensures.source ∙ first.1) next
+    ends_with_tally _ c.args.tokens.now t v tally c.args.no_calc tt first.0 first.1 next
 
 pub read_later-requires-clause-plus : goal.read_later-requires-clause-plus
 read_later-requires-clause-plus c =
@@ -71,13 +65,11 @@ read_later-requires-clause-number c =
 
 pub returns-in-Some-clause-answer : goal.returns-in-Some-clause-answer
 returns-in-Some-clause-answer c =
-    let s = c.take_number-number.new.self in
     let t = c.read_unit.new.tokens in
-    let w = c.read_operator.new.tokens in
-    let n = kept_of c.take_number-number.result in
     let tally = One c.in_ok-first.first in
-    let first = first_number c.args.no_calc c.args.tokens.now c.expect_number.new.tokens c.take_number-number.new.self _ ((c.in_ok-expect_number.ensures {u = tt}).number refl) c.take_number-number.ensures in
-    let same = behind_term c.args.no_calc s t Plus n Nothing c.in_ok-unit.unit (Ok tally) ((c.in_ok-unit.ensures {u = tt}).unit Plus n Nothing) (ap first_added (c.in_ok-first.ensures {u = tt} ∙ ap (λ v. term_value (Some 0) v (nanos_of c.in_ok-unit.unit)) c.value.ensures)) in
+    let is = ap first_added (c.in_ok-first.ensures {u = tt} ∙ ap (λ v. term_value (Some 0) v (nanos_of c.in_ok-unit.unit)) c.value.ensures) in
+    let unit = (c.in_ok-unit.ensures {u = tt}).unit Plus (kept_of c.take_number-number.result) Nothing in
+    let first = first_read c.args.no_calc c.args.tokens.now c.expect_number.new.tokens c.take_number-number.new.self t _ c.in_ok-unit.unit (Ok tally) ((c.in_ok-expect_number.ensures {u = tt}).number refl) c.take_number-number.ensures unit c.read_unit.ensures.source is in
+    let w = c.read_operator.new.tokens in
     let next = subst (λ r. ReadsOperator c.args.no_calc t w tally (Ok r)) c.in-Some.is ((c.in_ok-read_operator.ensures {u = tt}).operator tally) in
-    ends_on _ _ c.args.tokens.now w c.read_later.new.tokens _ (first.0 ∙ same ∙ next.0) (c.read_operator.ensures.source ∙ c.read_unit.ensures.source ∙ first.1)
-    c.read_later.ensures.answer
+    ends_on _ _ c.args.tokens.now w c.read_later.new.tokens _ (first.0 ∙ next.0) (c.read_operator.ensures.source ∙ first.1) c.read_later.ensures.answer

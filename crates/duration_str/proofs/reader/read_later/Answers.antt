@@ -1,10 +1,10 @@
-use Rattle.std.proofs.Common.{◌<◌, ◌≡◌, Some, None, Ok, Err, length, arith, refl, ap, sym, subst, ◌∙◌}
+use Rattle.std.proofs.Common.{◌<◌, ◌≡◌, Ok, Err, length, arith, refl, ap, sym, subst, ◌∙◌}
 use Rattle.std.proofs.lemmas.Result.{err_from_is_err_and}
 use Rattle.duration_str.specs.Units.{nanos_of}
 use Rattle.duration_str.specs.Machine.{at_operator, later_tally}
 use Rattle.duration_str.specs.Passing.{comes, ReadsOperator, HoldsNoSyntax, come_to, so_far, mixed, IsSum}
 use Rattle.duration_str.specs.Tokens.{left, kept_of}
-use Rattle.duration_str.proofs.ReaderLemmas.{number_here, ends_on, behind_term, ends_at_term, ends_with_tally, held_at_first, sum_at_first, operator_set, operator_next, operator_kept, held_on, sum_on, later_read, sum_at_fault, comes_to_sum}
+use Rattle.duration_str.proofs.ReaderLemmas.{later_number, ends_on, behind_term, ends_at_term, ends_with_tally, held_at_first, sum_at_first, operator_set, operator_next, operator_kept, held_on, sum_on, later_read, sum_at_fault, comes_to_sum}
 use Rattle.duration_str.proofs.reader.read_later.Goals as goal
 
 pub loop-unit-init : goal.loop-unit-init
@@ -35,7 +35,7 @@ loop-unit-smaller c =
     let s = c.loop-unit.tokens in
     let d = c.read_operator.new.tokens in
     let tally = later_tally nc c.args.first c.args.set (come_to c.loop-unit.later) in
-    let number = number_here nc s c.take_number-number.new.self None tally _ c.loop-unit.invariant.term.1.number c.take_number-number.ensures in
+    let number = later_number nc s c.take_number-number.new.self c.args.set tally _ c.loop-unit.invariant.term.1.number c.take_number-number.ensures in
     let unit = (c.in_ok-unit.ensures {u = tt}).unit c.args.set (kept_of c.take_number-number.result) tally in
     let next = subst (λ r. ReadsOperator nc c.read_unit.new.tokens d tally (Ok r)) c.in-Some.is ((c.in_ok-read_operator.ensures {u = tt}).operator tally) in
     let fewer : length (left d) < length (left s) = omega (arith, number.1, unit.1, next.1) in
@@ -76,7 +76,7 @@ pub returns-in_err-unit-clause-answer : goal.returns-in_err-unit-clause-answer
 returns-in_err-unit-clause-answer c =
     let it = c.loop-unit.invariant.term in
     let tally = later_tally c.args.no_calc c.args.first c.args.set (come_to c.loop-unit.later) in
-    let number = number_here c.args.no_calc c.loop-unit.tokens c.take_number-number.new.self (Some it.0) tally _ it.1.number c.take_number-number.ensures in
+    let number = later_number c.args.no_calc c.loop-unit.tokens c.take_number-number.new.self it.0 tally _ it.1.number c.take_number-number.ensures in
     let p = err_from_is_err_and c.from_residual.result c.from_residual.ensures.1 in
     rw (p.1, p.2)
     (ends_on _ _ c.args.tokens.now c.take_number-number.new.self c.read_unit.new.tokens _ (it.1.same ∙ number.0) (c.take_number-number.ensures.1.same_source ∙ c.loop-unit.invariant.same_source)
@@ -96,7 +96,7 @@ returns-in_err-sum_checked-clause-answer c =
     let fault = (c.in_err-sum_checked.ensures {u = tt}).fault in
     let yes = fault.0 in
     let before = later_tally nc first set (come_to c.loop-unit.later) in
-    let number = number_here nc c.loop-unit.tokens a (Some op) before _ it.number c.take_number-number.ensures in
+    let number = later_number nc c.loop-unit.tokens a op before _ it.number c.take_number-number.ensures in
     let unit = (c.in_ok-unit.ensures {u = tt}).unit op n before in
     let is = sum_at_fault nc first set op (come_to c.loop-unit.later) (come_to c.add.new.self) n (nanos_of u) _ yes (c.requires.plus yes) (it.plus yes) (it.sum yes) (c.add.ensures first op it.kept) fault.1 in
     let same = it.same ∙ number.0 ∙ behind_term nc a b op n before u (Err _) unit is in

@@ -1,5 +1,4 @@
-use Rattle.std.proofs.Common.{◌<◌, ◌∙◌, refl, sym, subst, length, arith}
-use Rattle.duration_str.specs.Cutting.{ahead}
+use Rattle.std.proofs.Common.{◌∙◌, refl, sym, arith}
 use Rattle.duration_str.specs.Tokens.{source, options_of, place_of}
 use Rattle.duration_str.proofs.CharacterLemmas.{ascii_letter}
 use Rattle.duration_str.proofs.CuttingLemmas.{letters_none, letters_head, ahead_shorter}
@@ -36,8 +35,7 @@ pub loop-self-smaller : goal.loop-self-smaller
 loop-self-smaller c =
     let s = c.loop-self.self in
     let more = c.advance-in-loop-self in
-    subst (λ t. length (ahead t (place_of more.new.self)) < length (ahead (source s) (place_of s))) (sym more.ensures.source)
-    (ahead_shorter (source s) (place_of s) (place_of more.new.self) c.in-Some-head.c (more.ensures.past c.in-Some-head.c c.in-Some-head.is))
+    ahead_shorter (source s) _ (place_of s) (place_of more.new.self) c.in-Some-head.c more.ensures.source (more.ensures.past c.in-Some-head.c c.in-Some-head.is)
 
 pub returns-in_default-clause-letters : goal.returns-in_default-clause-letters
 returns-in_default-clause-letters c = letters_none (source c.args.self.now) (place_of c.args.self.now)

@@ -1,6 +1,5 @@
-use Rattle.std.proofs.Common.{◌<◌, ◌∙◌, refl, sym, subst, length}
+use Rattle.std.proofs.Common.{◌∙◌, refl, sym}
 use Rattle.duration_str.specs.Text.{is_digit}
-use Rattle.duration_str.specs.Cutting.{ahead}
 use Rattle.duration_str.specs.Tokens.{source, place_of}
 use Rattle.duration_str.proofs.CuttingLemmas.{digits_none, digits_head, ahead_shorter, stops_at}
 use Rattle.duration_str.proofs.token.Tokens.take_digits.Goals as goal
@@ -23,8 +22,7 @@ loop-self-preserved c =
 pub loop-self-smaller : goal.loop-self-smaller
 loop-self-smaller c =
     let s = c.loop-self.self in
-    subst (λ t. length (ahead t (place_of c.advance.new.self)) < length (ahead (source s) (place_of s))) (sym c.advance.ensures.source)
-    (ahead_shorter (source s) (place_of s) (place_of c.advance.new.self) c.in-Some.c (c.advance.ensures.past c.in-Some.c c.in-Some.is))
+    ahead_shorter (source s) _ (place_of s) (place_of c.advance.new.self) c.in-Some.c c.advance.ensures.source (c.advance.ensures.past c.in-Some.c c.in-Some.is)
 
 pub returns-else-is_ascii_digit-clause-stops : goal.returns-else-is_ascii_digit-clause-stops
 returns-else-is_ascii_digit-clause-stops c =
