@@ -45,7 +45,8 @@ byte_text place line = codes "byte " ++ (decimal place ++ (codes ": " ++ line))
 abbrev pub has_line_feed : List ℕ → Bool
 has_line_feed text = list_any (λ b. b == 10) text
 
--- the line alone where there is no place; else with the place, which is a number where the text holds a line feed
+-- the line alone where there is no place; else `byte N: ` and the line where the text holds a line feed, and the text, a
+-- caret and the line where it holds none
 abbrev pub placed_text : List ℕ → Option ℕ → List ℕ → List ℕ
 placed_text text None line = line
 placed_text text (Some place) line = if has_line_feed text then byte_text place line else caret_text text place line

@@ -89,7 +89,7 @@ pub record BlanksFree : Type 0 where
   pub cause : (o : Options) (a b : List ℕ) (words : List (List ℕ)) (cause : Cause) → IsSentenceOf o words a → Spells words b
       → IsRefused o a cause → IsRefused o b cause
 
--- Two accepted texts without `*`, joined by a plus, come to the sum of their values, or overflow.
+-- With `no_calc` off two accepted texts without `*`, joined by a plus, come to the sum of their values, or overflow.
 pub record SumOfTexts : Type 0 where
   pub below : (o : Options) (a b : List ℕ) (m n : ℕ) → o.no_calc ≡ false → HasNoStar a → HasNoStar b → IsRead o a m → IsRead o b n
       → m + n < 2 ^ 64 → IsRead o (a ++ codes "+" ++ b) (m + n)
@@ -103,8 +103,8 @@ Reorder = (o : Options) (a b : List ℕ) (words others : List (List ℕ)) (nanos
     → ((n : ℕ) → times_in n (map value_of_term (terms_of (map (token_of o) words))) ≡ times_in n (map value_of_term (terms_of (map (token_of o) others))))
     → IsRead o a nanos → IsRead o b nanos
 
--- A product of two terms is accepted exactly where both terms and their product fit, has this value,
--- and so has the product of the exchanged terms.
+-- A text of two terms joined by `*` is read exactly where both numbers, both terms and the product of the terms in seconds,
+-- rounded down to nanoseconds, are below 2^64, and then as that product. With the terms exchanged it is read as the same.
 pub record TwoFactors : Type 0 where
   pub product : (o : Options) (text : List ℕ) (words : List (List ℕ)) (t u : Term) (nanos : ℕ) → IsSentenceOf o words text
       → terms_of (map (token_of o) words) ≡ t ∷ u ∷ [] → u.operator ≡ Star

@@ -21,7 +21,7 @@ pub record IsFront (no_calc : Bool) (tokens front rest : List Token) : Type 0 wh
   pub begins : BeginsSentence no_calc front
   pub longest : (n : ℕ) → n ≤ length tokens → BeginsSentence no_calc (take n tokens) → n ≤ length front
 
--- A kind is expected exactly if some token of that kind, put behind the front, begins a sentence,
+-- A kind is expected exactly if the front with some token of that kind behind it begins a sentence,
 -- and the end exactly if the front is a sentence.
 pub record CanFollow (no_calc : Bool) (front : List Token) (expected : Expected) : Type 0 where
   pub number_expected : IsTrue expected.number ↔ ((n : ℕ) × BeginsSentence no_calc (front ++ number n ∷ []))

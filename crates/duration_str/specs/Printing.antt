@@ -15,7 +15,7 @@ abbrev pub IsBefore : List ℕ → List ℕ → Type 0
 IsBefore (m ∷ ms) (n ∷ ns) = (m < n) ⊎ ((m ≡ n) × IsBefore ms ns)
 IsBefore _ _ = ⊥
 
--- There is one count for each length, and together they weigh the duration.
+-- There is one count for each length, and the counts, each times its length, add up to the duration.
 pub record IsBreakdown (lengths : List ℕ) (nanos : ℕ) (counts : List ℕ) : Type 0 where
   pub one_each : length counts ≡ length lengths
   pub whole : weighted_sum lengths counts ≡ nanos

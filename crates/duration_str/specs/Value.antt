@@ -49,7 +49,7 @@ abbrev pub sum_of : List Term → ℕ
 sum_of [] = 0
 sum_of (t ∷ terms) = value_of_term t + sum_of terms
 
--- a product of terms, in nanoseconds of seconds multiplied: each step is rounded down
+-- the product of the terms' values in seconds, given in nanoseconds: from left to right, each step rounded down
 abbrev pub product_of : List Term → ℕ
 product_of terms = fold (λ p t. p * value_of_term t / second) second terms
 
@@ -58,12 +58,12 @@ abbrev pub together : CondUnit → List Term → ℕ
 together Plus later = sum_of later
 together Star later = product_of later
 
--- the value x, and what stands behind it
+-- x and rest by the operator: their sum, or their product in seconds, rounded down to nanoseconds
 abbrev pub joined : CondUnit → ℕ → ℕ → ℕ
 joined Plus x rest = x + rest
 joined Star x rest = x * rest / second
 
--- the first term's value, and what the later terms come to
+-- the first term's value and what the later terms come to, by the operator
 abbrev pub with_first : CondUnit → Term → ℕ → ℕ
 with_first op t rest = joined op (value_of_term t) rest
 
@@ -101,11 +101,11 @@ term_of n u = record { operator = Plus; number = n; length = nanos_of u }
 abbrev pub term_answer : Option ℕ → Term → Result ℕ Cause
 term_answer place t = elim (term_fault place t) [ None ↦ Ok (value_of_term t) | Some cause ↦ Err cause ]
 
--- a number where it is below 2^64
+-- `Some` of a number below 2^64, else `None`
 abbrev pub kept : ℕ → Option ℕ
 kept n = if fits n then Some n else None
 
--- the same of a number that is kept
+-- the value of a term, or its fault, from its number as `kept` gives it and its unit's length
 abbrev pub term_value : Option ℕ → Option ℕ → ℕ → Result ℕ Cause
 term_value place None length = Err (NumberTooLarge place)
 term_value place (Some n) length = if fits (n * length) then Ok (n * length) else Err (Overflow place)

@@ -112,8 +112,8 @@ impl<'de> DeserializeDuration<'de> for Option<SignedDuration> {
 ///
 /// # Errors
 ///
-/// The fault of a text that `parse` refuses; `NotText` for a value that is no text, and where it is optional not null
-/// either. Null and the empty text are `None` where the value is optional.
+/// The fault of a text that `parse` refuses; `NotText` for a value that is no text. Where the value is optional, null and
+/// the empty text are no errors but `None`.
 pub fn deserialize_duration<'de, T: DeserializeDuration<'de>>(
     value: &'de Value,
 ) -> Result<T, Fault<'de>>

@@ -74,7 +74,8 @@ pub fn parse_with(input: &str, o: Options) -> Result<Duration, Fault<'_>>
 
 /// What `parse_with` answers, and how often a character of the text was looked at.
 ///
-/// No character is looked at twice. An accepted text is looked at whole, and one with a syntax fault up to its place.
+/// No character is looked at twice. An accepted text is looked at whole, and one with a syntax fault at least up to its
+/// place.
 pub fn parse_looked(input: &str, o: Options) -> (Result<Duration, Fault<'_>>, u64)
     ensures read { IfOk result.0 (λ d. IsRead o (chars input.now) (as_nanos d)) }
     ensures accepts { (nanos : ℕ) → IsRead o (chars input.now) nanos → IsOk result.0 }

@@ -164,7 +164,7 @@ impl Later {
     ghost use Rattle.duration_str.specs.Machine.{added};
     ghost use Rattle.duration_str.specs.Passing.{mixed, come_to, IsSum};
 
-    /// Adds a term. Behind a fault it is not valued any more.
+    /// Adds a term, which behind a held fault is not valued.
     #[inline(always)]
     fn add(&mut self, set: CondUnit, number: Number<'_>, unit: TimeUnit)
         ensures { (first : ℕ) (op : AnOperator) → (self.old.fault ≡ None → op ≡ set) → Ok (later_tally false first set (come_to self.new)) ≡ added false (later_tally false first set (come_to self.old)) op (kept_of number.entry) (nanos_of unit) }

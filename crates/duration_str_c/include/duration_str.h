@@ -40,7 +40,7 @@ enum duration_str_cause {
     DURATION_STR_NOT_TEXT = 7          /* the bytes are no UTF-8 */
 };
 
-/* What a text is read as. What a case does not name is 0 or false. */
+/* What a text is read as, or why and where it is refused. What a case does not name is 0 or false. */
 struct duration_str_answer {
     uint64_t nanos;  /* the value in nanoseconds, where `cause` is DURATION_STR_READ */
     size_t place;    /* where `has_place`: the byte of the text at which the fault stands, from 0 to the text's length */

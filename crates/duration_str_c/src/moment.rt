@@ -28,10 +28,10 @@ fn timestamp_of(moment: Moment) -> Option<Timestamp>
     ensures within { IsSome result ↔ IsMoment moment }
     ensures same { IfSome result (λ t. t.nanosecond ≡ instant_of moment) }
 {
-    if moment.nanos >= 1_000_000_000 {
+    if i128::from(moment.nanos) >= SECOND {
         return None;
     }
-    let instant = moment.secs as i128 * SECOND + moment.nanos as i128;
+    let instant = i128::from(moment.secs) * SECOND + i128::from(moment.nanos);
     match Timestamp::from_nanosecond(instant) {
         Ok(timestamp) => Some(timestamp),
         Err(_) => None,
