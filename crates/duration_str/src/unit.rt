@@ -128,6 +128,7 @@ impl TimeUnit {
         let Some(n) = number else {
             return Err(Cause::NumberTooLarge { place });
         };
+        // Tested in 128 bits, for which the compiler needs fewer instructions than for `checked_mul`.
         match u64::try_from(n as u128 * self.nanos() as u128) {
             Ok(value) => Ok(value),
             Err(_) => Err(Cause::Overflow { place }),

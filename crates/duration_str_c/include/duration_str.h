@@ -6,6 +6,7 @@
  *
  * The grammar: terms, each a number and a unit such as `3m` or `29 ms`, joined by `+` or by `*`, or following one
  * another, which adds them. Behind a number the unit may be left out before an operator and at the end, and is seconds.
+ * Blanks (space, tab, carriage return, line feed) may stand anywhere but inside a number or a unit.
  * Units: y year years, mon month months, w week weeks, d day days, h hr hour hours, m min minute minutes, s sec second
  * seconds, ms msec millisecond milliseconds, µs µsec µsecond us usec usecond microsecond microseconds, ns nsec
  * nanosecond nanoseconds. A year has 365 days and a month 30. Numbers and values are below 2^64.

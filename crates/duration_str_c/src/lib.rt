@@ -9,7 +9,6 @@ ghost use Rattle.std.specs.Str.{chars};
 ghost use Rattle.duration_str.specs.Units.{off};
 ghost use Rattle.duration_str.specs.Reading.{IsRead};
 ghost use Rattle.duration_str.specs.Printing.{IsPrinted};
-ghost use Rattle.duration_str.specs.declared.fault.Cause.{Cause};
 ghost use Rattle.duration_str.specs.declared.fault.Cause.TheVariants.{NotText};
 ghost use Rattle.duration_str_c.specs.Told.{chosen, number_of, expected_of, refusal_told, IsTold, IsMessage};
 
