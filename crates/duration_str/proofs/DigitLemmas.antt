@@ -1,10 +1,12 @@
 -- Steps of writing a number in decimal, and how long it gets.
-use Rattle.std.proofs.Common.{◌≡◌, ℕ, ◌+◌, ◌/◌, ◌%◌, ◌^◌, ◌<◌, ◌≤◌, ◌++◌, List, length, decimal, arith, append_assoc, sym, ap, ◌∙◌, length-append, lit<}
-use Rattle.std.proofs.lemmas.Fmt.{decimal_digit, decimal_step, length-decimal-le}
+use Rattle.std.proofs.Common.{◌≡◌, ℕ, suc, ◌+◌, ◌/◌, ◌%◌, ◌^◌, ◌<◌, ◌≤◌, ◌++◌, List, [], ◌∷◌, length, decimal, arith, append_assoc, sym, ap, ◌∙◌, length-append, ltb, true, refl}
+use Rattle.std.proofs.lemmas.Bool.{ltb-true}
+use Rattle.std.proofs.lemmas.Fmt.{decimal_digit, decimal_step, decimal_by_steps, decimal_nonempty, length-decimal-le}
 use Rattle.std.proofs.lemmas.List.{take_more_set}
+use Rattle.std.proofs.Math.Nat.{pow-succ'}
 use Rattle.duration_str.specs.declared.unit.TimeUnit.{TimeUnit}
-use Rattle.duration_str.specs.declared.unit.TimeUnit.TheVariants.{Year, Month, Week, Day, Hour, Minute, Second, MilliSecond, MicroSecond, NanoSecond}
-use Rattle.duration_str.specs.PrintedBytes.{most_digits}
+use Rattle.duration_str.specs.Printing.{greatest_count}
+use Rattle.duration_str.proofs.EachUnit.{all_units}
 
 pub length_one : (n : ℕ) → n < 10 → length (decimal n) ≡ 1
 length_one n h = ap length (decimal_digit n h)
@@ -22,17 +24,16 @@ put_last bytes before after n last first low high =
 
 pub ruleset put_steps = (decimal_digit, length_one, length_step, take_more_set)
 
-some_digits : (u : TimeUnit) → 0 < most_digits u
-some_digits Year = lit< tt
-some_digits Month = lit< tt
-some_digits Week = lit< tt
-some_digits Day = lit< tt
-some_digits Hour = lit< tt
-some_digits Minute = lit< tt
-some_digits Second = lit< tt
-some_digits MilliSecond = lit< tt
-some_digits MicroSecond = lit< tt
-some_digits NanoSecond = lit< tt
+-- a number is below the power of ten with as many zeros as it has digits
+below_power : (n : ℕ) → n < 2 ^ 64 → n < 10 ^ length (decimal n)
+below_power = decimal_by_steps (λ n ds. n < 10 ^ length ds) (λ n small. omega arith) (λ n ds big below.
+    let longer : length (ds ++ (48 + n % 10) ∷ []) ≡ suc (length ds) = omega (arith, length-append ds ((48 + n % 10) ∷ [])) in
+    rw (longer, pow-succ' 10 (length ds)) (omega (arith, below)))
 
-pub length_count : (u : TimeUnit) (count : ℕ) → count < 10 ^ most_digits u → count < 2 ^ 64 → length (decimal count) ≤ most_digits u
-length_count u count h fits = length-decimal-le (most_digits u) count (some_digits u) h fits
+greatest_fits : (u : TimeUnit) → greatest_count u < 2 ^ 64
+greatest_fits u = ltb-true (greatest_count u) (2 ^ 64) (all_units (λ v. ltb (greatest_count v) (2 ^ 64)) refl u)
+
+pub length_count : (u : TimeUnit) (count : ℕ) → count ≤ greatest_count u → length (decimal count) ≤ length (decimal (greatest_count u))
+length_count u count h =
+    let fits = greatest_fits u in
+    length-decimal-le (length (decimal (greatest_count u))) count (decimal_nonempty (greatest_count u) fits) (omega (arith, below_power (greatest_count u) fits)) (omega (arith, fits))

@@ -1,6 +1,7 @@
 -- The lemmas of this crate.
 pub mod TextLemmas
 pub mod CuttingLemmas
+pub mod EachUnit
 pub mod UnitLemmas
 pub mod NumberLemmas
 pub mod PackedLemmas

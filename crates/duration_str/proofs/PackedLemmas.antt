@@ -11,10 +11,11 @@ use Rattle.std.specs.Str.{bytes_eq}
 use Rattle.std.specs.Char.{to_ascii_lowercase, is_ascii_alphabetic}
 use Rattle.duration_str.specs.declared.unit.Options.{Options}
 use Rattle.duration_str.specs.declared.unit.TimeUnit.{TimeUnit}
-use Rattle.duration_str.specs.declared.unit.TimeUnit.TheVariants.{Year, Month, Week, Day, Hour, Minute, Second, MilliSecond, MicroSecond, NanoSecond}
+use Rattle.duration_str.specs.declared.packed.TheConstants.{SPREAD}
 use Rattle.duration_str.specs.Units.{units, row_of, folded, is_named, unit_of_word}
 use Rattle.duration_str.specs.Cutting.{packed_after, packed}
 use Rattle.duration_str.specs.Packed.{packs_to, unit_of_packed}
+use Rattle.duration_str.proofs.EachUnit.{each_unit}
 
 bool_cases : (b : Bool) → (b ≡ true) ⊎ (b ≡ false)
 bool_cases true = inl refl
@@ -117,16 +118,7 @@ names_test v (name ∷ names) small = (λ i. name_test v name small i || names_t
 
 -- no Chinese name has small letters
 no_chinese : (n : ℕ) (u : TimeUnit) → list_any (packs_to n) (row_of u).chinese ≡ false
-no_chinese n Year = refl
-no_chinese n Month = refl
-no_chinese n Week = refl
-no_chinese n Day = refl
-no_chinese n Hour = refl
-no_chinese n Minute = refl
-no_chinese n Second = refl
-no_chinese n MilliSecond = refl
-no_chinese n MicroSecond = refl
-no_chinese n NanoSecond = refl
+no_chinese n = each_unit (λ u. list_any (packs_to n) (row_of u).chinese ≡ false) assumption
 
 ascii_alone : (a cn ch : Bool) → ch ≡ false → (a || (cn && ch)) ≡ a
 ascii_alone true cn ch e = refl
@@ -154,7 +146,7 @@ unit_by_number o w off letters = (λ i. find (λ u. named_by_number o w u off le
 -- ---- slots
 
 abbrev pub slot : ℕ → ℕ
-slot n = n * 14928481133502012247 % 18446744073709551616 / 288230376151711744
+slot n = n * SPREAD / 2 ^ 58 % 64
 
 -- what the entries say, where each that is looked for in its place stands in its slot
 abbrev pub found_from : ℕ → List (ℕ × TimeUnit) → List (Option TimeUnit)

@@ -9,10 +9,10 @@ use Rattle.std.proofs.lemmas.Fmt.{IsAscii-decimal_wide, decimal_by_steps_wide}
 use Rattle.std.proofs.lemmas.List.{length-take-le}
 use Rattle.std.proofs.lemmas.Str.{encodes-append, encodes-IsAscii, IsUtf8-append, IsUtf8-from_ascii, IsUtf8-nil}
 use Rattle.duration_str.specs.declared.unit.TimeUnit.{TimeUnit}
-use Rattle.duration_str.specs.declared.unit.TimeUnit.TheVariants.{Year}
+use Rattle.duration_str.specs.declared.unit.TimeUnit.TheVariants.{Year, Second}
 use Rattle.duration_str.specs.Units.{units, row_of, nanos_of, unit_lengths}
 use Rattle.duration_str.specs.Printing.{printed_parts, printed_counts, spaced, counts_of}
-use Rattle.duration_str.specs.PrintedBytes.{with_space, with_part, with_parts, below_year}
+use Rattle.duration_str.specs.PrintedBytes.{with_space, with_part, with_parts, units_below_year}
 use Rattle.duration_str.proofs.NameLemmas.{scalar_name}
 
 with_part_none : (bytes : List ℕ) (u : TimeUnit) (count : ℕ) → count ≡ 0 → with_part bytes u count ≡ bytes
@@ -112,13 +112,14 @@ ended_units (u ∷ us) nanos h =
           ∙ ap (λ ps. encode_utf8_all (spaced ps)) (sym (parts_more u us nanos more))
     ]
 
--- the years from seconds, and then the rest
-pub printed_from_seconds : (nanos secs subsec : ℕ) (years bytes : List ℕ) → nanos < 10 ^ 64 → secs ≡ nanos / 1_000_000_000 → subsec ≡ nanos % 1_000_000_000
-    → years ≡ with_part [] Year (secs / 31_536_000) → bytes ≡ with_parts years below_year (secs % 31_536_000 * 1_000_000_000 + subsec)
+-- the years from whole seconds, and then the rest in nanoseconds
+pub printed_from_seconds : (nanos secs subsec second year : ℕ) (years bytes : List ℕ) → nanos < 10 ^ 64
+    → secs ≡ nanos / 1_000_000_000 → subsec ≡ nanos % 1_000_000_000 → second ≡ nanos_of Second → year ≡ nanos_of Year
+    → years ≡ with_part [] Year (secs / (year / second)) → bytes ≡ with_parts years units_below_year (secs % (year / second) * second + subsec)
     → ended bytes ≡ encode_utf8_all (printed_counts (counts_of unit_lengths nanos))
-printed_from_seconds nanos secs subsec years bytes h whole part first more =
-    let count : secs / 31_536_000 ≡ nanos / nanos_of Year = omega arith in
-    let rest : secs % 31_536_000 * 1_000_000_000 + subsec ≡ nanos % nanos_of Year = omega arith in
+printed_from_seconds nanos secs subsec second year years bytes h whole part is_second is_year first more =
+    let count : secs / (year / second) ≡ nanos / nanos_of Year = rw (is_second, is_year) (omega arith) in
+    let rest : secs % (year / second) * second + subsec ≡ nanos % nanos_of Year = rw (is_second, is_year) (omega arith) in
     rw (more, first, count, rest) (ended_units units nanos h)
 
 pub ended_take : (end : ℕ) (buffer : List ℕ) → 0 < end → end ≤ length buffer → ended (take end buffer) ≡ take end buffer

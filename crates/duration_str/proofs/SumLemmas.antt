@@ -1,8 +1,8 @@
 -- Terms that are added: they evaluate exactly if their sum is below 2^64, and then come to it.
-use Rattle.std.proofs.Common.{◌≡◌, ◌+◌, ◌^◌, ◌≤◌, ◌<◌, Bool, true, List, [], ◌∷◌, ◌++◌, length, Some, None, arith, refl, sym, ap, subst, append_assoc, append-nil}
+use Rattle.std.proofs.Common.{◌≡◌, ◌+◌, ◌^◌, ◌≤◌, ◌<◌, Bool, true, leb, List, [], ◌∷◌, ◌++◌, length, Some, None, arith, refl, sym, ap, subst, append_assoc, append-nil}
 use Rattle.std.specs.List.{list_all}
+use Rattle.std.proofs.lemmas.Bool.{leb-true}
 use Rattle.duration_str.specs.declared.unit.TimeUnit.{TimeUnit}
-use Rattle.duration_str.specs.declared.unit.TimeUnit.TheVariants.{Year, Month, Week, Day, Hour, Minute, Second, MilliSecond, MicroSecond, NanoSecond}
 use Rattle.duration_str.specs.declared.unit.CondUnit.{CondUnit}
 use Rattle.duration_str.specs.declared.unit.CondUnit.TheVariants.{Plus}
 use Rattle.duration_str.specs.declared.fault.Cause.TheVariants.{Overflow, Mixed}
@@ -11,6 +11,7 @@ use Rattle.duration_str.specs.Grammar.{Token, number, word, operator, IsSentence
 use Rattle.duration_str.specs.Value.{AllPlus, Term, value_of_term, sum_of, together, with_first, value_of, terms_of, terms_after, fits, unless, term_fault, later_fault, is_same_operator, Evaluates}
 use Rattle.duration_str.specs.Reading.{running_fault, place_behind}
 use Rattle.duration_str.proofs.FaultLemmas.{fault_by, no_fault, no_faults, below_no_fault, no_fault_below, term_below_no_fault, term_no_fault_below}
+use Rattle.duration_str.proofs.EachUnit.{all_units}
 
 -- Each term is added, and its length is above 0.
 abbrev pub AreAdded : List Term → Type 0
@@ -18,16 +19,7 @@ AreAdded [] = Unit {0}
 AreAdded (t ∷ terms) = (t.operator ≡ Plus) × (1 ≤ t.length) × AreAdded terms
 
 unit_above_zero : (u : TimeUnit) → 1 ≤ nanos_of u
-unit_above_zero Year = omega arith
-unit_above_zero Month = omega arith
-unit_above_zero Week = omega arith
-unit_above_zero Day = omega arith
-unit_above_zero Hour = omega arith
-unit_above_zero Minute = omega arith
-unit_above_zero Second = omega arith
-unit_above_zero MilliSecond = omega arith
-unit_above_zero MicroSecond = omega arith
-unit_above_zero NanoSecond = omega arith
+unit_above_zero u = leb-true 1 (nanos_of u) (all_units (λ v. leb 1 (nanos_of v)) refl u)
 
 terms_added_after : (op : CondUnit) (tokens : List Token) → op ≡ Plus → AllPlus tokens → AreAdded (terms_after op tokens)
 terms_added_after op (number n ∷ word (Some u) ∷ more) e a = (e, unit_above_zero u, terms_added_after Plus more refl a)

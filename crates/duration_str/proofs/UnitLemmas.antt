@@ -1,20 +1,22 @@
 -- Words and names: their bytes and their characters, and ASCII capitals.
-use Rattle.std.proofs.Common.{◌≡◌, ℕ, ◌+◌, ◌/◌, ◌%◌, ◌<◌, ◌≤◌, Bool, true, false, cond, ltb, ◌||◌, List, [], ◌∷◌, ◌++◌, map, IsUtf8, refl, ap, sym, ◌∙◌, arith, ⊎_elim}
+use Rattle.std.proofs.Common.{◌≡◌, ℕ, ◌+◌, ◌/◌, ◌%◌, ◌<◌, ◌≤◌, Bool, true, false, cond, ltb, eqb, not, ◌||◌, ◌&&◌, Option, Some, None, List, [], ◌∷◌, ◌++◌, map, IsUtf8, refl, ap, sym, ◌∙◌, arith, ⊎_elim}
 use Rattle.std.specs.Prelude.{if◌then◌else◌}
-use Rattle.std.specs.List.{list_any, list_all}
+use Rattle.std.specs.List.{list_any, list_all, find}
 use Rattle.std.specs.Str.{bytes_eq, chars}
 use Rattle.std.specs.Char.{to_ascii_lowercase}
 use Rattle.std.specs.Bool.{Decides}
 use Rattle.std.proofs.lemmas.Slice.Eq.{bytes_eq-Decides}
 use Rattle.std.proofs.lemmas.Str.{encodes_same, encodes-chars, encode_ascii}
-use Rattle.std.proofs.lemmas.Bool.{le-ltb, cases_lt, and_parts}
+use Rattle.std.proofs.lemmas.Bool.{le-ltb, cases_lt, and_parts, or_cases, true≢false, not_from_true, eqb-true}
 use Rattle.std.proofs.lemmas.Bool.Decides.{nat_tests}
+use Rattle.std.proofs.lemmas.List.Folds.{list_any-append}
+use Rattle.std.proofs.lemmas.Option.{none-some, same_Some}
 use denote.Ref.{Bor}
 use lib.Utf8.{encode, encodes}
 use Rattle.duration_str.specs.declared.unit.Options.{Options}
 use Rattle.duration_str.specs.declared.unit.TimeUnit.{TimeUnit}
-use Rattle.duration_str.specs.declared.unit.TimeUnit.TheVariants.{Year, Month, Week, Day, Hour, Minute, Second, MilliSecond, MicroSecond, NanoSecond}
-use Rattle.duration_str.specs.Units.{row_of, folded, AreEncoded}
+use Rattle.duration_str.specs.Units.{units, row_of, nanos_of, folded, is_named, unit_among, unit_of_word, AreEncoded}
+use Rattle.duration_str.proofs.EachUnit.{each_unit, all_units}
 
 -- two tests that hold of the same
 same_tests : (a b : Bool) (P Q : Type 0) → Decides a P → Decides b Q → (P → Q) → (Q → P) → a ≡ b
@@ -109,16 +111,7 @@ any_name o word texts names utf8 encoded small =
 
 -- the names of the table have no ASCII capital
 names_small : (u : TimeUnit) → (list_all is_small (row_of u).names ≡ true) × (list_all is_small (row_of u).chinese ≡ true)
-names_small Year = (refl, refl)
-names_small Month = (refl, refl)
-names_small Week = (refl, refl)
-names_small Day = (refl, refl)
-names_small Hour = (refl, refl)
-names_small Minute = (refl, refl)
-names_small Second = (refl, refl)
-names_small MilliSecond = (refl, refl)
-names_small MicroSecond = (refl, refl)
-names_small NanoSecond = (refl, refl)
+names_small = each_unit (λ u. (list_all is_small (row_of u).names ≡ true) × (list_all is_small (row_of u).chinese ≡ true)) assumption
 
 -- the word is among the unit's names
 pub by_name : (o : Options) (word : List ℕ) (u : TimeUnit) (texts : List (Bor (List ℕ))) (r : Bool) → IsUtf8 word → AreEncoded texts (row_of u).names
@@ -129,3 +122,76 @@ by_name o word u texts r utf8 encoded is = is ∙ any_name o word texts (row_of 
 pub by_chinese : (o : Options) (word : List ℕ) (u : TimeUnit) (texts : List (Bor (List ℕ))) (r : Bool) → IsUtf8 word → AreEncoded texts (row_of u).chinese
     → r ≡ list_any (λ text. bytes_eq (folded o word) (folded o text.now)) texts → r ≡ list_any (bytes_eq (folded o (chars word))) (row_of u).chinese
 by_chinese o word u texts r utf8 encoded is = is ∙ any_name o word texts (row_of u).chinese utf8 encoded (names_small u).1
+
+-- ---- a name belongs to one unit
+
+abbrev all_names : TimeUnit → List (List ℕ)
+all_names u = (row_of u).names ++ (row_of u).chinese
+
+-- whether no name of the first unit is a name of the second
+abbrev are_apart : TimeUnit → TimeUnit → Bool
+are_apart u v = list_all (λ name. not (list_any (bytes_eq name) (all_names v))) (all_names u)
+
+abbrev same_or_apart : TimeUnit → TimeUnit → Bool
+same_or_apart u v = eqb (nanos_of u) (nanos_of v) || are_apart u v
+
+all_apart : (u v : TimeUnit) → same_or_apart u v ≡ true
+all_apart u v = all_units (same_or_apart u) (all_units (λ w. list_all (same_or_apart w) units) refl u) v
+
+unit_by_length : (u : TimeUnit) → find (λ v. eqb (nanos_of v) (nanos_of u)) units ≡ Some u
+unit_by_length = each_unit (λ u. find (λ v. eqb (nanos_of v) (nanos_of u)) units ≡ Some u) assumption
+
+same_length : (u v : TimeUnit) → nanos_of u ≡ nanos_of v → u ≡ v
+same_length u v e = same_Some u v (sym (unit_by_length u) ∙ ap (λ n. find (λ w. eqb (nanos_of w) n) units) e ∙ unit_by_length v)
+
+-- a word among both lists is a name that they share
+shared : (w : List ℕ) (xs ys : List (List ℕ)) → list_any (bytes_eq w) xs ≡ true → list_any (bytes_eq w) ys ≡ true
+    → list_all (λ x. not (list_any (bytes_eq x) ys)) xs ≡ true → ⊥
+shared w [] ys h k apart = absurd (true≢false (sym h))
+shared w (x ∷ xs) ys h k apart =
+    let parts = and_parts (not (list_any (bytes_eq x) ys)) (list_all (λ x. not (list_any (bytes_eq x) ys)) xs) apart in
+    ⊎_elim
+    (λ (is : bytes_eq w x ≡ true). true≢false (sym parts.0 ∙ not_from_true (list_any (bytes_eq x) ys) (ap (λ v. list_any (bytes_eq v) ys) (sym ((bytes_eq-Decides w x).0 is)) ∙ k)))
+    (λ (later : list_any (bytes_eq w) xs ≡ true). shared w xs ys later k parts.1)
+    (or_cases (bytes_eq w x) (list_any (bytes_eq w) xs) h)
+
+named_among_all : (a cn ch : Bool) → (a || (cn && ch)) ≡ true → (a || ch) ≡ true
+named_among_all true cn ch h = refl
+named_among_all false true ch h = h
+named_among_all false false ch h = absurd (true≢false (sym h))
+
+among_all : (o : Options) (w : List ℕ) (u : TimeUnit) → is_named o w u ≡ true → list_any (bytes_eq (folded o w)) (all_names u) ≡ true
+among_all o w u h = list_any-append (bytes_eq (folded o w)) (row_of u).names (row_of u).chinese ∙ named_among_all _ o.cn_unit _ h
+
+one_unit : (o : Options) (w : List ℕ) (u v : TimeUnit) → is_named o w u ≡ true → is_named o w v ≡ true → u ≡ v
+one_unit o w u v h k =
+    ⊎_elim (λ same. same_length u v (eqb-true (nanos_of u) (nanos_of v) same))
+    (λ apart. absurd (shared (folded o w) (all_names u) (all_names v) (among_all o w u h) (among_all o w v k) apart))
+    (or_cases (eqb (nanos_of u) (nanos_of v)) (are_apart u v) (all_apart u v))
+
+-- what is found among some units is named by the word
+found_named : (o : Options) (w : List ℕ) (us : List TimeUnit) (u : TimeUnit) → unit_among us o w ≡ Some u → is_named o w u ≡ true
+found_named o w [] u h = absurd (none-some u h)
+found_named o w (v ∷ us) u h = go (is_named o w v) refl h (found_named o w us u)
+  where
+    go : (b : Bool) → is_named o w v ≡ b → (if b then Some v else unit_among us o w) ≡ Some u → (unit_among us o w ≡ Some u → is_named o w u ≡ true)
+        → is_named o w u ≡ true
+    go true e h later = ap (is_named o w) (sym (same_Some v u h)) ∙ e
+    go false e h later = later h
+
+-- A unit of the list that the word names is found, since no other one is named.
+found_only : (o : Options) (w : List ℕ) (us : List TimeUnit) (u : TimeUnit) → is_named o w u ≡ true
+    → list_any (λ v. eqb (nanos_of v) (nanos_of u)) us ≡ true → unit_among us o w ≡ Some u
+found_only o w [] u h there = absurd (true≢false (sym there))
+found_only o w (v ∷ us) u h there = go (is_named o w v) refl (found_only o w us u h)
+  where
+    go : (b : Bool) → is_named o w v ≡ b → (list_any (λ v. eqb (nanos_of v) (nanos_of u)) us ≡ true → unit_among us o w ≡ Some u)
+        → (if b then Some v else unit_among us o w) ≡ Some u
+    go true e later = ap Some (one_unit o w v u e h)
+    go false e later = ⊎_elim
+        (λ (same : eqb (nanos_of v) (nanos_of u) ≡ true). absurd (true≢false (sym h ∙ ap (is_named o w) (sym (same_length v u (eqb-true (nanos_of v) (nanos_of u) same))) ∙ e)))
+        later (or_cases (eqb (nanos_of v) (nanos_of u)) (list_any (λ v. eqb (nanos_of v) (nanos_of u)) us) there)
+
+-- What is found among some of the units is found among all.
+pub found_among_all : (o : Options) (w : List ℕ) (us : List TimeUnit) (u : TimeUnit) → unit_among us o w ≡ Some u → unit_of_word o w ≡ Some u
+found_among_all o w us u h = found_only o w units u (found_named o w us u h) (all_units (λ u. list_any (λ v. eqb (nanos_of v) (nanos_of u)) units) refl u)

@@ -5,7 +5,7 @@ use Rattle.duration_str.specs.declared.unit.Options.{Options}
 use Rattle.duration_str.specs.declared.unit.TimeUnit.{TimeUnit}
 use Rattle.duration_str.specs.declared.unit.CondUnit.{CondUnit}
 use Rattle.duration_str.specs.Text.{is_digit, is_unit_letter, operator_of, IsBlank, number_of}
-use Rattle.duration_str.specs.Units.{unit_of_word}
+use Rattle.duration_str.specs.Units.{units, unit_among}
 
 -- What a list of characters means. `other` stands in no sentence, and neither does a word that names no unit.
 pub data Token : Type 0 where
@@ -23,13 +23,17 @@ abbrev pub sign_token : List ℕ → Token
 sign_token (c ∷ []) = operator_or_other (operator_of c)
 sign_token _ = other
 
--- Digits are a number, unit letters are a word, and `+` and `*` are operators.
-abbrev pub token_of : Options → List ℕ → Token
-token_of o [] = other
-token_of o (c ∷ cs) =
+-- Digits are a number, unit letters are a word that may name one of these units, and `+` and `*` are operators.
+abbrev pub token_among : List TimeUnit → Options → List ℕ → Token
+token_among us o [] = other
+token_among us o (c ∷ cs) =
     if list_all is_digit (c ∷ cs) then number (number_of (c ∷ cs))
-    else if list_all (is_unit_letter o) (c ∷ cs) then word (unit_of_word o (c ∷ cs))
+    else if list_all (is_unit_letter o) (c ∷ cs) then word (unit_among us o (c ∷ cs))
     else sign_token (c ∷ cs)
+
+-- the token of a list of characters
+abbrev pub token_of : Options → List ℕ → Token
+token_of o w = token_among units o w
 
 -- S = Number | Number Unit | Number Op S | Number Unit Op S | Number Unit S;
 -- under `no_calc` S = Number | Number Unit | Number Unit S

@@ -1,9 +1,8 @@
--- Printed bytes, made unit by unit, and how many they are at most.
-use Rattle.std.specs.Prelude.{ℕ, ◌+◌, ◌/◌, ◌%◌, List, [], ◌∷◌, ◌++◌, if◌then◌else◌, ◌==◌, decimal, encode_utf8_all}
+-- Printed bytes, made unit by unit.
+use Rattle.std.specs.Prelude.{ℕ, ◌/◌, ◌%◌, List, [], ◌∷◌, ◌++◌, drop, if◌then◌else◌, ◌==◌, decimal, encode_utf8_all}
+unfoldable pub use Rattle.std.specs.Fmt.{digits}
 use Rattle.duration_str.specs.declared.unit.TimeUnit.{TimeUnit}
-use Rattle.duration_str.specs.declared.unit.TimeUnit.TheVariants.{Year, Month, Week, Day, Hour, Minute, Second, MilliSecond, MicroSecond, NanoSecond}
-use Rattle.duration_str.specs.Text.{byte_len}
-use Rattle.duration_str.specs.Units.{row_of, nanos_of}
+use Rattle.duration_str.specs.Units.{units, row_of, nanos_of}
 
 -- the bytes, and a space behind them unless there are none
 abbrev pub with_space : List ℕ → List ℕ
@@ -20,22 +19,5 @@ with_parts bytes [] nanos = bytes
 with_parts bytes (u ∷ us) nanos = with_parts (with_part bytes u (nanos / nanos_of u)) us (nanos % nanos_of u)
 
 -- the units below a year
-abbrev pub below_year : List TimeUnit
-below_year = Month ∷ Week ∷ Day ∷ Hour ∷ Minute ∷ Second ∷ MilliSecond ∷ MicroSecond ∷ NanoSecond ∷ []
-
--- the most digits that a unit's count has in a duration
-abbrev pub most_digits : TimeUnit → ℕ
-most_digits Year = 12
-most_digits Month = 2
-most_digits Week = 1
-most_digits Day = 1
-most_digits Hour = 2
-most_digits Minute = 2
-most_digits Second = 2
-most_digits MilliSecond = 3
-most_digits MicroSecond = 3
-most_digits NanoSecond = 3
-
--- the most bytes that a unit's part has, without the space before it
-abbrev pub most_bytes : TimeUnit → ℕ
-most_bytes u = most_digits u + byte_len (row_of u).printed
+abbrev pub units_below_year : List TimeUnit
+units_below_year = drop 1 units

@@ -6,6 +6,7 @@ use Rattle.std.specs.List.{list_any, find}
 use Rattle.std.specs.Str.{bytes_eq}
 use lib.Chars.{codes}
 use Rattle.duration_str.specs.declared.unit.Options.{Options}
+use Rattle.duration_str.specs.declared.unit.Row.{Row}
 use Rattle.duration_str.specs.declared.unit.TimeUnit.{TimeUnit}
 use Rattle.duration_str.specs.declared.unit.TimeUnit.TheVariants.{Year, Month, Week, Day, Hour, Minute, Second, MilliSecond, MicroSecond, NanoSecond}
 
@@ -55,10 +56,21 @@ abbrev pub is_named : Options → List ℕ → TimeUnit → Bool
 is_named o word u =
     list_any (bytes_eq (folded o word)) (row_of u).names || (o.cn_unit && list_any (bytes_eq (folded o word)) (row_of u).chinese)
 
+-- the first of these units that a word names
+abbrev pub unit_among : List TimeUnit → Options → List ℕ → Option TimeUnit
+unit_among us o word = find (is_named o word) us
+
 -- the unit that a word names
 abbrev pub unit_of_word : Options → List ℕ → Option TimeUnit
-unit_of_word o word = find (is_named o word) units
+unit_of_word o word = unit_among units o word
 
 -- These texts are the names in UTF-8.
 abbrev pub AreEncoded : List (Bor (List ℕ)) → List (List ℕ) → Type 0
 AreEncoded texts names = map (λ text. text.now) texts ≡ map encode_utf8_all names
+
+-- The row of the code's table says what this row of the definitions' says.
+pub record IsRow (row : Row) (r : UnitRow) : Type 0 where
+  pub nanos : row.nanos ≡ r.nanos
+  pub printed : row.printed.now ≡ encode_utf8_all r.printed
+  pub names : AreEncoded row.names.now r.names
+  pub chinese : AreEncoded row.chinese.now r.chinese

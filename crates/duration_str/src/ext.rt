@@ -6,14 +6,16 @@ ghost use Rattle.std.specs.Prelude.{◌≡◌, ◌+◌, ◌*◌, ◌/◌, ◌%�
 ghost use Rattle.std.specs.Duration.{as_nanos};
 ghost use Rattle.duration_str.specs.declared.unit.TimeUnit.TheVariants.{Year};
 ghost use Rattle.duration_str.specs.Units.{nanos_of, unit_lengths};
-ghost use Rattle.duration_str.specs.Printing.{IsPrinted, printed_counts, counts_of};
-ghost use Rattle.duration_str.specs.PrintedBytes.{with_space, with_part, with_parts, below_year, most_digits, most_bytes};
+ghost use Rattle.duration_str.specs.Printing.{IsPrinted, printed_counts, counts_of, greatest_count, part_bytes, max_printed_len};
+ghost use Rattle.duration_str.specs.declared.ext.TheConstants.{MAX_PRINTED_LEN};
+ghost use Rattle.duration_str.specs.PrintedBytes.{with_space, with_part, with_parts, units_below_year};
 
 use crate::unit::TimeUnit;
 use std::alloc::{AllocError, Allocator, Global};
 use std::time::Duration;
 
-const YEAR_SECONDS: u64 = 31_536_000;
+/// The most bytes that a printed duration has: `100000000000y 11mon 3w 6d 23h 59min 59s 999ms 999µs 999ns`.
+pub const MAX_PRINTED_LEN: usize = 58;
 
 /// Writes a digit at the place `at`, and returns where it ends.
 #[inline(always)]
@@ -90,11 +92,11 @@ fn put_space(buffer: &mut [u8; 64], at: usize) -> usize
 #[inline(always)]
 #[tactic(auto, using(crate::proofs::DigitLemmas::length_count, crate::proofs::NameLemmas::length_name))]
 fn put_part(buffer: &mut [u8; 64], at: usize, count: u64, unit: TimeUnit) -> usize
-    requires digits { count < 10 ^ most_digits unit }
-    requires room { at + 1 + most_bytes unit ≤ 64 }
+    requires count { count ≤ greatest_count unit }
+    requires room { at + 1 + part_bytes unit ≤ 64 }
     ensures text { take result buffer.new ≡ with_part (take at buffer.old) unit count }
-    ensures end { result ≤ at + 1 + most_bytes unit }
-    ensures first { at ≡ 0 → result ≤ most_bytes unit }
+    ensures end { result ≤ at + 1 + part_bytes unit }
+    ensures first { at ≡ 0 → result ≤ part_bytes unit }
 {
     if count == 0 {
         return at;
@@ -107,10 +109,10 @@ fn put_part(buffer: &mut [u8; 64], at: usize, count: u64, unit: TimeUnit) -> usi
 /// Writes the part that a unit makes of the rest, in nanoseconds, and leaves in `rest` what is behind the unit.
 #[inline(always)]
 fn put_unit(buffer: &mut [u8; 64], at: usize, rest: &mut u64, unit: TimeUnit) -> usize
-    requires digits { rest.old < 10 ^ most_digits unit * nanos_of unit }
-    requires room { at + 1 + most_bytes unit ≤ 64 }
+    requires count { rest.old / nanos_of unit ≤ greatest_count unit }
+    requires room { at + 1 + part_bytes unit ≤ 64 }
     ensures text { take result buffer.new ≡ with_part (take at buffer.old) unit (rest.old / nanos_of unit) }
-    ensures end { result ≤ at + 1 + most_bytes unit }
+    ensures end { result ≤ at + 1 + part_bytes unit }
     ensures rest { rest.new ≡ rest.old % nanos_of unit }
 {
     // Most units take no part, and a comparison costs less than a division.
@@ -124,11 +126,12 @@ fn put_unit(buffer: &mut [u8; 64], at: usize, rest: &mut u64, unit: TimeUnit) ->
 
 /// Writes the parts below a year, and returns where they end.
 #[inline(always)]
+#[tactic(auto, unfolding(crate::specs::PrintedBytes::digits))]
 fn put_units(buffer: &mut [u8; 64], at: usize, nanos: u64) -> usize
     requires within_year { nanos < nanos_of Year }
-    requires behind_years { at ≤ most_bytes Year }
-    ensures text { take result buffer.new ≡ with_parts (take at buffer.old) below_year nanos }
-    ensures end { result ≤ 58 }
+    requires behind_years { at ≤ part_bytes Year }
+    ensures text { take result buffer.new ≡ with_parts (take at buffer.old) units_below_year nanos }
+    ensures end { result ≤ max_printed_len }
 {
     let mut rest = nanos;
     let month = put_unit(buffer, at, &mut rest, TimeUnit::Month);
@@ -143,14 +146,18 @@ fn put_units(buffer: &mut [u8; 64], at: usize, nanos: u64) -> usize
 }
 
 /// Writes the printed text into the front of the buffer, and returns its length.
+#[tactic(auto, unfolding(crate::specs::PrintedBytes::digits))]
 fn fill(d: Duration, buffer: &mut [u8; 64]) -> usize
     ensures text { take result buffer.new ≡ encode_utf8_all (printed_counts (counts_of unit_lengths (as_nanos d))) }
-    ensures short { result ≤ 58 }
+    ensures short { result ≤ MAX_PRINTED_LEN }
     ensures utf8 { IsUtf8 (take result buffer.new) }
 {
+    // Years are counted in seconds, since the nanoseconds of a duration can be 2^64 and more.
     let secs = d.as_secs();
-    let below_year = secs % YEAR_SECONDS * 1_000_000_000 + u64::from(d.subsec_nanos());
-    let years = put_part(buffer, 0, secs / YEAR_SECONDS, TimeUnit::Year);
+    let second = TimeUnit::Second.nanos();
+    let year = TimeUnit::Year.nanos() / second;
+    let years = put_part(buffer, 0, secs / year, TimeUnit::Year);
+    let below_year = secs % year * second + u64::from(d.subsec_nanos());
     let end = put_units(buffer, years, below_year);
     if end == 0 {
         return put_text(buffer, 0, "0s");
@@ -158,17 +165,18 @@ fn fill(d: Duration, buffer: &mut [u8; 64]) -> usize
     end
 }
 
-/// Prints a duration into the front of a buffer, whatever the buffer held. The text has at most 58 bytes.
-/// It takes no memory and does not fail.
+/// Prints a duration into the front of a buffer, whatever the buffer held. The text has at most
+/// `MAX_PRINTED_LEN` bytes. It takes no memory and does not fail.
 ///
 /// ```text
 /// let mut buffer = [0; 64];
 /// write_human(&Duration::new(193, 29_000_000), &mut buffer) // "3min 13s 29ms"
 /// write_human(&Duration::ZERO, &mut buffer)                 // "0s"
 /// ```
+#[tactic(auto, unfolding(crate::specs::PrintedBytes::digits))]
 pub fn write_human<'b>(d: &Duration, buffer: &'b mut [u8; 64]) -> &'b str
     ensures text { IsPrinted (as_nanos d.now) (chars result.now) }
-    ensures short { length result.now ≤ 58 }
+    ensures short { length result.now ≤ max_printed_len }
 {
     let end = fill(*d, buffer);
     unsafe { std::str::from_utf8_unchecked(&buffer[..end]) }

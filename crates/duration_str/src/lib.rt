@@ -17,7 +17,7 @@ pub mod top;
 pub mod unit;
 
 pub use error::{DError, DResult};
-pub use ext::{HumanFormat, write_human};
+pub use ext::{HumanFormat, MAX_PRINTED_LEN, write_human};
 pub use parser::{Cause, Expected, Fault, parse, parse_looked, parse_std, parse_with};
 pub use token::{Token, Tokens, What};
 pub use top::{

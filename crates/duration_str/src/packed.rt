@@ -9,14 +9,17 @@ use crate::unit::TimeUnit;
 pub(crate) fn unit_of_packed(packed: u64) -> Option<TimeUnit>
     ensures { result ≡ unit_of_packed packed }
 {
-    let (name, unit) = SLOTS[(packed.wrapping_mul(SPREAD) >> 58) as usize];
+    // Computed in 128 bits, of which the compiler makes one multiplication of 64.
+    let slot = (packed as u128 * SPREAD as u128 >> 58) % 64;
+    let (name, unit) = SLOTS[slot as usize];
     if name == packed { Some(unit) } else { None }
 }
 
-/// A multiplier by which the packed names come to different slots: its product's highest six bits are the slot.
+/// A multiplier that gives each packed name a slot of its own: bits 58 to 63 of the product. `tools/packed-slots` finds
+/// one, and writes the table below.
 const SPREAD: u64 = 14_928_481_133_502_012_247;
 
-/// Stands in each slot that no name comes to. The number 2 is no name, and its own slot has one, so it is never found.
+/// Marks an empty slot. The number 2 is no name's, and its own slot is taken, so it is never found.
 const NO_NAME: (u64, TimeUnit) = (2, TimeUnit::Year);
 
 /// The packed names, each in its slot.

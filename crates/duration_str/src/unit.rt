@@ -4,7 +4,7 @@ ghost use Rattle.std.specs.List.{list_any};
 ghost use Rattle.std.specs.Str.{bytes_eq, chars};
 ghost use Rattle.duration_str.specs.FaultText.{sign_of};
 ghost use Rattle.duration_str.specs.Text.{operator_of, IsNumber, number_of};
-ghost use Rattle.duration_str.specs.Units.{off, nanos_of, row_of, folded, is_named, unit_of_word, AreEncoded};
+ghost use Rattle.duration_str.specs.Units.{off, nanos_of, row_of, folded, is_named, unit_of_word, IsRow};
 ghost use Rattle.duration_str.specs.Value.{kept, term_of, term_answer, term_value};
 
 use crate::fault::Cause;
@@ -66,18 +66,7 @@ impl TimeUnit {
     pub fn nanos(self) -> u64
         ensures { result ≡ nanos_of self }
     {
-        match self {
-            TimeUnit::Year => 31_536_000_000_000_000,
-            TimeUnit::Month => 2_592_000_000_000_000,
-            TimeUnit::Week => 604_800_000_000_000,
-            TimeUnit::Day => 86_400_000_000_000,
-            TimeUnit::Hour => 3_600_000_000_000,
-            TimeUnit::Minute => 60_000_000_000,
-            TimeUnit::Second => 1_000_000_000,
-            TimeUnit::MilliSecond => 1_000_000,
-            TimeUnit::MicroSecond => 1_000,
-            TimeUnit::NanoSecond => 1,
-        }
+        self.row().nanos
     }
 
     /// The printed name.
@@ -85,17 +74,85 @@ impl TimeUnit {
     pub(crate) fn name(self) -> &'static str
         ensures { result.now ≡ encode_utf8_all (row_of self).printed }
     {
+        self.row().printed
+    }
+
+    /// The unit's row of the table.
+    #[tactic(auto, unfolding(std::specs::Prelude::encode_utf8))]
+    #[inline(always)]
+    fn row(self) -> Row
+        ensures { IsRow result (row_of self) }
+    {
         match self {
-            TimeUnit::Year => "y",
-            TimeUnit::Month => "mon",
-            TimeUnit::Week => "w",
-            TimeUnit::Day => "d",
-            TimeUnit::Hour => "h",
-            TimeUnit::Minute => "min",
-            TimeUnit::Second => "s",
-            TimeUnit::MilliSecond => "ms",
-            TimeUnit::MicroSecond => "µs",
-            TimeUnit::NanoSecond => "ns",
+            TimeUnit::Year => Row {
+                nanos: 31_536_000_000_000_000,
+                printed: "y",
+                names: &["y", "year", "years"],
+                chinese: &["年"],
+            },
+            TimeUnit::Month => Row {
+                nanos: 2_592_000_000_000_000,
+                printed: "mon",
+                names: &["mon", "month", "months"],
+                chinese: &["月"],
+            },
+            TimeUnit::Week => Row {
+                nanos: 604_800_000_000_000,
+                printed: "w",
+                names: &["w", "week", "weeks"],
+                chinese: &["周"],
+            },
+            TimeUnit::Day => Row {
+                nanos: 86_400_000_000_000,
+                printed: "d",
+                names: &["d", "day", "days"],
+                chinese: &["日", "天"],
+            },
+            TimeUnit::Hour => Row {
+                nanos: 3_600_000_000_000,
+                printed: "h",
+                names: &["h", "hr", "hour", "hours"],
+                chinese: &["时"],
+            },
+            TimeUnit::Minute => Row {
+                nanos: 60_000_000_000,
+                printed: "min",
+                names: &["m", "min", "minute", "minutes"],
+                chinese: &["分"],
+            },
+            TimeUnit::Second => Row {
+                nanos: 1_000_000_000,
+                printed: "s",
+                names: &["s", "sec", "second", "seconds"],
+                chinese: &["秒"],
+            },
+            TimeUnit::MilliSecond => Row {
+                nanos: 1_000_000,
+                printed: "ms",
+                names: &["ms", "msec", "millisecond", "milliseconds"],
+                chinese: &["毫秒"],
+            },
+            TimeUnit::MicroSecond => Row {
+                nanos: 1_000,
+                printed: "µs",
+                names: &[
+                    "µs",
+                    "µsec",
+                    "µsecond",
+                    "us",
+                    "usec",
+                    "usecond",
+                    "microsecond",
+                    "microseconds",
+                ],
+                chinese: &["微秒"],
+            },
+            TimeUnit::NanoSecond => Row {
+                nanos: 1,
+                printed: "ns",
+                names: &["ns", "nsec", "nanosecond", "nanoseconds"],
+                chinese: &["纳秒"],
+            },
         }
     }
 
@@ -136,55 +193,12 @@ impl TimeUnit {
     }
 
     /// Whether a word is a name of the unit.
+    #[tactic(auto, using(crate::proofs::UnitLemmas::by_name, crate::proofs::UnitLemmas::by_chinese))]
     fn is_named(self, word: &str, o: Options) -> bool
         ensures { result ≡ is_named o (chars word.now) self }
     {
-        is_any(self.names(), word, o) || o.cn_unit && is_any(self.chinese_names(), word, o)
-    }
-
-    /// The names that are read under any options.
-    fn names(self) -> &'static [&'static str]
-        ensures { AreEncoded result.now (row_of self).names }
-    {
-        match self {
-            TimeUnit::Year => &["y", "year", "years"],
-            TimeUnit::Month => &["mon", "month", "months"],
-            TimeUnit::Week => &["w", "week", "weeks"],
-            TimeUnit::Day => &["d", "day", "days"],
-            TimeUnit::Hour => &["h", "hr", "hour", "hours"],
-            TimeUnit::Minute => &["m", "min", "minute", "minutes"],
-            TimeUnit::Second => &["s", "sec", "second", "seconds"],
-            TimeUnit::MilliSecond => &["ms", "msec", "millisecond", "milliseconds"],
-            TimeUnit::MicroSecond => &[
-                "µs",
-                "µsec",
-                "µsecond",
-                "us",
-                "usec",
-                "usecond",
-                "microsecond",
-                "microseconds",
-            ],
-            TimeUnit::NanoSecond => &["ns", "nsec", "nanosecond", "nanoseconds"],
-        }
-    }
-
-    /// The names that the option `cn_unit` adds.
-    fn chinese_names(self) -> &'static [&'static str]
-        ensures { AreEncoded result.now (row_of self).chinese }
-    {
-        match self {
-            TimeUnit::Year => &["年"],
-            TimeUnit::Month => &["月"],
-            TimeUnit::Week => &["周"],
-            TimeUnit::Day => &["日", "天"],
-            TimeUnit::Hour => &["时"],
-            TimeUnit::Minute => &["分"],
-            TimeUnit::Second => &["秒"],
-            TimeUnit::MilliSecond => &["毫秒"],
-            TimeUnit::MicroSecond => &["微秒"],
-            TimeUnit::NanoSecond => &["纳秒"],
-        }
+        let row = self.row();
+        is_any(row.names, word, o) || o.cn_unit && is_any(row.chinese, word, o)
     }
 }
 
@@ -195,6 +209,19 @@ impl fmt::Display for TimeUnit {
     fn fmt<W: fmt::Write>(&self, f: &mut fmt::Formatter<W>) -> fmt::Result {
         f.write_str(self.name())
     }
+}
+
+/// A row of the table of units.
+#[derive(Clone, Copy)]
+struct Row {
+    /// The length in nanoseconds.
+    nanos: u64,
+    /// The name that is printed.
+    printed: &'static str,
+    /// The names that are read under any options.
+    names: &'static [&'static str],
+    /// The names that the option `cn_unit` adds.
+    chinese: &'static [&'static str],
 }
 
 /// The units, the longest first.

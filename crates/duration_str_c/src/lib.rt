@@ -8,7 +8,7 @@ ghost use Rattle.std.specs.Bool.{MatchBool};
 ghost use Rattle.std.specs.Str.{chars};
 ghost use Rattle.duration_str.specs.Units.{off};
 ghost use Rattle.duration_str.specs.Reading.{IsRead};
-ghost use Rattle.duration_str.specs.Printing.{IsPrinted};
+ghost use Rattle.duration_str.specs.Printing.{IsPrinted, max_printed_len};
 ghost use Rattle.duration_str.specs.declared.fault.Cause.TheVariants.{NotText};
 ghost use Rattle.duration_str_c.specs.Told.{chosen, number_of, expected_of, refusal_told, IsTold, IsMessage};
 
@@ -134,7 +134,7 @@ pub extern "C" fn duration_str_parse(text: &[u8], nanos: &mut u64) -> bool
 #[unsafe(no_mangle)]
 pub extern "C" fn duration_str_format(secs: u64, nanos: u32, buffer: &mut [u8; 64]) -> usize
     ensures text { nanos < 1_000_000_000 → IsPrinted (secs * 1_000_000_000 + nanos) (chars (take result buffer.new)) }
-    ensures short { result ≤ 58 }
+    ensures short { result ≤ max_printed_len }
     ensures refused { 1_000_000_000 ≤ nanos → (result ≡ 0) × (buffer.new ≡ buffer.old) }
 {
     if nanos >= 1_000_000_000 {

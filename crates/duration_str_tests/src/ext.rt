@@ -1,5 +1,5 @@
 // Printed texts.
-use duration_str::{HumanFormat, write_human};
+use duration_str::{HumanFormat, MAX_PRINTED_LEN, write_human};
 use std::alloc::{AllocError, Global};
 use std::test::Fail;
 use std::time::Duration;
@@ -53,7 +53,7 @@ fn prints_the_greatest_counts(rt: HostRuntime) -> Result<(), Fail> {
         let copied = formatted(&d, rt.alloc())?.expect(&rt, "a printable duration");
         assert_eq!(rt; copied.as_str(), text);
     }
-    assert_eq!(rt; LONGEST_TEXT.len(), 58);
+    assert_eq!(rt; LONGEST_TEXT.len(), MAX_PRINTED_LEN);
     Ok(())
 }
 
