@@ -4,7 +4,7 @@ use Rattle.std.proofs.lemmas.Bool.{and_parts}
 use Rattle.std.specs.Prelude.{⊤}
 use Rattle.std.specs.List.{list_all}
 use Rattle.duration_str.specs.declared.unit.TimeUnit.{TimeUnit}
-use Rattle.duration_str.specs.declared.unit.TimeUnit.TheVariants.{Year, Month, Week, Day, Hour, Minute, Second, MilliSecond, MicroSecond, NanoSecond}
+use Rattle.duration_str.specs.declared.unit.TimeUnit.TheVariants.{Year, Quarter, Month, Week, Day, Hour, Minute, Second, MilliSecond, MicroSecond, NanoSecond}
 use Rattle.duration_str.specs.Units.{units}
 
 abbrev pub Each : (TimeUnit → Type 0) → List TimeUnit → Type 0
@@ -13,15 +13,16 @@ Each P (u ∷ us) = P u × Each P us
 
 pub each_unit : (P : TimeUnit → Type 0) → Each P units → (u : TimeUnit) → P u
 each_unit P each Year = each.0
-each_unit P each Month = each.1.0
-each_unit P each Week = each.1.1.0
-each_unit P each Day = each.1.1.1.0
-each_unit P each Hour = each.1.1.1.1.0
-each_unit P each Minute = each.1.1.1.1.1.0
-each_unit P each Second = each.1.1.1.1.1.1.0
-each_unit P each MilliSecond = each.1.1.1.1.1.1.1.0
-each_unit P each MicroSecond = each.1.1.1.1.1.1.1.1.0
-each_unit P each NanoSecond = each.1.1.1.1.1.1.1.1.1.0
+each_unit P each Quarter = each.1.0
+each_unit P each Month = each.1.1.0
+each_unit P each Week = each.1.1.1.0
+each_unit P each Day = each.1.1.1.1.0
+each_unit P each Hour = each.1.1.1.1.1.0
+each_unit P each Minute = each.1.1.1.1.1.1.0
+each_unit P each Second = each.1.1.1.1.1.1.1.0
+each_unit P each MilliSecond = each.1.1.1.1.1.1.1.1.0
+each_unit P each MicroSecond = each.1.1.1.1.1.1.1.1.1.0
+each_unit P each NanoSecond = each.1.1.1.1.1.1.1.1.1.1.0
 
 each_passes : (test : TimeUnit → Bool) (us : List TimeUnit) → list_all test us ≡ true → Each (λ u. test u ≡ true) us
 each_passes test [] h = tt

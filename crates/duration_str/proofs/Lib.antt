@@ -32,6 +32,7 @@ pub mod TwoFactors
 pub mod GreatestBreakdown
 pub mod EqualTexts
 pub mod ReadsBack
+pub mod OlderTexts
 pub mod Rows
 pub mod SortLemmas
 pub mod TokensLemmas

@@ -1,16 +1,18 @@
 -- Worked examples, computed: what texts are read as, why others are refused, and what durations print as.
-use Rattle.std.specs.Prelude.{◌≡◌, ℕ, Bool, true, false, List, [], ◌∷◌, ◌++◌, Some, None, Ok, Err, refl, ⊤, length, flat_map, encode_utf8_all}
+use Rattle.std.specs.Prelude.{◌≡◌, ℕ, Bool, true, false, List, [], ◌∷◌, ◌++◌, Some, None, Ok, Err, refl, ⊤, length, flat_map, map, encode_utf8_all}
 use Rattle.std.specs.Fmt.{digits}
 use Rattle.std.specs.Str.{chars}
 use lib.Chars.{codes}
 use lib.Utf8.{encode}
 use Rattle.duration_str.specs.declared.unit.Options.{Options}
 use Rattle.duration_str.specs.declared.unit.TimeUnit.{TimeUnit}
+use Rattle.duration_str.specs.declared.unit.TimeUnit.TheVariants.{Quarter}
 use Rattle.duration_str.specs.declared.unit.CondUnit.TheVariants.{Plus, Star}
 use Rattle.duration_str.specs.declared.fault.Cause.TheVariants.{Empty, Syntax, NumberTooLarge, Overflow, Mixed}
 use Rattle.duration_str.specs.declared.fault.Expected.{Expected}
-use Rattle.duration_str.specs.Units.{off, row_of, units, unit_of_word, unit_lengths}
-use Rattle.duration_str.specs.Printing.{printed_counts, counts_of}
+use Rattle.duration_str.specs.Units.{off, row_of, units, unit_among, unit_of_word, unit_lengths}
+use Rattle.duration_str.specs.Older.{older_units}
+use Rattle.duration_str.specs.Printing.{printed_counts, counts_of, max_printed_len}
 use Rattle.duration_str.specs.Answer.{answer}
 use Rattle.duration_str.specs.FaultText.{fault_text}
 
@@ -282,7 +284,15 @@ pub printed-807_days : printed 69_724_800_000_000_002 ≡ codes "2y 2mon 2w 3d 2
 unfolding digits
 printed-807_days = refl
 
-pub printed-364_days : printed 31_449_600_000_000_000 ≡ codes "12mon 4d"
+pub printed-90_days : printed 7_776_000_000_000_000 ≡ codes "3mon"
+unfolding digits
+printed-90_days = refl
+
+pub printed-91_days : printed 7_862_400_000_000_000 ≡ codes "1q"
+unfolding digits
+printed-91_days = refl
+
+pub printed-364_days : printed 31_449_600_000_000_000 ≡ codes "4q"
 unfolding digits
 printed-364_days = refl
 
@@ -297,10 +307,10 @@ printed-377_days = refl
 -- ---- Printed texts around 2^64 nanoseconds
 
 abbrev last_that_reads_back : List ℕ
-last_that_reads_back = codes "584y 11mon 1w 6d 23h 34min 33s 709ms 551µs 615ns"
+last_that_reads_back = codes "584y 3q 2mon 1w 3d 23h 34min 33s 709ms 551µs 615ns"
 
 abbrev first_that_overflows : List ℕ
-first_that_overflows = codes "584y 11mon 1w 6d 23h 34min 33s 709ms 551µs 616ns"
+first_that_overflows = codes "584y 3q 2mon 1w 3d 23h 34min 33s 709ms 551µs 616ns"
 
 abbrev greatest_duration : List ℕ
 greatest_duration = codes "584942417355y 3w 5d 7h 15s 999ms 999µs 999ns"
@@ -331,6 +341,22 @@ pub printed-greatest_duration : printed 18_446_744_073_709_551_615_999_999_999 �
 unfolding digits
 printed-greatest_duration = refl
 
+abbrev longest : List ℕ
+longest = codes "100000000000y 3q 2mon 3w 6d 23h 59min 59s 999ms 999µs 999ns"
+
+pub printed-longest : printed 3_153_600_000_031_190_399_999_999_999 ≡ longest
+unfolding digits
+printed-longest = refl
+
+-- The bound on printed bytes is reached.
+pub longest-bytes : length (encode_utf8_all longest) ≡ max_printed_len
+unfolding digits encode
+longest-bytes = refl
+
+pub sixty_bytes : max_printed_len ≡ 60
+unfolding digits
+sixty_bytes = refl
+
 pub overflows-greatest_duration : answer off greatest_duration ≡ Err (Overflow (Some 0))
 overflows-greatest_duration = refl
 
@@ -352,5 +378,26 @@ AreNames (u ∷ us) =
 pub names_of_one_unit : AreNames units
 names_of_one_unit = assumption
 
-pub forty_names : length (flat_map (λ u. (row_of u).names) units) ≡ 40
-forty_names = refl
+pub forty_three_names : length (flat_map (λ u. (row_of u).names) units) ≡ 43
+forty_three_names = refl
+
+-- ---- The quarter
+
+pub quarter-read : answer off (codes "1q") ≡ Ok 7_862_400_000_000_000
+quarter-read = refl
+
+pub capital_quarters-read : answer off (codes "2 Quarters") ≡ Ok 15_724_800_000_000_000
+capital_quarters-read = refl
+
+pub capital_quarter-lowercase_refused : answer with_lowercase (codes "1Q") ≡ Err (Syntax 1 behind_number)
+capital_quarter-lowercase_refused = refl
+
+pub longer_word_than_quarter-refused : answer off (codes "1qs") ≡ Err (Syntax 1 behind_number)
+longer_word_than_quarter-refused = refl
+
+-- Before there was the quarter, its names were none of a unit, and each of the others was one.
+pub quarter_was_no_unit : map (unit_among older_units off) (row_of Quarter).names ≡ None ∷ None ∷ None ∷ []
+quarter_was_no_unit = refl
+
+pub forty_older_names : length (flat_map (λ u. (row_of u).names) older_units) ≡ 40
+forty_older_names = refl

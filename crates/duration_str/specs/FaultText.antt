@@ -18,7 +18,7 @@ sign_of Star = codes "*"
 -- the line of a syntax fault: where a unit could stand it names units, else where an operator could stand the operators
 abbrev pub expected_line : Expected → List ℕ
 expected_line expected =
-    if expected.unit_word then codes "expected [\"y\", \"mon\", \"w\", \"d\", \"h\", \"m\", \"s\", \"ms\", \"µs\", \"us\", \"ns\"]"
+    if expected.unit_word then codes "expected [\"y\", \"q\", \"mon\", \"w\", \"d\", \"h\", \"m\", \"s\", \"ms\", \"µs\", \"us\", \"ns\"]"
     else if expected.operator then codes "expected ['+', '*']"
     else codes "expected number"
 

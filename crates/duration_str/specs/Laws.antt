@@ -18,6 +18,7 @@ use Rattle.duration_str.specs.Place.{BeginsSentence, CanFollow, IsFront, kinds_a
 use Rattle.duration_str.specs.Value.{AllPlus, Term, value_of_term, terms_of, times_in, second}
 use Rattle.duration_str.specs.Reading.{IsRead, IsRefused}
 use Rattle.duration_str.specs.Answer.{answer}
+use Rattle.duration_str.specs.Older.{older_tokens, WasSentenceOf, WasRead, WasRefused}
 use Rattle.duration_str.specs.Printing.{IsPrinted, IsGreatestBreakdown, counts_of}
 
 abbrev pub HasNoStar : List ℕ → Type 0
@@ -131,3 +132,11 @@ pub record ReadsBack : Type 0 where
       → IsRefused o text (Overflow None)
   pub far_above : (o : Options) (nanos : ℕ) (text : List ℕ) → 585 * nanos_of Year ≤ nanos → FitsDuration nanos → IsPrinted nanos text
       → IsRefused o text (Overflow (Some 0))
+
+-- What was a sentence over the units before the quarter is one over all units, with the same tokens. So a text that was read
+-- is read as the same value, and one whose evaluation was refused is refused for the same cause.
+pub record OlderTexts : Type 0 where
+  pub tokens : (o : Options) (words : List (List ℕ)) (text : List ℕ) → WasSentenceOf o words text → older_tokens o words ≡ map (token_of o) words
+  pub sentence : (o : Options) (words : List (List ℕ)) (text : List ℕ) → WasSentenceOf o words text → IsSentenceOf o words text
+  pub value : (o : Options) (text : List ℕ) (nanos : ℕ) → WasRead o text nanos → IsRead o text nanos
+  pub cause : (o : Options) (text : List ℕ) (cause : Cause) → WasRefused o text cause → IsRefused o text cause

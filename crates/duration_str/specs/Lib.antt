@@ -22,4 +22,5 @@ pub mod Errors
 pub mod ReadAs
 pub mod Dates
 pub mod Configuration
+pub mod Older
 pub mod Laws

@@ -8,7 +8,7 @@ use lib.Chars.{codes}
 use Rattle.duration_str.specs.declared.unit.Options.{Options}
 use Rattle.duration_str.specs.declared.unit.Row.{Row}
 use Rattle.duration_str.specs.declared.unit.TimeUnit.{TimeUnit}
-use Rattle.duration_str.specs.declared.unit.TimeUnit.TheVariants.{Year, Month, Week, Day, Hour, Minute, Second, MilliSecond, MicroSecond, NanoSecond}
+use Rattle.duration_str.specs.declared.unit.TimeUnit.TheVariants.{Year, Quarter, Month, Week, Day, Hour, Minute, Second, MilliSecond, MicroSecond, NanoSecond}
 
 -- all options off
 abbrev pub off : Options
@@ -25,6 +25,7 @@ pub record UnitRow : Type 0 where
 -- The table of units. All else that is said of units follows from it.
 abbrev pub row_of : TimeUnit → UnitRow
 row_of Year = record { nanos = 31_536_000_000_000_000; printed = codes "y"; names = codes "y" ∷ codes "year" ∷ codes "years" ∷ []; chinese = codes "年" ∷ [] }
+row_of Quarter = record { nanos = 7_862_400_000_000_000; printed = codes "q"; names = codes "q" ∷ codes "quarter" ∷ codes "quarters" ∷ []; chinese = [] }
 row_of Month = record { nanos = 2_592_000_000_000_000; printed = codes "mon"; names = codes "mon" ∷ codes "month" ∷ codes "months" ∷ []; chinese = codes "月" ∷ [] }
 row_of Week = record { nanos = 604_800_000_000_000; printed = codes "w"; names = codes "w" ∷ codes "week" ∷ codes "weeks" ∷ []; chinese = codes "周" ∷ [] }
 row_of Day = record { nanos = 86_400_000_000_000; printed = codes "d"; names = codes "d" ∷ codes "day" ∷ codes "days" ∷ []; chinese = codes "日" ∷ codes "天" ∷ [] }
@@ -37,7 +38,7 @@ row_of NanoSecond = record { nanos = 1; printed = codes "ns"; names = codes "ns"
 
 -- the units, the longest first
 abbrev pub units : List TimeUnit
-units = Year ∷ Month ∷ Week ∷ Day ∷ Hour ∷ Minute ∷ Second ∷ MilliSecond ∷ MicroSecond ∷ NanoSecond ∷ []
+units = Year ∷ Quarter ∷ Month ∷ Week ∷ Day ∷ Hour ∷ Minute ∷ Second ∷ MilliSecond ∷ MicroSecond ∷ NanoSecond ∷ []
 
 -- the length of a unit in nanoseconds
 abbrev pub nanos_of : TimeUnit → ℕ

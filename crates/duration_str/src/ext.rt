@@ -14,8 +14,8 @@ use crate::unit::TimeUnit;
 use std::alloc::{AllocError, Allocator, Global};
 use std::time::Duration;
 
-/// The most bytes that a printed duration has: `100000000000y 11mon 3w 6d 23h 59min 59s 999ms 999µs 999ns`.
-pub const MAX_PRINTED_LEN: usize = 58;
+/// The most bytes that a printed duration has: `100000000000y 3q 2mon 3w 6d 23h 59min 59s 999ms 999µs 999ns`.
+pub const MAX_PRINTED_LEN: usize = 60;
 
 /// Writes a digit at the place `at`, and returns where it ends.
 #[inline(always)]
@@ -134,7 +134,8 @@ fn put_units(buffer: &mut [u8; 64], at: usize, nanos: u64) -> usize
     ensures end { result ≤ max_printed_len }
 {
     let mut rest = nanos;
-    let month = put_unit(buffer, at, &mut rest, TimeUnit::Month);
+    let quarter = put_unit(buffer, at, &mut rest, TimeUnit::Quarter);
+    let month = put_unit(buffer, quarter, &mut rest, TimeUnit::Month);
     let week = put_unit(buffer, month, &mut rest, TimeUnit::Week);
     let day = put_unit(buffer, week, &mut rest, TimeUnit::Day);
     let hour = put_unit(buffer, day, &mut rest, TimeUnit::Hour);

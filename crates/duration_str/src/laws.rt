@@ -1,5 +1,5 @@
 //! Laws over the definitions: each function does nothing, and its contract is a law.
-ghost use Rattle.duration_str.specs.Laws.{OneSentence, OneCut, OneAnswer, IsAnswer, PlaceAndKinds, NoCalcAgrees, OptionsIdle, BlanksFree, SumOfTexts, Reorder, TwoFactors, GreatestBreakdown, EqualTexts, ReadsBack};
+ghost use Rattle.duration_str.specs.Laws.{OneSentence, OneCut, OneAnswer, IsAnswer, PlaceAndKinds, NoCalcAgrees, OptionsIdle, BlanksFree, SumOfTexts, Reorder, TwoFactors, GreatestBreakdown, EqualTexts, ReadsBack, OlderTexts};
 
 /// At most one sentence spells a text, and its words are the text's pieces; a text is read as one value or refused for
 /// one cause, and not both, and the computed answer says which. So `3m31s` is spelled by `3`, `m`, `31`, `s` and by no
@@ -57,7 +57,7 @@ pub fn two_factors()
     ensures { TwoFactors }
 {}
 
-/// The counts by quotients and remainders are the greatest breakdown. So 364 days are 12 months and 4 days, not 52 weeks.
+/// The counts by quotients and remainders are the greatest breakdown. So 364 days are 4 quarters, not 52 weeks.
 pub fn greatest_breakdown()
     ensures { GreatestBreakdown }
 {}
@@ -69,7 +69,15 @@ pub fn equal_texts()
 
 /// What a duration prints as is read back as that duration below 2^64 nanoseconds, and else refused as an overflow:
 /// without place below 585 years, and with place 0 from there on. So
-/// `584y 11mon 1w 6d 23h 34min 33s 709ms 551µs 615ns` is read as 2^64 - 1 nanoseconds, and with `616ns` it overflows.
+/// `584y 3q 2mon 1w 3d 23h 34min 33s 709ms 551µs 615ns` is read as 2^64 - 1 nanoseconds, and with `616ns` it overflows.
 pub fn reads_back()
     ensures { ReadsBack }
+{}
+
+/// A text that was read before there was the quarter is read as the same value, under every choice of options, and one
+/// that was spelled by a sentence and refused by its evaluation is refused for the same cause. So a stored `1y 2mon` keeps
+/// its 425 days. Nothing is promised of other texts, as `1q`, which was a syntax fault and is read now, nor of printed
+/// ones: 91 days were printed as `3mon 1d`.
+pub fn older_texts()
+    ensures { OlderTexts }
 {}

@@ -14,7 +14,7 @@ impl Cause {
             Cause::Empty => "Empty input",
             Cause::Syntax { expected, .. } => {
                 if expected.unit_word {
-                    r#"expected ["y", "mon", "w", "d", "h", "m", "s", "ms", "µs", "us", "ns"]"#
+                    r#"expected ["y", "q", "mon", "w", "d", "h", "m", "s", "ms", "µs", "us", "ns"]"#
                 } else if expected.operator {
                     "expected ['+', '*']"
                 } else {

@@ -17,7 +17,7 @@ pub(crate) fn unit_of_packed(packed: u64) -> Option<TimeUnit>
 
 /// A multiplier that gives each packed name a slot of its own: bits 58 to 63 of the product. `tools/packed-slots` finds
 /// one, and writes the table below.
-const SPREAD: u64 = 14_928_481_133_502_012_247;
+const SPREAD: u64 = 8_353_693_844_369_934_821;
 
 /// Marks an empty slot. The number 2 is no name's, and its own slot is taken, so it is never found.
 const NO_NAME: (u64, TimeUnit) = (2, TimeUnit::Year);
@@ -25,67 +25,67 @@ const NO_NAME: (u64, TimeUnit) = (2, TimeUnit::Year);
 /// The packed names, each in its slot.
 static SLOTS: [(u64, TimeUnit); 64] = [
     NO_NAME,
-    (446_125_701, TimeUnit::Minute), // minute
-    (435, TimeUnit::MilliSecond), // ms
-    (8_902_227, TimeUnit::Hour), // hours
     NO_NAME,
     NO_NAME,
     NO_NAME,
-    (24_286_579, TimeUnit::Week), // weeks
     NO_NAME,
+    (274, TimeUnit::Hour), // hr
     NO_NAME,
-    (19_619, TimeUnit::Second), // sec
-    (445_603, TimeUnit::MilliSecond), // msec
-    (494_178_506_227_140, TimeUnit::NanoSecond), // nanosecond
-    (691, TimeUnit::MicroSecond), // us
-    (25, TimeUnit::Year), // y
-    (4, TimeUnit::Day), // d
-    (14_957_291_896_946_116, TimeUnit::MicroSecond), // microsecond
-    NO_NAME,
-    NO_NAME,
-    NO_NAME,
-    (452_415_763, TimeUnit::Month), // months
-    (278_194, TimeUnit::Hour), // hour
-    NO_NAME,
-    NO_NAME,
-    (19, TimeUnit::Second), // s
-    NO_NAME,
-    (26_379_859, TimeUnit::Year), // years
+    (13_806, TimeUnit::Month), // mon
     NO_NAME,
     NO_NAME,
     (13_614, TimeUnit::Minute), // min
-    (8, TimeUnit::Hour), // h
-    (478_371, TimeUnit::NanoSecond), // nsec
-    NO_NAME,
-    (13, TimeUnit::Minute), // m
-    NO_NAME,
-    NO_NAME,
-    (642_891_204, TimeUnit::Second), // second
-    (14_137_992, TimeUnit::Month), // month
-    NO_NAME,
-    (23, TimeUnit::Week), // w
-    (15_813_712_199_268_499, TimeUnit::NanoSecond), // nanoseconds
-    NO_NAME,
-    (707_747, TimeUnit::MicroSecond), // usec
-    NO_NAME,
-    (824_370, TimeUnit::Year), // year
-    (20_572_518_547, TimeUnit::Second), // seconds
     (132_915, TimeUnit::Day), // days
-    (274, TimeUnit::Hour), // hr
+    NO_NAME,
+    NO_NAME,
+    (606_717_220_435, TimeUnit::Quarter), // quarters
+    NO_NAME,
+    (24_286_579, TimeUnit::Week), // weeks
+    (14_957_291_896_946_116, TimeUnit::MicroSecond), // microsecond
+    NO_NAME,
+    (758_955, TimeUnit::Week), // week
+    (25, TimeUnit::Year), // y
+    (452_415_763, TimeUnit::Month), // months
+    (14_966_974_900_714_948, TimeUnit::MilliSecond), // millisecond
+    NO_NAME,
+    NO_NAME,
+    (445_603, TimeUnit::MilliSecond), // msec
+    (23, TimeUnit::Week), // w
+    (14_137_992, TimeUnit::Month), // month
+    (278_194, TimeUnit::Hour), // hour
+    NO_NAME,
+    (467, TimeUnit::NanoSecond), // ns
+    (15_813_712_199_268_499, TimeUnit::NanoSecond), // nanoseconds
+    (446_125_701, TimeUnit::Minute), // minute
+    (707_747, TimeUnit::MicroSecond), // usec
+    (478_371, TimeUnit::NanoSecond), // nsec
+    (19_619, TimeUnit::Second), // sec
     (478_633_340_702_275_731, TimeUnit::MicroSecond), // microseconds
     NO_NAME,
+    (19, TimeUnit::Second), // s
+    (8, TimeUnit::Hour), // h
+    (642_891_204, TimeUnit::Second), // second
+    (494_178_506_227_140, TimeUnit::NanoSecond), // nanosecond
     (23_191_469_508, TimeUnit::MicroSecond), // usecond
-    NO_NAME,
-    NO_NAME,
-    NO_NAME,
-    (13_806, TimeUnit::Month), // mon
-    (478_943_196_822_878_355, TimeUnit::MilliSecond), // milliseconds
-    NO_NAME,
-    NO_NAME,
-    (4153, TimeUnit::Day), // day
-    (467, TimeUnit::NanoSecond), // ns
-    NO_NAME,
     (14_276_022_451, TimeUnit::Minute), // minutes
-    (14_966_974_900_714_948, TimeUnit::MilliSecond), // millisecond
-    (758_955, TimeUnit::Week), // week
+    (17, TimeUnit::Quarter), // q
+    (4153, TimeUnit::Day), // day
+    NO_NAME,
+    (18_959_913_138, TimeUnit::Quarter), // quarter
+    NO_NAME,
+    NO_NAME,
+    (824_370, TimeUnit::Year), // year
+    (4, TimeUnit::Day), // d
+    (478_943_196_822_878_355, TimeUnit::MilliSecond), // milliseconds
+    (26_379_859, TimeUnit::Year), // years
+    NO_NAME,
+    NO_NAME,
+    (13, TimeUnit::Minute), // m
+    (8_902_227, TimeUnit::Hour), // hours
+    NO_NAME,
+    (691, TimeUnit::MicroSecond), // us
+    NO_NAME,
+    NO_NAME,
+    (20_572_518_547, TimeUnit::Second), // seconds
+    (435, TimeUnit::MilliSecond), // ms
 ];

@@ -39,6 +39,8 @@ impl Options {
 pub enum TimeUnit {
     /// 365 days.
     Year,
+    /// 91 days.
+    Quarter,
     /// 30 days.
     Month,
     /// 7 days.
@@ -89,6 +91,12 @@ impl TimeUnit {
                 printed: "y",
                 names: &["y", "year", "years"],
                 chinese: &["年"],
+            },
+            TimeUnit::Quarter => Row {
+                nanos: 7_862_400_000_000_000,
+                printed: "q",
+                names: &["q", "quarter", "quarters"],
+                chinese: &[],
             },
             TimeUnit::Month => Row {
                 nanos: 2_592_000_000_000_000,
@@ -202,7 +210,7 @@ impl TimeUnit {
     }
 }
 
-/// The printed name: `y`, `mon`, `w`, `d`, `h`, `min`, `s`, `ms`, `µs` or `ns`.
+/// The printed name, such as `min` or `µs`.
 impl fmt::Display for TimeUnit {
     ghost output = { λ unit. Some (encode_utf8_all (row_of unit).printed) };
 
@@ -225,8 +233,9 @@ struct Row {
 }
 
 /// The units, the longest first.
-static UNITS: [TimeUnit; 10] = [
+static UNITS: [TimeUnit; 11] = [
     TimeUnit::Year,
+    TimeUnit::Quarter,
     TimeUnit::Month,
     TimeUnit::Week,
     TimeUnit::Day,

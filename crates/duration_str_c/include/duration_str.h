@@ -7,9 +7,10 @@
  * The grammar: terms, each a number and a unit such as `3m` or `29 ms`, joined by `+` or by `*`, or following one
  * another, which adds them. Behind a number the unit may be left out before an operator and at the end, and is seconds.
  * Blanks (space, tab, carriage return, line feed) may stand anywhere but inside a number or a unit.
- * Units: y year years, mon month months, w week weeks, d day days, h hr hour hours, m min minute minutes, s sec second
- * seconds, ms msec millisecond milliseconds, µs µsec µsecond us usec usecond microsecond microseconds, ns nsec
- * nanosecond nanoseconds. A year has 365 days and a month 30. Numbers and values are below 2^64.
+ * Units: y year years, q quarter quarters, mon month months, w week weeks, d day days, h hr hour hours, m min minute
+ * minutes, s sec second seconds, ms msec millisecond milliseconds, µs µsec µsecond us usec usecond microsecond
+ * microseconds, ns nsec nanosecond nanoseconds. A year has 365 days, a quarter 91 and a month 30. Numbers and values are
+ * below 2^64.
  */
 #ifndef DURATION_STR_H
 #define DURATION_STR_H
@@ -78,7 +79,7 @@ size_t duration_str_fault_text(const uint8_t *text, size_t length, const struct 
                                uint8_t *buffer, size_t room);
 
 /* Prints a duration of `secs` seconds and `nanos` nanoseconds, which are below 1,000,000,000, into the front of `buffer`,
- * as `3min 13s 29ms`, and returns its length, which is at most 58 bytes. `buffer` has 64 bytes. Returns 0 where `nanos` is
+ * as `3min 13s 29ms`, and returns its length, which is at most 60 bytes. `buffer` has 64 bytes. Returns 0 where `nanos` is
  * 1,000,000,000 or more; then the buffer stays. */
 size_t duration_str_format(uint64_t secs, uint32_t nanos, uint8_t *buffer);
 

@@ -6,11 +6,11 @@ use std::time::Duration;
 
 const DAY: u64 = 86_400;
 
-const LONGEST_TEXT: &str = "100000000000y 11mon 3w 6d 23h 59min 59s 999ms 999µs 999ns";
+const LONGEST_TEXT: &str = "100000000000y 3q 2mon 3w 6d 23h 59min 59s 999ms 999µs 999ns";
 
 /// The duration that prints the longest text.
 fn longest() -> Duration {
-    Duration::new(3_153_600_000_030_931_199, 999_999_999)
+    Duration::new(3_153_600_000_031_190_399, 999_999_999)
 }
 
 /// The printed text of any value that has one.
@@ -29,7 +29,9 @@ fn prints_the_greatest_counts(rt: HostRuntime) -> Result<(), Fail> {
         (Duration::new(193, 29_000_000), "3min 13s 29ms"),
         (Duration::new(93_784, 0), "1d 2h 3min 4s"),
         (Duration::new(807 * DAY, 2), "2y 2mon 2w 3d 2ns"),
-        (Duration::new(364 * DAY, 0), "12mon 4d"),
+        (Duration::new(90 * DAY, 0), "3mon"),
+        (Duration::new(91 * DAY, 0), "1q"),
+        (Duration::new(364 * DAY, 0), "4q"),
         (Duration::new(35 * DAY, 0), "1mon 5d"),
         (Duration::new(377 * DAY + 3, 0), "1y 1w 5d 3s"),
         (Duration::new(25_200, 0), "7h"),
@@ -37,11 +39,11 @@ fn prints_the_greatest_counts(rt: HostRuntime) -> Result<(), Fail> {
         (Duration::ZERO, "0s"),
         (
             Duration::new(18_446_744_073, 709_551_615),
-            "584y 11mon 1w 6d 23h 34min 33s 709ms 551µs 615ns",
+            "584y 3q 2mon 1w 3d 23h 34min 33s 709ms 551µs 615ns",
         ),
         (
             Duration::new(18_446_744_073, 709_551_616),
-            "584y 11mon 1w 6d 23h 34min 33s 709ms 551µs 616ns",
+            "584y 3q 2mon 1w 3d 23h 34min 33s 709ms 551µs 616ns",
         ),
         (
             Duration::new(u64::MAX, 999_999_999),
@@ -62,6 +64,7 @@ fn prints_each_unit_alone(rt: HostRuntime) {
     let mut buffer = [0; 64];
     for (secs, nanos, text) in [
         (365 * DAY, 0, "1y"),
+        (91 * DAY, 0, "1q"),
         (30 * DAY, 0, "1mon"),
         (7 * DAY, 0, "1w"),
         (DAY, 0, "1d"),

@@ -66,6 +66,8 @@ fn reads_numbers_blanks_and_capitals(rt: HostRuntime) {
         ("0+18446744073709551615ns", 18_446_744_073_709_551_615),
         ("1MS", 1_000_000),
         ("1M", 60_000_000_000),
+        ("1q", 7_862_400_000_000_000),
+        ("2 Quarters", 15_724_800_000_000_000),
         ("1\u{b5}S", 1_000),
     ] {
         assert_read(&rt, text, Options::off(), nanos);
@@ -88,9 +90,9 @@ fn multiplies_step_by_step(rt: HostRuntime) {
 #[test]
 fn reads_what_is_printed_below_the_limit(rt: HostRuntime) {
     let off = Options::off();
-    let last = "584y 11mon 1w 6d 23h 34min 33s 709ms 551µs 615ns";
+    let last = "584y 3q 2mon 1w 3d 23h 34min 33s 709ms 551µs 615ns";
     assert_read(&rt, last, off, 18_446_744_073_709_551_615);
-    let next = "584y 11mon 1w 6d 23h 34min 33s 709ms 551µs 616ns";
+    let next = "584y 3q 2mon 1w 3d 23h 34min 33s 709ms 551µs 616ns";
     assert_refused(&rt, next, off, OVERFLOW);
     let greatest = "584942417355y 3w 5d 7h 15s 999ms 999µs 999ns";
     assert_refused(&rt, greatest, off, FIRST_OVERFLOW);
@@ -111,6 +113,7 @@ fn says_what_can_stand_at_the_place(rt: HostRuntime) {
         ("1分", 1, AFTER_NUMBER),
         ("0mxyz", 1, AFTER_NUMBER),
         ("1mx", 1, AFTER_NUMBER),
+        ("1qs", 1, AFTER_NUMBER),
         ("0m+3-5", 4, AFTER_NUMBER),
         ("1m 3-5", 4, AFTER_NUMBER),
         ("1m*2 3", 5, AFTER_NUMBER),
@@ -123,7 +126,9 @@ fn says_what_can_stand_at_the_place(rt: HostRuntime) {
     ] {
         assert_refused(&rt, text, Options::off(), syntax(place, expected));
     }
-    assert_refused(&rt, "1M", LOWERCASE, syntax(1, AFTER_NUMBER));
+    for text in ["1M", "1Q"] {
+        assert_refused(&rt, text, LOWERCASE, syntax(1, AFTER_NUMBER));
+    }
 }
 
 #[test]

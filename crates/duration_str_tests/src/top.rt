@@ -70,7 +70,7 @@ fn prints_signed_durations(rt: HostRuntime) -> Result<(), Fail> {
     }
     assert_eq!(rt;
         SignedDuration::MAX.human_format(alloc)?.as_str(),
-        "292471208677y 6mon 2w 1d 15h 30min 7s 999ms 999µs 999ns"
+        "292471208677y 2q 1w 6d 15h 30min 7s 999ms 999µs 999ns"
     );
     assert!(rt; SignedDuration::ZERO.is_printable());
     assert!(rt; !SignedDuration::from_nanos(-1).is_printable());

@@ -9,13 +9,20 @@ use duration_str::{Cause, CondUnit, Options, TimeUnit};
 use std::test::Fail;
 
 /// Each unit with its length in nanoseconds, its printed name, its names, and those that `cn_unit` adds.
-const TABLE: [(TimeUnit, u64, &str, &str, &str); 10] = [
+const TABLE: [(TimeUnit, u64, &str, &str, &str); 11] = [
     (
         TimeUnit::Year,
         31_536_000_000_000_000,
         "y",
         "y year years",
         "年",
+    ),
+    (
+        TimeUnit::Quarter,
+        7_862_400_000_000_000,
+        "q",
+        "q quarter quarters",
+        "",
     ),
     (
         TimeUnit::Month,
@@ -104,7 +111,7 @@ fn knows_the_names(rt: HostRuntime) {
                 assert_eq!(rt; TimeUnit::from_word(name, o), Some(unit), "{name}");
             }
         }
-        for name in chinese.split(' ') {
+        for name in chinese.split_whitespace() {
             assert_eq!(rt; TimeUnit::from_word(name, CN_UNIT), Some(unit), "{name}");
             assert_eq!(rt; TimeUnit::from_word(name, Options::off()), None, "{name}");
         }
@@ -119,6 +126,8 @@ fn folds_ascii_capitals_alone(rt: HostRuntime) {
         ("Hours", TimeUnit::Hour),
         ("mINUTES", TimeUnit::Minute),
         ("\u{b5}S", TimeUnit::MicroSecond),
+        ("Q", TimeUnit::Quarter),
+        ("Quarters", TimeUnit::Quarter),
     ] {
         assert_eq!(rt;
             TimeUnit::from_word(word, Options::off()),
@@ -135,7 +144,7 @@ fn folds_ascii_capitals_alone(rt: HostRuntime) {
 #[test]
 fn knows_no_other_word(rt: HostRuntime) {
     for word in [
-        "nys", "", "mxyz", "\u{b5}", " m", "m ", "分s", "秒秒", "毫", "1m",
+        "nys", "qs", "", "mxyz", "\u{b5}", " m", "m ", "分s", "秒秒", "毫", "1m",
     ] {
         for o in [Options::off(), CN_UNIT] {
             assert_eq!(rt; TimeUnit::from_word(word, o), None, "{word}");
@@ -160,8 +169,14 @@ fn value_of(unit: TimeUnit, number: &str) -> Option<Result<u64, Cause>> {
 }
 
 /// The last number of each unit but the nanosecond whose value is below 2^64 nanoseconds, that value, and the next number.
-const LAST_VALUES: [(TimeUnit, &str, u64, &str); 9] = [
+const LAST_VALUES: [(TimeUnit, &str, u64, &str); 10] = [
     (TimeUnit::Year, "584", 18_417_024_000_000_000_000, "585"),
+    (
+        TimeUnit::Quarter,
+        "2346",
+        18_445_190_400_000_000_000,
+        "2347",
+    ),
     (TimeUnit::Month, "7116", 18_444_672_000_000_000_000, "7117"),
     (TimeUnit::Week, "30500", 18_446_400_000_000_000_000, "30501"),
     (

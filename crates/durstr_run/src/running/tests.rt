@@ -120,12 +120,17 @@ fn ran<R: Read + Drop>(
 #[test]
 fn answers_each_line(rt: HostRuntime) -> Result<(), Fail> {
     assert_eq!(rt; OUTPUT.len(), 49);
-    let rows: [(&[u8], Result<bool, RunFault>, &[u8]); 5] = [
+    let rows: [(&[u8], Result<bool, RunFault>, &[u8]); 6] = [
         (INPUT, Ok(false), OUTPUT),
         (b"", Ok(true), b""),
         (b"\xff\n", Ok(false), b"not UTF-8\n"),
         (b"0\n1\r\n", Ok(true), b"0 0s\n1000000000 1s\n"),
         (b"\n", Ok(false), b"Empty input\n"),
+        (
+            b"1q\n13w\n364d\n",
+            Ok(true),
+            b"7862400000000000 1q\n7862400000000000 1q\n31449600000000000 4q\n",
+        ),
     ];
     for (input, wanted, output) in rows {
         let (answer, sink) = ran(&rt, Source::new(input), Sink::new());

@@ -1,0 +1,5 @@
+use Rattle.duration_str.proofs.OlderTexts.{older_texts_hold}
+use Rattle.duration_str.proofs.laws.older_texts.Goals as goal
+
+pub returns : goal.returns
+returns c = older_texts_hold
