@@ -49,7 +49,7 @@ pub(crate) enum Sort {
     Other,
 }
 
-/// A number: its digits, and what they come to but for a multiple of 2^64.
+/// A number: its digits, and what they write modulo 2^64.
 #[derive(Clone, Copy)]
 pub(crate) struct Number<'a> {
     digits: &'a str,
@@ -155,7 +155,7 @@ impl<'a> Tokens<'a> {
         }
     }
 
-    /// Moves past the digits, and gives their number but for a multiple of 2^64.
+    /// Moves past the digits, and gives their number modulo 2^64.
     #[inline(always)]
     fn take_digits(&mut self) -> u64
         ensures source { source self.new ≡ source self.old }
@@ -167,9 +167,7 @@ impl<'a> Tokens<'a> {
         while let Some(c) = self.head
             && c.is_ascii_digit()
         {
-            number = number
-                .wrapping_mul(10)
-                .wrapping_add(u64::from(c as u32 - 48));
+            number = ((number as u128 * 10 + (c as u32 - 48) as u128) % MODULUS) as u64;
             self.advance();
         }
         number
@@ -189,7 +187,7 @@ impl<'a> Tokens<'a> {
         }
     }
 
-    /// Moves past the ASCII letters that the word ahead begins with, and gives them packed but for a multiple of 2^64.
+    /// Moves past the ASCII letters that the word ahead begins with, and gives them packed modulo 2^64.
     /// Its first character is a unit letter, so there the test for ASCII is enough.
     #[inline(always)]
     fn take_ascii_letters(&mut self) -> u64
@@ -208,9 +206,7 @@ impl<'a> Tokens<'a> {
             while let Some(c) = self.head
                 && c.is_ascii_alphabetic()
             {
-                packed = packed
-                    .wrapping_mul(32)
-                    .wrapping_add(u64::from(c as u32 % 32));
+                packed = ((packed as u128 * 32 + (c as u32 % 32) as u128) % MODULUS) as u64;
                 self.advance();
             }
         }
@@ -315,9 +311,9 @@ impl<'a> Tokens<'a> {
         }
     }
 
-    /// The sort of the piece ahead, as `sort_ahead` gives it. Behind a number it is mostly a word, so a letter is tested for first.
+    /// The sort of the piece ahead, as `sort_ahead` gives it. After a number it is mostly a word, so a letter is tested for first.
     #[inline(always)]
-    pub(crate) fn sort_behind_number(&mut self) -> Option<Sort>
+    pub(crate) fn sort_after_number(&mut self) -> Option<Sort>
         ensures { LooksAhead self.old self.new result }
     {
         if let Some(c) = self.head
@@ -346,6 +342,9 @@ impl<'a> Iterator for Tokens<'a> {
         Some(Token { start, text, what })
     }
 }
+
+/// What is gathered of digits and letters is kept modulo this.
+const MODULUS: u128 = 1 << 64;
 
 /// The most digits whose number is always below 2^64.
 const MOST_DIGITS: usize = 19;

@@ -1,0 +1,137 @@
+-- What is left of a text while it is read: what is read next of it, and the answer.
+use Rattle.std.specs.Prelude.{◌≡◌, ℕ, ◌≤◌, Bool, true, false, List, [], ◌∷◌, ◌++◌, length, Option, Some, None, Result, Ok, Err, if◌then◌else◌}
+use Rattle.std.specs.Option.{ForSome, ok_or}
+use Rattle.std.specs.Result.{result_and}
+use Rattle.duration_str.specs.declared.unit.Options.{Options}
+use Rattle.duration_str.specs.declared.unit.TimeUnit.{TimeUnit}
+use Rattle.duration_str.specs.declared.unit.TimeUnit.TheVariants.{Second, NanoSecond}
+use Rattle.duration_str.specs.declared.unit.CondUnit.{CondUnit}
+use Rattle.duration_str.specs.declared.unit.CondUnit.TheVariants.{Plus, Star}
+use Rattle.duration_str.specs.declared.fault.Cause.{Cause}
+use Rattle.duration_str.specs.declared.fault.Cause.TheVariants.{Syntax, Overflow, Mixed}
+use Rattle.duration_str.specs.declared.token.Tokens.{Tokens}
+use Rattle.duration_str.specs.Grammar.{Token, number, word, operator, token_of}
+use Rattle.duration_str.specs.Pieces.{Piece}
+use Rattle.duration_str.specs.Place.{kinds_after, allows}
+use Rattle.duration_str.specs.Value.{second, kept, joined, is_same_operator}
+use Rattle.duration_str.specs.Answer.{answer_at}
+use Rattle.duration_str.specs.Faults.{place_of}
+use Rattle.duration_str.specs.Tokens.{source, options_of, left}
+
+-- ---- What is left, and what is read next of it
+
+-- The tokens that are left, each with the byte at which it starts, and the byte at which the text ends.
+pub data Rest : Type 0 where
+  token_at : ℕ → Token → Rest → Rest
+  end_at : ℕ → Rest
+
+-- what is left of a text of `len` bytes, when these pieces are
+abbrev pub rest_from : Options → ℕ → List Piece → Rest
+rest_from o len [] = end_at len
+rest_from o len (p ∷ pieces) = token_at p.start (token_of o p.characters) (rest_from o len pieces)
+
+-- what is left to cut
+abbrev pub rest_of : Tokens → Rest
+rest_of s = rest_from (options_of s) (length (source s)) (left s)
+
+-- the byte at which the rest starts
+abbrev pub start_of : Rest → ℕ
+start_of (token_at at token rest) = at
+start_of (end_at at) = at
+
+-- the rest without its places
+abbrev pub tokens_in : Rest → List Token
+tokens_in (token_at at token rest) = token ∷ tokens_in rest
+tokens_in (end_at at) = []
+
+-- the fault that the rest may not follow the token `last`, or stand at the start of a text
+abbrev pub misplaced : Bool → Option Token → Rest → Cause
+misplaced no_calc last rest = Syntax (start_of rest) (kinds_after no_calc last)
+
+-- what was read, and the rest after it
+pub record Read (A : Type 0) : Type 0 where
+  pub item : A
+  pub rest : Rest
+
+-- a result of reading, with the rest after it
+abbrev pub leaving : {A : Type 0} → Rest → Result A Cause → Result (Read A) Cause
+leaving rest (Ok item) = Ok (record { item = item; rest = rest })
+leaving rest (Err cause) = Err cause
+
+-- The fault where a number has to come, as at the start and after an operator, and none comes.
+abbrev pub lacks_number : Rest → Option Cause
+lacks_number (token_at at (number n) rest) = None
+lacks_number rest = Some (misplaced false None rest)
+
+-- the fault, or else the result
+abbrev pub fault_or : {A : Type 0} → Option Cause → Result A Cause → Result A Cause
+fault_or (Some cause) result = Err cause
+fault_or None result = result
+
+-- the unit after a number: seconds before an operator and at the end
+abbrev pub unit_read : Bool → Rest → Result (Read TimeUnit) Cause
+unit_read no_calc (token_at at (word (Some u)) rest) = leaving rest (Ok u)
+unit_read false (token_at at (operator op) rest) = leaving (token_at at (operator op) rest) (Ok Second)
+unit_read no_calc (end_at at) = leaving (end_at at) (Ok Second)
+unit_read no_calc rest = Err (misplaced no_calc (Some (number 0)) rest)
+
+-- the operator after a unit, up to the number that has to follow: plus where it is left out, and none at the end
+abbrev pub operator_read : Bool → Rest → Result (Read (Option CondUnit)) Cause
+operator_read no_calc (token_at at (number n) rest) = leaving (token_at at (number n) rest) (Ok (Some Plus))
+operator_read false (token_at at (operator op) rest) = leaving rest (fault_or (lacks_number rest) (Ok (Some op)))
+operator_read no_calc (end_at at) = leaving (end_at at) (Ok None)
+operator_read no_calc rest = Err (misplaced no_calc (Some (word None)) rest)
+
+-- ---- The answer
+
+-- the tokens of the rest that go by the table, where `last` stands before them
+abbrev pub front_left : Bool → Option Token → Rest → List Token
+front_left no_calc last (end_at at) = []
+front_left no_calc last (token_at at token rest) =
+    if allows (kinds_after no_calc last) token then token ∷ front_left no_calc (Some token) rest else []
+
+-- the rest after those
+abbrev pub after_front : Bool → Option Token → Rest → Rest
+after_front no_calc last (end_at at) = end_at at
+after_front no_calc last (token_at at token rest) =
+    if allows (kinds_after no_calc last) token then after_front no_calc (Some token) rest else token_at at token rest
+
+-- the answer to a text that has these tokens in front, where this is left and a number has to come
+abbrev pub answer_left : Bool → List Token → Rest → Result ℕ Cause
+answer_left no_calc front rest =
+    let after = after_front no_calc None rest in
+    answer_at no_calc (start_of after) (front ++ front_left no_calc None rest) (tokens_in after)
+
+-- a first term of so many nanoseconds, and the operator after it
+abbrev pub first_term : ℕ → CondUnit → List Token
+first_term nanos op = number nanos ∷ word (Some NanoSecond) ∷ operator op ∷ []
+
+-- ---- Values, or the first fault
+
+-- the value where it is below 2^64
+abbrev pub within : Option ℕ → Result ℕ Cause
+within value = ok_or value (Overflow None)
+
+-- two values by the operator
+abbrev pub join : CondUnit → Result ℕ Cause → Result ℕ Cause → Result ℕ Cause
+join op (Ok x) (Ok y) = within (kept (joined op x y))
+join op (Ok x) (Err cause) = Err cause
+join op (Err cause) y = Err cause
+
+-- the value of no later terms
+abbrev pub nothing_of : CondUnit → ℕ
+nothing_of Plus = 0
+nothing_of Star = second
+
+-- the later terms' value before the operator `next`: another one than was set is a fault
+abbrev pub before_operator : CondUnit → Result ℕ Cause → CondUnit → Result ℕ Cause
+before_operator set later next = result_and later (if is_same_operator set next then later else Err (Mixed set next))
+
+-- ---- Places
+
+-- Some byte up to `at` is the fault's place, or it has none.
+abbrev pub IsCut : ℕ → Cause → Type 0
+IsCut at cause = ForSome (place_of cause) (λ place. place ≤ at)
+
+abbrev pub IsPlaceless : Cause → Type 0
+IsPlaceless cause = place_of cause ≡ None
