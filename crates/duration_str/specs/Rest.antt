@@ -1,5 +1,5 @@
 -- What is left of a text while it is read: what is read next of it, and the answer.
-use Rattle.std.specs.Prelude.{◌≡◌, ℕ, ◌≤◌, Bool, true, false, List, [], ◌∷◌, ◌++◌, length, Option, Some, None, Result, Ok, Err, if◌then◌else◌}
+use Rattle.std.specs.Prelude.{◌≡◌, ℕ, zero, suc, ◌≤◌, Bool, true, false, List, [], ◌∷◌, ◌++◌, length, take, drop, Option, Some, None, Result, Ok, Err, if◌then◌else◌}
 use Rattle.std.specs.Option.{ForSome, ok_or}
 use Rattle.std.specs.Result.{result_and}
 use Rattle.duration_str.specs.declared.unit.Options.{Options}
@@ -12,7 +12,7 @@ use Rattle.duration_str.specs.declared.fault.Cause.TheVariants.{Syntax, Overflow
 use Rattle.duration_str.specs.declared.token.Tokens.{Tokens}
 use Rattle.duration_str.specs.Grammar.{Token, number, word, operator, token_of}
 use Rattle.duration_str.specs.Pieces.{Piece}
-use Rattle.duration_str.specs.Place.{kinds_after, allows}
+use Rattle.duration_str.specs.Place.{kinds_after, front_of}
 use Rattle.duration_str.specs.Value.{second, kept, joined, is_same_operator}
 use Rattle.duration_str.specs.Answer.{answer_at}
 use Rattle.duration_str.specs.Faults.{place_of}
@@ -34,10 +34,11 @@ rest_from o len (p ∷ pieces) = token_at p.start (token_of o p.characters) (res
 abbrev pub rest_of : Tokens → Rest
 rest_of s = rest_from (options_of s) (length (source s)) (left s)
 
--- the byte at which the rest starts
-abbrev pub start_of : Rest → ℕ
-start_of (token_at at token rest) = at
-start_of (end_at at) = at
+-- the byte at which the rest goes on after its first n tokens, or ends
+abbrev pub start_left : ℕ → Rest → ℕ
+start_left n (end_at at) = at
+start_left zero (token_at at token rest) = at
+start_left (suc n) (token_at at token rest) = start_left n rest
 
 -- the rest without its places
 abbrev pub tokens_in : Rest → List Token
@@ -46,7 +47,7 @@ tokens_in (end_at at) = []
 
 -- the fault that the rest may not follow the token `last`, or stand at the start of a text
 abbrev pub misplaced : Bool → Option Token → Rest → Cause
-misplaced no_calc last rest = Syntax (start_of rest) (kinds_after no_calc last)
+misplaced no_calc last rest = Syntax (start_left 0 rest) (kinds_after no_calc last)
 
 -- what was read, and the rest after it
 pub record Read (A : Type 0) : Type 0 where
@@ -84,23 +85,12 @@ operator_read no_calc rest = Err (misplaced no_calc (Some (word None)) rest)
 
 -- ---- The answer
 
--- the tokens of the rest that go by the table, where `last` stands before them
-abbrev pub front_left : Bool → Option Token → Rest → List Token
-front_left no_calc last (end_at at) = []
-front_left no_calc last (token_at at token rest) =
-    if allows (kinds_after no_calc last) token then token ∷ front_left no_calc (Some token) rest else []
-
--- the rest after those
-abbrev pub after_front : Bool → Option Token → Rest → Rest
-after_front no_calc last (end_at at) = end_at at
-after_front no_calc last (token_at at token rest) =
-    if allows (kinds_after no_calc last) token then after_front no_calc (Some token) rest else token_at at token rest
-
 -- the answer to a text that has these tokens in front, where this is left and a number has to come
 abbrev pub answer_left : Bool → List Token → Rest → Result ℕ Cause
 answer_left no_calc front rest =
-    let after = after_front no_calc None rest in
-    answer_at no_calc (start_of after) (front ++ front_left no_calc None rest) (tokens_in after)
+    let tokens = tokens_in rest in
+    let n = front_of no_calc tokens in
+    answer_at no_calc (start_left n rest) (front ++ take n tokens) (drop n tokens)
 
 -- a first term of so many nanoseconds, and the operator after it
 abbrev pub first_term : ℕ → CondUnit → List Token
