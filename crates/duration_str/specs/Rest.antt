@@ -1,7 +1,7 @@
 -- What is left of a text while it is read: what is read next of it, and the answer.
-use Rattle.std.specs.Prelude.{◌≡◌, ℕ, zero, suc, ◌≤◌, Bool, true, false, List, [], ◌∷◌, ◌++◌, length, take, drop, Option, Some, None, Result, Ok, Err, if◌then◌else◌}
+use Rattle.std.specs.Prelude.{◌≡◌, ℕ, zero, suc, ◌≤◌, Bool, false, List, [], ◌∷◌, ◌++◌, length, take, drop, Option, Some, None, Result, Ok, Err, IfErr, if◌then◌else◌}
 use Rattle.std.specs.Option.{ForSome, ok_or}
-use Rattle.std.specs.Result.{result_and}
+use Rattle.std.specs.Result.{result_and, result_err}
 use Rattle.duration_str.specs.declared.unit.Options.{Options}
 use Rattle.duration_str.specs.declared.unit.TimeUnit.{TimeUnit}
 use Rattle.duration_str.specs.declared.unit.TimeUnit.TheVariants.{Second, NanoSecond}
@@ -13,10 +13,12 @@ use Rattle.duration_str.specs.declared.token.Tokens.{Tokens}
 use Rattle.duration_str.specs.Grammar.{Token, number, word, operator, token_of}
 use Rattle.duration_str.specs.Pieces.{Piece}
 use Rattle.duration_str.specs.Place.{kinds_after, front_of}
-use Rattle.duration_str.specs.Value.{second, kept, joined, is_same_operator}
+use Rattle.duration_str.specs.Value.{second, kept, joined, is_same_operator, term_value}
 use Rattle.duration_str.specs.Answer.{answer_at}
-use Rattle.duration_str.specs.Faults.{place_of}
-use Rattle.duration_str.specs.Tokens.{source, options_of, left}
+use Rattle.duration_str.specs.Faults.{place_of as fault_place}
+use Rattle.duration_str.specs.Tokens.{source, options_of, place_of, left, IsAhead}
+use Rattle.duration_str.specs.Units.{nanos_of}
+use Rattle.duration_str.specs.declared.token.Sort.TheVariants.{Number}
 
 -- ---- What is left, and what is read next of it
 
@@ -83,6 +85,15 @@ operator_read false (token_at at (operator op) rest) = leaving rest (fault_or (l
 operator_read no_calc (end_at at) = leaving (end_at at) (Ok None)
 operator_read no_calc rest = Err (misplaced no_calc (Some (word None)) rest)
 
+-- ---- Places
+
+-- The fault's place, if it has one, is not beyond the byte `at`.
+abbrev pub IsCut : ℕ → Cause → Type 0
+IsCut at cause = ForSome (fault_place cause) (λ place. place ≤ at)
+
+abbrev pub IsPlaceless : Cause → Type 0
+IsPlaceless cause = fault_place cause ≡ None
+
 -- ---- The answer
 
 -- the answer to a text that has these tokens in front, where this is left and a number has to come
@@ -117,11 +128,26 @@ nothing_of Star = second
 abbrev pub before_operator : CondUnit → Result ℕ Cause → CondUnit → Result ℕ Cause
 before_operator set later next = result_and later (if is_same_operator set next then later else Err (Mixed set next))
 
--- ---- Places
+-- the value of a later term, or its fault, which has no place
+abbrev pub later_term : Option ℕ → TimeUnit → Result ℕ Cause
+later_term n unit = term_value None n (nanos_of unit)
 
--- Some byte up to `at` is the fault's place, or it has none.
-abbrev pub IsCut : ℕ → Cause → Type 0
-IsCut at cause = ForSome (place_of cause) (λ place. place ≤ at)
+-- the fault of a value where it is not held back, as under `no_calc`
+abbrev pub at_once : Bool → Result ℕ Cause → Option Cause
+at_once no_calc value = if no_calc then result_err value else None
 
-abbrev pub IsPlaceless : Cause → Type 0
-IsPlaceless cause = place_of cause ≡ None
+-- ---- Steps of the reader
+
+-- The result is what `f` reads of the rest, and the rest after it is left.
+abbrev pub Reads : {A : Type 0} → (Rest → Result (Read A) Cause) → Tokens → Tokens → Result A Cause → Type 0
+Reads f old new result = leaving (rest_of new) result ≡ f (rest_of old)
+
+-- The source stays, and a fault does not stand beyond the place up to which it is cut.
+pub record CutsOn {A : Type 0} (old new : Tokens) (result : Result A Cause) : Type 0 where
+  pub same_source : source new ≡ source old
+  pub reached : IfErr result (IsCut (place_of new))
+
+-- A number is ahead after an operator; without one the whole source is cut.
+abbrev pub IsBefore : Tokens → Option CondUnit → Type 0
+IsBefore s None = place_of s ≡ length (source s)
+IsBefore s (Some op) = IsAhead s (Some Number)
