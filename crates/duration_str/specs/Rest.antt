@@ -109,13 +109,9 @@ first_term nanos op = number nanos ∷ word (Some NanoSecond) ∷ operator op �
 
 -- ---- Values, or the first fault
 
--- the value where it is below 2^64
-abbrev pub within : Option ℕ → Result ℕ Cause
-within value = ok_or value (Overflow None)
-
--- two values by the operator
+-- two values by the operator, where that is below 2^64
 abbrev pub join : CondUnit → Result ℕ Cause → Result ℕ Cause → Result ℕ Cause
-join op (Ok x) (Ok y) = within (kept (joined op x y))
+join op (Ok x) (Ok y) = ok_or (kept (joined op x y)) (Overflow None)
 join op (Ok x) (Err cause) = Err cause
 join op (Err cause) y = Err cause
 

@@ -91,8 +91,7 @@ pub struct Tokens<'a> {
 
 impl<'a> Tokens<'a> {
     ghost use Rattle.duration_str.specs.Grammar.{Token as PieceToken, word};
-    ghost use Rattle.duration_str.specs.Sorts.{sort_of};
-    ghost use Rattle.duration_str.specs.Tokens.{source, options_of, place_of, looks_of, left, what_of, IsAhead, LooksAhead, is_number, IsSign, kept_of, TakesNumberPiece, TakesPiece};
+    ghost use Rattle.duration_str.specs.Tokens.{source, options_of, place_of, looks_of, left, what_of, IsAhead, LooksAhead, is_number, IsSign, kept_of, TakesNumberPiece, TakesPiece, TakesSign};
 
     /// The pieces of a text, cut under these options.
     #[inline(always)]
@@ -261,7 +260,8 @@ impl<'a> Tokens<'a> {
     #[inline(always)]
     pub(crate) fn take_sign(&mut self)
         requires { (sort : Sort) × IsSign sort × IsAhead self.old (Some sort) }
-        ensures { (sort : Sort) → IsAhead self.old (Some sort) → (token : PieceToken) × TakesPiece self.old self.new token × (sort ≡ sort_of token) }
+        ensures source { source self.new ≡ source self.old }
+        ensures sign { TakesSign self.old self.new }
     {
         self.advance();
     }
