@@ -140,7 +140,7 @@ digits_none text place = record { run = passes_none is_digit text place; number 
 
 -- one more digit
 pub digits_head : (text left : List ℕ) (place at next : ℕ) (head : Option ℕ) (c value value' : ℕ) → left ≡ text → TakesDigits text place at value → head ≡ Some c
-    → ForSome head (StandsAt left at next) → is_digit c ≡ true → value' ≡ (value * 10 % 2 ^ 64 + (c - 48)) % 2 ^ 64 → TakesDigits text place next value'
+    → ForSome head (StandsAt left at next) → is_digit c ≡ true → value' ≡ (value * 10 + (c - 48)) % 2 ^ 64 → TakesDigits text place next value'
 unfolding passes_head passes_more
 digits_head text left place at next head c value value' same taken is stands e more =
     let push = number_after-push 0 taken.run.characters c in
@@ -156,7 +156,7 @@ letters_none text place = record { run = passes_none is_ascii_alphabetic text pl
 
 -- one more ASCII letter
 pub letters_head : (text left : List ℕ) (place at next : ℕ) (head : Option ℕ) (c value value' : ℕ) → left ≡ text → TakesLetters text place at value → head ≡ Some c
-    → ForSome head (StandsAt left at next) → is_ascii_alphabetic c ≡ true → value' ≡ (value * 32 % 2 ^ 64 + c % 32) % 2 ^ 64 → TakesLetters text place next value'
+    → ForSome head (StandsAt left at next) → is_ascii_alphabetic c ≡ true → value' ≡ (value * 32 + c % 32) % 2 ^ 64 → TakesLetters text place next value'
 unfolding passes_head passes_more
 letters_head text left place at next head c value value' same taken is stands e more =
     let push = packed_after-push 0 taken.run.characters c in

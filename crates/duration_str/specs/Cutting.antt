@@ -41,12 +41,12 @@ packed_after n (c ∷ letters) = packed_after (n * 32 + c % 32) letters
 abbrev pub packed : List ℕ → ℕ
 packed letters = packed_after 0 letters
 
--- From `place` to `next` stand digits, and this is their number but for a multiple of 2^64.
+-- From `place` to `next` stand digits, and this is their number modulo 2^64.
 pub record TakesDigits (text : List ℕ) (place next value : ℕ) : Type 0 where
   pub run : Passes is_digit text place next
   pub number : value ≡ number_of run.characters % 2 ^ 64
 
--- From `place` to `next` stand ASCII letters, and they pack to this number but for a multiple of 2^64.
+-- From `place` to `next` stand ASCII letters, and they pack to this number modulo 2^64.
 pub record TakesLetters (text : List ℕ) (place next value : ℕ) : Type 0 where
   pub run : Passes is_ascii_alphabetic text place next
   pub number : value ≡ packed run.characters % 2 ^ 64

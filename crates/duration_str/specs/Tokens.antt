@@ -13,7 +13,7 @@ use Rattle.duration_str.specs.declared.token.Tokens.{Tokens}
 use Rattle.duration_str.specs.Grammar.{Token, number, word, operator, other, token_of}
 use Rattle.duration_str.specs.Pieces.{Piece, pieces_from}
 use Rattle.duration_str.specs.Cutting.{ahead, Between}
-use Rattle.duration_str.specs.Sorts.{sort_at}
+use Rattle.duration_str.specs.Sorts.{sort_at, sort_of}
 use Rattle.duration_str.specs.Text.{is_blank, number_of}
 use Rattle.duration_str.specs.Value.{kept}
 
@@ -93,3 +93,7 @@ kept_of n = kept (number_of (chars n.digits.now))
 -- The first piece that is left is taken, a number, and this is the number where it is below 2^64.
 abbrev pub TakesNumberPiece : Tokens → Tokens → Option ℕ → Type 0
 TakesNumberPiece old new value = (n : ℕ) × TakesPiece old new (number n) × (value ≡ kept n)
+
+-- The first piece that is left is taken, and its token is of the sort ahead.
+abbrev pub TakesSign : Tokens → Tokens → Type 0
+TakesSign old new = (sort : Sort) → IsAhead old (Some sort) → (token : Token) × TakesPiece old new token × (sort ≡ sort_of token)

@@ -90,7 +90,7 @@ impl<'a> Eye<'a> {
     }
 }
 
-/// The character at a place. `next` becomes the place behind it; a pair of both as the result would be kept together as
+/// The character at a place. `next` becomes the place after it; a pair of both as the result would be kept together as
 /// one value, whose parts the compiler does not tell apart.
 #[inline]
 fn character_at(text: &str, place: usize, next: &mut usize) -> char
@@ -110,7 +110,7 @@ fn character_at(text: &str, place: usize, next: &mut usize) -> char
     }
 }
 
-/// The character at a place, of any number of bytes, and the place behind it.
+/// The character at a place, of any number of bytes, and the place after it.
 #[cold]
 #[inline(never)]
 fn decoded_at(text: &str, place: usize) -> (char, usize)

@@ -49,7 +49,7 @@ pub(crate) enum Sort {
     Other,
 }
 
-/// A number: its digits, and what they come to but for a multiple of 2^64.
+/// A number: its digits, and what they write modulo 2^64.
 #[derive(Clone, Copy)]
 pub(crate) struct Number<'a> {
     digits: &'a str,
@@ -91,8 +91,7 @@ pub struct Tokens<'a> {
 
 impl<'a> Tokens<'a> {
     ghost use Rattle.duration_str.specs.Grammar.{Token as PieceToken, word};
-    ghost use Rattle.duration_str.specs.Sorts.{sort_of};
-    ghost use Rattle.duration_str.specs.Tokens.{source, options_of, place_of, looks_of, left, what_of, IsAhead, LooksAhead, is_number, IsSign, kept_of, TakesNumberPiece, TakesPiece};
+    ghost use Rattle.duration_str.specs.Tokens.{source, options_of, place_of, looks_of, left, what_of, IsAhead, LooksAhead, is_number, IsSign, kept_of, TakesNumberPiece, TakesPiece, TakesSign};
 
     /// The pieces of a text, cut under these options.
     #[inline(always)]
@@ -155,7 +154,7 @@ impl<'a> Tokens<'a> {
         }
     }
 
-    /// Moves past the digits, and gives their number but for a multiple of 2^64.
+    /// Moves past the digits, and gives their number modulo 2^64.
     #[inline(always)]
     fn take_digits(&mut self) -> u64
         ensures source { source self.new ≡ source self.old }
@@ -167,9 +166,7 @@ impl<'a> Tokens<'a> {
         while let Some(c) = self.head
             && c.is_ascii_digit()
         {
-            number = number
-                .wrapping_mul(10)
-                .wrapping_add(u64::from(c as u32 - 48));
+            number = ((number as u128 * 10 + (c as u32 - 48) as u128) % MODULUS) as u64;
             self.advance();
         }
         number
@@ -189,7 +186,7 @@ impl<'a> Tokens<'a> {
         }
     }
 
-    /// Moves past the ASCII letters that the word ahead begins with, and gives them packed but for a multiple of 2^64.
+    /// Moves past the ASCII letters that the word ahead begins with, and gives them packed modulo 2^64.
     /// Its first character is a unit letter, so there the test for ASCII is enough.
     #[inline(always)]
     fn take_ascii_letters(&mut self) -> u64
@@ -208,9 +205,7 @@ impl<'a> Tokens<'a> {
             while let Some(c) = self.head
                 && c.is_ascii_alphabetic()
             {
-                packed = packed
-                    .wrapping_mul(32)
-                    .wrapping_add(u64::from(c as u32 % 32));
+                packed = ((packed as u128 * 32 + (c as u32 % 32) as u128) % MODULUS) as u64;
                 self.advance();
             }
         }
@@ -265,7 +260,8 @@ impl<'a> Tokens<'a> {
     #[inline(always)]
     pub(crate) fn take_sign(&mut self)
         requires { (sort : Sort) × IsSign sort × IsAhead self.old (Some sort) }
-        ensures { (sort : Sort) → IsAhead self.old (Some sort) → (token : PieceToken) × TakesPiece self.old self.new token × (sort ≡ sort_of token) }
+        ensures source { source self.new ≡ source self.old }
+        ensures sign { TakesSign self.old self.new }
     {
         self.advance();
     }
@@ -315,9 +311,9 @@ impl<'a> Tokens<'a> {
         }
     }
 
-    /// The sort of the piece ahead, as `sort_ahead` gives it. Behind a number it is mostly a word, so a letter is tested for first.
+    /// The sort of the piece ahead, as `sort_ahead` gives it. After a number it is mostly a word, so a letter is tested for first.
     #[inline(always)]
-    pub(crate) fn sort_behind_number(&mut self) -> Option<Sort>
+    pub(crate) fn sort_after_number(&mut self) -> Option<Sort>
         ensures { LooksAhead self.old self.new result }
     {
         if let Some(c) = self.head
@@ -346,6 +342,9 @@ impl<'a> Iterator for Tokens<'a> {
         Some(Token { start, text, what })
     }
 }
+
+/// What is gathered of digits and letters is kept modulo this.
+const MODULUS: u128 = 1 << 64;
 
 /// The most digits whose number is always below 2^64.
 const MOST_DIGITS: usize = 19;

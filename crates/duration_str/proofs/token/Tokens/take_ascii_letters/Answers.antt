@@ -28,7 +28,7 @@ loop-self-preserved c =
       same_source = more.ensures.source ∙ inv.same_source;
       same_options = more.ensures.options ∙ inv.same_options;
       letters = letters_head (source start) (source s) (place_of start) (place_of s) (place_of more.new.self) s.head c.in-Some-head.c c.loop-self.packed _ inv.same_source inv.letters c.in-Some-head.is
-          more.ensures.past letter (rw c.from.ensures refl);
+          more.ensures.past letter refl;
     }
 
 pub loop-self-smaller : goal.loop-self-smaller

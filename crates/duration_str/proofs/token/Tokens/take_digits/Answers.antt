@@ -16,7 +16,7 @@ loop-self-preserved c =
       same_source = c.advance.ensures.source ∙ inv.same_source;
       same_options = c.advance.ensures.options ∙ inv.same_options;
       digits = digits_head (source start) (source s) (place_of start) (place_of s) (place_of c.advance.new.self) s.head c.in-Some.c c.loop-self.number _ inv.same_source inv.digits c.in-Some.is
-          c.advance.ensures.past (sym c.is_ascii_digit.ensures.value ∙ c.if-is_ascii_digit.true) (rw c.from.ensures refl);
+          c.advance.ensures.past (sym c.is_ascii_digit.ensures.value ∙ c.if-is_ascii_digit.true) refl;
     }
 
 pub loop-self-smaller : goal.loop-self-smaller

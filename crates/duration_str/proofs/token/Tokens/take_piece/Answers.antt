@@ -9,10 +9,10 @@ take_sign-requires c = (_, tt, subst (λ (sort : Sort). IsAhead c.args.self.now 
 
 pub returns-in-Operator : goal.returns-in-Operator
 returns-in-Operator c =
-    let taken = c.take_sign.ensures _ (subst (λ (sort : Sort). IsAhead c.args.self.now (Some sort)) c.in-Operator.is c.requires) in
+    let taken = c.take_sign.ensures.sign _ (subst (λ (sort : Sort). IsAhead c.args.self.now (Some sort)) c.in-Operator.is c.requires) in
     (taken.0, taken.1, sign_what taken.0 c.in-Operator.operator taken.2)
 
 pub returns-in-Other : goal.returns-in-Other
 returns-in-Other c =
-    let taken = c.take_sign-in-Other.ensures _ (subst (λ (sort : Sort). IsAhead c.args.self.now (Some sort)) c.in-Other.is c.requires) in
+    let taken = c.take_sign-in-Other.ensures.sign _ (subst (λ (sort : Sort). IsAhead c.args.self.now (Some sort)) c.in-Other.is c.requires) in
     (taken.0, taken.1, other_what taken.0 taken.2)

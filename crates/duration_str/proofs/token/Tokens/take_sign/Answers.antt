@@ -3,8 +3,8 @@ use Rattle.duration_str.specs.Tokens.{IsSign}
 use Rattle.duration_str.proofs.TokensLemmas.{one_sort, takes_sign}
 use Rattle.duration_str.proofs.token.Tokens.take_sign.Goals as goal
 
-pub returns : goal.returns
-returns c sort h =
+pub returns-clause-sign : goal.returns-clause-sign
+returns-clause-sign c sort h =
     let s = c.args.self.now in
     let e = c.advance.ensures in
     let sign = subst IsSign (one_sort s c.requires.0 sort c.requires.2 h) c.requires.1 in
