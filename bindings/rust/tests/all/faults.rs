@@ -1,61 +1,32 @@
 //! Texts that are refused, and what their faults tell.
 use crate::all_options;
-use crate::expected::UNITS;
+use crate::vectors::vectors;
 use duration_str::{parse, parse_with, Cause, CondUnit, DError, Expected, Fault, Options};
 use std::error::Error;
 
-const OPERATORS: &str = "expected ['+', '*']";
 const NO_CALC: Options = Options { no_calc: true, ..Options::off() };
 
-/// A text, the spaces before its caret, and the line; or its line alone.
-type Row = (&'static str, Option<usize>, &'static str);
-
-/// Faults that are the same under all options.
-const ALWAYS: &[Row] = &[
-    ("", None, "Empty input"),
-    ("   ", Some(3), "expected number"),
-    ("0mxyz", Some(1), UNITS),
-    ("0m3-5", Some(3), UNITS),
-    ("600y", Some(0), "overflow error"),
-    ("18446744073709551616", Some(0), "number too large to fit in target type"),
-    ("1m 99999999999999999999", None, "number too large to fit in target type"),
-    ("1m\0", Some(2), OPERATORS),
-    ("1µs …", Some(4), OPERATORS),
-];
-
-/// Faults without `no_calc`.
-const EXPRESSIONS: &[Row] = &[
-    ("0m+3-5", Some(4), UNITS),
-    ("3ms-2ms", Some(3), OPERATORS),
-    ("1m+", Some(3), "expected number"),
-    ("10000000000000000y+60", Some(0), "overflow error"),
-    ("580y*2", None, "overflow error"),
-    ("1m+2*3", None, "not support '+' with '*' calculate"),
-    ("1m*2 3s*4", Some(5), UNITS),
-    ("1m*2s 3s", None, "not support '*' with '+' calculate"),
-];
-
-/// Faults under `no_calc`.
-const NO_EXPRESSIONS: &[Row] = &[("1+2", Some(1), UNITS), ("3ms-2ms", Some(3), "expected number"), ("1m+2", Some(2), "expected number")];
+/// The line of this name.
+fn line(name: &str) -> String {
+    vectors().lines[name].clone()
+}
 
 /// The fault of a text.
 fn fault(text: &str, options: Options) -> Fault<'_> {
     parse_with(text, options).expect_err(text)
 }
 
-fn check(rows: &[Row], is_told: impl Fn(Options) -> bool) {
+/// Each text of the rows of this name is refused as its row says, under the options that `is_told` tells.
+fn check(name: &str, is_told: impl Fn(Options) -> bool) {
     for options in all_options().filter(|options| is_told(*options)) {
-        for &(text, spaces, line) in rows {
+        for (text, spaces, name) in &vectors().faults[name] {
+            let line = line(name);
             let message = match spaces {
-                Some(spaces) => format!("{text}\n{}^\n{line}", " ".repeat(spaces)),
-                None => String::from(line),
+                Some(spaces) => format!("{text}\n{}^\n{line}", " ".repeat(*spaces)),
+                None => line.clone(),
             };
-            // After a unit an operator could stand, but not under `no_calc`.
-            let message = if options.no_calc { message.replace(OPERATORS, "expected number") } else { message };
             let fault = fault(text, options);
-            assert_eq!(fault.to_string(), message, "{options:?}");
-            assert_eq!(fault.line(), message.lines().last().unwrap(), "{options:?}");
-            assert_eq!(fault.text(), text);
+            assert_eq!((fault.to_string(), fault.line(), fault.text()), (message.clone(), line, &text[..]), "{options:?}");
             if options == Options::of_features() {
                 assert_eq!(parse(text), Err(message));
             }
@@ -65,9 +36,9 @@ fn check(rows: &[Row], is_told: impl Fn(Options) -> bool) {
 
 #[test]
 fn tells_what_is_wrong() {
-    check(ALWAYS, |_| true);
-    check(EXPRESSIONS, |options| !options.no_calc);
-    check(NO_EXPRESSIONS, |options| options.no_calc);
+    check("under all options", |_| true);
+    check("without no_calc", |options| !options.no_calc);
+    check("under no_calc", |options| options.no_calc);
 }
 
 const NONE: Expected = Expected { number: false, unit_word: false, operator: false, text_end: false };
@@ -116,14 +87,14 @@ fn tells_the_cause() {
 
 #[test]
 fn tells_the_byte_where_the_text_has_lines() {
-    assert_eq!(fault("1m\n2x", Options::off()).to_string(), format!("byte 4: {UNITS}"));
+    assert_eq!(fault("1m\n2x", Options::off()).to_string(), format!("byte 4: {}", line("units")));
 }
 
 #[test]
 fn writes_messages_of_any_length() {
     for length in [100, 150, 200, 256, 10_000] {
         let text = format!("1s{}x", " ".repeat(length));
-        let message = format!("{text}\n{}^\n{OPERATORS}", " ".repeat(length + 2));
+        let message = format!("{text}\n{}^\n{}", " ".repeat(length + 2), line("operators"));
         assert_eq!(fault(&text, Options::off()).to_string(), message);
     }
 }
@@ -131,9 +102,9 @@ fn writes_messages_of_any_length() {
 #[test]
 fn becomes_an_error() {
     let rows = [
-        ("", DError::ParseError("Empty input".to_string())),
-        ("1x", DError::ParseError(UNITS.to_string())),
-        ("1s+2*3", DError::ParseError("not support '+' with '*' calculate".to_string())),
+        ("", DError::ParseError(line("empty"))),
+        ("1x", DError::ParseError(line("units"))),
+        ("1s+2*3", DError::ParseError(line("plus, then star"))),
         ("580y*2", DError::OverflowError),
         ("600y", DError::OverflowError),
     ];
@@ -145,7 +116,7 @@ fn becomes_an_error() {
     }
     let text = String::from("1x");
     let error: Box<dyn Error + '_> = fault(&text, Options::off()).into();
-    assert_eq!(error.to_string(), format!("1x\n ^\n{UNITS}"));
+    assert_eq!(error.to_string(), format!("1x\n ^\n{}", line("units")));
 }
 
 #[test]

@@ -3,10 +3,10 @@
 mod config;
 #[cfg(feature = "chrono")]
 mod dates;
-mod expected;
 mod faults;
 mod printing;
 mod values;
+mod vectors;
 
 use duration_str::Options;
 
