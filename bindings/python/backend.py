@@ -33,7 +33,7 @@ HELP = """there is no shared library duration_str to pack. Do one of these:
 - put the Rattle toolchain's command rt and gcc on the path, and build within a checkout of the repository."""
 HERE = pathlib.Path(__file__).resolve().parent
 PACKAGE = HERE / "src" / NAME
-C_CRATE = HERE.parents[1] / "crates" / "duration_str_c"
+C_CRATE = HERE.parent.parent / "crates" / "duration_str_c"
 
 
 def _installed():
