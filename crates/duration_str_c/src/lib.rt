@@ -132,3 +132,6 @@ fn is_utf8(bytes: &[u8]) -> bool
 {
     str::from_utf8(bytes).is_ok()
 }
+
+#[cfg(test)]
+mod tests;
