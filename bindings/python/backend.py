@@ -50,12 +50,15 @@ def _built():
     """The library's file, linked from the checkout's archive, which is proved and built where it isn't there; or None."""
     archive = C_CRATE / "out" / "libduration_str_c.a"
     if not archive.is_file() and C_CRATE.is_dir() and shutil.which("rt"):
-        subprocess.run(["rt", "lib"], cwd=C_CRATE, check=True)
+        ran = subprocess.run(["rt", "lib"], cwd=C_CRATE, capture_output=True, text=True)
+        if ran.returncode != 0:
+            raise SystemExit(f"{ran.stdout}{ran.stderr}rt lib failed in {C_CRATE}")
     if not archive.is_file() or not shutil.which("gcc"):
         return None
     file = archive.with_name(LIBRARY)
+    exports = f"-Wl,--version-script,{C_CRATE / 'exports.map'}"
     whole = ["-Wl,--whole-archive", str(archive), "-Wl,--no-whole-archive"]
-    subprocess.run(["gcc", "-shared", "-o", str(file), *whole], check=True)
+    subprocess.run(["gcc", "-shared", "-o", str(file), exports, *whole], check=True)
     return file
 
 
@@ -65,7 +68,10 @@ def _library():
     file = pathlib.Path(named) if named else _installed() or _built()
     if file is None:
         raise SystemExit(HELP)
-    return file.read_bytes()
+    try:
+        return file.read_bytes()
+    except OSError as error:
+        raise SystemExit(f"the shared library can't be read: {error}") from error
 
 
 def _sources(folder):

@@ -33,20 +33,26 @@ fn checkout() -> Option<PathBuf> {
     if archive_in(&folder).is_none() {
         let ran = Command::new("rt").arg("lib").current_dir(&c_crate).output().ok()?;
         if !ran.status.success() {
-            eprintln!("{}rt lib failed in {}", String::from_utf8_lossy(&ran.stdout), c_crate.display());
+            let told = String::from_utf8_lossy(&ran.stdout);
+            fail(&format!("{told}{}rt lib failed in {}", String::from_utf8_lossy(&ran.stderr), c_crate.display()));
         }
     }
-    archive_in(&folder).is_some().then_some(folder)
+    Some(folder)
+}
+
+fn fail(why: &str) -> ! {
+    eprintln!("{why}");
+    exit(1)
 }
 
 fn main() {
     for name in ["DURATION_STR_LIB_DIR", "PKG_CONFIG", "PKG_CONFIG_PATH"] {
         println!("cargo:rerun-if-env-changed={name}");
     }
-    let folder = env::var_os("DURATION_STR_LIB_DIR").map(PathBuf::from).or_else(installed).or_else(checkout);
-    let Some((folder, name)) = folder.and_then(|folder| archive_in(&folder).map(|name| (folder, name))) else {
-        eprintln!("{HELP}");
-        exit(1);
+    let named = env::var_os("DURATION_STR_LIB_DIR").map(PathBuf::from);
+    let Some(folder) = named.or_else(installed).or_else(checkout) else { fail(HELP) };
+    let Some(name) = archive_in(&folder) else {
+        fail(&format!("There is no libduration_str.a in {}, where it is looked for.", folder.display()));
     };
     println!("cargo:rerun-if-changed={}", folder.join(format!("lib{name}.a")).display());
     println!("cargo:rustc-link-search=native={}", folder.display());
