@@ -28,7 +28,8 @@ fn installed() -> Option<PathBuf> {
 
 /// The folder of the checkout in which the archive lies. Where it isn't there, it is proved and built.
 fn checkout() -> Option<PathBuf> {
-    let c_crate = Path::new(&env::var_os("CARGO_MANIFEST_DIR")?).join("../../crates/duration_str_c").canonicalize().ok()?;
+    let c_crate =
+        Path::new(&env::var_os("CARGO_MANIFEST_DIR")?).join("../../crates/duration_str_c").canonicalize().ok()?;
     let folder = c_crate.join("out");
     if archive_in(&folder).is_none() {
         let ran = Command::new("rt").arg("lib").current_dir(&c_crate).output().ok()?;

@@ -1,7 +1,6 @@
 //! Moments after and before another.
 use crate::fault::Fault;
-use crate::ffi::moment::{after, before};
-use crate::ffi::{Answer, Moment};
+use crate::ffi::{after, before, Answer, Moment};
 use crate::options::Options;
 use alloc::string::{String, ToString};
 use chrono::{NaiveDate, NaiveDateTime, TimeZone, Utc};

@@ -128,7 +128,9 @@ impl<'a> Fault<'a> {
             2 => Cause::Syntax { place: answer.place, expected: Expected::of(answer.expected) },
             3 => Cause::NumberTooLarge { place },
             4 => Cause::Overflow { place },
-            5 => Cause::Mixed { first: CondUnit::of(answer.first_operator), later: CondUnit::of(answer.later_operator) },
+            5 => {
+                Cause::Mixed { first: CondUnit::of(answer.first_operator), later: CondUnit::of(answer.later_operator) }
+            }
             6 => Cause::OutOfRange,
             // 7 is for bytes that are no UTF-8, which a `str` has none of.
             other => unreachable!("the library told the cause {other}, which its header has not for texts"),

@@ -38,11 +38,16 @@ pub(crate) struct Moment {
 }
 
 extern "C" {
-    fn duration_str_parse(text: *const u8, length: usize, nanos: *mut u64) -> bool;
+    fn duration_str_parse(text: *const u8, len: usize, nanos: *mut u64) -> bool;
     fn duration_str_format(secs: u64, nanos: u32, buffer: *mut u8) -> usize;
-    fn duration_str_parse_with(text: *const u8, length: usize, options: u32, answer: *mut Answer) -> bool;
-    fn duration_str_message(text: *const u8, length: usize, answer: *const Answer, buffer: *mut u8, room: usize) -> usize;
+    fn duration_str_parse_with(text: *const u8, len: usize, options: u32, answer: *mut Answer) -> bool;
+    fn duration_str_message(text: *const u8, len: usize, answer: *const Answer, buffer: *mut u8, room: usize) -> usize;
     fn duration_str_line(answer: *const Answer, buffer: *mut u8, room: usize) -> usize;
+    #[cfg(feature = "chrono")]
+    fn duration_str_after(text: *const u8, len: usize, options: u32, moment: *mut Moment, answer: *mut Answer) -> bool;
+    #[cfg(feature = "chrono")]
+    fn duration_str_before(text: *const u8, len: usize, options: u32, moment: *mut Moment, answer: *mut Answer)
+        -> bool;
 }
 
 /// The nanoseconds of a text that is read with all options off, or `None` where it is refused.
@@ -85,31 +90,21 @@ pub(crate) fn line(answer: &Answer, buffer: &mut [u8]) -> usize {
     unsafe { duration_str_line(answer, buffer.as_mut_ptr(), buffer.len()) }
 }
 
-/// The moments after and before another by the value of a text.
+/// The moment that comes after another by the value of a text.
 #[cfg(feature = "chrono")]
-pub(crate) mod moment {
-    use super::{Answer, Moment};
+pub(crate) fn after(text: &str, options: u32, mut moment: Moment) -> Result<Moment, Answer> {
+    let mut answer = Answer::default();
+    // SAFETY: the pointer and length are those of a text that is lent for the call; `moment` and `answer` are variables of
+    // their own, laid out as the header's.
+    let is_moved = unsafe { duration_str_after(text.as_ptr(), text.len(), options, &mut moment, &mut answer) };
+    is_moved.then_some(moment).ok_or(answer)
+}
 
-    type Moves = unsafe extern "C" fn(*const u8, usize, u32, *mut Moment, *mut Answer) -> bool;
-
-    extern "C" {
-        fn duration_str_after(text: *const u8, length: usize, options: u32, moment: *mut Moment, answer: *mut Answer) -> bool;
-        fn duration_str_before(text: *const u8, length: usize, options: u32, moment: *mut Moment, answer: *mut Answer) -> bool;
-    }
-
-    fn moved(moves: Moves, text: &str, options: u32, mut moment: Moment) -> Result<Moment, Answer> {
-        let mut answer = Answer::default();
-        // SAFETY: `moves` is one of the two functions above. The pointer and length are those of a text that is lent for
-        // the call; `moment` and `answer` are variables of their own, laid out as the header's.
-        let is_moved = unsafe { moves(text.as_ptr(), text.len(), options, &mut moment, &mut answer) };
-        if is_moved { Ok(moment) } else { Err(answer) }
-    }
-
-    pub(crate) fn after(text: &str, options: u32, moment: Moment) -> Result<Moment, Answer> {
-        moved(duration_str_after, text, options, moment)
-    }
-
-    pub(crate) fn before(text: &str, options: u32, moment: Moment) -> Result<Moment, Answer> {
-        moved(duration_str_before, text, options, moment)
-    }
+/// The moment that comes before another by the value of a text.
+#[cfg(feature = "chrono")]
+pub(crate) fn before(text: &str, options: u32, mut moment: Moment) -> Result<Moment, Answer> {
+    let mut answer = Answer::default();
+    // SAFETY: as with `duration_str_after`.
+    let is_moved = unsafe { duration_str_before(text.as_ptr(), text.len(), options, &mut moment, &mut answer) };
+    is_moved.then_some(moment).ok_or(answer)
 }

@@ -3,7 +3,7 @@
 //!
 //! This crate has the public interface of `duration-str` 0.19.0 from crates.io, over a library whose every answer is proved.
 //! What it adds: [`parse_with`], whose options are chosen at each call and whose [`Fault`] says why and where;
-//! [`write_human`], which takes no memory; and [`moment_after`] and [`moment_before`] for any moment. Faults' texts are
+//! [`write_human`], which takes no memory; and `moment_after` and `moment_before` for any moment. Faults' texts are
 //! the proved library's, whose caret stands at the first piece with which no expression goes on.
 //!
 //! ```
@@ -62,21 +62,21 @@ mod parser;
 pub use dates::{
     after_naive_date, after_naive_date_time, before_naive_date, before_naive_date_time, moment_after, moment_before,
 };
+#[cfg(feature = "serde")]
+#[allow(deprecated)]
+pub use deserialize::{deserialize_duration, deserialize_option_duration, DeserializeDuration};
 #[cfg(all(feature = "serde", feature = "chrono"))]
 #[allow(deprecated)]
 pub use deserialize::{deserialize_duration_chrono, deserialize_option_duration_chrono};
 #[cfg(all(feature = "serde", feature = "time"))]
 #[allow(deprecated)]
 pub use deserialize::{deserialize_duration_time, deserialize_option_duration_time};
-#[cfg(feature = "serde")]
-#[allow(deprecated)]
-pub use deserialize::{deserialize_duration, deserialize_option_duration, DeserializeDuration};
 pub use error::{DError, DResult};
 pub use ext::{write_human, HumanFormat};
 pub use fault::{Cause, CondUnit, Expected, Fault};
 pub use options::Options;
-pub use parser::{parse, parse_std, parse_with};
 #[cfg(feature = "chrono")]
 pub use parser::parse_chrono;
 #[cfg(feature = "time")]
 pub use parser::parse_time;
+pub use parser::{parse, parse_std, parse_with};

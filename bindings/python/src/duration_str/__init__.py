@@ -117,7 +117,7 @@ def parse_ns(text: str, *, no_calc: bool = False, lowercase: bool = False, cn_un
     answer = _library.parse_with(encoded, bool(no_calc) | bool(lowercase) << 1 | bool(cn_unit) << 2)
     if answer.cause != 0:
         raise _error(text, encoded, answer)
-    return answer.nanos
+    return int(answer.nanos)
 
 
 def parse(

@@ -25,7 +25,10 @@ where
     let of_text = serde_json::from_str(&text).map_err(|error| error.to_string());
     let of_value = from_value(value).map_err(|error| error.to_string());
     // For a text the message ends in its place.
-    assert!(of_text == of_value || of_text.as_ref().unwrap_err().starts_with(of_value.as_ref().unwrap_err()), "{of_text:?}");
+    assert!(
+        of_text == of_value || of_text.as_ref().unwrap_err().starts_with(of_value.as_ref().unwrap_err()),
+        "{of_text:?}"
+    );
     of_value
 }
 

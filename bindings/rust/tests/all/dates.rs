@@ -1,8 +1,8 @@
 //! Moments, against chrono's own arithmetic.
 use chrono::{Duration, NaiveDate, NaiveDateTime, TimeZone, Utc};
 use duration_str::{
-    after_naive_date, after_naive_date_time, before_naive_date, before_naive_date_time, moment_after, moment_before, Cause,
-    HumanFormat, Options,
+    after_naive_date, after_naive_date_time, before_naive_date, before_naive_date_time, moment_after, moment_before,
+    Cause, HumanFormat, Options,
 };
 use proptest::prelude::*;
 
@@ -17,7 +17,11 @@ fn moment(secs: i64, nanos: u32) -> NaiveDateTime {
 /// A moment that chrono computed, where it is one that the library has.
 fn in_range(moment: NaiveDateTime) -> Result<NaiveDateTime, Cause> {
     let secs = Utc.from_utc_datetime(&moment).timestamp();
-    if (FIRST..=LAST).contains(&secs) { Ok(moment) } else { Err(Cause::OutOfRange) }
+    if (FIRST..=LAST).contains(&secs) {
+        Ok(moment)
+    } else {
+        Err(Cause::OutOfRange)
+    }
 }
 
 proptest! {

@@ -26,7 +26,11 @@ fn check(name: &str, is_told: impl Fn(Options) -> bool) {
                 None => line.clone(),
             };
             let fault = fault(text, options);
-            assert_eq!((fault.to_string(), fault.line(), fault.text()), (message.clone(), line, &text[..]), "{options:?}");
+            assert_eq!(
+                (fault.to_string(), fault.line(), fault.text()),
+                (message.clone(), line, &text[..]),
+                "{options:?}"
+            );
             if options == Options::of_features() {
                 assert_eq!(parse(text), Err(message));
             }
