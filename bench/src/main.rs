@@ -1,10 +1,13 @@
 //! Times of this library and of humantime, and single calls for a program that counts instructions.
 //!
 //! - `bench times`: nanoseconds a call over 1,000 expressions, a line `WHAT OURS THEIRS` for reading and for printing.
-//! - `bench calls SIDE WHAT COUNT`: so many calls on `3m 13s 29ms`. SIDE is `ours`, `theirs` or `nobody`, WHAT is `read`,
-//!   `print` (into a buffer) or `print-string`.
+//! - `bench crate-times`: the same of the Rust crate, for reading beside the C call, and for printing into a `String`
+//!   beside humantime.
+//! - `bench calls SIDE WHAT COUNT`: so many calls on `3m 13s 29ms`. SIDE is `ours` (the C call), `crate` (the Rust crate),
+//!   `theirs` or `nobody`, WHAT is `read`, `print` (into a buffer) or `print-string`.
 //! - `bench text SIDE BYTES COUNT`: reads a text of so many bytes so many times.
 //! - `bench seconds BYTES`: the seconds in which a text of so many bytes is read, ours and theirs.
+use duration_str::HumanFormat;
 use std::hint::black_box;
 use std::io::Write;
 use std::time::{Duration, Instant};
@@ -19,6 +22,7 @@ const EXPRESSION: &str = "3m 13s 29ms";
 #[derive(Clone, Copy, PartialEq)]
 enum Side {
     Ours,
+    Crate,
     Theirs,
     Nobody,
 }
@@ -44,6 +48,10 @@ fn our_printing(length: Duration) -> [u8; 64] {
     let end = unsafe { duration_str_format(length.as_secs(), length.subsec_nanos(), buffer.as_mut_ptr()) };
     black_box(end);
     buffer
+}
+
+fn crate_reading(text: &str) -> Duration {
+    duration_str::parse(text).expect("a text that is read")
 }
 
 fn their_reading(text: &str) -> Duration {
@@ -104,6 +112,23 @@ fn times() {
     println!("print-string {ours:.1} {theirs:.1}");
 }
 
+fn crate_times() {
+    let texts: Vec<&str> = EXPRESSIONS.lines().collect();
+    let lengths: Vec<Duration> = texts.iter().map(|text| crate_reading(text)).collect();
+    let (ours, theirs) = nanos_a_call(
+        texts.len(),
+        || texts.iter().for_each(|text| { black_box(crate_reading(black_box(text))); }),
+        || texts.iter().for_each(|text| { black_box(our_reading(black_box(text))); }),
+    );
+    println!("read {ours:.1} {theirs:.1}");
+    let (ours, theirs) = nanos_a_call(
+        lengths.len(),
+        || lengths.iter().for_each(|length| { black_box(black_box(length).human_format()); }),
+        || lengths.iter().for_each(|length| { black_box(humantime::format_duration(black_box(*length)).to_string()); }),
+    );
+    println!("print-string {ours:.1} {theirs:.1}");
+}
+
 fn calls(side: Side, call: Call, count: u64) {
     let length = Duration::new(193, 29_000_000);
     for _ in 0..count {
@@ -111,6 +136,9 @@ fn calls(side: Side, call: Call, count: u64) {
         let length = black_box(length);
         match (side, call) {
             (Side::Ours, Call::Read) => { black_box(our_reading(text)); }
+            (Side::Crate, Call::Read) => { black_box(crate_reading(text)); }
+            (Side::Crate, Call::Print) => { black_box(duration_str::write_human(&length, &mut [0; 64])); }
+            (Side::Crate, Call::PrintString) => { black_box(length.human_format()); }
             (Side::Theirs, Call::Read) => { black_box(their_reading(text)); }
             (Side::Ours, Call::Print | Call::PrintString) => { black_box(our_printing(length)); }
             (Side::Theirs, Call::Print) => { black_box(their_printing(length)); }
@@ -126,6 +154,7 @@ fn text(side: Side, bytes: usize, count: u64) {
         let text = black_box(text.as_str());
         match side {
             Side::Ours => { black_box(our_reading(text)); }
+            Side::Crate => { black_box(crate_reading(text)); }
             Side::Theirs => { black_box(their_reading(text)); }
             Side::Nobody => {}
         }
@@ -146,6 +175,7 @@ fn seconds(bytes: usize) {
 fn side(word: &str) -> Side {
     match word {
         "ours" => Side::Ours,
+        "crate" => Side::Crate,
         "theirs" => Side::Theirs,
         "nobody" => Side::Nobody,
         _ => panic!("no side: {word}"),
@@ -166,6 +196,7 @@ fn main() {
     let words: Vec<&str> = words.iter().map(String::as_str).collect();
     match words.as_slice() {
         ["times"] => times(),
+        ["crate-times"] => crate_times(),
         ["calls", who, what, count] => calls(side(who), call(what), count.parse().expect("a count")),
         ["text", who, bytes, count] => text(side(who), bytes.parse().expect("a length"), count.parse().expect("a count")),
         ["seconds", bytes] => seconds(bytes.parse().expect("a length")),

@@ -1,5 +1,5 @@
 /* Calls what the header declares, and tells each answer that is not the one expected. It compiles as C and as C++, so that
- * the header and the library are seen to agree on each struct. */
+ * the header and the library are seen to agree on each struct and each number. */
 #include <stdio.h>
 #include <string.h>
 
@@ -15,79 +15,118 @@ static void expect(bool holds, const char *what)
     }
 }
 
-static struct duration_str_answer read_with(const char *text, bool no_calc, bool lowercase, bool cn_unit)
+/* What is told of a text. Each byte of the answer is set before, so that one that is not written shows. */
+static struct duration_str_answer read_with(const char *text, uint32_t options)
 {
-    struct duration_str_options options = {no_calc, lowercase, cn_unit};
     struct duration_str_answer answer;
     memset(&answer, 0xff, sizeof answer);
-    duration_str_parse_with((const uint8_t *)text, strlen(text), &options, &answer);
+    bool read = duration_str_parse_with((const uint8_t *)text, strlen(text), options, &answer);
+    expect(read == (answer.cause == DURATION_STR_READ), "a text is read exactly if there is no cause");
     return answer;
 }
 
-/* A syntax fault at byte 1, behind a number: a unit or the end could stand there, and perhaps an operator. */
-static bool is_behind_number(struct duration_str_answer answer, bool is_operator)
+/* A syntax fault at this byte, where these kinds could stand, and at which a piece of so many bytes stands. */
+static bool is_syntax(struct duration_str_answer answer, size_t place, uint32_t expected, size_t found_length)
 {
-    return answer.cause == DURATION_STR_SYNTAX && answer.has_place && answer.place == 1 && answer.nanos == 0 &&
-           !answer.number && answer.unit_word && answer.is_operator == is_operator && answer.text_end;
+    return answer.cause == DURATION_STR_SYNTAX && answer.has_place == 1 && answer.place == place &&
+           answer.expected == expected && answer.found_length == found_length && answer.nanos == 0 &&
+           answer.first_operator == 0 && answer.later_operator == 0;
 }
 
-static void check_readings(void)
+static void check_options(void)
 {
     const char *minute = "1\xe5\x88\x86";
-    struct duration_str_answer read = read_with(minute, false, false, true);
-    expect(read.cause == DURATION_STR_READ && read.nanos == 60000000000u && !read.has_place, "a Chinese unit");
-    expect(is_behind_number(read_with(minute, true, true, false), false), "a Chinese unit without its option");
-    expect(is_behind_number(read_with("1M", false, true, false), true), "a capital under lowercase");
-    expect(read_with("1M", true, false, true).nanos == 60000000000u, "a capital without lowercase");
-    expect(is_behind_number(read_with("1+2", true, false, false), false), "an operator under no_calc");
-    expect(read_with("1+2", false, true, true).nanos == 3000000000u, "an operator without no_calc");
-    struct duration_str_answer later = read_with("1m 3-5", false, false, false);
-    expect(later.cause == DURATION_STR_SYNTAX && later.place == 4, "the place of a later fault");
-    struct duration_str_answer ended = read_with("1m+", false, false, false);
-    expect(ended.number && !ended.unit_word && !ended.is_operator && !ended.text_end, "what stands behind an operator");
-    struct duration_str_answer first = read_with("10000000000000000y+60", false, false, false);
-    expect(first.cause == DURATION_STR_OVERFLOW && first.has_place && first.place == 0, "a first term that is too large");
-    struct duration_str_answer all = read_with("580y*2", false, false, false);
-    expect(all.cause == DURATION_STR_OVERFLOW && !all.has_place && !all.text_end, "a value that is too large");
-    expect(read_with("", false, false, false).cause == DURATION_STR_EMPTY, "the empty text");
-    expect(read_with("1m 2s*3", false, false, false).cause == DURATION_STR_MIXED, "mixed operators");
-    expect(read_with("1s 99999999999999999999", false, false, false).cause == DURATION_STR_NUMBER_TOO_LARGE, "a number");
-    expect(read_with("1\xff", false, false, false).cause == DURATION_STR_NOT_TEXT, "bytes that are no UTF-8");
+    const uint32_t after_number = DURATION_STR_UNIT | DURATION_STR_OPERATOR | DURATION_STR_END;
+    const uint32_t others = ~(uint32_t)(DURATION_STR_NO_CALC | DURATION_STR_LOWERCASE | DURATION_STR_CN_UNIT);
+    struct duration_str_answer read = read_with(minute, DURATION_STR_CN_UNIT);
+    expect(read.nanos == 60000000000u && read.has_place == 0 && read.place == 0 && read.expected == 0, "a Chinese unit");
+    expect(is_syntax(read_with(minute, DURATION_STR_LOWERCASE | others), 1, after_number, 3), "a Chinese unit, unasked for");
+    expect(is_syntax(read_with("1M", DURATION_STR_LOWERCASE), 1, after_number, 1), "a capital under lowercase");
+    expect(read_with("1M", DURATION_STR_NO_CALC | others).nanos == 60000000000u, "a capital without lowercase");
+    expect(is_syntax(read_with("1+2", DURATION_STR_NO_CALC), 1, DURATION_STR_UNIT | DURATION_STR_END, 1), "an operator");
+    expect(read_with("1+2", others).nanos == 3000000000u, "an operator without no_calc");
 }
 
-static void check_buffers(void)
+static void check_refusals(void)
+{
+    expect(is_syntax(read_with("1m+", 0), 3, DURATION_STR_NUMBER, 0), "the end after an operator");
+    struct duration_str_answer first = read_with("10000000000000000y+60", 0);
+    expect(first.cause == DURATION_STR_OVERFLOW && first.has_place == 1 && first.place == 0, "a first term too large");
+    struct duration_str_answer all = read_with("580y*2", 0);
+    expect(all.cause == DURATION_STR_OVERFLOW && all.has_place == 0 && all.expected == 0, "a value too large");
+    struct duration_str_answer mixed = read_with("1m 2s*3", 0);
+    expect(mixed.cause == DURATION_STR_MIXED && mixed.first_operator == '+' && mixed.later_operator == '*', "operators");
+    expect(read_with("", 0).cause == DURATION_STR_EMPTY, "the empty text");
+    expect(read_with("1s 99999999999999999999", 0).cause == DURATION_STR_NUMBER_TOO_LARGE, "a number");
+    expect(read_with("1\xff", 0).cause == DURATION_STR_NOT_TEXT, "bytes that are no UTF-8");
+}
+
+static void check_messages(void)
 {
     const uint8_t *text = (const uint8_t *)"3ms-2ms";
-    struct duration_str_options off = {false, false, false};
-    uint8_t message[64];
     const char *wanted = "3ms-2ms\n   ^\nexpected ['+', '*']";
-    expect(duration_str_fault_text(text, 7, &off, message, 32) == 32 && memcmp(message, wanted, 32) == 0, "a fault's text");
-    expect(duration_str_fault_text(text, 7, &off, message, 31) == 0, "a fault's text without room");
+    struct duration_str_answer answer = read_with("3ms-2ms", 0);
+    uint8_t message[32];
+    expect(duration_str_message(text, 7, &answer, message, 32) == 32 && memcmp(message, wanted, 32) == 0, "a message");
+    memset(message, '#', sizeof message);
+    expect(duration_str_message(text, 7, &answer, message, 31) == 32 && message[0] == '#', "a message without room");
+    expect(duration_str_message(text, 7, &answer, NULL, 0) == 32, "the length of a message");
+    expect(duration_str_line(&answer, message, 32) == 19 && memcmp(message, wanted + 13, 19) == 0, "a line");
+    expect(message[19] == '#', "what stands after the line");
+    expect(duration_str_line(&answer, NULL, 0) == 19, "the length of a line");
+    expect(duration_str_message(text, 2, &answer, message, 32) == 19, "a message of another text");
+    answer.cause = 99;
+    expect(duration_str_message(text, 7, &answer, message, 32) == 0, "a message of an unknown cause");
+}
+
+static void check_plain_calls(void)
+{
     uint8_t printed[64];
-    expect(duration_str_format(193, 29000000, printed) == 13 && memcmp(printed, "3min 13s 29ms", 13) == 0, "a printed duration");
+    expect(duration_str_format(193, 29000000, printed) == 13 && memcmp(printed, "3min 13s 29ms", 13) == 0, "a duration");
     expect(duration_str_format(0, 1000000000, printed) == 0, "nanoseconds that are a second");
+    const uint8_t *text = (const uint8_t *)"3ms-2ms";
     uint64_t nanos = 7;
     expect(!duration_str_parse(text, 7, &nanos) && nanos == 7, "a refused text");
     expect(duration_str_parse(text, 3, &nanos) && nanos == 3000000, "a text that is read");
 }
 
+/* What a null text of length 0 is read as, in each call that takes a text. */
+static void check_null_texts(void)
+{
+    uint64_t nanos = 7;
+    struct duration_str_answer answer;
+    struct duration_str_moment moment = {5, 6};
+    expect(!duration_str_parse(NULL, 0, &nanos) && nanos == 7, "a null text");
+    expect(!duration_str_parse_with(NULL, 0, 0, &answer) && answer.cause == DURATION_STR_EMPTY, "a null text with options");
+    expect(duration_str_message(NULL, 0, &answer, NULL, 0) == 11, "the message of a null text");
+    expect(!duration_str_after(NULL, 0, 0, &moment, &answer) && answer.cause == DURATION_STR_EMPTY, "after a null text");
+    expect(!duration_str_before(NULL, 0, 0, &moment, &answer) && answer.cause == DURATION_STR_EMPTY, "before a null text");
+    expect(moment.secs == 5 && moment.nanos == 6, "a moment that stays");
+}
+
 static void check_moments(void)
 {
-    const uint8_t *text = (const uint8_t *)"1ns";
+    const uint8_t *text = (const uint8_t *)"1ns-";
+    struct duration_str_answer answer;
     struct duration_str_moment moment = {0, 0};
-    expect(duration_str_before(text, 3, &moment) == DURATION_STR_READ, "before");
+    expect(duration_str_before(text, 3, 0, &moment, &answer) && answer.nanos == 1, "before");
     expect(moment.secs == -1 && moment.nanos == 999999999, "the moment before");
-    expect(duration_str_after(text, 3, &moment) == DURATION_STR_READ, "after");
+    expect(duration_str_after(text, 3, 0, &moment, &answer) && answer.cause == DURATION_STR_READ, "after");
     expect(moment.secs == 0 && moment.nanos == 0, "the moment after");
+    expect(!duration_str_after(text, 4, 0, &moment, &answer) && answer.place == 3, "the place of a fault");
     struct duration_str_moment last = {253402207200, 999999999};
-    expect(duration_str_after(text, 3, &last) == DURATION_STR_OUT_OF_RANGE, "after the last moment");
+    expect(!duration_str_after(text, 3, 0, &last, &answer) && answer.cause == DURATION_STR_OUT_OF_RANGE, "after the last");
     expect(last.secs == 253402207200 && last.nanos == 999999999, "the last moment stays");
 }
 
 int main(void)
 {
-    check_readings();
-    check_buffers();
+    expect(duration_str_version() == DURATION_STR_VERSION_NUMBER, "the version of the library");
+    check_options();
+    check_refusals();
+    check_messages();
+    check_plain_calls();
+    check_null_texts();
     check_moments();
     return wrong;
 }

@@ -1,18 +1,18 @@
 //! The text of a fault, in a buffer.
 //!
 //! A `Display` may fail for no reason that its contract names, so what is printed through one can't be promised.
-ghost use Rattle.std.specs.Prelude.{◌≤◌, ◌++◌, length, take, replicate, decimal};
+ghost use Rattle.std.specs.Prelude.{◌≡◌, ◌≤◌, ◌-◌, ◌^◌, ◌++◌, min, length, take, replicate, decimal, encode_utf8_all};
 ghost use Rattle.std.specs.Str.{IsCharBoundary};
-ghost use Rattle.duration_str.specs.FaultText.{fault_text, byte_text, caret_text};
-ghost use Rattle.duration_str.specs.Buffers.{IsInFront};
+ghost use Rattle.duration_str.specs.FaultText.{fault_text, byte_text, caret_text, line_of};
+ghost use Rattle.duration_str.specs.Buffers.{IsInFront, IsWritten};
 
 use crate::ext::put_number;
-use crate::fault::{Fault, chars_before};
+use crate::fault::{Cause, Fault, chars_before};
 
-/// Writes a part behind the first `at` bytes, and returns where it ends, if there is room.
+/// Writes a part after the first `at` bytes, and returns where it ends, if there is room.
 fn put(buffer: &mut [u8], at: usize, part: &[u8]) -> Option<usize>
     requires { at ≤ length buffer.old }
-    ensures { IsInFront (take at buffer.old ++ part.now) result buffer.new }
+    ensures { IsWritten (take at buffer.old ++ part.now) buffer.old result buffer.new }
 {
     if part.len() > buffer.len() - at {
         return None;
@@ -67,16 +67,93 @@ fn put_caret(buffer: &mut [u8], text: &str, place: usize, line: &str) -> Option<
     put(buffer, caret, line.as_bytes())
 }
 
+/// How many digits a number has in decimal.
+fn decimal_len(number: usize) -> usize
+    ensures digits { result ≡ length (decimal number) }
+    ensures short { result ≤ 20 }
+{
+    let mut digits = [0; 64];
+    put_number(&mut digits, 0, number as u64)
+}
+
+/// How many bytes `put_byte` writes.
+fn byte_len(place: usize, line: &str) -> usize
+    ensures { result ≡ min (length (byte_text place line.now)) (2 ^ 64 - 1) }
+{
+    line.len().saturating_add(decimal_len(place) + 7)
+}
+
+/// How many bytes `put_caret` writes.
+fn caret_len(text: &str, place: usize, line: &str) -> usize
+    requires { IsCharBoundary text.now place }
+    ensures { result ≡ min (length (caret_text text.now place line.now)) (2 ^ 64 - 1) }
+{
+    let spaces = chars_before(text, place);
+    let above = text.len().saturating_add(spaces);
+    above.saturating_add(line.len()).saturating_add(3)
+}
+
+impl Cause {
+    /// How many bytes the line has that says why the text is refused.
+    pub fn line_len(self) -> usize
+        ensures { result ≡ length (encode_utf8_all (line_of self)) }
+    {
+        self.line().len()
+    }
+
+    /// Writes the line that says why the text is refused into the front of a buffer, and returns its length in bytes.
+    ///
+    /// `None` where it has more bytes than the buffer, which then stays as it is. It takes no memory.
+    ///
+    /// ```text
+    /// let mut buffer = [0; 64];
+    /// parse("3 + ").unwrap_err().cause().write_line(&mut buffer) // Some(15), and `buffer` begins with "expected number"
+    /// ```
+    pub fn write_line(self, buffer: &mut [u8]) -> Option<usize>
+        ensures { IsWritten (encode_utf8_all (line_of self)) buffer.old result buffer.new }
+    {
+        put(buffer, 0, self.line().as_bytes())
+    }
+}
+
 impl Fault<'_> {
+    /// How many bytes the message has that `write_message` writes; `usize::MAX` where they are more than that.
+    ///
+    /// ```text
+    /// parse("3ms-2ms").unwrap_err().message_len() // 32
+    /// ```
+    pub fn message_len(&self) -> usize
+        ensures { result ≡ min (length (fault_text self.now.text.now self.now.cause)) (2 ^ 64 - 1) }
+    {
+        let line = self.cause.line();
+        let Some(place) = self.cause.place() else {
+            return line.len();
+        };
+        if self.text.as_bytes().contains(&b'\n') {
+            return byte_len(place, line);
+        }
+        caret_len(self.text, place, line)
+    }
+
     /// Writes what the fault prints as into the front of a buffer, and returns its length in bytes.
     ///
-    /// `None` where it has more bytes than the buffer, whose bytes may then be any. It takes no memory.
+    /// `None` where it has more bytes than the buffer, which then stays as it is. It takes no memory.
     ///
     /// ```text
     /// let mut buffer = [0; 64];
     /// parse("").unwrap_err().write_message(&mut buffer) // Some(11), and `buffer` begins with "Empty input"
     /// ```
     pub fn write_message(&self, buffer: &mut [u8]) -> Option<usize>
+        ensures { IsWritten (fault_text self.now.text.now self.now.cause) buffer.old result buffer.new }
+    {
+        if self.message_len() > buffer.len() {
+            return None;
+        }
+        self.put_message(buffer)
+    }
+
+    /// Writes the message, and returns where it ends, if there is room.
+    fn put_message(&self, buffer: &mut [u8]) -> Option<usize>
         ensures { IsInFront (fault_text self.now.text.now self.now.cause) result buffer.new }
     {
         let line = self.cause.line();

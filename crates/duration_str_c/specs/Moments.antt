@@ -1,14 +1,18 @@
 -- Moments, and how a text moves one.
-use Rattle.std.specs.Prelude.{◌≡◌, ℕ, ◌<◌, ℤ, pos, ◌+ℤ◌, ◌*ℤ◌, List, ◌⊎◌}
+use Rattle.std.specs.Prelude.{◌≡◌, ℕ, ◌<◌, ℤ, pos, ◌+ℤ◌, ◌-ℤ◌, ◌*ℤ◌, List, ◌⊎◌}
 use Rattle.std.specs.Str.{chars}
+use Rattle.duration_str.specs.declared.unit.Options.{Options}
 use Rattle.duration_str.specs.declared.fault.Cause.{Cause}
-use Rattle.duration_str.specs.Units.{off}
+use Rattle.duration_str.specs.declared.fault.Cause.TheVariants.{OutOfRange}
 use Rattle.duration_str.specs.Reading.{IsRead}
-use Rattle.duration_str.specs.Dates.{IsInRange, IsDateFault}
+use Rattle.duration_str.specs.Dates.{IsInRange, IsOutOfRange}
+use Rattle.duration_str_c.specs.declared.answer.Answer.{Answer}
+use Rattle.duration_str_c.specs.declared.moment.Direction.{Direction}
+use Rattle.duration_str_c.specs.declared.moment.Direction.TheVariants.{After, Before}
 use Rattle.duration_str_c.specs.declared.moment.Moment.{Moment}
-use Rattle.duration_str_c.specs.Told.{number_of}
+use Rattle.duration_str_c.specs.Told.{value_told, refusal_told, IsRefusalTold}
 
--- how many nanoseconds behind 1970-01-01T00:00:00Z the moment is
+-- how many nanoseconds after 1970-01-01T00:00:00Z the moment is
 abbrev pub instant_of : Moment → ℤ
 instant_of m = m.secs *ℤ pos 1_000_000_000 +ℤ pos m.nanos
 
@@ -16,9 +20,15 @@ instant_of m = m.secs *ℤ pos 1_000_000_000 +ℤ pos m.nanos
 abbrev pub IsMoment : Moment → Type 0
 IsMoment m = (m.nanos < 1_000_000_000) × IsInRange (instant_of m)
 
--- The bytes are read, and the moment is now the instant that their value reaches; or the number is that of their fault, and
--- the moment stays.
-abbrev pub IsMoved : (ℕ → ℤ) → List ℕ → Moment → ℕ → Moment → Type 0
-IsMoved reached bytes old number new =
-    ((nanos : ℕ) × IsRead off (chars bytes) nanos × IsMoment new × (instant_of new ≡ reached nanos) × (number ≡ 0))
-    ⊎ ((cause : Cause) × IsDateFault reached bytes cause × (new ≡ old) × (number ≡ number_of cause))
+-- the instant so many nanoseconds after or before this one
+abbrev pub moved : Direction → ℤ → ℕ → ℤ
+moved After instant nanos = instant +ℤ pos nanos
+moved Before instant nanos = instant -ℤ pos nanos
+
+-- The bytes are read, and the moment is now the instant that their value reaches, which the answer tells as a value. Or the
+-- moment stays, and the answer tells the refusal of the bytes, or that the instant is out of range.
+abbrev pub IsMoved : (ℕ → ℤ) → Options → List ℕ → Moment → Moment → Answer → Type 0
+IsMoved reached o bytes old new answer =
+    ((nanos : ℕ) × IsRead o (chars bytes) nanos × IsMoment new × (instant_of new ≡ reached nanos) × (answer ≡ value_told nanos))
+    ⊎ ((cause : Cause) × IsRefusalTold o bytes cause answer × (new ≡ old))
+    ⊎ ((nanos : ℕ) × IsRead o (chars bytes) nanos × IsOutOfRange (reached nanos) × (answer ≡ refusal_told OutOfRange 0) × (new ≡ old))

@@ -1,20 +1,27 @@
 -- What a caller of C is told of a text.
-use Rattle.std.specs.Prelude.{◌≡◌, ℕ, false, List, ◌⊎◌, Option, is_some, unwrap_or}
-use Rattle.std.specs.Str.{chars}
+use Rattle.std.specs.Prelude.{◌≡◌, ℕ, ◌+◌, ◌==◌, Bool, false, not, List, ◌⊎◌, Option, Some, None, if◌then◌else◌, is_some, unwrap_or}
+use Rattle.std.specs.Int.Bits.{bit_and}
+use Rattle.std.specs.Option.{ForSome}
+use Rattle.std.specs.Str.{chars, IsCharBoundary}
 use Rattle.duration_str.specs.declared.unit.Options.{Options}
+use Rattle.duration_str.specs.declared.unit.CondUnit.{CondUnit}
+use Rattle.duration_str.specs.declared.unit.CondUnit.TheVariants.{Plus, Star}
 use Rattle.duration_str.specs.declared.fault.Cause.{Cause}
 use Rattle.duration_str.specs.declared.fault.Cause.TheVariants.{Empty, Syntax, NumberTooLarge, Overflow, Mixed, OutOfRange, NotText}
 use Rattle.duration_str.specs.declared.fault.Expected.{Expected}
-use Rattle.duration_str.specs.Faults.{place_of}
-use Rattle.duration_str.specs.FaultText.{fault_text}
-use Rattle.duration_str.specs.Buffers.{IsInFront}
+use Rattle.duration_str.specs.Text.{byte_len}
+use Rattle.duration_str.specs.Pieces.{Piece}
+use Rattle.duration_str.specs.Faults.{place_of, found}
 use Rattle.duration_str.specs.Reading.{IsRead, IsRefused}
-use Rattle.duration_str_c.specs.declared.Answer.{Answer}
-use Rattle.duration_str_c.specs.declared.Choice.{Choice}
+use Rattle.duration_str_c.specs.declared.answer.Answer.{Answer}
 
--- the options that are chosen
-abbrev pub chosen : Choice → Options
-chosen c = record { no_calc = c.no_calc; lowercase = c.lowercase; cn_unit = c.cn_unit }
+-- whether a flag is set among the bits
+abbrev pub has : ℕ → ℕ → Bool
+has bits flag = not (bit_and bits flag == 0)
+
+-- the options whose bits are set; no other bit counts
+abbrev pub options_of : ℕ → Options
+options_of bits = record { no_calc = has bits 1; lowercase = has bits 2; cn_unit = has bits 4 }
 
 -- the number of a cause
 abbrev pub number_of : Cause → ℕ
@@ -26,47 +33,100 @@ number_of (Mixed first later) = 5
 number_of OutOfRange = 6
 number_of (NotText optional) = 7
 
--- what could stand at the place; nothing but for a syntax fault
-abbrev pub expected_of : Cause → Expected
-expected_of (Syntax place expected) = expected
-expected_of _ = record { number = false; unit_word = false; operator = false; text_end = false }
+-- the bits of what could stand at a place
+abbrev pub bits_of : Expected → ℕ
+bits_of e =
+    (if e.number then 1 else 0) + (if e.unit_word then 2 else 0) + (if e.operator then 4 else 0) + (if e.text_end then 8 else 0)
+
+-- what could stand at the place of a fault; nothing but for a syntax fault
+abbrev pub expected_bits : Cause → ℕ
+expected_bits (Syntax place expected) = bits_of expected
+expected_bits _ = 0
+
+-- the character of an operator
+abbrev pub sign_of : CondUnit → ℕ
+sign_of Plus = 43
+sign_of Star = 42
+
+-- the operator that came first, where operators are mixed
+abbrev pub first_sign : Cause → ℕ
+first_sign (Mixed first later) = sign_of first
+first_sign _ = 0
+
+-- the operator that came later, where operators are mixed
+abbrev pub later_sign : Cause → ℕ
+later_sign (Mixed first later) = sign_of later
+later_sign _ = 0
+
+-- how many bytes a piece has, and 0 where there is none
+abbrev pub piece_length : Option Piece → ℕ
+piece_length None = 0
+piece_length (Some piece) = byte_len piece.characters
 
 -- a value
 abbrev pub value_told : ℕ → Answer
 value_told nanos = record {
   nanos = nanos;
   place = 0;
+  found_length = 0;
   cause = 0;
-  has_place = false;
-  number = false;
-  unit_word = false;
-  is_operator = false;
-  text_end = false;
+  expected = 0;
+  has_place = 0;
+  first_operator = 0;
+  later_operator = 0;
 }
 
--- a refusal
-abbrev pub refusal_told : Cause → Answer
-refusal_told cause = record {
+-- a refusal, and how many bytes the piece has that was found at its place
+abbrev pub refusal_told : Cause → ℕ → Answer
+refusal_told cause found_length = record {
   nanos = 0;
   place = unwrap_or (place_of cause) 0;
+  found_length = found_length;
   cause = number_of cause;
-  has_place = is_some (place_of cause);
-  number = (expected_of cause).number;
-  unit_word = (expected_of cause).unit_word;
-  is_operator = (expected_of cause).operator;
-  text_end = (expected_of cause).text_end;
+  expected = expected_bits cause;
+  has_place = if is_some (place_of cause) then 1 else 0;
+  first_operator = first_sign cause;
+  later_operator = later_sign cause;
 }
 
--- The answer tells the value of the text, or the refusal that comes first.
-abbrev pub IsTold : Options → List ℕ → Answer → Type 0
-IsTold o text answer =
-    ((nanos : ℕ) × IsRead o text nanos × (answer ≡ value_told nanos))
-    ⊎ ((cause : Cause) × IsRefused o text cause × (answer ≡ refusal_told cause))
+-- what could stand at a place, by its bits
+abbrev pub expected_of : ℕ → Expected
+expected_of bits = record { number = has bits 1; unit_word = has bits 2; operator = has bits 4; text_end = has bits 8 }
 
--- Where the bytes are read, the length is 0 and the buffer stays. Where they are refused, the text of the refusal stands in
--- the front of the buffer and has this length, or the length is 0, since it has more bytes than the buffer.
-abbrev pub IsMessage : Options → List ℕ → List ℕ → ℕ → List ℕ → Type 0
-IsMessage o bytes old len new =
-    ((nanos : ℕ) × IsRead o (chars bytes) nanos × (len ≡ 0) × (new ≡ old))
-    ⊎ ((cause : Cause) × IsRefused o (chars bytes) cause
-    × ((end : Option ℕ) × IsInFront (fault_text bytes cause) end new × (len ≡ unwrap_or end 0)))
+-- the place that an answer tells
+abbrev pub place_told : Answer → Option ℕ
+place_told a = if a.has_place == 0 then None else Some a.place
+
+-- the operator of a character, if it is one
+abbrev pub operator_told : ℕ → Option CondUnit
+operator_told sign = if sign == 43 then Some Plus else if sign == 42 then Some Star else None
+
+-- the fault of two operators, where there are both
+abbrev pub mixed_told : Option CondUnit → Option CondUnit → Option Cause
+mixed_told (Some first) (Some later) = Some (Mixed first later)
+mixed_told _ _ = None
+
+-- the cause that an answer tells; none where it tells a value, and where no call tells it
+abbrev pub cause_told : Answer → Option Cause
+cause_told a =
+    if a.cause == 1 then Some Empty
+    else if a.cause == 2 then Some (Syntax a.place (expected_of a.expected))
+    else if a.cause == 3 then Some (NumberTooLarge (place_told a))
+    else if a.cause == 4 then Some (Overflow (place_told a))
+    else if a.cause == 5 then mixed_told (operator_told a.first_operator) (operator_told a.later_operator)
+    else if a.cause == 6 then Some OutOfRange
+    else if a.cause == 7 then Some (NotText false)
+    else None
+
+-- The answer tells that the bytes are refused for this cause. The cause can be told from the answer again, and its place is
+-- a character boundary of the bytes.
+abbrev pub IsRefusalTold : Options → List ℕ → Cause → Answer → Type 0
+IsRefusalTold o bytes cause answer =
+    IsRefused o (chars bytes) cause × (answer ≡ refusal_told cause (piece_length (found o (chars bytes) cause)))
+    × (cause_told answer ≡ Some cause) × ForSome (place_of cause) (IsCharBoundary bytes)
+
+-- The answer tells the value of the bytes, or the refusal that comes first.
+abbrev pub IsTold : Options → List ℕ → Answer → Type 0
+IsTold o bytes answer =
+    ((nanos : ℕ) × IsRead o (chars bytes) nanos × (answer ≡ value_told nanos))
+    ⊎ ((cause : Cause) × IsRefusalTold o bytes cause answer)

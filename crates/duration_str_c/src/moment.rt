@@ -1,15 +1,16 @@
 //! Moments, and those before and after them by the value of a text.
-ghost use Rattle.std.specs.Prelude.{◌≡◌, false, ◌↔◌, ℤ, pos, ◌+ℤ◌, ◌-ℤ◌, IsUtf8, IsSome, IfSome};
-ghost use Rattle.duration_str.specs.Dates.{IsInRange, IsCivil};
+ghost use Rattle.std.specs.Prelude.{◌≡◌, ◌==◌, false, ◌↔◌, pos, ◌+ℤ◌, ◌-ℤ◌, IsUtf8, IsSome, IfSome, IfNone};
+ghost use Rattle.std.specs.Duration.{as_nanos};
+ghost use Rattle.duration_str.specs.Dates.{IsInRange, IsOutOfRange};
 ghost use Rattle.duration_str.specs.declared.fault.Cause.TheVariants.{OutOfRange, NotText};
-ghost use Rattle.duration_str_c.specs.Told.{number_of};
-ghost use Rattle.duration_str_c.specs.Moments.{instant_of, IsMoment, IsMoved};
+ghost use Rattle.duration_str_c.specs.Told.{options_of, refusal_told};
+ghost use Rattle.duration_str_c.specs.Moments.{instant_of, IsMoment, moved, IsMoved};
 
-use crate::{number_of, text_of};
-use duration_str::{Cause, after_naive_date_time, before_naive_date_time};
+use crate::answer::{Answer, refused};
+use crate::{options_of, text_of};
+use duration_str::{Cause, parse_with};
 use jiff::Timestamp;
-use jiff::civil::DateTime;
-use jiff::tz::Offset;
+use std::time::Duration;
 
 const SECOND: i128 = 1_000_000_000;
 
@@ -19,8 +20,17 @@ const SECOND: i128 = 1_000_000_000;
 pub struct Moment {
     /// The whole seconds, which are negative before 1970.
     pub secs: i64,
-    /// The nanoseconds behind them, below 1,000,000,000.
+    /// The nanoseconds after them, below 1,000,000,000.
     pub nanos: u32,
+}
+
+/// Where a moment moves.
+#[derive(Clone, Copy)]
+enum Direction {
+    /// Forward.
+    After,
+    /// Back.
+    Before,
 }
 
 /// The same moment, if it is one that a timestamp can have.
@@ -50,59 +60,76 @@ fn moment_of(timestamp: Timestamp) -> Moment
     }
 }
 
-/// The moment of a date and time in UTC, which is in range.
-fn shown_by(at: DateTime) -> Moment
-    requires { (instant : ℤ) × IsInRange instant × IsCivil instant at }
-    ensures moment { IsMoment result }
-    ensures shown { IsCivil (instant_of result) at }
+/// The moment so long after or before a timestamp, if a timestamp can have it.
+fn moved(from: Timestamp, length: Duration, direction: Direction) -> Option<Moment>
+    ensures moment { IfSome result (λ m. IsMoment m × (instant_of m ≡ moved direction from.nanosecond (as_nanos length))) }
+    ensures none { IfNone result (IsOutOfRange (moved direction from.nanosecond (as_nanos length))) }
 {
-    let Ok(timestamp) = Offset::UTC.to_timestamp(at) else {
-        unreachable!()
+    let reached = match direction {
+        Direction::After => from.checked_add(length),
+        Direction::Before => from.checked_sub(length),
     };
-    moment_of(timestamp)
+    match reached {
+        Ok(timestamp) => Some(moment_of(timestamp)),
+        Err(_) => None,
+    }
 }
 
-/// Moves the moment forward by the value of a text, which is read with all options off, and gives 0. Else gives the number of
-/// the cause, and the moment stays.
-#[unsafe(no_mangle)]
-pub extern "C" fn duration_str_after(text: &[u8], moment: &mut Moment) -> u32
-    ensures told { IsMoment moment.old → IsUtf8 text.now → IsMoved (λ nanos. instant_of moment.old +ℤ pos nanos) text.now moment.old result moment.new }
-    ensures not_text { IsMoment moment.old → ¬ (IsUtf8 text.now) → (result ≡ number_of (NotText false)) × (moment.new ≡ moment.old) }
-    ensures no_moment { ¬ (IsMoment moment.old) → (result ≡ number_of OutOfRange) × (moment.new ≡ moment.old) }
+/// Moves the moment by the value of a text, and gives what is told of it.
+fn told_of_move(text: &[u8], options: u32, moment: &mut Moment, direction: Direction) -> Answer
+    ensures told { IsMoment moment.old → IsUtf8 text.now → IsMoved (moved direction (instant_of moment.old)) (options_of options) text.now moment.old moment.new result }
+    ensures not_text { IsMoment moment.old → ¬ (IsUtf8 text.now) → (result ≡ refusal_told (NotText false) 0) × (moment.new ≡ moment.old) }
+    ensures no_moment { ¬ (IsMoment moment.old) → (result ≡ refusal_told OutOfRange 0) × (moment.new ≡ moment.old) }
 {
     let Some(from) = timestamp_of(*moment) else {
-        return number_of(Cause::OutOfRange);
+        return Answer::refusal(Cause::OutOfRange, 0);
     };
     let Some(text) = text_of(text) else {
-        return number_of(Cause::NotText { optional: false });
+        return Answer::refusal(Cause::NotText { optional: false }, 0);
     };
-    match after_naive_date_time(from, text) {
-        Ok(at) => {
-            *moment = shown_by(at);
-            0
-        }
-        Err(fault) => number_of(fault.cause()),
-    }
+    let options = options_of(options);
+    let length = match parse_with(text, options) {
+        Ok(length) => length,
+        Err(fault) => return refused(fault, options),
+    };
+    let Some(reached) = moved(from, length, direction) else {
+        return Answer::refusal(Cause::OutOfRange, 0);
+    };
+    *moment = reached;
+    Answer::value(length.as_nanos() as u64)
+}
+
+/// Moves the moment forward by the value of a text, which is read under the options whose bits are set. True where it is
+/// moved; else it stays, and the answer tells why.
+#[unsafe(no_mangle)]
+pub extern "C" fn duration_str_after(
+    text: &[u8],
+    options: u32,
+    moment: &mut Moment,
+    answer: &mut Answer,
+) -> bool
+    ensures told { IsMoment moment.old → IsUtf8 text.now → IsMoved (λ nanos. instant_of moment.old +ℤ pos nanos) (options_of options) text.now moment.old moment.new answer.new }
+    ensures not_text { IsMoment moment.old → ¬ (IsUtf8 text.now) → (answer.new ≡ refusal_told (NotText false) 0) × (moment.new ≡ moment.old) }
+    ensures no_moment { ¬ (IsMoment moment.old) → (answer.new ≡ refusal_told OutOfRange 0) × (moment.new ≡ moment.old) }
+    ensures moved { result ≡ (answer.new.cause == 0) }
+{
+    *answer = told_of_move(text, options, moment, Direction::After);
+    answer.cause == 0
 }
 
 /// Moves the moment back as `duration_str_after` moves it forward.
 #[unsafe(no_mangle)]
-pub extern "C" fn duration_str_before(text: &[u8], moment: &mut Moment) -> u32
-    ensures told { IsMoment moment.old → IsUtf8 text.now → IsMoved (λ nanos. instant_of moment.old -ℤ pos nanos) text.now moment.old result moment.new }
-    ensures not_text { IsMoment moment.old → ¬ (IsUtf8 text.now) → (result ≡ number_of (NotText false)) × (moment.new ≡ moment.old) }
-    ensures no_moment { ¬ (IsMoment moment.old) → (result ≡ number_of OutOfRange) × (moment.new ≡ moment.old) }
+pub extern "C" fn duration_str_before(
+    text: &[u8],
+    options: u32,
+    moment: &mut Moment,
+    answer: &mut Answer,
+) -> bool
+    ensures told { IsMoment moment.old → IsUtf8 text.now → IsMoved (λ nanos. instant_of moment.old -ℤ pos nanos) (options_of options) text.now moment.old moment.new answer.new }
+    ensures not_text { IsMoment moment.old → ¬ (IsUtf8 text.now) → (answer.new ≡ refusal_told (NotText false) 0) × (moment.new ≡ moment.old) }
+    ensures no_moment { ¬ (IsMoment moment.old) → (answer.new ≡ refusal_told OutOfRange 0) × (moment.new ≡ moment.old) }
+    ensures moved { result ≡ (answer.new.cause == 0) }
 {
-    let Some(from) = timestamp_of(*moment) else {
-        return number_of(Cause::OutOfRange);
-    };
-    let Some(text) = text_of(text) else {
-        return number_of(Cause::NotText { optional: false });
-    };
-    match before_naive_date_time(from, text) {
-        Ok(at) => {
-            *moment = shown_by(at);
-            0
-        }
-        Err(fault) => number_of(fault.cause()),
-    }
+    *answer = told_of_move(text, options, moment, Direction::Before);
+    answer.cause == 0
 }

@@ -1,12 +1,8 @@
 // The calls as a C caller makes them.
+use crate::answer::Answer;
+use crate::message::{duration_str_line, duration_str_message};
 use crate::moment::{Moment, duration_str_after, duration_str_before};
-use crate::{Choice, duration_str_fault_text};
-
-const OFF: Choice = Choice {
-    no_calc: false,
-    lowercase: false,
-    cn_unit: false,
-};
+use crate::{duration_str_parse_with, duration_str_version};
 
 /// 9999-12-30T22:00:00Z
 const LAST: i64 = 253_402_207_200;
@@ -14,17 +10,116 @@ const LAST: i64 = 253_402_207_200;
 /// -9999-01-02T01:59:59Z
 const FIRST: i64 = -377_705_023_201;
 
+const READ: u32 = 0;
+
+const SYNTAX: u32 = 2;
+
 const OUT_OF_RANGE: u32 = 6;
 
 const NOT_TEXT: u32 = 7;
 
+const NO_CALC: u32 = 1;
+
+/// An answer in which every field has to be written.
+fn unwritten() -> Answer {
+    Answer {
+        nanos: 77,
+        place: 77,
+        found_length: 77,
+        cause: 77,
+        expected: 77,
+        has_place: 77,
+        first_operator: 77,
+        later_operator: 77,
+    }
+}
+
+/// What is told of the bytes under these options.
+fn answer_to(bytes: &[u8], options: u32) -> Answer {
+    let mut answer = unwritten();
+    duration_str_parse_with(bytes, options, &mut answer);
+    answer
+}
+
+/// The fields of an answer but for the value and the operators.
+fn place_of(answer: Answer) -> (u32, u8, usize, usize, u32) {
+    (
+        answer.cause,
+        answer.has_place,
+        answer.place,
+        answer.found_length,
+        answer.expected,
+    )
+}
+
+#[test]
+fn tells_a_value_or_a_refusal(rt: HostRuntime) {
+    for (text, options, told) in [
+        ("1m", 0, (READ, 0, 0, 0, 0)),
+        ("", 0, (1, 0, 0, 0, 0)),
+        ("1m 30x", 0, (SYNTAX, 1, 5, 1, 2 + 4 + 8)),
+        ("1m minutes", 0, (SYNTAX, 1, 3, 7, 1 + 4 + 8)),
+        ("1m+", 0, (SYNTAX, 1, 3, 0, 1)),
+        ("1+2", NO_CALC, (SYNTAX, 1, 1, 1, 2 + 8)),
+        ("1 分", 0, (SYNTAX, 1, 2, 3, 2 + 4 + 8)),
+        ("18446744073709551616+1", 0, (3, 1, 0, 0, 0)),
+        ("1+18446744073709551616", 0, (3, 0, 0, 0, 0)),
+        ("580y*2", 0, (4, 0, 0, 0, 0)),
+        ("1+2*3", 0, (5, 0, 0, 0, 0)),
+    ] {
+        assert_eq!(rt;
+            place_of(answer_to(text.as_bytes(), options)),
+            told,
+            "{text}"
+        );
+    }
+    assert_eq!(rt; place_of(answer_to(b"1m\xff", 0)), (NOT_TEXT, 0, 0, 0, 0));
+    assert_eq!(rt; answer_to(b"1m 30", 0).nanos, 90_000_000_000);
+}
+
+#[test]
+fn tells_both_operators(rt: HostRuntime) {
+    for (text, first, later) in [
+        ("1+2*3", b'+', b'*'),
+        ("1*2+3", b'*', b'+'),
+        ("1m", 0, 0),
+        ("1m+", 0, 0),
+    ] {
+        let answer = answer_to(text.as_bytes(), 0);
+        assert_eq!(rt;
+            (answer.first_operator, answer.later_operator),
+            (first, later),
+            "{text}"
+        );
+    }
+}
+
+#[test]
+fn counts_three_bits_of_the_options(rt: HostRuntime) {
+    for (text, options, read) in [
+        ("1+2", 0xffff_fff8, true),
+        ("1+2", 0xffff_fff9, false),
+        ("1M", 0xffff_fff8, true),
+        ("1M", 0xffff_fffa, false),
+        ("1分", 0xffff_fffc, true),
+        ("1分", 0xffff_fff8, false),
+    ] {
+        let mut answer = unwritten();
+        assert_eq!(rt;
+            duration_str_parse_with(text.as_bytes(), options, &mut answer),
+            read,
+            "{text}"
+        );
+    }
+}
+
 #[test]
 fn moves_a_moment_forward(rt: HostRuntime) {
-    for (from, text, number, to) in [
-        ((0, 0), "180d", 0, (15_552_000, 0)),
-        ((-1, 999_999_999), "1ns", 0, (0, 0)),
-        ((-1, 999_999_998), "1ns", 0, (-1, 999_999_999)),
-        ((LAST, 999_999_998), "1ns", 0, (LAST, 999_999_999)),
+    for (from, text, cause, to) in [
+        ((0, 0), "180d", READ, (15_552_000, 0)),
+        ((-1, 999_999_999), "1ns", READ, (0, 0)),
+        ((-1, 999_999_998), "1ns", READ, (-1, 999_999_999)),
+        ((LAST, 999_999_998), "1ns", READ, (LAST, 999_999_999)),
         (
             (LAST, 999_999_999),
             "1ns",
@@ -37,23 +132,22 @@ fn moves_a_moment_forward(rt: HostRuntime) {
     ] {
         let (secs, nanos) = from;
         let mut moment = Moment { secs, nanos };
-        assert_eq!(rt;
-            duration_str_after(text.as_bytes(), &mut moment),
-            number,
-            "{text}"
-        );
+        let mut answer = unwritten();
+        let moved = duration_str_after(text.as_bytes(), 0, &mut moment, &mut answer);
+        assert_eq!(rt; moved, cause == READ, "{text}");
+        assert_eq!(rt; answer.cause, cause, "{text}");
         assert_eq!(rt; (moment.secs, moment.nanos), to, "{text}");
     }
 }
 
 #[test]
 fn moves_a_moment_back(rt: HostRuntime) {
-    for (from, text, number, to) in [
-        ((15_552_000, 0), "180d", 0, (0, 0)),
-        ((0, 0), "1ns", 0, (-1, 999_999_999)),
-        ((FIRST, 1), "1ns", 0, (FIRST, 0)),
+    for (from, text, cause, to) in [
+        ((15_552_000, 0), "180d", READ, (0, 0)),
+        ((0, 0), "1ns", READ, (-1, 999_999_999)),
+        ((FIRST, 1), "1ns", READ, (FIRST, 0)),
         ((FIRST, 0), "1ns", OUT_OF_RANGE, (FIRST, 0)),
-        ((FIRST, 0), "1ns-", 2, (FIRST, 0)),
+        ((FIRST, 0), "1ns-", SYNTAX, (FIRST, 0)),
         (
             (FIRST - 1, 999_999_999),
             "0",
@@ -63,31 +157,93 @@ fn moves_a_moment_back(rt: HostRuntime) {
     ] {
         let (secs, nanos) = from;
         let mut moment = Moment { secs, nanos };
-        assert_eq!(rt;
-            duration_str_before(text.as_bytes(), &mut moment),
-            number,
-            "{text}"
-        );
+        let mut answer = unwritten();
+        let moved = duration_str_before(text.as_bytes(), 0, &mut moment, &mut answer);
+        assert_eq!(rt; moved, cause == READ, "{text}");
+        assert_eq!(rt; answer.cause, cause, "{text}");
         assert_eq!(rt; (moment.secs, moment.nanos), to, "{text}");
     }
 }
 
 #[test]
-fn refuses_other_bytes(rt: HostRuntime) {
+fn moves_under_options_and_tells_places(rt: HostRuntime) {
     let mut moment = Moment { secs: 5, nanos: 6 };
-    assert_eq!(rt; duration_str_after(b"1m\xff", &mut moment), NOT_TEXT);
-    assert_eq!(rt; duration_str_before(b"1m\xff", &mut moment), NOT_TEXT);
+    let mut answer = unwritten();
+    assert!(rt; !duration_str_after(b"1+2", NO_CALC, &mut moment, &mut answer));
+    assert_eq!(rt; place_of(answer), (SYNTAX, 1, 1, 1, 2 + 8));
+    assert!(rt; !duration_str_before(b"1m\xff", 0, &mut moment, &mut answer));
+    assert_eq!(rt; place_of(answer), (NOT_TEXT, 0, 0, 0, 0));
     assert_eq!(rt; (moment.secs, moment.nanos), (5, 6));
+    assert!(rt; duration_str_after(b"1+2", 0, &mut moment, &mut answer));
+    assert_eq!(rt; (answer.cause, answer.nanos), (READ, 3_000_000_000));
+    assert_eq!(rt; (moment.secs, moment.nanos), (8, 6));
 }
 
 #[test]
-fn tells_what_the_buffer_has_room_for(rt: HostRuntime) {
+fn shows_what_the_buffer_has_room_for(rt: HostRuntime) {
+    let answer = answer_to(b"3ms-2ms", 0);
     let mut buffer = [b'#'; 32];
-    assert_eq!(rt; duration_str_fault_text(b"1m", &OFF, &mut buffer), 0);
-    assert_eq!(rt; duration_str_fault_text(b"1m\xff", &OFF, &mut buffer), 0);
-    assert!(rt; buffer == [b'#'; 32]);
-    assert_eq!(rt; duration_str_fault_text(b"3ms-2ms", &OFF, &mut buffer), 32);
+    assert_eq!(rt; duration_str_message(b"3ms-2ms", &answer, &mut buffer), 32);
     assert!(rt; buffer == *b"3ms-2ms\n   ^\nexpected ['+', '*']");
     let mut shorter = [b'#'; 31];
-    assert_eq!(rt; duration_str_fault_text(b"3ms-2ms", &OFF, &mut shorter), 0);
+    assert_eq!(rt; duration_str_message(b"3ms-2ms", &answer, &mut shorter), 32);
+    assert!(rt; shorter == [b'#'; 31]);
+    assert_eq!(rt; duration_str_line(&answer, &mut shorter), 19);
+    assert!(rt; shorter == *b"expected ['+', '*']############");
+    let mut none = [b'#'; 18];
+    assert_eq!(rt; duration_str_line(&answer, &mut none), 19);
+    assert!(rt; none == [b'#'; 18]);
+}
+
+#[test]
+fn shows_the_byte_in_lines(rt: HostRuntime) {
+    let mut buffer = [b'#'; 23];
+    let answer = answer_to(b"1m+\n -", 0);
+    assert_eq!(rt; duration_str_message(b"1m+\n -", &answer, &mut buffer), 23);
+    assert!(rt; buffer == *b"byte 5: expected number");
+}
+
+#[test]
+fn shows_the_line_where_the_place_is_not_the_texts(rt: HostRuntime) {
+    let mut answer = answer_to(b"1m+", 0);
+    for (text, place) in [
+        ("1m".as_bytes(), 3),
+        ("1分".as_bytes(), 2),
+        (b"1m\xff", 1),
+        (b"", 1),
+        (b"1m+", usize::MAX),
+    ] {
+        let mut buffer = [b'#'; 16];
+        answer.place = place;
+        assert_eq!(rt;
+            duration_str_message(text, &answer, &mut buffer),
+            15,
+            "{place}"
+        );
+        assert!(rt; buffer == *b"expected number#");
+    }
+}
+
+#[test]
+fn shows_nothing_of_what_is_no_refusal(rt: HostRuntime) {
+    let mut buffer = [b'#'; 32];
+    let mut answer = answer_to(b"1m", 0);
+    for cause in [0, 8, u32::MAX] {
+        answer.cause = cause;
+        assert_eq!(rt;
+            duration_str_message(b"1m", &answer, &mut buffer),
+            0,
+            "{cause}"
+        );
+        assert_eq!(rt; duration_str_line(&answer, &mut buffer), 0, "{cause}");
+    }
+    let mut mixed = answer_to(b"1+2*3", 0);
+    mixed.later_operator = b'-';
+    assert_eq!(rt; duration_str_message(b"1+2*3", &mixed, &mut buffer), 0);
+    assert!(rt; buffer == [b'#'; 32]);
+}
+
+#[test]
+fn has_its_version(rt: HostRuntime) {
+    assert_eq!(rt; duration_str_version(), 19_000);
 }

@@ -3,10 +3,15 @@ use crate::refusal::refusal;
 use crate::vectors::OFF;
 use duration_str::Fault;
 
-/// Whether the fault's message fills a buffer that has just room for these bytes, and is these.
+/// Whether the fault's message has just these bytes, which a buffer with as much room takes, and none with less.
 fn fills<const N: usize>(fault: Fault<'_>, message: &[u8; N]) -> bool {
-    let mut buffer = [0; N];
-    fault.write_message(&mut buffer) == Some(N) && buffer == *message
+    let mut buffer = [b'#'; N];
+    let shorter = &mut buffer[..N - 1];
+    fault.message_len() == N
+        && fault.write_message(shorter).is_none()
+        && buffer == [b'#'; N]
+        && fault.write_message(&mut buffer) == Some(N)
+        && buffer == *message
 }
 
 #[test]
@@ -42,4 +47,16 @@ fn writes_what_has_room(rt: HostRuntime) {
         refusal(&rt, "3ms-2ms", OFF).write_message(&mut without_line),
         None
     );
+}
+
+#[test]
+fn writes_the_line_alone(rt: HostRuntime) {
+    let cause = refusal(&rt, "3ms-2ms", OFF).cause();
+    assert_eq!(rt; cause.line_len(), 19);
+    let mut longer = [b'#'; 20];
+    assert_eq!(rt; cause.write_line(&mut longer), Some(19));
+    assert!(rt; longer == *b"expected ['+', '*']#");
+    let mut shorter = [b'#'; 18];
+    assert_eq!(rt; cause.write_line(&mut shorter), None);
+    assert!(rt; shorter == [b'#'; 18]);
 }

@@ -1,0 +1,81 @@
+"""What texts are read as."""
+
+import concurrent.futures
+import datetime
+import random
+import unittest
+
+import duration_str
+from duration_str import DurationError, parse, parse_ns
+from tests.vectors import IS_UNDER, OPTIONS, VECTORS
+
+
+def is_refused(text, options):
+    try:
+        parse_ns(text, **options)
+    except DurationError:
+        return True
+    return False
+
+
+class Reading(unittest.TestCase):
+    def test_reads_the_vectors(self):
+        for name, rows in VECTORS["values"].items():
+            for options in OPTIONS:
+                for secs, nanos, texts in rows:
+                    for text in texts:
+                        with self.subTest(text=text, **options):
+                            if IS_UNDER[name](options):
+                                self.assertEqual(parse_ns(text, **options), secs * 10**9 + nanos)
+                            else:
+                                self.assertTrue(is_refused(text, options))
+
+    def test_rounds_down_to_microseconds(self):
+        self.assertEqual(parse("3m + 13s + 29ms"), datetime.timedelta(minutes=3, seconds=13, milliseconds=29))
+        self.assertEqual(str(parse("3m + 13s + 29ms")), "0:03:13.029000")
+        self.assertEqual(parse("1999ns"), datetime.timedelta(microseconds=1))
+        self.assertEqual(parse_ns("1999ns"), 1999)
+        self.assertEqual(parse("999ns"), datetime.timedelta(0))
+        longest = parse(f"{2**64 - 1}ns")
+        self.assertEqual(longest // datetime.timedelta(microseconds=1), (2**64 - 1) // 1000)
+        self.assertEqual(parse("1分", cn_unit=True), datetime.timedelta(minutes=1))
+
+    def test_takes_options_by_name_alone(self):
+        with self.assertRaises(TypeError):
+            parse("1s", True)
+        with self.assertRaises(TypeError):
+            parse_ns("1s", nocalc=True)
+
+    def test_wants_a_str(self):
+        for value in [None, 1, 1.5, b"1s", bytearray(b"1s"), ["1s"], datetime.timedelta(1)]:
+            for call in (parse, parse_ns):
+                with self.subTest(value=value), self.assertRaisesRegex(TypeError, "must be a str, not "):
+                    call(value)
+
+    def test_takes_a_subclass_of_str(self):
+        class Text(str):
+            pass
+
+        self.assertEqual(parse_ns(Text("1s")), 10**9)
+
+    def test_reads_in_threads(self):
+        seed = random.Random(18)
+        values = [seed.randrange(2**64) for _ in range(2_000)]
+        texts = [duration_str.format(nanos) for nanos in values]
+        refused = [f"{text} {'x' * (place % 50)}!" for place, text in enumerate(texts)]
+
+        def read(place):
+            try:
+                parse_ns(refused[place])
+            except DurationError as error:
+                return parse_ns(texts[place]), error.found
+            return None
+
+        with concurrent.futures.ThreadPoolExecutor(8) as pool:
+            answers = list(pool.map(read, range(len(values))))
+        found = [("x" * (place % 50)) or "!" for place in range(len(values))]
+        self.assertEqual(answers, list(zip(values, found)))
+
+
+if __name__ == "__main__":
+    unittest.main()

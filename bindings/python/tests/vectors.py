@@ -1,0 +1,18 @@
+"""What texts are read as, why they are refused, and what durations print as: the vectors that both packages are tested by."""
+
+import json
+import pathlib
+
+VECTORS = json.loads(pathlib.Path(__file__).parents[2].joinpath("vectors.json").read_text(encoding="utf-8"))
+LINES = VECTORS["lines"]
+OPTIONS = [
+    {"no_calc": bool(bits & 1), "lowercase": bool(bits & 2), "cn_unit": bool(bits & 4)} for bits in range(8)
+]
+IS_UNDER = {
+    "under all options": lambda options: True,
+    "without no_calc": lambda options: not options["no_calc"],
+    "under no_calc": lambda options: options["no_calc"],
+    "under cn_unit": lambda options: options["cn_unit"],
+    "under cn_unit without no_calc": lambda options: options["cn_unit"] and not options["no_calc"],
+    "without lowercase": lambda options: not options["lowercase"],
+}

@@ -1,0 +1,45 @@
+//! The error type of the Rust crate.
+use crate::fault::Fault;
+use alloc::string::String;
+use core::fmt;
+
+/// An error that outlives the text it was found in.
+///
+/// ```
+/// use duration_str::{parse_with, DError, DResult, Options};
+/// use std::time::Duration;
+///
+/// fn timeout(text: &str) -> DResult<Duration> {
+///     Ok(parse_with(text, Options::off())?)
+/// }
+///
+/// assert_eq!(timeout("600y"), Err(DError::OverflowError));
+/// assert_eq!(timeout(""), Err(DError::ParseError("Empty input".to_string())));
+/// ```
+#[derive(Debug, PartialEq)]
+pub enum DError {
+    /// Any fault but an overflow, by the last line of its message.
+    ParseError(String),
+    /// A term, a step or the value is 2^64 nanoseconds or more.
+    OverflowError,
+}
+
+/// What a call answers whose error is [`DError`].
+pub type DResult<T> = Result<T, DError>;
+
+impl fmt::Display for DError {
+    fn fmt(&self, f: &mut fmt::Formatter<'_>) -> fmt::Result {
+        match self {
+            DError::ParseError(line) => f.write_str(line),
+            DError::OverflowError => f.write_str("overflow error"),
+        }
+    }
+}
+
+impl core::error::Error for DError {}
+
+impl From<Fault<'_>> for DError {
+    fn from(fault: Fault<'_>) -> DError {
+        fault.to_derror()
+    }
+}

@@ -1,0 +1,102 @@
+//! Reading.
+use crate::fault::Fault;
+use crate::ffi;
+use crate::options::Options;
+use alloc::string::{String, ToString};
+use core::time::Duration;
+
+/// Reads a text under these options. The fault, where it is refused, says why and where.
+///
+/// ```
+/// use duration_str::{parse_with, Options};
+/// use std::time::Duration;
+///
+/// assert_eq!(parse_with("1m*10", Options::off()), Ok(Duration::from_secs(600)));
+/// let no_calc = Options { no_calc: true, ..Options::off() };
+/// assert_eq!(parse_with("1m*10", no_calc).unwrap_err().found(), Some("*"));
+/// ```
+pub fn parse_with(input: &str, options: Options) -> Result<Duration, Fault<'_>> {
+    let answer = ffi::parse_with(input, options.flags());
+    match answer.cause {
+        0 => Ok(Duration::from_nanos(answer.nanos)),
+        _ => Err(Fault::new(input, answer)),
+    }
+}
+
+/// Reads a text, as [`parse`] does.
+fn read(text: &str) -> Result<Duration, String> {
+    const OPTIONS: Options = Options::of_features();
+    // The call that knows its options is the faster one, but doesn't tell why it refuses.
+    if OPTIONS.flags() == 0 {
+        if let Some(nanos) = ffi::parse(text) {
+            return Ok(Duration::from_nanos(nanos));
+        }
+    }
+    parse_with(text, OPTIONS).map_err(message)
+}
+
+/// A fault's message.
+#[cold]
+fn message(fault: Fault<'_>) -> String {
+    fault.to_string()
+}
+
+/// Reads a text under the options that the features turn on. The error is the message of the fault.
+///
+/// ```
+/// use duration_str::parse;
+/// use std::time::Duration;
+///
+/// assert_eq!(parse("3m 13s 29ms"), Ok(Duration::from_millis(193_029)));
+/// assert_eq!(parse("1d"), Ok(Duration::from_secs(86_400)));
+/// // Seconds are left out.
+/// assert_eq!(parse("3m 31"), Ok(Duration::from_secs(211)));
+/// assert_eq!(parse("600y").unwrap_err(), "600y\n^\noverflow error");
+/// ```
+///
+/// Without the feature `no_calc` terms are added by `+` or multiplied by `*`, in seconds:
+///
+#[cfg_attr(feature = "no_calc", doc = "```ignore")]
+#[cfg_attr(not(feature = "no_calc"), doc = "```")]
+/// # use duration_str::parse;
+/// # use std::time::Duration;
+/// assert_eq!(parse("3m + 13s + 29ms"), Ok(Duration::from_millis(193_029)));
+/// assert_eq!(parse("1m * 10ms"), Ok(Duration::from_millis(600)));
+/// assert!(parse("1m + 2 * 3").is_err());
+/// ```
+pub fn parse(input: impl AsRef<str>) -> Result<Duration, String> {
+    read(input.as_ref())
+}
+
+/// Reads a text as [`parse`] does.
+///
+/// ```
+/// assert_eq!(duration_str::parse_std("2h 37m"), Ok(std::time::Duration::from_secs(9_420)));
+/// ```
+pub fn parse_std(input: impl AsRef<str>) -> Result<Duration, String> {
+    read(input.as_ref())
+}
+
+/// Reads a text as [`parse`] does, into a duration of `chrono`.
+///
+/// ```
+/// assert_eq!(duration_str::parse_chrono("2h 37m"), Ok(chrono::Duration::minutes(157)));
+/// ```
+#[cfg(feature = "chrono")]
+pub fn parse_chrono(input: impl AsRef<str>) -> Result<chrono::Duration, String> {
+    read(input.as_ref()).map(|length| {
+        chrono::Duration::from_std(length).expect("2^64 nanoseconds are 584 years, and chrono's durations go beyond")
+    })
+}
+
+/// Reads a text as [`parse`] does, into a duration of `time`.
+///
+/// ```
+/// assert_eq!(duration_str::parse_time("2h 37m"), Ok(time::Duration::minutes(157)));
+/// ```
+#[cfg(feature = "time")]
+pub fn parse_time(input: impl AsRef<str>) -> Result<time::Duration, String> {
+    read(input.as_ref()).map(|length| {
+        time::Duration::try_from(length).expect("2^64 nanoseconds are 584 years, and time's durations go beyond")
+    })
+}

@@ -1,0 +1,132 @@
+//! Durations in structs that serde reads.
+use duration_str::{deserialize_duration, DeserializeDuration};
+use serde::Deserialize;
+use serde_json::{from_value, json, Value};
+use std::fmt::Debug;
+use std::time::Duration;
+
+/// A struct with a required and an optional duration, which `serde_json` reads.
+#[derive(Debug, Deserialize, PartialEq)]
+#[serde(bound = "T: DeserializeDuration<'de>, Option<T>: DeserializeDuration<'de>")]
+struct Settings<T> {
+    #[serde(deserialize_with = "deserialize_duration")]
+    timeout: T,
+    #[serde(default, deserialize_with = "deserialize_duration")]
+    keep_alive: Option<T>,
+}
+
+/// The settings that this value and this text of it are read as; they are the same.
+fn settings<T>(value: Value) -> Result<Settings<T>, String>
+where
+    T: for<'de> DeserializeDuration<'de> + Debug + PartialEq,
+    Option<T>: for<'de> DeserializeDuration<'de>,
+{
+    let text = value.to_string();
+    let of_text = serde_json::from_str(&text).map_err(|error| error.to_string());
+    let of_value = from_value(value).map_err(|error| error.to_string());
+    // For a text the message ends in its place.
+    assert!(
+        of_text == of_value || of_text.as_ref().unwrap_err().starts_with(of_value.as_ref().unwrap_err()),
+        "{of_text:?}"
+    );
+    of_value
+}
+
+/// The rows that each type of duration is read by; `length` makes one of seconds.
+fn reads_settings<T>(length: impl Fn(u64) -> T)
+where
+    T: for<'de> DeserializeDuration<'de> + Debug + PartialEq,
+    Option<T>: for<'de> DeserializeDuration<'de>,
+{
+    let rows = [
+        (json!({ "timeout": "1m" }), 60, None),
+        (json!({ "timeout": "1min30", "keep_alive": null }), 90, None),
+        (json!({ "timeout": "1 y  30", "keep_alive": "" }), 31_536_030, None),
+        (json!({ "timeout": "1m", "keep_alive": "30s" }), 60, Some(30)),
+        (json!({ "timeout": "0", "keep_alive": "1y30" }), 0, Some(31_536_030)),
+        (json!({ "keep_alive": " 2h 37m ", "timeout": "3m31" }), 211, Some(9_420)),
+    ];
+    for (value, timeout, keep_alive) in rows {
+        let wanted = Settings { timeout: length(timeout), keep_alive: keep_alive.map(&length) };
+        assert_eq!(settings(value), Ok(wanted));
+    }
+    if cfg!(not(feature = "no_calc")) {
+        for text in ["1y+30", "1 y + 30"] {
+            let wanted = Settings { timeout: length(31_536_030), keep_alive: Some(length(90)) };
+            assert_eq!(settings(json!({ "timeout": text, "keep_alive": "1min+30" })), Ok(wanted));
+        }
+    }
+    let required = "expected expect duration string, e.g: '1min+30'";
+    let optional = "expected expect duration string, null, or missing field";
+    let rows = [
+        (json!({}), "missing field `timeout`".to_string()),
+        (json!({ "timeout": "" }), "Empty input".to_string()),
+        (json!({ "timeout": "600y" }), "600y\n^\noverflow error".to_string()),
+        (json!({ "timeout": true }), format!("invalid type: boolean `true`, {required}")),
+        (json!({ "timeout": 30 }), format!("invalid type: integer `30`, {required}")),
+        (json!({ "timeout": null }), format!("invalid type: null, {required}")),
+        (json!({ "timeout": ["1s"] }), format!("invalid type: sequence, {required}")),
+        (json!({ "timeout": "1m", "keep_alive": "600y" }), "600y\n^\noverflow error".to_string()),
+        (json!({ "timeout": "1m", "keep_alive": 30 }), format!("invalid type: integer `30`, {optional}")),
+        (json!({ "timeout": "1m", "keep_alive": [] }), format!("invalid type: sequence, {optional}")),
+    ];
+    for (value, message) in rows {
+        assert_eq!(settings::<T>(value), Err(message));
+    }
+}
+
+#[test]
+fn reads_durations_of_std() {
+    reads_settings(Duration::from_secs);
+}
+
+#[test]
+#[cfg(feature = "chrono")]
+fn reads_durations_of_chrono() {
+    reads_settings(|secs| chrono::Duration::seconds(secs as i64));
+}
+
+#[test]
+#[cfg(feature = "time")]
+fn reads_durations_of_time() {
+    reads_settings(|secs| time::Duration::seconds(secs as i64));
+}
+
+/// A struct within another: serde keeps its values, and hands them over by other calls than a format does.
+#[derive(Debug, Deserialize, PartialEq)]
+struct Job {
+    name: String,
+    #[serde(flatten)]
+    settings: Settings<Duration>,
+}
+
+#[test]
+fn reads_flattened_structs() {
+    let rows = [(json!(null), None), (json!("30s"), Some(Duration::from_secs(30)))];
+    for (keep_alive, wanted) in rows {
+        let job: Job = from_value(json!({ "name": "a", "timeout": "1m", "keep_alive": keep_alive })).unwrap();
+        assert_eq!(job.settings, Settings { timeout: Duration::from_secs(60), keep_alive: wanted });
+    }
+}
+
+#[test]
+#[allow(deprecated)]
+fn keeps_the_older_names() {
+    use duration_str::deserialize_option_duration;
+    assert_eq!(deserialize_option_duration(json!("30s")).unwrap(), Some(Duration::from_secs(30)));
+    assert_eq!(deserialize_option_duration(json!(null)).unwrap(), None);
+    #[cfg(feature = "chrono")]
+    {
+        use duration_str::{deserialize_duration_chrono, deserialize_option_duration_chrono};
+        assert_eq!(deserialize_duration_chrono(json!("30s")).unwrap(), chrono::Duration::seconds(30));
+        assert_eq!(deserialize_option_duration_chrono(json!("30s")).unwrap(), Some(chrono::Duration::seconds(30)));
+        assert_eq!(deserialize_option_duration_chrono(json!(null)).unwrap(), None);
+    }
+    #[cfg(feature = "time")]
+    {
+        use duration_str::{deserialize_duration_time, deserialize_option_duration_time};
+        assert_eq!(deserialize_duration_time(json!("30s")).unwrap(), time::Duration::seconds(30));
+        assert_eq!(deserialize_option_duration_time(json!("30s")).unwrap(), Some(time::Duration::seconds(30)));
+        assert_eq!(deserialize_option_duration_time(json!(null)).unwrap(), None);
+    }
+}

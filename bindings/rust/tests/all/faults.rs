@@ -1,0 +1,131 @@
+//! Texts that are refused, and what their faults tell.
+use crate::all_options;
+use crate::vectors::vectors;
+use duration_str::{parse, parse_with, Cause, CondUnit, DError, Expected, Fault, Options};
+use std::error::Error;
+
+const NO_CALC: Options = Options { no_calc: true, ..Options::off() };
+
+/// The line of this name.
+fn line(name: &str) -> String {
+    vectors().lines[name].clone()
+}
+
+/// The fault of a text.
+fn fault(text: &str, options: Options) -> Fault<'_> {
+    parse_with(text, options).expect_err(text)
+}
+
+/// Each text of the rows of this name is refused as its row says, under the options that `is_told` tells.
+fn check(name: &str, is_told: impl Fn(Options) -> bool) {
+    for options in all_options().filter(|options| is_told(*options)) {
+        for (text, spaces, name) in &vectors().faults[name] {
+            let line = line(name);
+            let message = match spaces {
+                Some(spaces) => format!("{text}\n{}^\n{line}", " ".repeat(*spaces)),
+                None => line.clone(),
+            };
+            let fault = fault(text, options);
+            assert_eq!(
+                (fault.to_string(), fault.line(), fault.text()),
+                (message.clone(), line, &text[..]),
+                "{options:?}"
+            );
+            if options == Options::of_features() {
+                assert_eq!(parse(text), Err(message));
+            }
+        }
+    }
+}
+
+#[test]
+fn tells_what_is_wrong() {
+    check("under all options", |_| true);
+    check("without no_calc", |options| !options.no_calc);
+    check("under no_calc", |options| options.no_calc);
+}
+
+const NONE: Expected = Expected { number: false, unit_word: false, operator: false, text_end: false };
+const AFTER_NUMBER: Expected = Expected { unit_word: true, operator: true, text_end: true, ..NONE };
+const AFTER_UNIT: Expected = Expected { number: true, operator: true, text_end: true, ..NONE };
+
+#[test]
+fn points_at_what_it_found() {
+    let off = Options::off();
+    let rows = [
+        ("0mxyz", off, 1, Some("mxyz"), AFTER_NUMBER),
+        ("1m 3-5", off, 4, Some("-"), AFTER_NUMBER),
+        ("1m+", off, 3, None, Expected { number: true, ..NONE }),
+        ("1m+…", off, 3, Some("…"), Expected { number: true, ..NONE }),
+        ("1m 2s ?", off, 6, Some("?"), AFTER_UNIT),
+        ("1 12", off, 2, Some("12"), AFTER_NUMBER),
+        ("3ms*2ms", NO_CALC, 3, Some("*"), Expected { operator: false, ..AFTER_UNIT }),
+        ("1分s", Options { cn_unit: true, ..off }, 1, Some("分s"), AFTER_NUMBER),
+    ];
+    for (text, options, place, found, expected) in rows {
+        let fault = fault(text, options);
+        assert_eq!(fault.cause(), Cause::Syntax { place, expected }, "{text}");
+        assert_eq!((fault.place(), fault.expected(), fault.found()), (Some(place), Some(expected), found), "{text}");
+    }
+}
+
+#[test]
+fn tells_the_cause() {
+    let rows = [
+        ("", Cause::Empty, None),
+        ("99999999999999999999 x", Cause::Syntax { place: 21, expected: AFTER_NUMBER }, Some("x")),
+        ("99999999999999999999y", Cause::NumberTooLarge { place: Some(0) }, None),
+        ("1s 99999999999999999999", Cause::NumberTooLarge { place: None }, None),
+        ("600y", Cause::Overflow { place: Some(0) }, None),
+        ("1s 600y", Cause::Overflow { place: None }, None),
+        ("1s+2*3", Cause::Mixed { first: CondUnit::Plus, later: CondUnit::Star }, None),
+        ("1s*2+3", Cause::Mixed { first: CondUnit::Star, later: CondUnit::Plus }, None),
+    ];
+    for (text, cause, found) in rows {
+        let fault = fault(text, Options::off());
+        assert_eq!((fault.cause(), fault.found()), (cause, found), "{text}");
+        let has_kinds = matches!(cause, Cause::Syntax { .. });
+        assert_eq!(fault.expected().is_some(), has_kinds, "{text}");
+    }
+}
+
+#[test]
+fn tells_the_byte_where_the_text_has_lines() {
+    assert_eq!(fault("1m\n2x", Options::off()).to_string(), format!("byte 4: {}", line("units")));
+}
+
+#[test]
+fn writes_messages_of_any_length() {
+    for length in [100, 150, 200, 256, 10_000] {
+        let text = format!("1s{}x", " ".repeat(length));
+        let message = format!("{text}\n{}^\n{}", " ".repeat(length + 2), line("operators"));
+        assert_eq!(fault(&text, Options::off()).to_string(), message);
+    }
+}
+
+#[test]
+fn becomes_an_error() {
+    let rows = [
+        ("", DError::ParseError(line("empty"))),
+        ("1x", DError::ParseError(line("units"))),
+        ("1s+2*3", DError::ParseError(line("plus, then star"))),
+        ("580y*2", DError::OverflowError),
+        ("600y", DError::OverflowError),
+    ];
+    for (text, error) in rows {
+        let fault = fault(text, Options::off());
+        assert_eq!(error.to_string(), fault.line(), "{text}");
+        assert_eq!(DError::from(fault), error, "{text}");
+        assert_eq!(fault.to_derror(), error, "{text}");
+    }
+    let text = String::from("1x");
+    let error: Box<dyn Error + '_> = fault(&text, Options::off()).into();
+    assert_eq!(error.to_string(), format!("1x\n ^\n{}", line("units")));
+}
+
+#[test]
+fn shows_faults_to_programmers() {
+    let shown = format!("{:?}", fault("1s+2*3", Options::off()));
+    assert_eq!(shown, r#"Fault { text: "1s+2*3", cause: Mixed { first: Plus, later: Star } }"#);
+    assert_eq!(format!("{} {}", CondUnit::Plus, CondUnit::Star), "+ *");
+}

@@ -1,0 +1,16 @@
+//! What the crate's calls answer, under the features that it is built with.
+#[cfg(feature = "serde")]
+mod config;
+#[cfg(feature = "chrono")]
+mod dates;
+mod faults;
+mod printing;
+mod values;
+mod vectors;
+
+use duration_str::Options;
+
+/// The eight choices of options.
+fn all_options() -> impl Iterator<Item = Options> {
+    (0..8).map(|bits| Options { no_calc: bits & 1 != 0, lowercase: bits & 2 != 0, cn_unit: bits & 4 != 0 })
+}

@@ -1,0 +1,57 @@
+-- What an answer tells of a cause is enough to know it.
+use Rattle.std.proofs.Common.{◌≡◌, ℕ, Bool, true, false, List, Some, None, refl, ap, subst}
+use Rattle.duration_str.specs.declared.unit.Options.{Options}
+use Rattle.duration_str.specs.declared.unit.CondUnit.{CondUnit}
+use Rattle.duration_str.specs.declared.unit.CondUnit.TheVariants.{Plus, Star}
+use Rattle.duration_str.specs.declared.fault.Cause.{Cause}
+use Rattle.duration_str.specs.declared.fault.Cause.TheVariants.{Empty, Syntax, NumberTooLarge, Overflow, Mixed, OutOfRange, NotText}
+use Rattle.duration_str.specs.declared.fault.Expected.{Expected}
+use Rattle.duration_str_c.specs.declared.answer.Answer.{Answer}
+use Rattle.duration_str_c.specs.Told.{bits_of, expected_of, refusal_told, cause_told, IsRefusalTold}
+use Rattle.duration_str_c.proofs.CauseLemmas.{IsOfText}
+
+abbrev kinds : Bool → Bool → Bool → Bool → Expected
+kinds number unit_word operator text_end = record { number = number; unit_word = unit_word; operator = operator; text_end = text_end }
+
+-- The bits hold each kind.
+kinds_again : (a b c d : Bool) → expected_of (bits_of (kinds a b c d)) ≡ kinds a b c d
+kinds_again true true true true = refl
+kinds_again true true true false = refl
+kinds_again true true false true = refl
+kinds_again true true false false = refl
+kinds_again true false true true = refl
+kinds_again true false true false = refl
+kinds_again true false false true = refl
+kinds_again true false false false = refl
+kinds_again false true true true = refl
+kinds_again false true true false = refl
+kinds_again false true false true = refl
+kinds_again false true false false = refl
+kinds_again false false true true = refl
+kinds_again false false true false = refl
+kinds_again false false false true = refl
+kinds_again false false false false = refl
+
+mixed_again : (first later : CondUnit) (n : ℕ) → cause_told (refusal_told (Mixed first later) n) ≡ Some (Mixed first later)
+mixed_again Plus Plus n = refl
+mixed_again Plus Star n = refl
+mixed_again Star Plus n = refl
+mixed_again Star Star n = refl
+
+-- The cause of a text is told again by the answer that tells it.
+pub told_again : (cause : Cause) (n : ℕ) → IsOfText cause → cause_told (refusal_told cause n) ≡ Some cause
+told_again Empty n h = refl
+told_again (Syntax place e) n h = ap (λ (e : Expected). Some (Syntax place e)) (kinds_again e.number e.unit_word e.operator e.text_end)
+told_again (NumberTooLarge None) n h = refl
+told_again (NumberTooLarge (Some place)) n h = refl
+told_again (Overflow None) n h = refl
+told_again (Overflow (Some place)) n h = refl
+told_again (Mixed first later) n h = mixed_again first later n
+told_again OutOfRange n h = refl
+told_again (NotText optional) n h = absurd h
+
+-- A refusal that is told of bytes is told of the same bytes under the same options.
+pub refusal_moves : (o p : Options) (bytes same : List ℕ) (cause : Cause) (answer : Answer) → o ≡ p → bytes ≡ same
+    → IsRefusalTold o bytes cause answer → IsRefusalTold p same cause answer
+refusal_moves o p bytes same cause answer e f told =
+    subst (λ (b : List ℕ). IsRefusalTold p b cause answer) f (subst (λ (q : Options). IsRefusalTold q bytes cause answer) e told)

@@ -1,0 +1,229 @@
+//! Answers: the value of a text, or all that a fault has, as a struct of C.
+ghost use Rattle.std.specs.Prelude.{◌≡◌};
+ghost use Rattle.std.specs.Str.{chars};
+ghost use Rattle.duration_str.specs.Faults.{found};
+ghost use Rattle.duration_str.specs.Reading.{IsRefused};
+ghost use Rattle.duration_str_c.specs.Told.{number_of, bits_of, expected_bits, sign_of, first_sign, later_sign, piece_length, value_told, refusal_told, expected_of, place_told, operator_told, mixed_told, cause_told, IsRefusalTold};
+
+use duration_str::{Cause, CondUnit, Expected, Fault, Options};
+
+const EMPTY: u32 = 1;
+
+const SYNTAX: u32 = 2;
+
+const NUMBER_TOO_LARGE: u32 = 3;
+
+const OVERFLOW: u32 = 4;
+
+const MIXED: u32 = 5;
+
+const OUT_OF_RANGE: u32 = 6;
+
+const NOT_TEXT: u32 = 7;
+
+const NUMBER: u32 = 1;
+
+const UNIT: u32 = 2;
+
+const OPERATOR: u32 = 4;
+
+const END: u32 = 8;
+
+/// What a text is read as, or why it is refused. What a case does not name is 0.
+#[repr(C)]
+#[derive(Clone, Copy)]
+pub struct Answer {
+    /// The value in nanoseconds, where the text is read.
+    pub nanos: u64,
+    /// The byte at which the fault stands, where it has a place.
+    pub place: usize,
+    /// For a syntax fault: how many bytes the piece has that stands at the place; 0 at the end.
+    pub found_length: usize,
+    /// 0 where the text is read, else the number of the cause, from 1 for `Empty` to 7 for `NotText`.
+    pub cause: u32,
+    /// For a syntax fault: what could stand at the place, as bits: 1 a number, 2 a unit, 4 an operator, 8 the end.
+    pub expected: u32,
+    /// 1 where the fault has a place, else 0.
+    pub has_place: u8,
+    /// For mixed operators: the one that came first, as its character.
+    pub first_operator: u8,
+    /// For mixed operators: the one that came later.
+    pub later_operator: u8,
+}
+
+impl Answer {
+    /// A value.
+    pub(crate) fn value(nanos: u64) -> Answer
+        ensures { result ≡ value_told nanos }
+    {
+        Answer {
+            nanos,
+            place: 0,
+            found_length: 0,
+            cause: 0,
+            expected: 0,
+            has_place: 0,
+            first_operator: 0,
+            later_operator: 0,
+        }
+    }
+
+    /// A refusal, with the length of the piece at its place.
+    pub(crate) fn refusal(cause: Cause, found_length: usize) -> Answer
+        ensures { result ≡ refusal_told cause found_length }
+    {
+        let place = cause.place();
+        let (first_operator, later_operator) = signs_of(cause);
+        Answer {
+            nanos: 0,
+            place: place.unwrap_or(0),
+            found_length,
+            cause: number_of(cause),
+            expected: expected_bits(cause),
+            has_place: u8::from(place.is_some()),
+            first_operator,
+            later_operator,
+        }
+    }
+
+    /// The cause that it tells. `None` where it tells a value, and where no call tells it.
+    pub(crate) fn cause(self) -> Option<Cause>
+        ensures { result ≡ cause_told self }
+    {
+        match self.cause {
+            EMPTY => Some(Cause::Empty),
+            SYNTAX => Some(Cause::Syntax {
+                place: self.place,
+                expected: expected_of(self.expected),
+            }),
+            NUMBER_TOO_LARGE => Some(Cause::NumberTooLarge {
+                place: self.told_place(),
+            }),
+            OVERFLOW => Some(Cause::Overflow {
+                place: self.told_place(),
+            }),
+            MIXED => self.mixed(),
+            OUT_OF_RANGE => Some(Cause::OutOfRange),
+            NOT_TEXT => Some(Cause::NotText { optional: false }),
+            _ => None,
+        }
+    }
+
+    /// The place that it tells.
+    fn told_place(self) -> Option<usize>
+        ensures { result ≡ place_told self }
+    {
+        if self.has_place == 0 {
+            None
+        } else {
+            Some(self.place)
+        }
+    }
+
+    /// The fault of its two operators, where both are operators.
+    fn mixed(self) -> Option<Cause>
+        ensures { result ≡ mixed_told (operator_told self.first_operator) (operator_told self.later_operator) }
+    {
+        let first = operator_of(self.first_operator)?;
+        let later = operator_of(self.later_operator)?;
+        Some(Cause::Mixed { first, later })
+    }
+}
+
+/// The fault for which a text is refused under these options.
+pub(crate) fn refused(fault: Fault<'_>, options: Options) -> Answer
+    requires { IsRefused options (chars fault.text.now) fault.cause }
+    ensures { IsRefusalTold options fault.entry.text.now fault.entry.cause result }
+{
+    Answer::refusal(fault.cause(), found_length(&fault, options))
+}
+
+/// How many bytes the piece has that stands at the place of a syntax fault, and 0 where there is none.
+fn found_length(fault: &Fault<'_>, options: Options) -> usize
+    ensures { result ≡ piece_length (found options (chars fault.now.text.now) fault.now.cause) }
+{
+    match fault.found(options) {
+        Some(piece) => piece.len(),
+        None => 0,
+    }
+}
+
+/// The number of a cause.
+fn number_of(cause: Cause) -> u32
+    ensures { result ≡ number_of cause }
+{
+    match cause {
+        Cause::Empty => EMPTY,
+        Cause::Syntax { .. } => SYNTAX,
+        Cause::NumberTooLarge { .. } => NUMBER_TOO_LARGE,
+        Cause::Overflow { .. } => OVERFLOW,
+        Cause::Mixed { .. } => MIXED,
+        Cause::OutOfRange => OUT_OF_RANGE,
+        Cause::NotText { .. } => NOT_TEXT,
+    }
+}
+
+/// The bits of what could stand at the place; none but for a syntax fault.
+fn expected_bits(cause: Cause) -> u32
+    ensures { result ≡ expected_bits cause }
+{
+    match cause {
+        Cause::Syntax { expected, .. } => bits_of(expected),
+        _ => 0,
+    }
+}
+
+/// The bits of what could stand at a place.
+fn bits_of(expected: Expected) -> u32
+    ensures { result ≡ bits_of expected }
+{
+    let number = if expected.number { NUMBER } else { 0 };
+    let unit = if expected.unit_word { UNIT } else { 0 };
+    let operator = if expected.operator { OPERATOR } else { 0 };
+    let end = if expected.text_end { END } else { 0 };
+    number + unit + operator + end
+}
+
+/// What could stand at a place, by its bits.
+fn expected_of(bits: u32) -> Expected
+    ensures { result ≡ expected_of bits }
+{
+    Expected {
+        number: bits & NUMBER != 0,
+        unit_word: bits & UNIT != 0,
+        operator: bits & OPERATOR != 0,
+        text_end: bits & END != 0,
+    }
+}
+
+/// The characters of the first and the later operator, where operators are mixed.
+fn signs_of(cause: Cause) -> (u8, u8)
+    ensures first { result.0 ≡ first_sign cause }
+    ensures later { result.1 ≡ later_sign cause }
+{
+    match cause {
+        Cause::Mixed { first, later } => (sign_of(first), sign_of(later)),
+        _ => (0, 0),
+    }
+}
+
+/// The character of an operator.
+fn sign_of(operator: CondUnit) -> u8
+    ensures { result ≡ sign_of operator }
+{
+    match operator {
+        CondUnit::Plus => b'+',
+        CondUnit::Star => b'*',
+    }
+}
+
+/// The operator of a character, if it is one.
+fn operator_of(sign: u8) -> Option<CondUnit>
+    ensures { result ≡ operator_told sign }
+{
+    match sign {
+        b'+' => Some(CondUnit::Plus),
+        b'*' => Some(CondUnit::Star),
+        _ => None,
+    }
+}

@@ -1,0 +1,37 @@
+//! duration EXPRESSION: the expression's nanoseconds, what they print as, and the moment so long after
+//! 2000-01-01T00:00:00Z in seconds since 1970; or what is wrong with it.
+use chrono::{TimeZone, Utc};
+use duration_str::{moment_after, parse_with, Fault, HumanFormat, Options};
+use std::process::ExitCode;
+
+/// The line that tells of an expression.
+fn told(expression: &str) -> Result<String, Fault<'_>> {
+    let off = Options::off();
+    let start = Utc.with_ymd_and_hms(2000, 1, 1, 0, 0, 0).unwrap().naive_utc();
+    let length = parse_with(expression, off)?;
+    let moment = Utc.from_utc_datetime(&moment_after(start, expression, off)?);
+    let seconds = format!("{}.{:09}", moment.timestamp(), moment.timestamp_subsec_nanos());
+    Ok(format!("{} {} {seconds}", length.as_nanos(), length.human_format()))
+}
+
+fn main() -> ExitCode {
+    let words: Vec<_> = std::env::args_os().skip(1).collect();
+    let [word] = words.as_slice() else {
+        eprintln!("usage: duration EXPRESSION");
+        return ExitCode::from(2);
+    };
+    let Some(expression) = word.to_str() else {
+        println!("no UTF-8");
+        return ExitCode::FAILURE;
+    };
+    match told(expression) {
+        Ok(line) => {
+            println!("{line}");
+            ExitCode::SUCCESS
+        }
+        Err(fault) => {
+            println!("{fault}");
+            ExitCode::FAILURE
+        }
+    }
+}
