@@ -144,7 +144,8 @@ impl Fault<'_> {
     /// parse("").unwrap_err().write_message(&mut buffer) // Some(11), and `buffer` begins with "Empty input"
     /// ```
     pub fn write_message(&self, buffer: &mut [u8]) -> Option<usize>
-        ensures { IsWritten (fault_text self.now.text.now self.now.cause) buffer.old result buffer.new }
+        ensures { IsWritten (fault_text self.now.text.now self.now.cause)
+            buffer.old result buffer.new }
     {
         if self.message_len() > buffer.len() {
             return None;

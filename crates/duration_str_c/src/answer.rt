@@ -122,7 +122,8 @@ impl Answer {
 
     /// The fault of its two operators, where both are operators.
     fn mixed(self) -> Option<Cause>
-        ensures { result ≡ mixed_told (operator_told self.first_operator) (operator_told self.later_operator) }
+        ensures { result ≡ mixed_told (operator_told self.first_operator)
+            (operator_told self.later_operator) }
     {
         let first = operator_of(self.first_operator)?;
         let later = operator_of(self.later_operator)?;

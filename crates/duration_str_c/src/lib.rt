@@ -43,7 +43,8 @@ fn options_of(bits: u32) -> Options
 #[unsafe(no_mangle)]
 pub extern "C" fn duration_str_parse(text: &[u8], nanos: &mut u64) -> bool
     ensures read { IsTrue result → IsRead off (chars text.now) nanos.new }
-    ensures accepts { IsUtf8 text.now → (value : ℕ) → IsRead off (chars text.now) value → IsTrue result }
+    ensures accepts { IsUtf8 text.now
+        → (value : ℕ) → IsRead off (chars text.now) value → IsTrue result }
     ensures utf8 { IsTrue result → IsUtf8 text.now }
     ensures refused { IsFalse result → nanos.new ≡ nanos.old }
 {
@@ -63,7 +64,8 @@ pub extern "C" fn duration_str_parse(text: &[u8], nanos: &mut u64) -> bool
 /// second, and the buffer stays.
 #[unsafe(no_mangle)]
 pub extern "C" fn duration_str_format(secs: u64, nanos: u32, buffer: &mut [u8; 64]) -> usize
-    ensures text { nanos < 1_000_000_000 → IsPrinted (secs * 1_000_000_000 + nanos) (chars (take result buffer.new)) }
+    ensures text { nanos < 1_000_000_000
+        → IsPrinted (secs * 1_000_000_000 + nanos) (chars (take result buffer.new)) }
     ensures short { result ≤ max_printed_len }
     ensures refused { 1_000_000_000 ≤ nanos → (result ≡ 0) × (buffer.new ≡ buffer.old) }
 {

@@ -17,9 +17,11 @@ use duration_str::{Cause, Fault};
 /// The message is the line alone where the cause can't be a fault of this text, and empty where the answer tells none.
 #[unsafe(no_mangle)]
 pub extern "C" fn duration_str_message(text: &[u8], answer: &Answer, buffer: &mut [u8]) -> usize
-    ensures whole { (cause : Cause) → cause_told answer.now ≡ Some cause → CanFault text.now cause
+    ensures whole { (cause : Cause) → cause_told answer.now ≡ Some cause
+        → CanFault text.now cause
         → IsShown (fault_text text.now cause) buffer.old result buffer.new }
-    ensures line { (cause : Cause) → cause_told answer.now ≡ Some cause → ¬ (CanFault text.now cause)
+    ensures line { (cause : Cause) → cause_told answer.now ≡ Some cause
+        → ¬ (CanFault text.now cause)
         → IsShown (encode_utf8_all (line_of cause)) buffer.old result buffer.new }
     ensures nothing { cause_told answer.now ≡ None → (result ≡ 0) × (buffer.new ≡ buffer.old) }
 {

@@ -62,8 +62,11 @@ fn moment_of(timestamp: Timestamp) -> Moment
 
 /// The moment so long after or before a timestamp, if a timestamp can have it.
 fn moved(from: Timestamp, length: Duration, direction: Direction) -> Option<Moment>
-    ensures moment { IfSome result (λ m. IsMoment m × (instant_of m ≡ moved direction from.nanosecond (as_nanos length))) }
-    ensures none { IfNone result (IsOutOfRange (moved direction from.nanosecond (as_nanos length))) }
+    ensures moment { IfSome result IsMoment }
+    ensures reached { IfSome result
+        (λ m. instant_of m ≡ moved direction from.nanosecond (as_nanos length)) }
+    ensures none { IfNone result
+        (IsOutOfRange (moved direction from.nanosecond (as_nanos length))) }
 {
     let reached = match direction {
         Direction::After => from.checked_add(length),
@@ -77,9 +80,13 @@ fn moved(from: Timestamp, length: Duration, direction: Direction) -> Option<Mome
 
 /// Moves the moment by the value of a text, and gives what is told of it.
 fn told_of_move(text: &[u8], options: u32, moment: &mut Moment, direction: Direction) -> Answer
-    ensures told { IsMoment moment.old → IsUtf8 text.now → IsMoved (moved direction (instant_of moment.old)) (options_of options) text.now moment.old moment.new result }
-    ensures not_text { IsMoment moment.old → ¬ (IsUtf8 text.now) → (result ≡ refusal_told (NotText false) 0) × (moment.new ≡ moment.old) }
-    ensures no_moment { ¬ (IsMoment moment.old) → (result ≡ refusal_told OutOfRange 0) × (moment.new ≡ moment.old) }
+    ensures told { IsMoment moment.old → IsUtf8 text.now
+        → IsMoved (moved direction (instant_of moment.old)) (options_of options) text.now
+        moment.old moment.new result }
+    ensures not_text { IsMoment moment.old → ¬ (IsUtf8 text.now)
+        → (result ≡ refusal_told (NotText false) 0) × (moment.new ≡ moment.old) }
+    ensures no_moment { ¬ (IsMoment moment.old)
+        → (result ≡ refusal_told OutOfRange 0) × (moment.new ≡ moment.old) }
 {
     let Some(from) = timestamp_of(*moment) else {
         return Answer::refusal(Cause::OutOfRange, 0);
@@ -108,9 +115,13 @@ pub extern "C" fn duration_str_after(
     moment: &mut Moment,
     answer: &mut Answer,
 ) -> bool
-    ensures told { IsMoment moment.old → IsUtf8 text.now → IsMoved (λ nanos. instant_of moment.old +ℤ pos nanos) (options_of options) text.now moment.old moment.new answer.new }
-    ensures not_text { IsMoment moment.old → ¬ (IsUtf8 text.now) → (answer.new ≡ refusal_told (NotText false) 0) × (moment.new ≡ moment.old) }
-    ensures no_moment { ¬ (IsMoment moment.old) → (answer.new ≡ refusal_told OutOfRange 0) × (moment.new ≡ moment.old) }
+    ensures told { IsMoment moment.old → IsUtf8 text.now
+        → IsMoved (λ nanos. instant_of moment.old +ℤ pos nanos) (options_of options) text.now
+        moment.old moment.new answer.new }
+    ensures not_text { IsMoment moment.old → ¬ (IsUtf8 text.now)
+        → (answer.new ≡ refusal_told (NotText false) 0) × (moment.new ≡ moment.old) }
+    ensures no_moment { ¬ (IsMoment moment.old)
+        → (answer.new ≡ refusal_told OutOfRange 0) × (moment.new ≡ moment.old) }
     ensures moved { result ≡ (answer.new.cause == 0) }
 {
     *answer = told_of_move(text, options, moment, Direction::After);
@@ -125,9 +136,13 @@ pub extern "C" fn duration_str_before(
     moment: &mut Moment,
     answer: &mut Answer,
 ) -> bool
-    ensures told { IsMoment moment.old → IsUtf8 text.now → IsMoved (λ nanos. instant_of moment.old -ℤ pos nanos) (options_of options) text.now moment.old moment.new answer.new }
-    ensures not_text { IsMoment moment.old → ¬ (IsUtf8 text.now) → (answer.new ≡ refusal_told (NotText false) 0) × (moment.new ≡ moment.old) }
-    ensures no_moment { ¬ (IsMoment moment.old) → (answer.new ≡ refusal_told OutOfRange 0) × (moment.new ≡ moment.old) }
+    ensures told { IsMoment moment.old → IsUtf8 text.now
+        → IsMoved (λ nanos. instant_of moment.old -ℤ pos nanos) (options_of options) text.now
+        moment.old moment.new answer.new }
+    ensures not_text { IsMoment moment.old → ¬ (IsUtf8 text.now)
+        → (answer.new ≡ refusal_told (NotText false) 0) × (moment.new ≡ moment.old) }
+    ensures no_moment { ¬ (IsMoment moment.old)
+        → (answer.new ≡ refusal_told OutOfRange 0) × (moment.new ≡ moment.old) }
     ensures moved { result ≡ (answer.new.cause == 0) }
 {
     *answer = told_of_move(text, options, moment, Direction::Before);
