@@ -4,10 +4,10 @@ use Rattle.std.specs.Fmt.{digits}
 use Rattle.std.specs.Str.{chars}
 use lib.Chars.{codes}
 use lib.Utf8.{encode}
-use Rattle.duration_str.specs.declared.unit.Options.{Options}
+use Rattle.duration_str.specs.declared.options.Options.{Options}
 use Rattle.duration_str.specs.declared.unit.TimeUnit.{TimeUnit}
 use Rattle.duration_str.specs.declared.unit.TimeUnit.TheVariants.{Quarter}
-use Rattle.duration_str.specs.declared.unit.CondUnit.TheVariants.{Plus, Star}
+use Rattle.duration_str.specs.declared.operator.CondUnit.TheVariants.{Plus, Star}
 use Rattle.duration_str.specs.declared.fault.Cause.TheVariants.{Empty, Syntax, NumberTooLarge, Overflow, Mixed}
 use Rattle.duration_str.specs.declared.fault.Expected.{Expected}
 use Rattle.duration_str.specs.Units.{off, row_of, units, unit_among, unit_of_word, unit_lengths}
@@ -30,17 +30,17 @@ with_cn_unit = record { no_calc = false; lowercase = false; cn_unit = true }
 abbrev number_alone : Expected
 number_alone = record { number = true; unit_word = false; operator = false; text_end = false }
 
-abbrev behind_number : Expected
-behind_number = record { number = false; unit_word = true; operator = true; text_end = true }
+abbrev after_number : Expected
+after_number = record { number = false; unit_word = true; operator = true; text_end = true }
 
-abbrev behind_unit : Expected
-behind_unit = record { number = true; unit_word = false; operator = true; text_end = true }
+abbrev after_unit : Expected
+after_unit = record { number = true; unit_word = false; operator = true; text_end = true }
 
-abbrev behind_number-no_calc : Expected
-behind_number-no_calc = record { number = false; unit_word = true; operator = false; text_end = true }
+abbrev after_number-no_calc : Expected
+after_number-no_calc = record { number = false; unit_word = true; operator = false; text_end = true }
 
-abbrev behind_unit-no_calc : Expected
-behind_unit-no_calc = record { number = true; unit_word = false; operator = false; text_end = true }
+abbrev after_unit-no_calc : Expected
+after_unit-no_calc = record { number = true; unit_word = false; operator = false; text_end = true }
 
 -- ---- Terms and sums
 
@@ -120,23 +120,23 @@ empty-refused = refl
 pub blanks-refused : answer off (codes "   ") ≡ Err (Syntax 3 number_alone)
 blanks-refused = refl
 
-pub two_numbers-refused : answer off (codes "1 2") ≡ Err (Syntax 2 behind_number)
+pub two_numbers-refused : answer off (codes "1 2") ≡ Err (Syntax 2 after_number)
 two_numbers-refused = refl
 
-pub unknown_word-refused : answer off (codes "0mxyz") ≡ Err (Syntax 1 behind_number)
+pub unknown_word-refused : answer off (codes "0mxyz") ≡ Err (Syntax 1 after_number)
 unknown_word-refused = refl
 
-pub longer_word-refused : answer off (codes "1mx") ≡ Err (Syntax 1 behind_number)
+pub longer_word-refused : answer off (codes "1mx") ≡ Err (Syntax 1 after_number)
 longer_word-refused = refl
 
-pub minus_behind_number-refused : answer off (codes "0m+3-5") ≡ Err (Syntax 4 behind_number)
-minus_behind_number-refused = refl
+pub minus_after_number-refused : answer off (codes "0m+3-5") ≡ Err (Syntax 4 after_number)
+minus_after_number-refused = refl
 
-pub minus_behind_unit-refused : answer off (codes "3ms-2ms") ≡ Err (Syntax 3 behind_unit)
-minus_behind_unit-refused = refl
+pub minus_after_unit-refused : answer off (codes "3ms-2ms") ≡ Err (Syntax 3 after_unit)
+minus_after_unit-refused = refl
 
-pub minus_behind_later_number-refused : answer off (codes "1m 3-5") ≡ Err (Syntax 4 behind_number)
-minus_behind_later_number-refused = refl
+pub minus_after_later_number-refused : answer off (codes "1m 3-5") ≡ Err (Syntax 4 after_number)
+minus_after_later_number-refused = refl
 
 pub last_operator-refused : answer off (codes "1m+") ≡ Err (Syntax 3 number_alone)
 last_operator-refused = refl
@@ -147,36 +147,36 @@ first_operator-refused = refl
 pub two_operators-refused : answer off (codes "1m++2") ≡ Err (Syntax 3 number_alone)
 two_operators-refused = refl
 
-pub place_behind_line_feeds : answer off (codes "1m" ++ 10 ∷ codes "+" ++ 10 ∷ codes "x") ≡ Err (Syntax 5 number_alone)
-place_behind_line_feeds = refl
+pub place_after_line_feeds : answer off (codes "1m" ++ 10 ∷ codes "+" ++ 10 ∷ codes "x") ≡ Err (Syntax 5 number_alone)
+place_after_line_feeds = refl
 
-pub place_in_bytes : answer off (codes "1µs 分") ≡ Err (Syntax 5 behind_unit)
+pub place_in_bytes : answer off (codes "1µs 分") ≡ Err (Syntax 5 after_unit)
 place_in_bytes = refl
 
-pub vertical_tab-refused : answer off (codes "1m" ++ 11 ∷ codes "2") ≡ Err (Syntax 2 behind_unit)
+pub vertical_tab-refused : answer off (codes "1m" ++ 11 ∷ codes "2") ≡ Err (Syntax 2 after_unit)
 vertical_tab-refused = refl
 
-pub form_feed-refused : answer off (codes "1m" ++ 12 ∷ codes "2") ≡ Err (Syntax 2 behind_unit)
+pub form_feed-refused : answer off (codes "1m" ++ 12 ∷ codes "2") ≡ Err (Syntax 2 after_unit)
 form_feed-refused = refl
 
-pub no_break_space-refused : answer off (codes "1m" ++ 0xA0 ∷ codes "2") ≡ Err (Syntax 2 behind_unit)
+pub no_break_space-refused : answer off (codes "1m" ++ 0xA0 ∷ codes "2") ≡ Err (Syntax 2 after_unit)
 no_break_space-refused = refl
 
-pub wide_space-refused : answer off (codes "1m" ++ 0x3000 ∷ codes "2") ≡ Err (Syntax 2 behind_unit)
+pub wide_space-refused : answer off (codes "1m" ++ 0x3000 ∷ codes "2") ≡ Err (Syntax 2 after_unit)
 wide_space-refused = refl
 
 -- ---- The order of refusals
 
-pub syntax-before_standing_number : answer off (codes "99999999999999999999 2") ≡ Err (Syntax 21 behind_number)
+pub syntax-before_standing_number : answer off (codes "99999999999999999999 2") ≡ Err (Syntax 21 after_number)
 syntax-before_standing_number = refl
 
 pub first_term-before_syntax : answer off (codes "99999999999999999999y-") ≡ Err (NumberTooLarge (Some 0))
 first_term-before_syntax = refl
 
-pub syntax-before_sum : answer off (codes "580y 580y x") ≡ Err (Syntax 10 behind_unit)
+pub syntax-before_sum : answer off (codes "580y 580y x") ≡ Err (Syntax 10 after_unit)
 syntax-before_sum = refl
 
-pub syntax-before_sum-at_sign : answer off (codes "580y 580y-") ≡ Err (Syntax 9 behind_unit)
+pub syntax-before_sum-at_sign : answer off (codes "580y 580y-") ≡ Err (Syntax 9 after_unit)
 syntax-before_sum-at_sign = refl
 
 pub number-before_later_operator : answer off (codes "1m+99999999999999999999*2") ≡ Err (NumberTooLarge None)
@@ -190,16 +190,16 @@ operator-before_later_number = refl
 pub no_calc-sum : answer with_no_calc (codes "2h 37m") ≡ Ok 9_420_000_000_000
 no_calc-sum = refl
 
-pub no_calc-plus_behind_number : answer with_no_calc (codes "1+2") ≡ Err (Syntax 1 behind_number-no_calc)
-no_calc-plus_behind_number = refl
+pub no_calc-plus_after_number : answer with_no_calc (codes "1+2") ≡ Err (Syntax 1 after_number-no_calc)
+no_calc-plus_after_number = refl
 
-pub no_calc-plus_behind_unit : answer with_no_calc (codes "1m+2") ≡ Err (Syntax 2 behind_unit-no_calc)
-no_calc-plus_behind_unit = refl
+pub no_calc-plus_after_unit : answer with_no_calc (codes "1m+2") ≡ Err (Syntax 2 after_unit-no_calc)
+no_calc-plus_after_unit = refl
 
-pub no_calc-minus_behind_number : answer with_no_calc (codes "0m3-5") ≡ Err (Syntax 3 behind_number-no_calc)
-no_calc-minus_behind_number = refl
+pub no_calc-minus_after_number : answer with_no_calc (codes "0m3-5") ≡ Err (Syntax 3 after_number-no_calc)
+no_calc-minus_after_number = refl
 
-pub no_calc-number_stands_not : answer with_no_calc (codes "99999999999999999999+1") ≡ Err (Syntax 20 behind_number-no_calc)
+pub no_calc-number_stands_not : answer with_no_calc (codes "99999999999999999999+1") ≡ Err (Syntax 20 after_number-no_calc)
 no_calc-number_stands_not = refl
 
 pub no_calc-first_term_before_syntax : answer with_no_calc (codes "99999999999999999999m+1") ≡ Err (NumberTooLarge (Some 0))
@@ -225,17 +225,17 @@ capitals_folded = refl
 pub capital_minute : answer off (codes "1M") ≡ Ok 60_000_000_000
 capital_minute = refl
 
-pub capital_behind_micro : answer off (codes "1µS") ≡ Ok 1_000
-capital_behind_micro = refl
+pub capital_after_micro : answer off (codes "1µS") ≡ Ok 1_000
+capital_after_micro = refl
 
-pub lowercase-capital_refused : answer with_lowercase (codes "1M") ≡ Err (Syntax 1 behind_number)
+pub lowercase-capital_refused : answer with_lowercase (codes "1M") ≡ Err (Syntax 1 after_number)
 lowercase-capital_refused = refl
 
 -- the Greek letter U+03BC, which is not the micro sign U+00B5
-pub greek_mu-refused : answer off (49 ∷ 0x3BC ∷ 115 ∷ []) ≡ Err (Syntax 1 behind_number)
+pub greek_mu-refused : answer off (49 ∷ 0x3BC ∷ 115 ∷ []) ≡ Err (Syntax 1 after_number)
 greek_mu-refused = refl
 
-pub micro_alone-refused : answer off (codes "1µ s") ≡ Err (Syntax 1 behind_number)
+pub micro_alone-refused : answer off (codes "1µ s") ≡ Err (Syntax 1 after_number)
 micro_alone-refused = refl
 
 pub cn_unit-chinese_read : answer with_cn_unit (codes " 1分+   31秒 + 2毫秒+  3纳秒  ") ≡ Ok 91_002_000_003
@@ -244,20 +244,20 @@ cn_unit-chinese_read = refl
 pub cn_unit-all_read : answer with_cn_unit (codes "1年1月1周1日1天1时1分1秒1毫秒1微秒1纳秒") ≡ Ok 34_909_261_001_001_001
 cn_unit-all_read = refl
 
-pub chinese-refused : answer off (codes " 1分+   31秒 + 2毫秒+  3纳秒  ") ≡ Err (Syntax 2 behind_number)
+pub chinese-refused : answer off (codes " 1分+   31秒 + 2毫秒+  3纳秒  ") ≡ Err (Syntax 2 after_number)
 chinese-refused = refl
 
 -- ---- The texts of faults
 
-pub caret-by_characters : fault_text (encode_utf8_all (codes "1µs 分")) (Syntax 5 behind_unit)
+pub caret-by_characters : fault_text (encode_utf8_all (codes "1µs 分")) (Syntax 5 after_unit)
     ≡ encode_utf8_all (codes "1µs 分" ++ 10 ∷ codes "    ^" ++ 10 ∷ codes "expected ['+', '*']")
 unfolding encode chars
 caret-by_characters = refl
 
-pub byte-behind_line_feeds : fault_text (codes "1m" ++ 10 ∷ codes "+" ++ 10 ∷ codes "x") (Syntax 5 number_alone)
+pub byte-after_line_feeds : fault_text (codes "1m" ++ 10 ∷ codes "+" ++ 10 ∷ codes "x") (Syntax 5 number_alone)
     ≡ codes "byte 5: expected number"
 unfolding digits encode
-byte-behind_line_feeds = refl
+byte-after_line_feeds = refl
 
 pub line-alone : fault_text (codes "1m 2s*3") (Mixed Plus Star) ≡ codes "not support '+' with '*' calculate"
 unfolding encode
@@ -367,7 +367,7 @@ abbrev AreNamesOf : Options → TimeUnit → List (List ℕ) → Type 0
 AreNamesOf o u [] = ⊤
 AreNamesOf o u (name ∷ names) = (unit_of_word o name ≡ Some u) × AreNamesOf o u names
 
--- Each name of these units is read as its unit, whether or not it is folded, and each Chinese name with `cn_unit`.
+-- Each name of these units is read as its unit, whether or not it is comparison_form, and each Chinese name with `cn_unit`.
 abbrev AreNames : List TimeUnit → Type 0
 AreNames [] = ⊤
 AreNames (u ∷ us) =
@@ -389,10 +389,10 @@ quarter-read = refl
 pub capital_quarters-read : answer off (codes "2 Quarters") ≡ Ok 15_724_800_000_000_000
 capital_quarters-read = refl
 
-pub capital_quarter-lowercase_refused : answer with_lowercase (codes "1Q") ≡ Err (Syntax 1 behind_number)
+pub capital_quarter-lowercase_refused : answer with_lowercase (codes "1Q") ≡ Err (Syntax 1 after_number)
 capital_quarter-lowercase_refused = refl
 
-pub longer_word_than_quarter-refused : answer off (codes "1qs") ≡ Err (Syntax 1 behind_number)
+pub longer_word_than_quarter-refused : answer off (codes "1qs") ≡ Err (Syntax 1 after_number)
 longer_word_than_quarter-refused = refl
 
 -- Before there was the quarter, its names were none of a unit, and each of the others was one.

@@ -1,40 +1,40 @@
 -- The answer to a text, computed along the table of what may follow.
 use Rattle.std.specs.Prelude.{ℕ, Bool, false, List, [], ◌∷◌, Option, Some, None, Result, Ok, Err, take, drop, if◌then◌else◌, unwrap_or}
-use Rattle.duration_str.specs.declared.unit.Options.{Options}
+use Rattle.duration_str.specs.declared.options.Options.{Options}
 use Rattle.duration_str.specs.declared.fault.Cause.{Cause}
 use Rattle.duration_str.specs.declared.fault.Cause.TheVariants.{Empty, Syntax}
 use Rattle.duration_str.specs.Text.{byte_len}
-use Rattle.duration_str.specs.Grammar.{Token}
-use Rattle.duration_str.specs.Pieces.{pieces_of}
-use Rattle.duration_str.specs.Place.{kinds_after, last_of, front_of, start_after, tokens_of}
+use Rattle.duration_str.specs.Grammar.{Terminal}
+use Rattle.duration_str.specs.Tokens.{tokens_of}
+use Rattle.duration_str.specs.Place.{kinds_after, last_of, front_of, start_after, terminals_of}
 use Rattle.duration_str.specs.Value.{terms_of, value_of}
 use Rattle.duration_str.specs.Reading.{early_fault, late_fault}
 
--- whether the front is all tokens, and a sentence
-abbrev pub is_whole : Bool → List Token → List Token → Bool
+-- whether the front is all terminals, and a sentence
+abbrev pub is_whole : Bool → List Terminal → List Terminal → Bool
 is_whole no_calc front [] = (kinds_after no_calc (last_of None front)).text_end
-is_whole no_calc front (token ∷ rest) = false
+is_whole no_calc front (terminal ∷ rest) = false
 
 -- the answer to a sentence whose evaluation has this fault, or none
-abbrev pub late_answer : Option Cause → List Token → Result ℕ Cause
-late_answer (Some cause) tokens = Err cause
-late_answer None tokens = Ok (unwrap_or (value_of (terms_of tokens)) 0)
+abbrev pub late_answer : Option Cause → List Terminal → Result ℕ Cause
+late_answer (Some cause) terminals = Err cause
+late_answer None terminals = Ok (unwrap_or (value_of (terms_of terminals)) 0)
 
 -- the answer where the terms that stand have this fault, or none
-abbrev pub answer_after : Bool → ℕ → List Token → List Token → Option Cause → Result ℕ Cause
+abbrev pub answer_after : Bool → ℕ → List Terminal → List Terminal → Option Cause → Result ℕ Cause
 answer_after no_calc place front rest (Some cause) = Err cause
 answer_after no_calc place front rest None =
     if is_whole no_calc front rest then late_answer (late_fault no_calc front) front
     else Err (Syntax place (kinds_after no_calc (last_of None front)))
 
 -- the answer to a front and the rest, which begins at the byte `place`
-abbrev pub answer_at : Bool → ℕ → List Token → List Token → Result ℕ Cause
+abbrev pub answer_at : Bool → ℕ → List Terminal → List Terminal → Result ℕ Cause
 answer_at no_calc place front rest = answer_after no_calc place front rest (early_fault no_calc front rest)
 
 -- the value in nanoseconds, or the cause of the refusal
 abbrev pub answer : Options → List ℕ → Result ℕ Cause
 answer o [] = Err Empty
 answer o (c ∷ text) =
-    let tokens = tokens_of o (c ∷ text) in
-    let n = front_of o.no_calc tokens in
-    answer_at o.no_calc (start_after n (byte_len (c ∷ text)) (pieces_of o (c ∷ text))) (take n tokens) (drop n tokens)
+    let terminals = terminals_of o (c ∷ text) in
+    let n = front_of o.no_calc terminals in
+    answer_at o.no_calc (start_after n (byte_len (c ∷ text)) (tokens_of o (c ∷ text))) (take n terminals) (drop n terminals)

@@ -3,8 +3,8 @@ use Rattle.std.specs.Prelude.{ℕ, Bool, List, ◌++◌, Option, Some, None, if�
 use Rattle.std.specs.List.{list_any}
 use Rattle.std.specs.Str.{chars}
 use lib.Chars.{codes}
-use Rattle.duration_str.specs.declared.unit.CondUnit.{CondUnit}
-use Rattle.duration_str.specs.declared.unit.CondUnit.TheVariants.{Plus, Star}
+use Rattle.duration_str.specs.declared.operator.CondUnit.{CondUnit}
+use Rattle.duration_str.specs.declared.operator.CondUnit.TheVariants.{Plus, Star}
 use Rattle.duration_str.specs.declared.fault.Expected.{Expected}
 use Rattle.duration_str.specs.declared.fault.Cause.{Cause}
 use Rattle.duration_str.specs.declared.fault.Cause.TheVariants.{Empty, Syntax, NumberTooLarge, Overflow, Mixed, OutOfRange, NotText}

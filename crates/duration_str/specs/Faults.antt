@@ -1,10 +1,10 @@
--- Where a fault stands, and which piece stands there.
+-- Where a fault stands, and which token stands there.
 use denote.Ref.{Bor}
 use Rattle.std.specs.Prelude.{◌≡◌, ℕ, ◌+◌, ◌==◌, List, length, Option, Some, None, slice_range}
 use Rattle.std.specs.List.{find}
 use Rattle.std.specs.Str.{chars}
-use Rattle.duration_str.specs.declared.unit.Options.{Options}
-use Rattle.duration_str.specs.Pieces.{Piece, pieces_of}
+use Rattle.duration_str.specs.declared.options.Options.{Options}
+use Rattle.duration_str.specs.Tokens.{Token, tokens_of}
 use Rattle.duration_str.specs.declared.fault.Cause.{Cause}
 use Rattle.duration_str.specs.declared.fault.Cause.TheVariants.{Empty, Syntax, NumberTooLarge, Overflow, Mixed, OutOfRange, NotText}
 
@@ -18,17 +18,17 @@ place_of (Mixed first later) = None
 place_of OutOfRange = None
 place_of (NotText optional) = None
 
--- the piece that starts at the byte
-abbrev pub piece_at : ℕ → List Piece → Option Piece
-piece_at place pieces = find (λ p. p.start == place) pieces
+-- the token that starts at the byte
+abbrev pub token_at : ℕ → List Token → Option Token
+token_at place tokens = find (λ p. p.start == place) tokens
 
--- the piece that starts at the place of a syntax fault
-abbrev pub found : Options → List ℕ → Cause → Option Piece
-found o text (Syntax place expected) = piece_at place (pieces_of o text)
+-- the token that starts at the place of a syntax fault
+abbrev pub found : Options → List ℕ → Cause → Option Token
+found o text (Syntax place expected) = token_at place (tokens_of o text)
 found o text cause = None
 
--- The answer is this piece, as the slice of the bytes at which it stands, or `None` where there is no piece.
-abbrev pub IsSliceOf : List ℕ → Option Piece → Option (Bor (List ℕ)) → Type 0
-IsSliceOf bytes piece None = piece ≡ None
-IsSliceOf bytes piece (Some slice) =
-    (p : Piece) × (piece ≡ Some p) × (chars slice.now ≡ p.characters) × (slice.now ≡ slice_range bytes p.start (p.start + length slice.now))
+-- The answer is this token, as the slice of the bytes at which it stands, or `None` where there is no token.
+abbrev pub IsSliceOf : List ℕ → Option Token → Option (Bor (List ℕ)) → Type 0
+IsSliceOf bytes token None = token ≡ None
+IsSliceOf bytes token (Some slice) =
+    (p : Token) × (token ≡ Some p) × (chars slice.now ≡ p.characters) × (slice.now ≡ slice_range bytes p.start (p.start + length slice.now))

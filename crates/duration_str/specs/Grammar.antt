@@ -1,43 +1,43 @@
 -- Tokens, sentences, and the texts that a sentence spells.
 use Rattle.std.specs.Prelude.{◌≡◌, ℕ, Bool, false, List, [], ◌∷◌, ◌++◌, Option, Some, None, if◌then◌else◌, map, ⊤}
 use Rattle.std.specs.List.{list_all}
-use Rattle.duration_str.specs.declared.unit.Options.{Options}
+use Rattle.duration_str.specs.declared.options.Options.{Options}
 use Rattle.duration_str.specs.declared.unit.TimeUnit.{TimeUnit}
-use Rattle.duration_str.specs.declared.unit.CondUnit.{CondUnit}
+use Rattle.duration_str.specs.declared.operator.CondUnit.{CondUnit}
 use Rattle.duration_str.specs.Text.{is_digit, is_unit_letter, operator_of, IsBlank, number_of}
 use Rattle.duration_str.specs.Units.{units, unit_among}
 
 -- What a list of characters means. `other` stands in no sentence, and neither does a word that names no unit.
-pub data Token : Type 0 where
-  number : ℕ → Token
-  word : Option TimeUnit → Token
-  operator : CondUnit → Token
-  other : Token
+pub data Terminal : Type 0 where
+  number : ℕ → Terminal
+  word : Option TimeUnit → Terminal
+  operator : CondUnit → Terminal
+  other : Terminal
 
-abbrev pub operator_or_other : Option CondUnit → Token
+abbrev pub operator_or_other : Option CondUnit → Terminal
 operator_or_other None = other
 operator_or_other (Some op) = operator op
 
--- the token of a list of characters that are neither all digits nor all unit letters
-abbrev pub sign_token : List ℕ → Token
-sign_token (c ∷ []) = operator_or_other (operator_of c)
-sign_token _ = other
+-- the terminal of a list of characters that are neither all digits nor all unit letters
+abbrev pub sign_terminal : List ℕ → Terminal
+sign_terminal (c ∷ []) = operator_or_other (operator_of c)
+sign_terminal _ = other
 
 -- Digits are a number, unit letters are a word that may name one of these units, and `+` and `*` are operators.
-abbrev pub token_among : List TimeUnit → Options → List ℕ → Token
-token_among us o [] = other
-token_among us o (c ∷ cs) =
+abbrev pub terminal_among : List TimeUnit → Options → List ℕ → Terminal
+terminal_among us o [] = other
+terminal_among us o (c ∷ cs) =
     if list_all is_digit (c ∷ cs) then number (number_of (c ∷ cs))
     else if list_all (is_unit_letter o) (c ∷ cs) then word (unit_among us o (c ∷ cs))
-    else sign_token (c ∷ cs)
+    else sign_terminal (c ∷ cs)
 
--- the token of a list of characters
-abbrev pub token_of : Options → List ℕ → Token
-token_of o w = token_among units o w
+-- the terminal of a list of characters
+abbrev pub terminal_of : Options → List ℕ → Terminal
+terminal_of o w = terminal_among units o w
 
 -- S = Number | Number Unit | Number Op S | Number Unit Op S | Number Unit S;
 -- under `no_calc` S = Number | Number Unit | Number Unit S
-abbrev pub IsSentence : Bool → List Token → Type 0
+abbrev pub IsSentence : Bool → List Terminal → Type 0
 IsSentence no_calc (number n ∷ []) = ⊤
 IsSentence no_calc (number n ∷ operator op ∷ more) = (no_calc ≡ false) × IsSentence no_calc more
 IsSentence no_calc (number n ∷ word (Some u) ∷ []) = ⊤
@@ -45,12 +45,12 @@ IsSentence no_calc (number n ∷ word (Some u) ∷ operator op ∷ more) = (no_c
 IsSentence no_calc (number n ∷ word (Some u) ∷ number m ∷ more) = IsSentence no_calc (number m ∷ more)
 IsSentence no_calc _ = ⊥
 
--- The text is blanks, and then each word with blanks behind it. Nothing is said of how long a word is.
+-- The text is blanks, and then each word with blanks after it. Nothing is said of how long a word is.
 abbrev pub Spells : List (List ℕ) → List ℕ → Type 0
 Spells [] text = IsBlank text
-Spells (w ∷ words) text =
-    (blanks : List ℕ) × (rest : List ℕ) × IsBlank blanks × (text ≡ blanks ++ (w ++ rest)) × Spells words rest
+Spells (w ∷ lexemes) text =
+    (blanks : List ℕ) × (rest : List ℕ) × IsBlank blanks × (text ≡ blanks ++ (w ++ rest)) × Spells lexemes rest
 
--- The words are a sentence of the options' grammar, and spell the text.
+-- The lexemes are a sentence of the options' grammar, and spell the text.
 abbrev pub IsSentenceOf : Options → List (List ℕ) → List ℕ → Type 0
-IsSentenceOf o words text = IsSentence o.no_calc (map (token_of o) words) × Spells words text
+IsSentenceOf o lexemes text = IsSentence o.no_calc (map (terminal_of o) lexemes) × Spells lexemes text

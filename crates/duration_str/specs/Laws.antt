@@ -3,22 +3,22 @@ use Rattle.std.specs.Prelude.{◌≡◌, ℕ, ◌+◌, ◌*◌, ◌/◌, ◌^◌
 use Rattle.std.specs.Char.{is_ascii_uppercase}
 use Rattle.std.specs.List.{list_all}
 use Rattle.std.specs.Duration.{FitsDuration}
-use Rattle.duration_str.specs.declared.unit.Options.{Options}
-use Rattle.duration_str.specs.declared.unit.CondUnit.{CondUnit}
-use Rattle.duration_str.specs.declared.unit.CondUnit.TheVariants.{Star}
+use Rattle.duration_str.specs.declared.options.Options.{Options}
+use Rattle.duration_str.specs.declared.operator.CondUnit.{CondUnit}
+use Rattle.duration_str.specs.declared.operator.CondUnit.TheVariants.{Star}
 use Rattle.duration_str.specs.declared.unit.TimeUnit.TheVariants.{Year}
 use Rattle.duration_str.specs.declared.fault.Cause.{Cause}
 use Rattle.duration_str.specs.declared.fault.Cause.TheVariants.{Overflow}
 use Rattle.duration_str.specs.declared.fault.Expected.{Expected}
 use Rattle.duration_str.specs.Text.{is_operator, is_chinese}
 use Rattle.duration_str.specs.Units.{unit_lengths, nanos_of}
-use Rattle.duration_str.specs.Grammar.{Token, operator, IsSentence, IsSentenceOf, Spells, token_of}
-use Rattle.duration_str.specs.Pieces.{Piece, pieces_of, words_of, ArePieces}
+use Rattle.duration_str.specs.Grammar.{Terminal, operator, IsSentence, IsSentenceOf, Spells, terminal_of}
+use Rattle.duration_str.specs.Tokens.{Token, tokens_of, lexemes_of, AreTokens}
 use Rattle.duration_str.specs.Place.{BeginsSentence, CanFollow, IsFront, kinds_after, last_of, front_of}
 use Rattle.duration_str.specs.Value.{AllPlus, Term, value_of_term, terms_of, times_in, second}
 use Rattle.duration_str.specs.Reading.{IsRead, IsRefused}
 use Rattle.duration_str.specs.Answer.{answer}
-use Rattle.duration_str.specs.Older.{older_tokens, WasSentenceOf, WasRead, WasRefused}
+use Rattle.duration_str.specs.Older.{older_terminals, WasSentenceOf, WasRead, WasRefused}
 use Rattle.duration_str.specs.Printing.{IsPrinted, IsGreatestBreakdown, counts_of}
 
 abbrev pub HasNoStar : List ℕ → Type 0
@@ -33,16 +33,16 @@ HasNoCapital text = IsTrue (list_all (λ c. not (is_ascii_uppercase c)) text)
 abbrev pub HasNoChinese : List ℕ → Type 0
 HasNoChinese text = IsTrue (list_all (λ c. not (is_chinese c)) text)
 
--- Two sentences that spell one text are equal, and a sentence spells a text exactly if its words are the text's pieces.
+-- Two sentences that spell one text are equal, and a sentence spells a text exactly if its lexemes are the text's tokens.
 pub record OneSentence : Type 0 where
-  pub equal : (o : Options) (text : List ℕ) (words others : List (List ℕ)) → IsSentenceOf o words text → IsSentenceOf o others text → words ≡ others
-  pub pieces : (o : Options) (text : List ℕ) (words : List (List ℕ)) → IsSentence o.no_calc (map (token_of o) words)
-      → (Spells words text ↔ (words ≡ words_of (pieces_of o text)))
+  pub equal : (o : Options) (text : List ℕ) (lexemes others : List (List ℕ)) → IsSentenceOf o lexemes text → IsSentenceOf o others text → lexemes ≡ others
+  pub tokens : (o : Options) (text : List ℕ) (lexemes : List (List ℕ)) → IsSentence o.no_calc (map (terminal_of o) lexemes)
+      → (Spells lexemes text ↔ (lexemes ≡ lexemes_of (tokens_of o text)))
 
--- A text has the pieces that `pieces_of` gives, and no others.
+-- A text has the tokens that `tokens_of` gives, and no others.
 pub record OneCut : Type 0 where
-  pub are : (o : Options) (text : List ℕ) → ArePieces o 0 text (pieces_of o text)
-  pub only : (o : Options) (text : List ℕ) (pieces : List Piece) → ArePieces o 0 text pieces → pieces ≡ pieces_of o text
+  pub are : (o : Options) (text : List ℕ) → AreTokens o 0 text (tokens_of o text)
+  pub only : (o : Options) (text : List ℕ) (tokens : List Token) → AreTokens o 0 text tokens → tokens ≡ tokens_of o text
 
 -- A text is read as one value or refused for one cause, and not both.
 pub record OneAnswer : Type 0 where
@@ -56,16 +56,16 @@ pub record IsAnswer : Type 0 where
   pub read : (o : Options) (text : List ℕ) (nanos : ℕ) → (answer o text ≡ Ok nanos ↔ IsRead o text nanos)
   pub refused : (o : Options) (text : List ℕ) (cause : Cause) → (answer o text ≡ Err cause ↔ IsRefused o text cause)
 
--- What can follow the beginning of a sentence is told by the table from its last token,
+-- What can follow the beginning of a sentence is told by the table from its last terminal,
 -- and a walk along the table finds the longest beginning.
 pub record PlaceAndKinds : Type 0 where
-  pub kinds : (no_calc : Bool) (front : List Token) (expected : Expected) → BeginsSentence no_calc front
+  pub kinds : (no_calc : Bool) (front : List Terminal) (expected : Expected) → BeginsSentence no_calc front
       → (CanFollow no_calc front expected ↔ (expected ≡ kinds_after no_calc (last_of None front)))
-  pub no_operator : (no_calc : Bool) (front : List Token) (op : CondUnit) → no_calc ≡ true → BeginsSentence no_calc front
+  pub no_operator : (no_calc : Bool) (front : List Terminal) (op : CondUnit) → no_calc ≡ true → BeginsSentence no_calc front
       → last_of None front ≢ Some (operator op)
-  pub front : (no_calc : Bool) (tokens : List Token) → IsFront no_calc tokens (take (front_of no_calc tokens) tokens) (drop (front_of no_calc tokens) tokens)
-  pub only : (no_calc : Bool) (tokens front rest : List Token) → IsFront no_calc tokens front rest
-      → (front ≡ take (front_of no_calc tokens) tokens) × (rest ≡ drop (front_of no_calc tokens) tokens)
+  pub front : (no_calc : Bool) (terminals : List Terminal) → IsFront no_calc terminals (take (front_of no_calc terminals) terminals) (drop (front_of no_calc terminals) terminals)
+  pub only : (no_calc : Bool) (terminals front rest : List Terminal) → IsFront no_calc terminals front rest
+      → (front ≡ take (front_of no_calc terminals) terminals) × (rest ≡ drop (front_of no_calc terminals) terminals)
 
 -- Without operators `no_calc` changes neither what is accepted nor its value.
 abbrev pub NoCalcAgrees : Type 0
@@ -85,12 +85,12 @@ pub record OptionsIdle : Type 0 where
 
 -- Texts that one sentence spells have the same value, or are refused for the same cause.
 pub record BlanksFree : Type 0 where
-  pub value : (o : Options) (a b : List ℕ) (words : List (List ℕ)) (nanos : ℕ) → IsSentenceOf o words a → Spells words b
+  pub value : (o : Options) (a b : List ℕ) (lexemes : List (List ℕ)) (nanos : ℕ) → IsSentenceOf o lexemes a → Spells lexemes b
       → IsRead o a nanos → IsRead o b nanos
-  pub cause : (o : Options) (a b : List ℕ) (words : List (List ℕ)) (cause : Cause) → IsSentenceOf o words a → Spells words b
+  pub cause : (o : Options) (a b : List ℕ) (lexemes : List (List ℕ)) (cause : Cause) → IsSentenceOf o lexemes a → Spells lexemes b
       → IsRefused o a cause → IsRefused o b cause
 
--- With `no_calc` off two accepted texts without `*`, joined by a plus, come to the sum of their values, or overflow.
+-- With `no_calc` off two accepted texts without `*`, combination by a plus, come to the sum of their values, or overflow.
 pub record SumOfTexts : Type 0 where
   pub below : (o : Options) (a b : List ℕ) (m n : ℕ) → o.no_calc ≡ false → HasNoStar a → HasNoStar b → IsRead o a m → IsRead o b n
       → m + n < 2 ^ 64 → IsRead o (a ++ codes "+" ++ b) (m + n)
@@ -99,21 +99,21 @@ pub record SumOfTexts : Type 0 where
 
 -- Two sentences of sums whose terms have the same values, each equally often, agree in acceptance and value.
 abbrev pub Reorder : Type 0
-Reorder = (o : Options) (a b : List ℕ) (words others : List (List ℕ)) (nanos : ℕ) → IsSentenceOf o words a → IsSentenceOf o others b
-    → AllPlus (map (token_of o) words) → AllPlus (map (token_of o) others)
-    → ((n : ℕ) → times_in n (map value_of_term (terms_of (map (token_of o) words))) ≡ times_in n (map value_of_term (terms_of (map (token_of o) others))))
+Reorder = (o : Options) (a b : List ℕ) (lexemes others : List (List ℕ)) (nanos : ℕ) → IsSentenceOf o lexemes a → IsSentenceOf o others b
+    → AllPlus (map (terminal_of o) lexemes) → AllPlus (map (terminal_of o) others)
+    → ((n : ℕ) → times_in n (map value_of_term (terms_of (map (terminal_of o) lexemes))) ≡ times_in n (map value_of_term (terms_of (map (terminal_of o) others))))
     → IsRead o a nanos → IsRead o b nanos
 
--- A text of two terms joined by `*` is read exactly where both numbers, both terms and the product of the terms in seconds,
+-- A text of two terms combination by `*` is read exactly where both numbers, both terms and the product of the terms in seconds,
 -- rounded down to nanoseconds, are below 2^64, and then as that product. With the terms exchanged it is read as the same.
 pub record TwoFactors : Type 0 where
-  pub product : (o : Options) (text : List ℕ) (words : List (List ℕ)) (t u : Term) (nanos : ℕ) → IsSentenceOf o words text
-      → terms_of (map (token_of o) words) ≡ t ∷ u ∷ [] → u.operator ≡ Star
+  pub product : (o : Options) (text : List ℕ) (lexemes : List (List ℕ)) (t u : Term) (nanos : ℕ) → IsSentenceOf o lexemes text
+      → terms_of (map (terminal_of o) lexemes) ≡ t ∷ u ∷ [] → u.operator ≡ Star
       → (IsRead o text nanos ↔ ((t.number < 2 ^ 64) × (value_of_term t < 2 ^ 64) × (u.number < 2 ^ 64) × (value_of_term u < 2 ^ 64)
       × (nanos < 2 ^ 64) × (nanos ≡ value_of_term t * value_of_term u / second)))
-  pub exchanged : (o : Options) (a b : List ℕ) (words others : List (List ℕ)) (t u v w : Term) (nanos : ℕ) → IsSentenceOf o words a → IsSentenceOf o others b
-      → terms_of (map (token_of o) words) ≡ t ∷ u ∷ [] → u.operator ≡ Star
-      → terms_of (map (token_of o) others) ≡ v ∷ w ∷ [] → w.operator ≡ Star
+  pub exchanged : (o : Options) (a b : List ℕ) (lexemes others : List (List ℕ)) (t u v w : Term) (nanos : ℕ) → IsSentenceOf o lexemes a → IsSentenceOf o others b
+      → terms_of (map (terminal_of o) lexemes) ≡ t ∷ u ∷ [] → u.operator ≡ Star
+      → terms_of (map (terminal_of o) others) ≡ v ∷ w ∷ [] → w.operator ≡ Star
       → v.number ≡ u.number → v.length ≡ u.length → w.number ≡ t.number → w.length ≡ t.length
       → IsRead o a nanos → IsRead o b nanos
 
@@ -133,10 +133,10 @@ pub record ReadsBack : Type 0 where
   pub far_above : (o : Options) (nanos : ℕ) (text : List ℕ) → 585 * nanos_of Year ≤ nanos → FitsDuration nanos → IsPrinted nanos text
       → IsRefused o text (Overflow (Some 0))
 
--- What was a sentence over the units before the quarter is one over all units, with the same tokens. So a text that was read
+-- What was a sentence over the units before the quarter is one over all units, with the same terminals. So a text that was read
 -- is read as the same value, and one whose evaluation was refused is refused for the same cause.
 pub record OlderTexts : Type 0 where
-  pub tokens : (o : Options) (words : List (List ℕ)) (text : List ℕ) → WasSentenceOf o words text → older_tokens o words ≡ map (token_of o) words
-  pub sentence : (o : Options) (words : List (List ℕ)) (text : List ℕ) → WasSentenceOf o words text → IsSentenceOf o words text
+  pub terminals : (o : Options) (lexemes : List (List ℕ)) (text : List ℕ) → WasSentenceOf o lexemes text → older_terminals o lexemes ≡ map (terminal_of o) lexemes
+  pub sentence : (o : Options) (lexemes : List (List ℕ)) (text : List ℕ) → WasSentenceOf o lexemes text → IsSentenceOf o lexemes text
   pub value : (o : Options) (text : List ℕ) (nanos : ℕ) → WasRead o text nanos → IsRead o text nanos
   pub cause : (o : Options) (text : List ℕ) (cause : Cause) → WasRefused o text cause → IsRefused o text cause

@@ -3,9 +3,9 @@ use Rattle.std.specs.Prelude.{ℕ, ◌+◌, ◌*◌, ◌-◌, ◌<◌, Bool, ◌
 use Rattle.std.specs.Char.{is_ascii_digit, is_ascii_alphabetic, len_utf8}
 use Rattle.std.specs.List.{list_any, list_all}
 use lib.Chars.{codes}
-use Rattle.duration_str.specs.declared.unit.Options.{Options}
-use Rattle.duration_str.specs.declared.unit.CondUnit.{CondUnit}
-use Rattle.duration_str.specs.declared.unit.CondUnit.TheVariants.{Plus, Star}
+use Rattle.duration_str.specs.declared.options.Options.{Options}
+use Rattle.duration_str.specs.declared.operator.CondUnit.{CondUnit}
+use Rattle.duration_str.specs.declared.operator.CondUnit.TheVariants.{Plus, Star}
 
 -- space, tab, carriage return, line feed
 abbrev pub is_blank : ℕ → Bool
@@ -41,7 +41,7 @@ IsBlank text = IsTrue (list_all is_blank text)
 abbrev pub IsNumber : List ℕ → Type 0
 IsNumber text = (0 < length text) × IsTrue (list_all is_digit text)
 
--- the number that these digits write in decimal behind those of n
+-- the number that these digits write in decimal after those of n
 abbrev pub number_after : ℕ → List ℕ → ℕ
 number_after n [] = n
 number_after n (c ∷ digits) = number_after (n * 10 + (c - 48)) digits

@@ -1,99 +1,66 @@
--- What callers see of `Tokens`.
-use Rattle.std.specs.Prelude.{◌≡◌, ℕ, ◌+◌, Bool, true, false, List, ◌∷◌, length, Option, Some, None, MatchOption, IfSome, slice_range}
-use Rattle.std.specs.Str.{chars}
-use Rattle.std.specs.Iterator.{YieldsFirstBy}
-use Rattle.duration_str.specs.declared.unit.Options.{Options}
-use Rattle.duration_str.specs.declared.token.What.{What}
-use Rattle.duration_str.specs.declared.token.What.TheVariants as whats
-use Rattle.duration_str.specs.declared.token.Sort.{Sort}
-use Rattle.duration_str.specs.declared.token.Sort.TheVariants as sorts
-use Rattle.duration_str.specs.declared.token.Token.{Token as TokenPiece}
-use Rattle.duration_str.specs.declared.token.Number.{Number}
-use Rattle.duration_str.specs.declared.token.Tokens.{Tokens}
-use Rattle.duration_str.specs.Grammar.{Token, number, word, operator, other, token_of}
-use Rattle.duration_str.specs.Pieces.{Piece, pieces_from}
-use Rattle.duration_str.specs.Cutting.{ahead, Between}
-use Rattle.duration_str.specs.Sorts.{sort_at, sort_of}
-use Rattle.duration_str.specs.Text.{is_blank, number_of}
-use Rattle.duration_str.specs.Value.{kept}
+-- The tokens of a text: its characters that are no blanks, cut into the longest runs of digits and of unit letters,
+-- and into single other characters.
+use Rattle.std.specs.Prelude.{◌≡◌, ℕ, ◌+◌, Bool, false, ◌&&◌, ◌||◌, List, [], ◌∷◌, ◌++◌, if◌then◌else◌, map, ⊤, IsTrue}
+use Rattle.std.specs.List.{list_all}
+use Rattle.duration_str.specs.declared.options.Options.{Options}
+use Rattle.duration_str.specs.Text.{width, is_blank, is_digit, is_unit_letter, IsBlank, byte_len}
 
--- the sort of a piece that means this token
-abbrev pub what_of : Token → What
-what_of (number n) = whats.Number
-what_of (word u) = whats.Word u
-what_of (operator op) = whats.Operator op
-what_of other = whats.Other
-
--- the bytes of the text that is cut
-abbrev pub source : Tokens → List ℕ
-source s = s.eye.text.now
-
-abbrev pub options_of : Tokens → Options
-options_of s = s.options
-
--- the byte up to which the text is cut
-abbrev pub place_of : Tokens → ℕ
-place_of s = s.eye.place
-
-abbrev pub looks_of : Tokens → ℕ
-looks_of s = s.eye.looks
-
--- the pieces that are still to come
-abbrev pub left : Tokens → List Piece
-left s = pieces_from s.options s.eye.place (ahead s.eye.text.now s.eye.place)
-
--- a token as the piece that it is
-abbrev pub shown : TokenPiece → Piece
-shown t = record { start = t.start; characters = chars t.text.now }
-
--- The source and the options stay. The first piece that is left comes, with its sort; it is the text from its start
--- to the new place. Where none is left, the whole text is cut.
-abbrev pub tokens_steps : Tokens → Option TokenPiece → Tokens → Type 0
-tokens_steps s r t =
-    YieldsFirstBy shown left s r t × (source t ≡ source s) × (options_of t ≡ options_of s)
-    × IfSome r (λ x. x.what ≡ what_of (token_of (options_of s) (chars x.text.now)))
-    × MatchOption r (place_of t ≡ length (source s)) (λ x. (place_of t ≡ x.start + length x.text.now) × (x.text.now ≡ slice_range (source s) x.start (place_of t)))
-
--- The character ahead begins a piece of this sort; `None` at the end.
-abbrev pub IsAhead : Tokens → Option Sort → Type 0
-IsAhead s None = s.head ≡ None
-IsAhead s (Some sort) = (c : ℕ) × (s.head ≡ Some c) × (is_blank c ≡ false) × (sort ≡ sort_at (options_of s) c)
-
--- Blanks are passed, so the same pieces are left, and the character ahead begins a piece of this sort; `None` at the end.
-pub record LooksAhead (old new : Tokens) (sort : Option Sort) : Type 0 where
-  pub same_source : source new ≡ source old
-  pub same_options : options_of new ≡ options_of old
-  pub same_left : left new ≡ left old
-  pub ahead : IsAhead new sort
-
--- whether a number is ahead
-abbrev pub is_number : Option Sort → Bool
-is_number (Some sorts.Number) = true
-is_number _ = false
-
--- The sort of a single character that is neither a digit nor a unit letter.
-abbrev pub IsSign : Sort → Type 0
-IsSign sorts.Number = ⊥
-IsSign sorts.Word = ⊥
-IsSign _ = Unit {0}
-
--- The first piece that is left is taken, which starts at the place and has this token.
-pub record TakesPiece (old new : Tokens) (token : Token) : Type 0 where
+-- a token, with the byte at which it starts
+pub record Token : Type 0 where
+  pub start : ℕ
   pub characters : List ℕ
-  pub same_source : source new ≡ source old
-  pub same_options : options_of new ≡ options_of old
-  pub first : left old ≡ record { start = place_of old; characters = characters } ∷ left new
-  pub between : Between (source old) (place_of old) (place_of new) characters
-  pub is_token : token ≡ token_of (options_of old) characters
 
--- a number where it is below 2^64
-abbrev pub kept_of : Number → Option ℕ
-kept_of n = kept (number_of (chars n.digits.now))
+-- whether both are digits, or both are unit letters
+abbrev pub are_of_one_run : Options → ℕ → ℕ → Bool
+are_of_one_run o c d = (is_digit c && is_digit d) || (is_unit_letter o c && is_unit_letter o d)
 
--- The first piece that is left is taken, a number, and this is the number where it is below 2^64.
-abbrev pub TakesNumberPiece : Tokens → Tokens → Option ℕ → Type 0
-TakesNumberPiece old new value = (n : ℕ) × TakesPiece old new (number n) × (value ≡ kept n)
+-- whether the run of the character c goes on in the text after it
+abbrev pub goes_on : Options → ℕ → List ℕ → Bool
+goes_on o c [] = false
+goes_on o c (d ∷ _) = are_of_one_run o c d
 
--- The first piece that is left is taken, and its token is of the sort ahead.
-abbrev pub TakesSign : Tokens → Tokens → Type 0
-TakesSign old new = (sort : Sort) → IsAhead old (Some sort) → (token : Token) × TakesPiece old new token × (sort ≡ sort_of token)
+-- One character that is no blank, or a run of digits or of unit letters.
+abbrev pub IsLexeme : Options → List ℕ → Type 0
+IsLexeme o [] = ⊥
+IsLexeme o (c ∷ cs) = (is_blank c ≡ false) × IsTrue (list_all (are_of_one_run o c) cs)
+
+-- The run of these characters does not go on after them.
+abbrev pub EndsRun : Options → List ℕ → List ℕ → Type 0
+EndsRun o [] rest = ⊤
+EndsRun o (c ∷ cs) rest = goes_on o c rest ≡ false
+
+-- The text, which begins at the byte `at`, is blanks, the token, which is as long as it can be, and the rest.
+pub record IsNextToken (o : Options) (at : ℕ) (text : List ℕ) (token : Token) (rest : List ℕ) : Type 0 where
+  pub blanks : List ℕ
+  pub blank : IsBlank blanks
+  pub parts : text ≡ blanks ++ (token.characters ++ rest)
+  pub start : token.start ≡ at + byte_len blanks
+  pub is_lexeme : IsLexeme o token.characters
+  pub ends : EndsRun o token.characters rest
+
+-- The text, which begins at the byte `at`, is blanks, and then each token with blanks after it.
+abbrev pub AreTokens : Options → ℕ → List ℕ → List Token → Type 0
+AreTokens o at text [] = IsBlank text
+AreTokens o at text (token ∷ tokens) =
+    (rest : List ℕ) × IsNextToken o at text token rest × AreTokens o (token.start + byte_len token.characters) rest tokens
+
+-- the character c, which stands at the byte `at`, combination to the first token after it
+abbrev pub join : ℕ → ℕ → List Token → List Token
+join at c [] = record { start = at; characters = c ∷ [] } ∷ []
+join at c (token ∷ tokens) = record { start = at; characters = c ∷ token.characters } ∷ tokens
+
+-- the tokens of a text that begins at the byte `at`, computed from the right
+abbrev pub tokens_from : Options → ℕ → List ℕ → List Token
+tokens_from o at [] = []
+tokens_from o at (c ∷ text) =
+    if is_blank c then tokens_from o (at + width c) text
+    else if goes_on o c text then join at c (tokens_from o (at + width c) text)
+    else record { start = at; characters = c ∷ [] } ∷ tokens_from o (at + width c) text
+
+-- the tokens of a text
+abbrev pub tokens_of : Options → List ℕ → List Token
+tokens_of o text = tokens_from o 0 text
+
+-- the tokens without their places
+abbrev pub lexemes_of : List Token → List (List ℕ)
+lexemes_of tokens = map (λ token. token.characters) tokens

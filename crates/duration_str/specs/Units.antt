@@ -1,11 +1,11 @@
--- The units: how long each is, how it is printed, and the words that name it.
+-- The units: how long each is, how it is printed, and the lexemes that name it.
 use denote.Ref.{Bor}
 use Rattle.std.specs.Prelude.{◌≡◌, encode_utf8_all, ℕ, Bool, false, ◌&&◌, ◌||◌, List, [], ◌∷◌, Option, if◌then◌else◌, map}
 use Rattle.std.specs.Char.{to_ascii_lowercase}
 use Rattle.std.specs.List.{list_any, find}
 use Rattle.std.specs.Str.{bytes_eq}
 use lib.Chars.{codes}
-use Rattle.duration_str.specs.declared.unit.Options.{Options}
+use Rattle.duration_str.specs.declared.options.Options.{Options}
 use Rattle.duration_str.specs.declared.unit.Row.{Row}
 use Rattle.duration_str.specs.declared.unit.TimeUnit.{TimeUnit}
 use Rattle.duration_str.specs.declared.unit.TimeUnit.TheVariants.{Year, Quarter, Month, Week, Day, Hour, Minute, Second, MilliSecond, MicroSecond, NanoSecond}
@@ -48,14 +48,14 @@ nanos_of u = (row_of u).nanos
 abbrev pub unit_lengths : List ℕ
 unit_lengths = map nanos_of units
 
--- the word as it is compared with the names: its ASCII capitals are folded, unless `lowercase` is on
-abbrev pub folded : Options → List ℕ → List ℕ
-folded o word = if o.lowercase then word else map to_ascii_lowercase word
+-- the word as it is compared with the names: its ASCII capitals are comparison_form, unless `lowercase` is on
+abbrev pub comparison_form : Options → List ℕ → List ℕ
+comparison_form o word = if o.lowercase then word else map to_ascii_lowercase word
 
 -- whether the word is a name of the unit
 abbrev pub is_named : Options → List ℕ → TimeUnit → Bool
 is_named o word u =
-    list_any (bytes_eq (folded o word)) (row_of u).names || (o.cn_unit && list_any (bytes_eq (folded o word)) (row_of u).chinese)
+    list_any (bytes_eq (comparison_form o word)) (row_of u).names || (o.cn_unit && list_any (bytes_eq (comparison_form o word)) (row_of u).chinese)
 
 -- the first of these units that a word names
 abbrev pub unit_among : List TimeUnit → Options → List ℕ → Option TimeUnit

@@ -3,12 +3,12 @@ use Rattle.std.specs.Prelude.{◌≡◌, ℕ, ◌+◌, ◌*◌, ◌/◌, ◌^◌
 use Rattle.std.specs.List.{list_all, fold}
 use Rattle.duration_str.specs.declared.unit.TimeUnit.{TimeUnit}
 use Rattle.duration_str.specs.declared.unit.TimeUnit.TheVariants.{Second}
-use Rattle.duration_str.specs.declared.unit.CondUnit.{CondUnit}
-use Rattle.duration_str.specs.declared.unit.CondUnit.TheVariants.{Plus, Star}
+use Rattle.duration_str.specs.declared.operator.CondUnit.{CondUnit}
+use Rattle.duration_str.specs.declared.operator.CondUnit.TheVariants.{Plus, Star}
 use Rattle.duration_str.specs.declared.fault.Cause.{Cause}
 use Rattle.duration_str.specs.declared.fault.Cause.TheVariants.{NumberTooLarge, Overflow, Mixed}
 use Rattle.duration_str.specs.Units.{nanos_of}
-use Rattle.duration_str.specs.Grammar.{Token, number, word, operator}
+use Rattle.duration_str.specs.Grammar.{Terminal, number, word, operator}
 
 -- a term: the operator before it, its number, and its unit's length in nanoseconds
 pub record Term : Type 0 where
@@ -23,22 +23,22 @@ value_of_term t = t.number * t.length
 abbrev pub second : ℕ
 second = nanos_of Second
 
--- the terms of the tokens behind the operator `op`; an operator that is left out is plus
-abbrev pub terms_after : CondUnit → List Token → List Term
+-- the terms of the terminals after the operator `op`; an operator that is left out is plus
+abbrev pub terms_after : CondUnit → List Terminal → List Term
 terms_after op (number n ∷ word (Some u) ∷ more) = record { operator = op; number = n; length = nanos_of u } ∷ terms_after Plus more
 terms_after op (number n ∷ more) = record { operator = op; number = n; length = second } ∷ terms_after Plus more
 terms_after op (operator next ∷ more) = terms_after next more
 terms_after op _ = []
 
 -- the terms of a sentence; the first one's operator is plus, and means nothing
-abbrev pub terms_of : List Token → List Term
-terms_of tokens = terms_after Plus tokens
+abbrev pub terms_of : List Terminal → List Term
+terms_of terminals = terms_after Plus terminals
 
 -- Each operator that is written is plus.
-abbrev pub AllPlus : List Token → Type 0
+abbrev pub AllPlus : List Terminal → Type 0
 AllPlus [] = Unit {0}
-AllPlus (operator op ∷ tokens) = (op ≡ Plus) × AllPlus tokens
-AllPlus (token ∷ tokens) = AllPlus tokens
+AllPlus (operator op ∷ terminals) = (op ≡ Plus) × AllPlus terminals
+AllPlus (terminal ∷ terminals) = AllPlus terminals
 
 abbrev pub is_same_operator : CondUnit → CondUnit → Bool
 is_same_operator Plus Plus = true
@@ -54,18 +54,18 @@ abbrev pub product_of : List Term → ℕ
 product_of terms = fold (λ p t. p * value_of_term t / second) second terms
 
 -- what the later terms come to
-abbrev pub together : CondUnit → List Term → ℕ
-together Plus later = sum_of later
-together Star later = product_of later
+abbrev pub later_total : CondUnit → List Term → ℕ
+later_total Plus later = sum_of later
+later_total Star later = product_of later
 
 -- x and rest by the operator: their sum, or their product in seconds, rounded down to nanoseconds
-abbrev pub joined : CondUnit → ℕ → ℕ → ℕ
-joined Plus x rest = x + rest
-joined Star x rest = x * rest / second
+abbrev pub combination : CondUnit → ℕ → ℕ → ℕ
+combination Plus x rest = x + rest
+combination Star x rest = x * rest / second
 
 -- the first term's value and what the later terms come to, by the operator
-abbrev pub with_first : CondUnit → Term → ℕ → ℕ
-with_first op t rest = joined op (value_of_term t) rest
+abbrev pub total_of : CondUnit → Term → ℕ → ℕ
+total_of op t rest = combination op (value_of_term t) rest
 
 -- the value of a sentence by its terms, in nanoseconds; none where the operators are mixed
 abbrev pub value_of : List Term → Option ℕ
@@ -73,7 +73,7 @@ value_of [] = None
 value_of (t ∷ []) = Some (value_of_term t)
 value_of (t ∷ u ∷ later) =
     if list_all (λ v. is_same_operator u.operator v.operator) later
-    then Some (with_first u.operator t (together u.operator (u ∷ later)))
+    then Some (total_of u.operator t (later_total u.operator (u ∷ later)))
     else None
 
 -- whether a number is below 2^64
@@ -102,10 +102,10 @@ abbrev pub term_answer : Option ℕ → Term → Result ℕ Cause
 term_answer place t = elim (term_fault place t) [ None ↦ Ok (value_of_term t) | Some cause ↦ Err cause ]
 
 -- `Some` of a number below 2^64, else `None`
-abbrev pub kept : ℕ → Option ℕ
-kept n = if fits n then Some n else None
+abbrev pub u64_from : ℕ → Option ℕ
+u64_from n = if fits n then Some n else None
 
--- the value of a term, or its fault, from its number as `kept` gives it and its unit's length
+-- the value of a term, or its fault, from its number as `u64_from` gives it and its unit's length
 abbrev pub term_value : Option ℕ → Option ℕ → ℕ → Result ℕ Cause
 term_value place None length = Err (NumberTooLarge place)
 term_value place (Some n) length = if fits (n * length) then Ok (n * length) else Err (Overflow place)
@@ -116,14 +116,14 @@ later_fault set before [] = None
 later_fault set before (t ∷ later) =
     or_else (unless (is_same_operator set t.operator) (Mixed set t.operator))
     (or_else (term_fault None t)
-    (or_else (unless (fits (together set (before ++ t ∷ []))) (Overflow None))
+    (or_else (unless (fits (later_total set (before ++ t ∷ []))) (Overflow None))
     (later_fault set (before ++ t ∷ []) later)))
 
 -- the fault of a sentence whose first term has none: that of the later terms, or of the step with the first one
 abbrev pub evaluation_fault : List Term → Option Cause
 evaluation_fault (t ∷ u ∷ later) =
     or_else (later_fault u.operator [] (u ∷ later))
-    (unless (fits (with_first u.operator t (together u.operator (u ∷ later)))) (Overflow None))
+    (unless (fits (total_of u.operator t (later_total u.operator (u ∷ later)))) (Overflow None))
 evaluation_fault _ = None
 
 -- Every number, term and step is below 2^64, and the operators are not mixed.

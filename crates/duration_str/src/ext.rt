@@ -8,7 +8,7 @@ ghost use Rattle.duration_str.specs.declared.unit.TimeUnit.TheVariants.{Year};
 ghost use Rattle.duration_str.specs.Units.{nanos_of, unit_lengths};
 ghost use Rattle.duration_str.specs.Printing.{IsPrinted, printed_counts, counts_of, greatest_count, part_bytes, max_printed_len};
 ghost use Rattle.duration_str.specs.declared.ext.TheConstants.{MAX_PRINTED_LEN};
-ghost use Rattle.duration_str.specs.PrintedBytes.{with_space, with_part, with_parts, units_below_year};
+ghost use Rattle.duration_str.specs.Internal.PrintedBytes.{with_space, with_part, with_parts, units_below_year};
 
 use crate::unit::TimeUnit;
 use std::alloc::{AllocError, Allocator, Global};
@@ -19,7 +19,7 @@ pub const MAX_PRINTED_LEN: usize = 60;
 
 /// Writes a digit at the place `at`, and returns where it ends.
 #[inline(always)]
-#[tactic(auto, using(crate::proofs::DigitLemmas::put_steps))]
+#[tactic(auto, using(crate::proofs::Printer::DigitLemmas::put_steps))]
 fn put_digit(buffer: &mut [u8; 64], at: usize, digit: u64) -> usize
     requires room { at < 64 }
     requires digit { digit < 10 }
@@ -31,7 +31,7 @@ fn put_digit(buffer: &mut [u8; 64], at: usize, digit: u64) -> usize
 }
 
 /// Writes the digits of `n` from `at` on, and returns where they end.
-#[tactic(auto, using(crate::proofs::DigitLemmas::put_steps))]
+#[tactic(auto, using(crate::proofs::Printer::DigitLemmas::put_steps))]
 pub(crate) fn put_number(buffer: &mut [u8; 64], at: usize, n: u64) -> usize
     requires room { at + length (decimal n) ≤ 64 }
     ensures text { take result buffer.new ≡ take at buffer.old ++ decimal n }
@@ -46,7 +46,7 @@ pub(crate) fn put_number(buffer: &mut [u8; 64], at: usize, n: u64) -> usize
 
 /// Writes a count as `put_number` does. The one or two digits that most counts have take no call.
 #[inline(always)]
-#[tactic(auto, using(crate::proofs::DigitLemmas::put_steps))]
+#[tactic(auto, using(crate::proofs::Printer::DigitLemmas::put_steps))]
 fn put_count(buffer: &mut [u8; 64], at: usize, n: u64) -> usize
     requires room { at + length (decimal n) ≤ 64 }
     ensures text { take result buffer.new ≡ take at buffer.old ++ decimal n }
@@ -90,7 +90,7 @@ fn put_space(buffer: &mut [u8; 64], at: usize) -> usize
 
 /// Writes a unit's part behind the first `at` bytes, and returns where it ends.
 #[inline(always)]
-#[tactic(auto, using(crate::proofs::DigitLemmas::length_count, crate::proofs::NameLemmas::length_name))]
+#[tactic(auto, using(crate::proofs::Printer::DigitLemmas::length_count, crate::proofs::Characters::NameLemmas::length_name))]
 fn put_part(buffer: &mut [u8; 64], at: usize, count: u64, unit: TimeUnit) -> usize
     requires count { count ≤ greatest_count unit }
     requires room { at + 1 + part_bytes unit ≤ 64 }
@@ -126,10 +126,10 @@ fn put_unit(buffer: &mut [u8; 64], at: usize, rest: &mut u64, unit: TimeUnit) ->
 
 /// Writes the parts below a year, and returns where they end.
 #[inline(always)]
-#[tactic(auto, unfolding(crate::specs::PrintedBytes::digits))]
+#[tactic(auto, unfolding(crate::specs::Internal::PrintedBytes::digits))]
 fn put_units(buffer: &mut [u8; 64], at: usize, nanos: u64) -> usize
     requires within_year { nanos < nanos_of Year }
-    requires behind_years { at ≤ part_bytes Year }
+    requires after_years { at ≤ part_bytes Year }
     ensures text { take result buffer.new ≡ with_parts (take at buffer.old) units_below_year nanos }
     ensures end { result ≤ max_printed_len }
 {
@@ -147,7 +147,7 @@ fn put_units(buffer: &mut [u8; 64], at: usize, nanos: u64) -> usize
 }
 
 /// Writes the printed text into the front of the buffer, and returns its length.
-#[tactic(auto, unfolding(crate::specs::PrintedBytes::digits))]
+#[tactic(auto, unfolding(crate::specs::Internal::PrintedBytes::digits))]
 fn fill(d: Duration, buffer: &mut [u8; 64]) -> usize
     ensures text { take result buffer.new ≡ encode_utf8_all (printed_counts (counts_of unit_lengths (as_nanos d))) }
     ensures short { result ≤ MAX_PRINTED_LEN }
@@ -174,7 +174,7 @@ fn fill(d: Duration, buffer: &mut [u8; 64]) -> usize
 /// write_human(&Duration::new(193, 29_000_000), &mut buffer) // "3min 13s 29ms"
 /// write_human(&Duration::ZERO, &mut buffer)                 // "0s"
 /// ```
-#[tactic(auto, unfolding(crate::specs::PrintedBytes::digits))]
+#[tactic(auto, unfolding(crate::specs::Internal::PrintedBytes::digits))]
 pub fn write_human<'b>(d: &Duration, buffer: &'b mut [u8; 64]) -> &'b str
     ensures text { IsPrinted (as_nanos d.now) (chars result.now) }
     ensures short { length result.now ≤ max_printed_len }

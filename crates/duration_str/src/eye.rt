@@ -1,7 +1,7 @@
 //! The only way to the text while it is cut: one character after the other, each look counted.
 ghost use Rattle.std.specs.Prelude.{◌≡◌, ◌+◌, ◌<◌, ◌≤◌, ◌^◌, [], is_some, IfSome, IfNone, if◌then◌else◌, slice_range, IsUtf8, length};
 ghost use Rattle.std.specs.Str.{IsCharBoundary};
-ghost use Rattle.duration_str.specs.Cutting.{ahead, StandsAt};
+ghost use Rattle.duration_str.specs.Internal.Cutting.{ahead, StandsAt};
 
 /// A text, and the place up to which it is cut.
 #[derive(Drop)]

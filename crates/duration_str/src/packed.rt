@@ -1,6 +1,6 @@
 //! Units by the numbers that their ASCII names pack to: five bits for each letter, in which the case does not show.
 ghost use Rattle.std.specs.Prelude.{◌≡◌};
-ghost use Rattle.duration_str.specs.Packed.{unit_of_packed};
+ghost use Rattle.duration_str.specs.Internal.Packed.{unit_of_packed};
 
 use crate::unit::TimeUnit;
 

@@ -4,9 +4,9 @@ ghost use Rattle.std.specs.Duration.{as_nanos};
 ghost use Rattle.std.specs.Str.{chars};
 ghost use Rattle.duration_str.specs.Answer.{answer};
 ghost use Rattle.duration_str.specs.Answered.{IsAnswered};
-ghost use Rattle.duration_str.specs.Faults.{IsSliceOf, found, piece_at};
+ghost use Rattle.duration_str.specs.Faults.{IsSliceOf, found, token_at};
 ghost use Rattle.duration_str.specs.Reading.{IsRead, IsRefused};
-ghost use Rattle.duration_str.specs.Tokens.{source, left};
+ghost use Rattle.duration_str.specs.Tokenizer.{source, left};
 ghost use Rattle.duration_str.specs.Units.{off};
 ghost use Rattle.duration_str.specs.declared.fault.Expected.{Expected};
 
@@ -129,13 +129,13 @@ impl<'a> Fault<'a> {
         let Cause::Syntax { place, .. } = self.cause else {
             return None;
         };
-        piece_at(Tokens::new(self.text, o), place)
+        token_at(Tokens::new(self.text, o), place)
     }
 }
 
 /// The piece that starts at the place, among those that are left.
-fn piece_at<'a>(mut tokens: Tokens<'a>, place: usize) -> Option<&'a str>
-    ensures { IsSliceOf (source tokens.entry) (piece_at place (left tokens.entry)) result }
+fn token_at<'a>(mut tokens: Tokens<'a>, place: usize) -> Option<&'a str>
+    ensures { IsSliceOf (source tokens.entry) (token_at place (left tokens.entry)) result }
 {
     while let Some(token) = tokens.next() {
         if token.start == place {

@@ -5,9 +5,9 @@ ghost use Rattle.std.specs.Char.{is_ascii_alphabetic};
 ghost use Rattle.std.specs.Str.{chars};
 ghost use Rattle.std.specs.Iterator.{item_count};
 ghost use Rattle.duration_str.specs.Text.{is_blank, is_digit, is_unit_letter, is_chinese, IsNumber, number_of};
-ghost use Rattle.duration_str.specs.Pieces.{pieces_of};
-ghost use Rattle.duration_str.specs.Cutting.{ahead, StandsAt, Passes, Stops, TakesDigits, TakesLetters};
-ghost use Rattle.duration_str.specs.Sorts.{sort_at};
+ghost use Rattle.duration_str.specs.Tokens.{tokens_of};
+ghost use Rattle.duration_str.specs.Internal.Cutting.{ahead, StandsAt, Passes, Stops, TakesDigits, TakesLetters};
+ghost use Rattle.duration_str.specs.Internal.Sorts.{sort_at};
 ghost use Rattle.duration_str.specs.Units.{unit_of_word};
 ghost use Rattle.duration_str.specs.declared.token.Sort.{Sort};
 ghost use Rattle.duration_str.specs.declared.token.Sort.TheVariants.{Number as a_number, Word as a_word};
@@ -60,12 +60,12 @@ pub(crate) struct Number<'a> {
 }
 
 impl<'a> Number<'a> {
-    ghost use Rattle.duration_str.specs.Tokens.{kept_of};
+    ghost use Rattle.duration_str.specs.Tokenizer.{u64_of};
 
     /// The number, where it is below 2^64.
     #[inline(always)]
     pub(crate) fn value(self) -> Option<u64>
-        ensures { result ≡ kept_of self.entry }
+        ensures { result ≡ u64_of self.entry }
     {
         if self.digits.len() <= MOST_DIGITS {
             Some(self.low)
@@ -90,15 +90,15 @@ pub struct Tokens<'a> {
 }
 
 impl<'a> Tokens<'a> {
-    ghost use Rattle.duration_str.specs.Grammar.{Token as PieceToken, word};
-    ghost use Rattle.duration_str.specs.Tokens.{source, options_of, place_of, looks_of, left, what_of, IsAhead, LooksAhead, is_number, IsSign, kept_of, TakesNumberPiece, TakesPiece, TakesSign};
+    ghost use Rattle.duration_str.specs.Grammar.{Terminal, word};
+    ghost use Rattle.duration_str.specs.Tokenizer.{source, options_of, place_of, looks_of, left, what_of, IsAhead, LooksAhead, is_number, IsSign, u64_of, TakesNumber, TakesToken, TakesSign};
 
     /// The pieces of a text, cut under these options.
     #[inline(always)]
     pub fn new(text: &'a str, o: Options) -> Tokens<'a>
         ensures source { source result ≡ text.now }
         ensures options { options_of result ≡ o }
-        ensures left { left result ≡ pieces_of o (chars text.now) }
+        ensures left { left result ≡ tokens_of o (chars text.now) }
     {
         let mut eye = Eye::new(text);
         let head = eye.look();
@@ -176,7 +176,7 @@ impl<'a> Tokens<'a> {
     #[inline(always)]
     pub(crate) fn take_number(&mut self) -> Number<'a>
         requires { IsAhead self.old (Some a_number) }
-        ensures { TakesNumberPiece self.old self.new (kept_of result) }
+        ensures { TakesNumber self.old self.new (u64_of result) }
     {
         let start = self.eye.place();
         let low = self.take_digits();
@@ -231,7 +231,7 @@ impl<'a> Tokens<'a> {
     #[inline(always)]
     pub(crate) fn take_word(&mut self) -> Option<TimeUnit>
         requires { IsAhead self.old (Some a_word) }
-        ensures { TakesPiece self.old self.new (word result) }
+        ensures { TakesToken self.old self.new (word result) }
     {
         let start = self.eye.place();
         let packed = self.take_ascii_letters();
@@ -268,9 +268,9 @@ impl<'a> Tokens<'a> {
 
     /// Takes the piece ahead, which is of this sort.
     #[inline(always)]
-    fn take_piece(&mut self, sort: Sort) -> What
+    fn take_token(&mut self, sort: Sort) -> What
         requires { IsAhead self.old (Some sort) }
-        ensures { (token : PieceToken) × TakesPiece self.old self.new token × (result ≡ what_of token) }
+        ensures { (token : Terminal) × TakesToken self.old self.new token × (result ≡ what_of token) }
     {
         match sort {
             Sort::Number => {
@@ -326,18 +326,18 @@ impl<'a> Tokens<'a> {
 }
 
 impl<'a> Iterator for Tokens<'a> {
-    ghost use Rattle.duration_str.specs.Tokens.{left, tokens_steps};
+    ghost use Rattle.duration_str.specs.Tokenizer.{left, YieldsNextToken};
 
     type Item = Token<'a>;
 
-    ghost next_gives = { tokens_steps };
+    ghost next_gives = { YieldsNextToken };
 
     ghost remaining = { item_count left };
 
     fn next(&mut self) -> Option<Token<'a>> {
         let sort = self.sort_ahead()?;
         let start = self.eye.place();
-        let what = self.take_piece(sort);
+        let what = self.take_token(sort);
         let text = self.eye.since(start);
         Some(Token { start, text, what })
     }

@@ -4,8 +4,8 @@ ghost use Rattle.std.specs.List.{list_any};
 ghost use Rattle.std.specs.Str.{bytes_eq, chars};
 ghost use Rattle.duration_str.specs.FaultText.{sign_of};
 ghost use Rattle.duration_str.specs.Text.{operator_of, IsNumber, number_of};
-ghost use Rattle.duration_str.specs.Units.{off, nanos_of, row_of, folded, is_named, unit_of_word, IsRow};
-ghost use Rattle.duration_str.specs.Value.{kept, term_of, term_answer, term_value};
+ghost use Rattle.duration_str.specs.Units.{off, nanos_of, row_of, comparison_form, is_named, unit_of_word, IsRow};
+ghost use Rattle.duration_str.specs.Value.{u64_from, term_of, term_answer, term_value};
 
 use crate::fault::Cause;
 use std::fmt;
@@ -201,7 +201,7 @@ impl TimeUnit {
     }
 
     /// Whether a word is a name of the unit.
-    #[tactic(auto, using(crate::proofs::UnitLemmas::by_name, crate::proofs::UnitLemmas::by_chinese))]
+    #[tactic(auto, using(crate::proofs::Characters::UnitLemmas::by_name, crate::proofs::Characters::UnitLemmas::by_chinese))]
     fn is_named(self, word: &str, o: Options) -> bool
         ensures { result ≡ is_named o (chars word.now) self }
     {
@@ -249,14 +249,14 @@ static UNITS: [TimeUnit; 11] = [
 
 /// Whether a word is one of these names.
 fn is_any(names: &[&str], word: &str, o: Options) -> bool
-    ensures { result ≡ list_any (λ name. bytes_eq (folded o word.now) (folded o name.now)) names.now }
+    ensures { result ≡ list_any (λ name. bytes_eq (comparison_form o word.now) (comparison_form o name.now)) names.now }
 {
     names.iter().any(|name| is_name(name, word, o))
 }
 
 /// Whether a word is this name under these options.
 fn is_name(name: &str, word: &str, o: Options) -> bool
-    ensures { result ≡ bytes_eq (folded o word.now) (folded o name.now) }
+    ensures { result ≡ bytes_eq (comparison_form o word.now) (comparison_form o name.now) }
 {
     if o.lowercase {
         word == name
@@ -270,7 +270,7 @@ fn is_name(name: &str, word: &str, o: Options) -> bool
 #[inline(never)]
 pub(crate) fn number_of(digits: &str) -> Option<u64>
     requires { IsNumber (chars digits.now) }
-    ensures { result ≡ kept (number_of (chars digits.now)) }
+    ensures { result ≡ u64_from (number_of (chars digits.now)) }
 {
     digits.parse::<u64>().ok()
 }

@@ -1,7 +1,7 @@
 -- A text is refused for a cause of its own: not as a date out of range, nor as a value that is no text.
 use Rattle.std.proofs.Common.{ℕ, Bool, true, false, List, [], ◌∷◌, ◌++◌, Option, Some, None, subst, sym}
-use Rattle.duration_str.specs.declared.unit.Options.{Options}
-use Rattle.duration_str.specs.declared.unit.CondUnit.{CondUnit}
+use Rattle.duration_str.specs.declared.options.Options.{Options}
+use Rattle.duration_str.specs.declared.operator.CondUnit.{CondUnit}
 use Rattle.duration_str.specs.declared.fault.Cause.{Cause}
 use Rattle.duration_str.specs.declared.fault.Cause.TheVariants.{NumberTooLarge, Overflow, Mixed, OutOfRange, NotText}
 use Rattle.duration_str.specs.Grammar.{Token}

@@ -1,7 +1,7 @@
 -- Moments, and how a text moves one.
 use Rattle.std.specs.Prelude.{◌≡◌, ℕ, ◌<◌, ℤ, pos, ◌+ℤ◌, ◌-ℤ◌, ◌*ℤ◌, List, ◌⊎◌}
 use Rattle.std.specs.Str.{chars}
-use Rattle.duration_str.specs.declared.unit.Options.{Options}
+use Rattle.duration_str.specs.declared.options.Options.{Options}
 use Rattle.duration_str.specs.declared.fault.Cause.{Cause}
 use Rattle.duration_str.specs.declared.fault.Cause.TheVariants.{OutOfRange}
 use Rattle.duration_str.specs.Reading.{IsRead}

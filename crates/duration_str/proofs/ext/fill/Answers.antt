@@ -1,7 +1,7 @@
 use Rattle.std.proofs.Common.{take, arith, sym, ap, ◌∙◌}
 use Rattle.std.specs.Duration.{as_nanos}
-use Rattle.duration_str.specs.PrintedBytes.{digits}
-use Rattle.duration_str.proofs.PrintedBytesLemmas.{ended, ended_take, printed_from_seconds, IsUtf8-printed}
+use Rattle.duration_str.specs.Internal.PrintedBytes.{digits}
+use Rattle.duration_str.proofs.Printer.PrintedBytesLemmas.{ended, ended_take, printed_from_seconds, IsUtf8-printed}
 use Rattle.duration_str.proofs.ext.fill.Goals as goal
 
 pub returns-then-end-eq0-clause-text : goal.returns-then-end-eq0-clause-text

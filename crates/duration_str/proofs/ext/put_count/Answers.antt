@@ -1,5 +1,5 @@
 use Rattle.std.proofs.Common.{arith}
-use Rattle.duration_str.proofs.DigitLemmas.{put_last}
+use Rattle.duration_str.proofs.Printer.DigitLemmas.{put_last}
 use Rattle.duration_str.proofs.ext.put_count.Goals as goal
 
 pub returns-then-n-lt100-clause-text : goal.returns-then-n-lt100-clause-text

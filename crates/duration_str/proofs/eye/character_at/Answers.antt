@@ -1,5 +1,5 @@
 use Rattle.std.proofs.Common.{◌∙◌, ap, get_or}
-use Rattle.duration_str.proofs.TextLemmas.{ascii_stands}
+use Rattle.duration_str.proofs.Characters.TextLemmas.{ascii_stands}
 use Rattle.duration_str.proofs.eye.character_at.Goals as goal
 
 pub returns-then-byte-lt128-clause-stands : goal.returns-then-byte-lt128-clause-stands

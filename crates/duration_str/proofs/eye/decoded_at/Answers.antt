@@ -1,8 +1,8 @@
 use Rattle.std.proofs.Common.{◌+◌, subst, sym, ◌∙◌, IsUtf8}
 use Rattle.std.specs.Str.{IsCharBoundary}
 use Rattle.std.proofs.lemmas.Str.{IsCharBoundary-past_char}
-use Rattle.duration_str.specs.Cutting.{StandsAt}
-use Rattle.duration_str.proofs.TextLemmas.{stands_char}
+use Rattle.duration_str.specs.Internal.Cutting.{StandsAt}
+use Rattle.duration_str.proofs.Characters.TextLemmas.{stands_char}
 use Rattle.duration_str.proofs.eye.decoded_at.Goals as goal
 
 pub returns-clause-stands : goal.returns-clause-stands

@@ -1,5 +1,5 @@
 use Rattle.std.proofs.Common.{◌∙◌}
-use Rattle.duration_str.proofs.SpaceLemmas.{run_boundary, run_taken}
+use Rattle.duration_str.proofs.Printer.SpaceLemmas.{run_boundary, run_taken}
 use Rattle.duration_str.proofs.fault.short_run.Goals as goal
 
 pub range-requires-clause-end_boundary : goal.range-requires-clause-end_boundary

@@ -1,4 +1,4 @@
-use Rattle.duration_str.proofs.EqualTexts.{equal_texts_hold}
+use Rattle.duration_str.proofs.LawProofs.EqualTexts.{equal_texts_hold}
 use Rattle.duration_str.proofs.laws.equal_texts.Goals as goal
 
 pub returns : goal.returns

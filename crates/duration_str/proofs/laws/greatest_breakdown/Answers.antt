@@ -1,4 +1,4 @@
-use Rattle.duration_str.proofs.GreatestBreakdown.{greatest_breakdown_holds}
+use Rattle.duration_str.proofs.LawProofs.GreatestBreakdown.{greatest_breakdown_holds}
 use Rattle.duration_str.proofs.laws.greatest_breakdown.Goals as goal
 
 pub returns : goal.returns

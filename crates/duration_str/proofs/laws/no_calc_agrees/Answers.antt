@@ -1,4 +1,4 @@
-use Rattle.duration_str.proofs.NoCalcAgrees.{no_calc_agrees_holds}
+use Rattle.duration_str.proofs.LawProofs.NoCalcAgrees.{no_calc_agrees_holds}
 use Rattle.duration_str.proofs.laws.no_calc_agrees.Goals as goal
 
 pub returns : goal.returns

@@ -1,4 +1,4 @@
-use Rattle.duration_str.proofs.OlderTexts.{older_texts_hold}
+use Rattle.duration_str.proofs.LawProofs.OlderTexts.{older_texts_hold}
 use Rattle.duration_str.proofs.laws.older_texts.Goals as goal
 
 pub returns : goal.returns

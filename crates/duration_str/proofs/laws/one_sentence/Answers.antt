@@ -1,5 +1,5 @@
-use Rattle.duration_str.proofs.OneSentence.{one_sentence_holds, one_cut_holds}
-use Rattle.duration_str.proofs.AnswerLemmas.{one_answer_holds, is_answer_holds}
+use Rattle.duration_str.proofs.LawProofs.OneSentence.{one_sentence_holds, one_cut_holds}
+use Rattle.duration_str.proofs.Sentences.AnswerLemmas.{one_answer_holds, is_answer_holds}
 use Rattle.duration_str.proofs.laws.one_sentence.Goals as goal
 
 pub returns-clause-sentence : goal.returns-clause-sentence

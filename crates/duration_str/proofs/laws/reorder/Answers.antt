@@ -1,4 +1,4 @@
-use Rattle.duration_str.proofs.Reorder.{reorder_holds}
+use Rattle.duration_str.proofs.LawProofs.Reorder.{reorder_holds}
 use Rattle.duration_str.proofs.laws.reorder.Goals as goal
 
 pub returns : goal.returns

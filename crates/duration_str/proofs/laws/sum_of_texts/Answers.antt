@@ -1,4 +1,4 @@
-use Rattle.duration_str.proofs.SumOfTexts.{sum_of_texts_holds}
+use Rattle.duration_str.proofs.LawProofs.SumOfTexts.{sum_of_texts_holds}
 use Rattle.duration_str.proofs.laws.sum_of_texts.Goals as goal
 
 pub returns : goal.returns

@@ -1,4 +1,4 @@
-use Rattle.duration_str.proofs.TwoFactors.{two_factors_hold}
+use Rattle.duration_str.proofs.LawProofs.TwoFactors.{two_factors_hold}
 use Rattle.duration_str.proofs.laws.two_factors.Goals as goal
 
 pub returns : goal.returns

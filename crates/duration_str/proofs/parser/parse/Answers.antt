@@ -4,7 +4,7 @@ use Rattle.std.specs.Str.{chars}
 use Rattle.duration_str.specs.Answer.{answer}
 use Rattle.duration_str.specs.Answered.{IsAnswered}
 use Rattle.duration_str.specs.Units.{off}
-use Rattle.duration_str.proofs.AnsweredLemmas.{answered_read, answered_accepts, answered_refused}
+use Rattle.duration_str.proofs.Sentences.AnsweredLemmas.{answered_read, answered_accepts, answered_refused}
 use Rattle.duration_str.proofs.parser.parse.Goals as goal
 
 pub returns-clause-read : goal.returns-clause-read

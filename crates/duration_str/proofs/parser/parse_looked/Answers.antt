@@ -1,6 +1,6 @@
 use Rattle.std.specs.Duration.{as_nanos}
 use Rattle.std.specs.Str.{chars}
-use Rattle.duration_str.proofs.AnsweredLemmas.{answered_read, answered_accepts, answered_refused}
+use Rattle.duration_str.proofs.Sentences.AnsweredLemmas.{answered_read, answered_accepts, answered_refused}
 use Rattle.duration_str.proofs.parser.parse_looked.Goals as goal
 
 pub returns-clause-read : goal.returns-clause-read

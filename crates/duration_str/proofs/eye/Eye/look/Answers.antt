@@ -1,5 +1,5 @@
 use Rattle.std.proofs.Common.{arith}
-use Rattle.duration_str.proofs.TextLemmas.{end_ahead}
+use Rattle.duration_str.proofs.Characters.TextLemmas.{end_ahead}
 use Rattle.duration_str.proofs.eye.Eye.look.Goals as goal
 
 pub returns-then-self-clause-none : goal.returns-then-self-clause-none

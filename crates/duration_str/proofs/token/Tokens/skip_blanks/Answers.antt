@@ -1,7 +1,7 @@
 use Rattle.std.proofs.Common.{◌∙◌, refl, sym}
 use Rattle.duration_str.specs.Text.{is_blank}
-use Rattle.duration_str.specs.Tokens.{source, place_of}
-use Rattle.duration_str.proofs.CuttingLemmas.{passes_none, passes_head, ahead_shorter}
+use Rattle.duration_str.specs.Tokenizer.{source, place_of}
+use Rattle.duration_str.proofs.Cutting.CuttingLemmas.{passes_none, passes_head, ahead_shorter}
 use Rattle.duration_str.proofs.token.Tokens.skip_blanks.Goals as goal
 
 pub loop-self-init : goal.loop-self-init

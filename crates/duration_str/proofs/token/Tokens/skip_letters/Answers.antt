@@ -1,8 +1,8 @@
 use Rattle.std.proofs.Common.{◌≡◌, ℕ, Bool, ap, ◌∙◌, refl, sym}
-use Rattle.duration_str.specs.declared.unit.Options.{Options}
+use Rattle.duration_str.specs.declared.options.Options.{Options}
 use Rattle.duration_str.specs.Text.{is_unit_letter}
-use Rattle.duration_str.specs.Tokens.{source, options_of, place_of}
-use Rattle.duration_str.proofs.CuttingLemmas.{passes_none, passes_head, ahead_shorter, stops_at}
+use Rattle.duration_str.specs.Tokenizer.{source, options_of, place_of}
+use Rattle.duration_str.proofs.Cutting.CuttingLemmas.{passes_none, passes_head, ahead_shorter, stops_at}
 use Rattle.duration_str.proofs.token.Tokens.skip_letters.Goals as goal
 
 -- the options stayed, so the test is that of the beginning

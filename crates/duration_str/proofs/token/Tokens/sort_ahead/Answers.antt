@@ -1,6 +1,6 @@
 use Rattle.std.proofs.Common.{subst, sym}
-use Rattle.duration_str.specs.Tokens.{IsAhead}
-use Rattle.duration_str.proofs.TokensLemmas.{looks_ahead}
+use Rattle.duration_str.specs.Tokenizer.{IsAhead}
+use Rattle.duration_str.proofs.Cutting.TokenizerLemmas.{looks_ahead}
 use Rattle.duration_str.proofs.token.Tokens.sort_ahead.Goals as goal
 
 pub returns-in_err-first : goal.returns-in_err-first

@@ -1,8 +1,8 @@
 use Rattle.std.proofs.Common.{◌∙◌, refl, sym, arith}
-use Rattle.duration_str.specs.Tokens.{source, options_of, place_of}
-use Rattle.duration_str.proofs.CharacterLemmas.{ascii_letter}
-use Rattle.duration_str.proofs.CuttingLemmas.{letters_none, letters_head, ahead_shorter}
-use Rattle.duration_str.proofs.TokensLemmas.{letter_ahead}
+use Rattle.duration_str.specs.Tokenizer.{source, options_of, place_of}
+use Rattle.duration_str.proofs.Characters.CharacterLemmas.{ascii_letter}
+use Rattle.duration_str.proofs.Cutting.CuttingLemmas.{letters_none, letters_head, ahead_shorter}
+use Rattle.duration_str.proofs.Cutting.TokenizerLemmas.{letter_ahead}
 use Rattle.duration_str.proofs.token.Tokens.take_ascii_letters.Goals as goal
 
 pub loop-self-init : goal.loop-self-init

@@ -1,7 +1,7 @@
 use Rattle.std.proofs.Common.{◌∙◌, refl, sym}
 use Rattle.duration_str.specs.Text.{is_digit}
-use Rattle.duration_str.specs.Tokens.{source, place_of}
-use Rattle.duration_str.proofs.CuttingLemmas.{digits_none, digits_head, ahead_shorter, stops_at}
+use Rattle.duration_str.specs.Tokenizer.{source, place_of}
+use Rattle.duration_str.proofs.Cutting.CuttingLemmas.{digits_none, digits_head, ahead_shorter, stops_at}
 use Rattle.duration_str.proofs.token.Tokens.take_digits.Goals as goal
 
 pub loop-self-init : goal.loop-self-init

@@ -1,6 +1,6 @@
 use Rattle.std.proofs.Common.{subst}
-use Rattle.duration_str.specs.Tokens.{IsSign}
-use Rattle.duration_str.proofs.TokensLemmas.{one_sort, takes_sign}
+use Rattle.duration_str.specs.Tokenizer.{IsSign}
+use Rattle.duration_str.proofs.Cutting.TokenizerLemmas.{one_sort, takes_sign}
 use Rattle.duration_str.proofs.token.Tokens.take_sign.Goals as goal
 
 pub returns-clause-sign : goal.returns-clause-sign

@@ -1,10 +1,10 @@
 use Rattle.std.proofs.Common.{◌∙◌, ap, sym, subst, arith}
 use Rattle.duration_str.specs.Text.{is_unit_letter}
-use Rattle.duration_str.specs.Cutting.{ahead, Stops}
-use Rattle.duration_str.specs.Tokens.{source, options_of, place_of}
-use Rattle.duration_str.proofs.CharacterLemmas.{no_letter_of_ascii}
-use Rattle.duration_str.proofs.CuttingLemmas.{short_word, stops_at}
-use Rattle.duration_str.proofs.TokensLemmas.{takes_word, takes_long_word}
+use Rattle.duration_str.specs.Internal.Cutting.{ahead, Stops}
+use Rattle.duration_str.specs.Tokenizer.{source, options_of, place_of}
+use Rattle.duration_str.proofs.Characters.CharacterLemmas.{no_letter_of_ascii}
+use Rattle.duration_str.proofs.Cutting.CuttingLemmas.{short_word, stops_at}
+use Rattle.duration_str.proofs.Cutting.TokenizerLemmas.{takes_word, takes_long_word}
 use Rattle.duration_str.proofs.token.Tokens.take_word.Goals.{in-Some, in-None}
 use Rattle.duration_str.proofs.token.Tokens.take_word.Goals as goal
 

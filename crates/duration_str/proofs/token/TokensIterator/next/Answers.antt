@@ -1,7 +1,7 @@
 use Rattle.std.proofs.Common.{◌∙◌, ap, sym, subst, arith, length}
 use Rattle.std.specs.Str.{IsCharBoundary}
-use Rattle.duration_str.specs.Tokens.{source}
-use Rattle.duration_str.proofs.TokensLemmas.{none_left, takes_token}
+use Rattle.duration_str.specs.Tokenizer.{source}
+use Rattle.duration_str.proofs.Cutting.TokenizerLemmas.{none_left, takes_terminal}
 use Rattle.duration_str.proofs.token.TokensIterator.next.Goals as goal
 
 pub returns-in_err-sort-clause-steps : goal.returns-in_err-sort-clause-steps
@@ -12,26 +12,26 @@ returns-in_err-sort-clause-steps c =
 
 pub since-text-requires-clause-order : goal.since-text-requires-clause-order
 since-text-requires-clause-order c =
-    let taken = c.take_piece-what.ensures.1 in
+    let taken = c.take_token-what.ensures.1 in
     omega (arith, taken.between.bytes, c.place-start.ensures)
 
 pub since-text-requires-clause-boundary : goal.since-text-requires-clause-boundary
 since-text-requires-clause-boundary c =
     let m = c.sort_ahead.new.self in
-    let taken = c.take_piece-what.ensures.1 in
+    let taken = c.take_token-what.ensures.1 in
     subst (λ text. IsCharBoundary text c.place-start.result) (sym taken.same_source) (subst (IsCharBoundary (source m)) (sym c.place-start.ensures) m.eye.at_place)
 
 pub returns-clause-steps : goal.returns-clause-steps
 returns-clause-steps c =
     let m = c.sort_ahead.new.self in
-    let t = c.take_piece-what.new.self in
+    let t = c.take_token-what.new.self in
     let e = c.sort_ahead.ensures in
-    let taken = c.take_piece-what.ensures in
-    takes_token c.args.self.now m t (record { start = c.place-start.result; text = c.since-text.result; what = c.take_piece-what.result }) taken.0 e.same_source e.same_options e.same_left taken.1
+    let taken = c.take_token-what.ensures in
+    takes_terminal c.args.self.now m t (record { start = c.place-start.result; text = c.since-text.result; what = c.take_token-what.result }) taken.0 e.same_source e.same_options e.same_left taken.1
     c.place-start.ensures c.since-text.ensures c.since-text.utf8 taken.2 m.eye.at_place t.eye.at_place
 
 pub returns-clause-goes : goal.returns-clause-goes
 returns-clause-goes c =
-    let first = ap length c.take_piece-what.ensures.1.first in
+    let first = ap length c.take_token-what.ensures.1.first in
     let same = ap length c.sort_ahead.ensures.same_left in
     omega (arith, first, same)

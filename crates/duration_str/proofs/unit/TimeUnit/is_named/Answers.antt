@@ -1,5 +1,5 @@
 use Rattle.std.proofs.Common.{◌≡◌, Bool, true, false, ◌||◌, ◌&&◌, sym}
-use Rattle.duration_str.proofs.UnitLemmas.{by_name, by_chinese}
+use Rattle.duration_str.proofs.Characters.UnitLemmas.{by_name, by_chinese}
 use Rattle.duration_str.proofs.unit.TimeUnit.is_named.Goals as goal
 
 -- A word that is none of the names is looked for among those that `cn_unit` adds.

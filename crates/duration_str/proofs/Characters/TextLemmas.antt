@@ -1,0 +1,58 @@
+-- Characters and bytes: widths, and the character at a place.
+use Rattle.std.proofs.Common.{◌≡◌, ℕ, ◌+◌, ◌<◌, ◌≤◌, true, false, ◌&&◌, ◌⊎◌, inl, inr, List, [], ◌∷◌, ◌++◌, length, drop, get_or, IsUtf8, ap, sym, subst, ◌∙◌, arith, leb}
+use Rattle.std.proofs.lemmas.Bool.{and_parts}
+use Rattle.std.proofs.lemmas.Bool.Decides.{nat_tests}
+use Rattle.std.proofs.lemmas.List.{drop_more, drop_all}
+use Rattle.std.proofs.lemmas.Str.{chars-nil, encode_ascii, len_utf8_ascii, len_utf8_bounds, scalars-chars, IsUtf8-drop, IsCharBoundary-past_char, chars_past_char, drop_past_char}
+use Rattle.std.specs.Prelude.{encode_utf8, if◌then◌else◌}
+use Rattle.std.specs.Char.{len_utf8}
+use Rattle.std.specs.Str.{IsCharBoundary, chars}
+use lib.Utf8.{scalar, scalars, scalar_cases}
+use Rattle.duration_str.specs.Text.{width, byte_len}
+use Rattle.duration_str.specs.Internal.Cutting.{ahead, StandsAt}
+
+not_surrogate : (c : ℕ) → (c < 55296) ⊎ ((57344 ≤ c) × (c < 1114112)) → (leb 55296 c && leb c 57343) ≡ false
+not_surrogate c (inl h) = grind (arith, nat_tests)
+not_surrogate c (inr h) = grind (arith, nat_tests)
+
+-- a character takes as many bytes as its UTF-8 has
+pub width-scalar : (c : ℕ) → scalar c ≡ true → width c ≡ len_utf8 c
+width-scalar c e = ap (λ b. if b then 4 else len_utf8 c) (not_surrogate c (scalar_cases c e))
+
+-- the character whose UTF-8 the bytes at a place begin with
+pub stands_char : (text rest : List ℕ) (place c : ℕ) → IsUtf8 (drop place text) → drop place text ≡ encode_utf8 c ++ rest → StandsAt text place (place + len_utf8 c) c
+stands_char text rest place c utf8 begins =
+    let all : ahead text place ≡ c ∷ chars rest = chars_past_char (drop place text) rest c utf8 begins in
+    let is_char : scalar c ≡ true = (and_parts (scalar c) (scalars (chars rest)) (ap scalars (sym all) ∙ scalars-chars (drop place text) utf8)).0 in
+    record {
+      head = all ∙ ap (λ bytes. c ∷ chars bytes) (sym (drop_past_char text rest place c begins));
+      bytes = ap (λ n. place + n) (sym (width-scalar c is_char));
+    }
+
+-- an ASCII byte at a place is the UTF-8 of its character
+ascii_begins : (text : List ℕ) (place b : ℕ) → place < length text → b ≡ get_or text place 0 → b < 128 → drop place text ≡ encode_utf8 b ++ drop (place + 1) text
+ascii_begins text place b inside is small =
+    drop_more text place 0 inside ∙ ap (λ x. x ∷ drop (place + 1) text) (sym is) ∙ ap (λ l. l ++ drop (place + 1) text) (sym (encode_ascii b small))
+
+-- nothing lies ahead of the end
+pub end_ahead : (text : List ℕ) (place : ℕ) → length text ≤ place → ahead text place ≡ []
+end_ahead text place end = ap chars (drop_all place text end) ∙ chars-nil
+
+-- an ASCII character at a place, with the place after it
+pub ascii_stands : (text : List ℕ) (place b : ℕ) → IsUtf8 text → IsCharBoundary text place → place < length text → b ≡ get_or text place 0 → b < 128
+    → StandsAt text place (place + 1) b × IsCharBoundary text (place + 1)
+ascii_stands text place b utf8 boundary inside is small =
+    let ahead_utf8 = IsUtf8-drop text place utf8 boundary in
+    let begins = ascii_begins text place b inside is small in
+    subst (λ w. StandsAt text place (place + w) b × IsCharBoundary text (place + w)) (len_utf8_ascii b small) (
+      stands_char text (drop (place + 1) text) place b ahead_utf8 begins,
+      IsCharBoundary-past_char text (drop (place + 1) text) place b boundary.0 ahead_utf8 begins,
+    )
+
+-- every character takes a byte
+pub width_some : (c : ℕ) → 1 ≤ width c
+width_some c = elim (leb 55296 c && leb c 57343) as (λ b. 1 ≤ (if b then 4 else len_utf8 c)) [ true ↦ omega arith | false ↦ (len_utf8_bounds c).0 ]
+
+pub byte_len-append : (xs ys : List ℕ) → byte_len (xs ++ ys) ≡ byte_len xs + byte_len ys
+byte_len-append [] ys = omega arith
+byte_len-append (x ∷ xs) ys = let rest = byte_len-append xs ys in omega (arith, rest)

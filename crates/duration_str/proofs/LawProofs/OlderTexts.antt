@@ -1,0 +1,68 @@
+-- The law `older_texts`: what was a sentence over the units before the quarter is one over all units.
+use Rattle.std.proofs.Common.{◌≡◌, ℕ, Bool, true, false, List, [], ◌∷◌, ◌++◌, map, length, Option, Some, None, IsTrue, if◌then◌else◌, refl, sym, ap, ap₂, subst, ◌∙◌, append-nil}
+use Rattle.std.proofs.lemmas.Bool.{true≢false, and_parts}
+use Rattle.std.specs.List.{list_all, find}
+use Rattle.duration_str.specs.declared.options.Options.{Options}
+use Rattle.duration_str.specs.declared.unit.TimeUnit.{TimeUnit}
+use Rattle.duration_str.specs.Text.{is_digit, is_unit_letter, number_of}
+use Rattle.duration_str.specs.Units.{units, is_named, unit_among, unit_of_word}
+use Rattle.duration_str.specs.Grammar.{Terminal, number, word, sign_terminal, terminal_among, terminal_of, IsSentence, IsSentenceOf}
+use Rattle.duration_str.specs.Place.{kinds_after, allows}
+use Rattle.duration_str.specs.declared.fault.Cause.{Cause}
+use Rattle.duration_str.specs.Value.{Evaluates, terms_of, value_of}
+use Rattle.duration_str.specs.Reading.{IsRead, IsRefusedAt, IsRefused}
+use Rattle.duration_str.specs.Older.{older_units, older_terminals, WasSentenceOf, WasRead, WasRefused}
+use Rattle.duration_str.specs.Laws.{OlderTexts}
+use Rattle.duration_str.proofs.Characters.UnitLemmas.{found_among_all}
+use Rattle.duration_str.proofs.Sentences.AnswerLemmas.{sentence_refused}
+use Rattle.duration_str.proofs.Sentences.FrontLemmas.{AreAllowed, whole_allowed, sentence_allowed}
+
+-- the terminal of a word, from its two tests and the unit that it names
+abbrev terminal_by : Bool → Bool → List ℕ → Option TimeUnit → Terminal
+terminal_by digits letters w unit = if digits then number (number_of w) else if letters then word unit else sign_terminal w
+
+same_word : (o : Options) (last : Option Terminal) (w : List ℕ) (found : Option TimeUnit) → unit_among older_units o w ≡ found
+    → IsTrue (allows (kinds_after o.no_calc last) (word found)) → found ≡ unit_of_word o w
+same_word o last w (Some u) e a = sym (found_among_all o w older_units u e)
+same_word o last w None e a = absurd (true≢false (sym (and_parts (kinds_after o.no_calc last).unit_word false a).1))
+
+same_by : (o : Options) (last : Option Terminal) (w : List ℕ) (digits letters : Bool)
+    → IsTrue (allows (kinds_after o.no_calc last) (terminal_by digits letters w (unit_among older_units o w)))
+    → terminal_by digits letters w (unit_among older_units o w) ≡ terminal_by digits letters w (unit_of_word o w)
+same_by o last w true letters a = refl
+same_by o last w false true a = ap word (same_word o last w _ refl a)
+same_by o last w false false a = refl
+
+-- a word that may stand where it does is the terminal that it was
+same_terminal : (o : Options) (last : Option Terminal) (w : List ℕ) → IsTrue (allows (kinds_after o.no_calc last) (terminal_among older_units o w))
+    → terminal_among older_units o w ≡ terminal_of o w
+same_terminal o last [] a = refl
+same_terminal o last (c ∷ cs) a = same_by o last (c ∷ cs) _ _ a
+
+same_terminals : (o : Options) (last : Option Terminal) (lexemes : List (List ℕ)) → AreAllowed o.no_calc last (older_terminals o lexemes)
+    → older_terminals o lexemes ≡ map (terminal_of o) lexemes
+same_terminals o last [] a = refl
+same_terminals o last (w ∷ lexemes) a = ap₂ ◌∷◌ (same_terminal o last w a.0) (same_terminals o (Some (terminal_among older_units o w)) lexemes a.1)
+
+older_same : (o : Options) (lexemes : List (List ℕ)) (text : List ℕ) → WasSentenceOf o lexemes text → older_terminals o lexemes ≡ map (terminal_of o) lexemes
+older_same o lexemes text was = same_terminals o None lexemes (whole_allowed o.no_calc None (older_terminals o lexemes) (sentence_allowed o.no_calc (older_terminals o lexemes) was.sentence))
+
+older_sentence : (o : Options) (lexemes : List (List ℕ)) (text : List ℕ) → WasSentenceOf o lexemes text → IsSentenceOf o lexemes text
+older_sentence o lexemes text was = (subst (IsSentence o.no_calc) (older_same o lexemes text was) was.sentence, was.spells)
+
+older_value : (o : Options) (text : List ℕ) (nanos : ℕ) → WasRead o text nanos → IsRead o text nanos
+older_value o text nanos was =
+    let same = older_same o was.lexemes text was.spells in record {
+      lexemes = was.lexemes;
+      spells = older_sentence o was.lexemes text was.spells;
+      evaluates = subst (λ (terminals : List Terminal). Evaluates (terms_of terminals)) same was.evaluates;
+      value = ap (λ terminals. value_of (terms_of terminals)) (sym same) ∙ was.value;
+    }
+
+older_cause : (o : Options) (text : List ℕ) (cause : Cause) → WasRefused o text cause → IsRefused o text cause
+older_cause o text cause was =
+    sentence_refused o text was.lexemes cause (older_sentence o was.lexemes text was.spells)
+    (λ place. subst (λ (terminals : List Terminal). IsRefusedAt o.no_calc place terminals [] cause) (older_same o was.lexemes text was.spells) (was.refused place))
+
+pub older_texts_hold : OlderTexts
+older_texts_hold = record { terminals = older_same; sentence = older_sentence; value = older_value; cause = older_cause }

@@ -1,0 +1,22 @@
+-- A text has one list of tokens, and at most one sentence spells it.
+use Rattle.std.proofs.Common.{List, ℕ, sym, subst, ◌∙◌}
+use Rattle.duration_str.specs.Grammar.{Spells}
+use Rattle.duration_str.specs.Tokens.{tokens_of}
+use Rattle.duration_str.specs.Laws.{OneSentence, OneCut}
+use Rattle.duration_str.proofs.Cutting.TokenLemmas.{tokens_once, tokens_are}
+use Rattle.duration_str.proofs.Sentences.SpellingLemmas.{sentence_tokens, tokens_spell}
+
+pub one_sentence_holds : OneSentence
+one_sentence_holds = record {
+  equal = λ o text lexemes others s t. sentence_tokens o text lexemes s ∙ sym (sentence_tokens o text others t);
+  tokens = λ o text lexemes s. (
+    λ spells. sentence_tokens o text lexemes (s, spells),
+    λ e. subst (λ (ws : List (List ℕ)). Spells ws text) (sym e) (tokens_spell o text),
+  );
+}
+
+pub one_cut_holds : OneCut
+one_cut_holds = record {
+  are = λ o text. tokens_are o 0 text;
+  only = λ o text tokens h. tokens_once o 0 text tokens (tokens_of o text) h (tokens_are o 0 text);
+}

@@ -1,0 +1,73 @@
+-- Sums whose terms have the same values, each equally often, come to the same.
+use Rattle.std.proofs.Common.{◌≡◌, ℕ, ◌+◌, ◌≤◌, Bool, true, false, ◌==◌, List, [], ◌∷◌, map, if◌then◌else◌, arith, refl, sym, ap, ◌∙◌}
+use Rattle.std.proofs.lemmas.Bool.{eqb-true, eq-eqb, cond-true}
+use Rattle.duration_str.specs.Value.{Term, value_of_term, sum_of, times_in}
+use Rattle.duration_str.specs.Laws.{Reorder}
+use Rattle.duration_str.proofs.Sentences.AnswerLemmas.{read_below}
+use Rattle.duration_str.proofs.Sentences.SumReadings.{terms_of_lexemes, sum_read, read_sum}
+
+abbrev total : List ℕ → ℕ
+total [] = 0
+total (n ∷ ns) = n + total ns
+
+-- the list without the first n
+abbrev without : ℕ → List ℕ → List ℕ
+without n [] = []
+without n (m ∷ ms) = if m == n then ms else m ∷ without n ms
+
+-- how often the one number x is n
+abbrev is_times : ℕ → ℕ → ℕ
+is_times x n = if x == n then 1 else 0
+
+without_total : (n : ℕ) (ms : List ℕ) → 1 ≤ times_in n ms → total ms ≡ n + total (without n ms)
+without_total n [] h = absurd (omega arith)
+without_total n (m ∷ ms) h = step (m == n) refl h (without_total n ms)
+  where
+    step : (b : Bool) → m == n ≡ b → 1 ≤ (if b then 1 else 0) + times_in n ms → (1 ≤ times_in n ms → total ms ≡ n + total (without n ms))
+        → m + total ms ≡ n + total (if b then ms else m ∷ without n ms)
+    step true e h more = ap (λ (x : ℕ). x + total ms) (eqb-true m n e)
+    step false e h more = let rest : total ms ≡ n + total (without n ms) = more (omega arith) in omega arith
+
+without_times : (n k : ℕ) (ms : List ℕ) → 1 ≤ times_in n ms → times_in k ms ≡ is_times n k + times_in k (without n ms)
+without_times n k [] h = absurd (omega arith)
+without_times n k (m ∷ ms) h = step (m == n) refl h (without_times n k ms)
+  where
+    step : (b : Bool) → m == n ≡ b → 1 ≤ (if b then 1 else 0) + times_in n ms
+        → (1 ≤ times_in n ms → times_in k ms ≡ is_times n k + times_in k (without n ms))
+        → is_times m k + times_in k ms ≡ is_times n k + times_in k (if b then ms else m ∷ without n ms)
+    step true e h more = ap (λ (x : ℕ). is_times x k + times_in k ms) (eqb-true m n e)
+    step false e h more = let rest : times_in k ms ≡ is_times n k + times_in k (without n ms) = more (omega arith) in omega arith
+
+is_times_one : (n : ℕ) → is_times n n ≡ 1
+is_times_one n = cond-true (n == n) 1 0 (eq-eqb n n refl)
+
+same_total : (xs ys : List ℕ) → ((n : ℕ) → times_in n xs ≡ times_in n ys) → total xs ≡ total ys
+same_total [] [] h = refl
+same_total [] (y ∷ ys) h =
+    let one : is_times y y ≡ 1 = is_times_one y in
+    let count : 0 ≡ is_times y y + times_in y ys = h y in
+    absurd (omega arith)
+same_total (x ∷ xs) ys h =
+    let one : is_times x x ≡ 1 = is_times_one x in
+    let count : is_times x x + times_in x xs ≡ times_in x ys = h x in
+    let there : 1 ≤ times_in x ys = omega arith in
+    let counts : (n : ℕ) → times_in n xs ≡ times_in n (without x ys) = λ n.
+    let both : is_times x n + times_in n xs ≡ times_in n ys = h n in
+    let left : times_in n ys ≡ is_times x n + times_in n (without x ys) = without_times x n ys there in
+    omega arith in
+    let rest : total xs ≡ total (without x ys) = same_total xs (without x ys) counts in
+    let whole : total ys ≡ x + total (without x ys) = without_total x ys there in
+    omega arith
+
+sum_total : (terms : List Term) → sum_of terms ≡ total (map value_of_term terms)
+sum_total [] = refl
+sum_total (t ∷ terms) = ap (λ (n : ℕ). value_of_term t + n) (sum_total terms)
+
+pub reorder_holds : Reorder
+reorder_holds o a b lexemes others nanos s t plus other_plus counts r =
+    let xs : List Term = terms_of_lexemes o lexemes in
+    let ys : List Term = terms_of_lexemes o others in
+    let sums : sum_of ys ≡ sum_of xs =
+    sum_total ys ∙ sym (same_total (map value_of_term xs) (map value_of_term ys) counts) ∙ sym (sum_total xs) in
+    let found : sum_of xs ≡ nanos = read_sum o lexemes a nanos (record { sentence = s; plus = plus }) r in
+    sum_read o others b nanos (record { sentence = t; plus = other_plus }) (sums ∙ found) (read_below o a nanos r)

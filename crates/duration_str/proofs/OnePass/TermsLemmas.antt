@@ -1,0 +1,326 @@
+-- The terms that are left, as they are read, and the answer by them.
+use Rattle.std.proofs.Common.{◌≡◌, ℕ, ◌^◌, ◌<◌, Bool, true, false, List, [], ◌∷◌, ◌++◌, length, take, drop, Option, Some, None, Result, Ok, Err, if◌then◌else◌, unwrap_or, IsTrue, refl, sym, ap, subst, ◌∙◌, arith}
+use Rattle.std.proofs.lemmas.Bool.{true≢false}
+use Rattle.duration_str.specs.declared.unit.TimeUnit.{TimeUnit}
+use Rattle.duration_str.specs.declared.unit.TimeUnit.TheVariants.{NanoSecond}
+use Rattle.duration_str.specs.declared.operator.CondUnit.{CondUnit}
+use Rattle.duration_str.specs.declared.operator.CondUnit.TheVariants.{Plus, Star}
+use Rattle.duration_str.specs.declared.fault.Cause.{Cause}
+use Rattle.duration_str.specs.declared.fault.Cause.TheVariants.{Syntax}
+use Rattle.duration_str.specs.declared.fault.Expected.{Expected}
+use Rattle.duration_str.specs.declared.token.Sort.TheVariants.{Number}
+use Rattle.duration_str.specs.declared.token.Tokens.{Tokens}
+use Rattle.duration_str.specs.Units.{nanos_of}
+use Rattle.duration_str.specs.Grammar.{Terminal, number, word, operator, other}
+use Rattle.duration_str.specs.Place.{kinds_after, last_of, front_of}
+use Rattle.duration_str.specs.Value.{AllPlus, Term, term_of, second, value_of_term, u64_from, term_fault, term_value, terms_of, terms_after, unless, value_of}
+use Rattle.duration_str.specs.Reading.{without_last_number, complete, late_fault}
+use Rattle.duration_str.specs.Answer.{late_answer, answer_after, answer_at}
+use Rattle.duration_str.specs.Tokenizer.{place_of, IsAhead, TakesNumber}
+use Rattle.duration_str.specs.Internal.Rest.{Rest, terminal_at, end_at, rest_of, start_left, terminals_in, Read, leaving, unit_read, operator_read, answer_left, first_term, fault_or, join, nothing_of, before_operator, at_once}
+use Rattle.duration_str.proofs.Sentences.FaultLemmas.{term_below_no_fault}
+use Rattle.duration_str.proofs.Sentences.FrontLemmas.{begins_allowed, table_front}
+use Rattle.duration_str.proofs.Sentences.SumLemmas.{AreAdded, terms_added}
+use Rattle.duration_str.proofs.Sentences.AnswerLemmas.{allowed_plus}
+use Rattle.duration_str.proofs.OnePass.EvaluationLemmas.{answer_of, term_told, answer_with, answer_after_first, one_by_one}
+use Rattle.duration_str.proofs.OnePass.ReaderLemmas.{at_number, after_token}
+
+-- terms, and the syntax fault after them
+pub record Ended : Type 0 where
+  pub terms : List Term
+  pub fault : Option Cause
+
+-- the syntax fault where these kinds may follow, and these terminals do
+abbrev pub fault_at : ℕ → Expected → List Terminal → Option Cause
+fault_at place expected [] = unless expected.text_end (Syntax place expected)
+fault_at place expected (terminal ∷ terminals) = Some (Syntax place expected)
+
+-- what goes by the table of the rest, and what comes after that
+abbrev front_in : Bool → Rest → List Terminal
+front_in no_calc rest = take (front_of no_calc (terminals_in rest)) (terminals_in rest)
+
+abbrev after_in : Bool → Rest → List Terminal
+after_in no_calc rest = drop (front_of no_calc (terminals_in rest)) (terminals_in rest)
+
+-- the terms of what is left after the operator `op`, and how they end
+abbrev pub left_after : Bool → CondUnit → Rest → Ended
+left_after no_calc op rest = record {
+  terms = terms_after op (complete (front_in no_calc rest) (after_in no_calc rest));
+  fault = fault_at (start_left (front_of no_calc (terminals_in rest)) rest) (kinds_after no_calc (last_of None (front_in no_calc rest))) (after_in no_calc rest);
+}
+
+-- the terms after an operator, or none at the end
+abbrev pub next_terms : Bool → Option CondUnit → Rest → Ended
+next_terms no_calc None rest = record { terms = []; fault = None }
+next_terms no_calc (Some op) rest = left_after no_calc op rest
+
+-- the terms after a unit, by the operator that is read there
+abbrev pub after_unit : Bool → Result (Read (Option CondUnit)) Cause → Ended
+after_unit no_calc (Ok r) = next_terms no_calc r.item r.rest
+after_unit no_calc (Err cause) = record { terms = []; fault = Some cause }
+
+-- the terms from the number n on, by the unit that is read after it
+abbrev pub after_number : Bool → CondUnit → ℕ → Result (Read TimeUnit) Cause → Ended
+after_number no_calc op n (Ok r) =
+    let more = after_unit no_calc (operator_read no_calc r.rest) in
+    record { terms = record { operator = op; number = n; length = nanos_of r.item } ∷ more.terms; fault = more.fault }
+after_number no_calc op n (Err cause) = record { terms = []; fault = Some cause }
+
+with_unit : (op : CondUnit) (n : ℕ) (u : TimeUnit) (front rest : List Terminal)
+    → terms_after op (complete (number n ∷ word (Some u) ∷ front) rest)
+    ≡ record { operator = op; number = n; length = nanos_of u } ∷ terms_after Plus (complete front rest)
+with_unit op n u front [] = refl
+with_unit op n u front (terminal ∷ rest) = refl
+
+without_unit : (op next : CondUnit) (n : ℕ) (front rest : List Terminal)
+    → terms_after op (complete (number n ∷ operator next ∷ front) rest)
+    ≡ record { operator = op; number = n; length = second } ∷ terms_after next (complete front rest)
+without_unit op next n front [] = refl
+without_unit op next n front (terminal ∷ rest) = refl
+
+at_operator : (op next : CondUnit) (front rest : List Terminal)
+    → terms_after op (complete (operator next ∷ front) rest) ≡ terms_after next (complete front rest)
+at_operator op next front [] = refl
+at_operator op next front (terminal ∷ rest) = refl
+
+-- A number begins a term, by the unit and the operator that are read after it.
+terms_read : (no_calc : Bool) (op : CondUnit) (at n : ℕ) (rest : Rest)
+    → left_after no_calc op (terminal_at at (number n) rest) ≡ after_number no_calc op n (unit_read no_calc rest)
+terms_read no_calc op at n (end_at p) = refl
+terms_read no_calc op at n (terminal_at p (number m) rest) = refl
+terms_read no_calc op at n (terminal_at p other rest) = refl
+terms_read no_calc op at n (terminal_at p (word None) rest) = refl
+terms_read no_calc op at n (terminal_at p (word (Some u)) (end_at q)) = refl
+terms_read no_calc op at n (terminal_at p (word (Some u)) (terminal_at q (number m) rest)) =
+    let here = terminal_at q (number m) rest in
+    ap (λ terms. record { terms = terms; fault = (left_after no_calc Plus here).fault })
+    (with_unit op n u (front_in no_calc here) (after_in no_calc here))
+terms_read no_calc op at n (terminal_at p (word (Some u)) (terminal_at q (word v) rest)) = refl
+terms_read no_calc op at n (terminal_at p (word (Some u)) (terminal_at q other rest)) = refl
+terms_read true op at n (terminal_at p (word (Some u)) (terminal_at q (operator next) rest)) = refl
+terms_read false op at n (terminal_at p (word (Some u)) (terminal_at q (operator next) (end_at r))) = refl
+terms_read false op at n (terminal_at p (word (Some u)) (terminal_at q (operator next) (terminal_at r (number m) rest))) =
+    let here = terminal_at r (number m) rest in
+    let front = front_in false here in
+    let after = after_in false here in
+    ap (λ terms. record { terms = terms; fault = (left_after false next here).fault })
+    (with_unit op n u (operator next ∷ front) after
+    ∙ ap (λ terms. record { operator = op; number = n; length = nanos_of u } ∷ terms) (at_operator Plus next front after))
+terms_read false op at n (terminal_at p (word (Some u)) (terminal_at q (operator next) (terminal_at r (word v) rest))) = refl
+terms_read false op at n (terminal_at p (word (Some u)) (terminal_at q (operator next) (terminal_at r (operator o) rest))) = refl
+terms_read false op at n (terminal_at p (word (Some u)) (terminal_at q (operator next) (terminal_at r other rest))) = refl
+terms_read true op at n (terminal_at p (operator next) rest) = refl
+terms_read false op at n (terminal_at p (operator next) (end_at q)) = refl
+terms_read false op at n (terminal_at p (operator next) (terminal_at q (number m) rest)) =
+    let here = terminal_at q (number m) rest in
+    ap (λ terms. record { terms = terms; fault = (left_after false next here).fault })
+    (without_unit op next n (front_in false here) (after_in false here))
+terms_read false op at n (terminal_at p (operator next) (terminal_at q (word v) rest)) = refl
+terms_read false op at n (terminal_at p (operator next) (terminal_at q (operator o) rest)) = refl
+terms_read false op at n (terminal_at p (operator next) (terminal_at q other rest)) = refl
+
+-- A number is taken, and r is what reading the unit after it gives.
+pub number_taken : (no_calc : Bool) (op : CondUnit) (s a : Tokens) (n : Option ℕ) (taken : TakesNumber s a n)
+    (r : Result (Read TimeUnit) Cause) → r ≡ unit_read no_calc (rest_of a)
+    → left_after no_calc op (rest_of s) ≡ after_number no_calc op taken.0 r
+number_taken no_calc op s a n taken r is =
+    ap (left_after no_calc op) (after_token s a _ taken.1) ∙ terms_read no_calc op (place_of s) taken.0 (rest_of a)
+    ∙ ap (after_number no_calc op taken.0) (sym is)
+
+-- ---- Steps of the answer
+
+-- the answer with the first value and the later terms' so far, where this is left
+abbrev pub with_left : Bool → ℕ → CondUnit → Result ℕ Cause → Ended → Result ℕ Cause
+with_left no_calc first set later left = answer_with no_calc first set later left.terms left.fault
+
+-- the answer with the first value, where this is left after it
+abbrev pub total_of : Bool → ℕ → Ended → Result ℕ Cause
+total_of no_calc first left = answer_after_first no_calc first left.terms left.fault
+
+-- What holds of a term that begins with any number, before the terms that are left, holds where a number is ahead.
+by_number : {A : Type 0} (no_calc : Bool) (f g : Ended → A) (op next : CondUnit) (s : Tokens) → IsAhead s (Some Number)
+    → ((n : ℕ) (r : Result (Read TimeUnit) Cause) → f (after_number no_calc op n r) ≡ g (after_number no_calc next n r))
+    → f (left_after no_calc op (rest_of s)) ≡ g (left_after no_calc next (rest_of s))
+by_number no_calc f g op next s ahead same =
+    let first = at_number s ahead in
+    let read = λ (set : CondUnit). ap (left_after no_calc set) first.2 ∙ terms_read no_calc set (place_of s) first.0 first.1 in
+    ap f (read op) ∙ same first.0 (unit_read no_calc first.1) ∙ sym (ap g (read next))
+
+-- The first of the later terms sets the operator.
+pub operator_set : (no_calc : Bool) (first : ℕ) (set : CondUnit) (s : Tokens) → IsAhead s (Some Number)
+    → with_left no_calc first set (Ok (nothing_of set)) (left_after no_calc set (rest_of s)) ≡ total_of no_calc first (left_after no_calc set (rest_of s))
+operator_set no_calc first set s ahead =
+    by_number no_calc (with_left no_calc first set (Ok (nothing_of set))) (total_of no_calc first) set set s ahead by
+  where
+    by : (n : ℕ) (r : Result (Read TimeUnit) Cause)
+        → with_left no_calc first set (Ok (nothing_of set)) (after_number no_calc set n r) ≡ total_of no_calc first (after_number no_calc set n r)
+    by n (Ok r) = refl
+    by n (Err cause) = refl
+
+-- The operator that was set is no fault.
+same_operator : (set : CondUnit) (later : Result ℕ Cause) → before_operator set later set ≡ later
+same_operator Plus (Ok total) = refl
+same_operator Star (Ok total) = refl
+same_operator set (Err cause) = refl
+
+-- An operator is held against the one that was set as soon as it is read.
+pub operator_next : (no_calc : Bool) (first : ℕ) (set next : CondUnit) (later : Result ℕ Cause) (s : Tokens) → IsAhead s (Some Number)
+    → with_left no_calc first set (before_operator set later next) (left_after no_calc set (rest_of s))
+    ≡ with_left no_calc first set later (left_after no_calc next (rest_of s))
+operator_next no_calc first set next later s ahead =
+    by_number no_calc (with_left no_calc first set (before_operator set later next)) (with_left no_calc first set later) set next s ahead by
+  where
+    by : (n : ℕ) (r : Result (Read TimeUnit) Cause) → with_left no_calc first set (before_operator set later next) (after_number no_calc set n r)
+        ≡ with_left no_calc first set later (after_number no_calc next n r)
+    by n (Ok r) =
+        ap (λ x. let sum = join set x (term_value None (u64_from n) (nanos_of r.item)) in
+        fault_or (at_once no_calc (join set (Ok first) sum)) (with_left no_calc first set sum (after_unit no_calc (operator_read no_calc r.rest))))
+        (same_operator set (before_operator set later next))
+    by n (Err cause) = refl
+
+-- A later term is read up to b, and added: `next` is the later terms' value with it, `fault` ends the loop at once, and r
+-- is read as the operator after it.
+pub later_read : (no_calc : Bool) (first : ℕ) (set : CondUnit) (later next all : Result ℕ Cause) (fault : Option Cause) (s a b : Tokens)
+    (n : Option ℕ) (u : TimeUnit) (r : Result (Read (Option CondUnit)) Cause)
+    → with_left no_calc first set later (left_after no_calc set (rest_of s)) ≡ all → TakesNumber s a n
+    → leaving (rest_of b) (Ok u) ≡ unit_read no_calc (rest_of a) → next ≡ join set later (term_value None n (nanos_of u))
+    → fault ≡ at_once no_calc (join set (Ok first) next) → r ≡ operator_read no_calc (rest_of b)
+    → fault_or fault (with_left no_calc first set next (after_unit no_calc r)) ≡ all
+later_read no_calc first set later next all fault s a b n u r same taken unit is stops op =
+    let after = after_unit no_calc (operator_read no_calc (rest_of b)) in
+    let added = is ∙ (λ i. join set (sym (same_operator set later) i) (term_value None (taken.2 i) (nanos_of u))) in
+    (λ i. fault_or (stops i) (with_left no_calc first set next (after_unit no_calc (op i))))
+    ∙ ap (λ x. fault_or (at_once no_calc (join set (Ok first) x)) (with_left no_calc first set x after)) added
+    ∙ sym (ap (with_left no_calc first set later) (number_taken no_calc set s a n taken _ unit)) ∙ same
+
+-- how many terms are left
+abbrev pub count : Ended → ℕ
+count left = length left.terms
+
+-- A term that is taken is one less.
+pub fewer : (no_calc : Bool) (set next : CondUnit) (s a b d : Tokens) (n : Option ℕ) (u : TimeUnit) → TakesNumber s a n
+    → leaving (rest_of b) (Ok u) ≡ unit_read no_calc (rest_of a) → leaving (rest_of d) (Ok (Some next)) ≡ operator_read no_calc (rest_of b)
+    → IsAhead d (Some Number) → count (left_after no_calc set (rest_of d)) < count (left_after no_calc set (rest_of s))
+fewer no_calc set next s a b d n u taken unit op ahead =
+    let here = ap count (number_taken no_calc set s a n taken _ unit) in
+    let after = ap (λ r. count (after_unit no_calc r)) (sym op) in
+    omega (arith, here, after, by_number no_calc count count set next d ahead by)
+  where
+    by : (n : ℕ) (r : Result (Read TimeUnit) Cause) → count (after_number no_calc set n r) ≡ count (after_number no_calc next n r)
+    by n (Ok r) = refl
+    by n (Err cause) = refl
+
+-- ---- The answer in its order: the early fault, that of the syntax, the late one, and the value
+
+whole_told : (whole : Bool) (cause : Cause) (late : Option Cause) (terminals : List Terminal)
+    → fault_or (unless whole cause) (fault_or late (Ok (unwrap_or (value_of (terms_of terminals)) 0))) ≡ (if whole then late_answer late terminals else Err cause)
+whole_told false cause late terminals = refl
+whole_told true cause None terminals = refl
+whole_told true cause (Some fault) terminals = refl
+
+answer_told : (no_calc : Bool) (place : ℕ) (front rest : List Terminal) (early : Option Cause)
+    → fault_or early (fault_or (fault_at place (kinds_after no_calc (last_of None front)) rest)
+    (fault_or (late_fault no_calc front) (Ok (unwrap_or (value_of (terms_of front)) 0)))) ≡ answer_after no_calc place front rest early
+answer_told no_calc place front rest (Some cause) = refl
+answer_told no_calc place front [] None = whole_told (kinds_after no_calc (last_of None front)).text_end _ (late_fault no_calc front) front
+answer_told no_calc place front (terminal ∷ rest) None = refl
+
+in_order : (no_calc : Bool) (place : ℕ) (front rest : List Terminal)
+    → answer_of no_calc (terms_of (complete front rest)) (fault_at place (kinds_after no_calc (last_of None front)) rest) ≡ answer_at no_calc place front rest
+in_order no_calc place front [] = answer_told no_calc place front [] _
+in_order no_calc place front (terminal ∷ rest) = answer_told no_calc place front (terminal ∷ rest) _
+
+-- ---- The answer by the terms that are left
+
+without_last_plus : (terminals : List Terminal) → AllPlus terminals → AllPlus (without_last_number terminals)
+without_last_plus [] a = tt
+without_last_plus (number n ∷ []) a = tt
+without_last_plus (number n ∷ terminal ∷ terminals) a = without_last_plus (terminal ∷ terminals) a
+without_last_plus (word u ∷ terminals) a = without_last_plus terminals a
+without_last_plus (operator op ∷ terminals) a = (a.0, without_last_plus terminals a.1)
+without_last_plus (other ∷ terminals) a = without_last_plus terminals a
+
+complete_plus : (front rest : List Terminal) → AllPlus front → AllPlus (complete front rest)
+complete_plus front [] a = a
+complete_plus front (terminal ∷ rest) a = without_last_plus front a
+
+-- Under `no_calc` the terms that are left are added.
+left_added : (no_calc : Bool) (op : CondUnit) (rest : Rest) → op ≡ Plus → IsTrue no_calc → AreAdded (left_after no_calc op rest).terms
+left_added false op rest plus h = absurd (true≢false (sym h))
+left_added true op rest plus h =
+    let terminals = terminals_in rest in
+    let front = take (front_of true terminals) terminals in
+    let stands = complete front (drop (front_of true terminals) terminals) in
+    subst (λ set. AreAdded (terms_after set stands)) (sym plus)
+    (terms_added stands (complete_plus front _ (allowed_plus None front (begins_allowed true front (table_front true terminals).begins))))
+
+-- the answer by the first value, or its fault, where this is left after it
+abbrev pub by_first : Bool → Result ℕ Cause → Ended → Result ℕ Cause
+by_first no_calc (Ok first) left = total_of no_calc first left
+by_first no_calc (Err cause) left = Err cause
+
+first_told : (no_calc : Bool) (place : Option ℕ) (f : Term) (left : Ended)
+    → fault_or (term_fault place f) (total_of no_calc (value_of_term f) left) ≡ by_first no_calc (term_value place (u64_from f.number) f.length) left
+first_told no_calc place f left = by (term_fault place f) ∙ ap (λ r. by_first no_calc r left) (sym (term_told place f))
+  where
+    by : (fault : Option Cause) → fault_or fault (total_of no_calc (value_of_term f) left) ≡ by_first no_calc (fault_or fault (Ok (value_of_term f))) left
+    by None = refl
+    by (Some cause) = refl
+
+from_start : (no_calc : Bool) (rest : Rest) (left : Ended) → left_after no_calc Plus rest ≡ left → answer_of no_calc left.terms left.fault ≡ answer_left no_calc [] rest
+from_start no_calc rest left is =
+    let terminals = terminals_in rest in
+    let n = front_of no_calc terminals in
+    ap (λ (l : Ended). answer_of no_calc l.terms l.fault) (sym is) ∙ in_order no_calc (start_left n rest) (take n terminals) (drop n terminals)
+
+no_terms : (no_calc : Bool) (cause : Cause) → Err cause ≡ answer_of no_calc [] (Some cause)
+no_terms false cause = refl
+no_terms true cause = refl
+
+-- The first unit is not read.
+pub first_unread : (no_calc : Bool) (s m a : Tokens) (n : Option ℕ) (cause : Cause) → rest_of m ≡ rest_of s → TakesNumber m a n
+    → Err cause ≡ unit_read no_calc (rest_of a) → Err cause ≡ answer_left no_calc [] (rest_of s)
+first_unread no_calc s m a n cause same taken unit =
+    no_terms no_calc cause ∙ from_start no_calc (rest_of m) _ (number_taken no_calc Plus m a n taken _ unit)
+    ∙ ap (answer_left no_calc []) same
+
+-- The first term is read up to b, and has this value or fault; r is read as the operator after it.
+pub first_read : (no_calc : Bool) (s m a b : Tokens) (n : Option ℕ) (u : TimeUnit) (first : Result ℕ Cause) (r : Result (Read (Option CondUnit)) Cause)
+    → rest_of m ≡ rest_of s → TakesNumber m a n → leaving (rest_of b) (Ok u) ≡ unit_read no_calc (rest_of a)
+    → first ≡ term_value (Some 0) n (nanos_of u) → r ≡ operator_read no_calc (rest_of b)
+    → by_first no_calc first (after_unit no_calc r) ≡ answer_left no_calc [] (rest_of s)
+first_read no_calc s m a b n u first r same taken unit is op =
+    let t = term_of taken.0 u in
+    let more = after_unit no_calc (operator_read no_calc (rest_of b)) in
+    let read = number_taken no_calc Plus m a n taken _ unit in
+    (λ i. by_first no_calc ((is ∙ ap (λ k. term_value (Some 0) k (nanos_of u)) taken.2) i) (after_unit no_calc (op i)))
+    ∙ sym (one_by_one no_calc t more.terms more.fault
+    (λ h. subst (λ (l : Ended). AreAdded l.terms) read (left_added no_calc Plus (rest_of m) refl h)) ∙ first_told no_calc (Some 0) t more)
+    ∙ from_start no_calc (rest_of m) _ read ∙ ap (answer_left no_calc []) same
+
+first_stands : (first : ℕ) (set : CondUnit) (front rest : List Terminal)
+    → terms_of (complete (first_term first set ++ front) rest) ≡ term_of first NanoSecond ∷ terms_after set (complete front rest)
+first_stands first set front [] = refl
+first_stands first set front (terminal ∷ rest) = refl
+
+same_kinds : (no_calc : Bool) (op : CondUnit) (front : List Terminal)
+    → kinds_after no_calc (last_of (Some (operator op)) front) ≡ kinds_after no_calc (last_of None front)
+same_kinds no_calc op [] = refl
+same_kinds no_calc op (terminal ∷ front) = refl
+
+-- A first term in nanoseconds has their value.
+pub from_later : (no_calc : Bool) (first : ℕ) (set : CondUnit) (rest : Rest) → first < 2 ^ 64 → (IsTrue no_calc → set ≡ Plus)
+    → total_of no_calc first (left_after no_calc set rest) ≡ answer_left no_calc (first_term first set) rest
+from_later no_calc first set rest below plus =
+    let terminals = terminals_in rest in
+    let n = front_of no_calc terminals in
+    let front = take n terminals in
+    let left = left_after no_calc set rest in
+    let f = term_of first NanoSecond in
+    let value : first ≡ value_of_term f = omega arith in
+    let none = term_below_no_fault (Some 0) f (omega arith) (omega (arith, below)) in
+    (λ i. fault_or (sym none i) (total_of no_calc (value i) left))
+    ∙ sym (one_by_one no_calc f left.terms left.fault (λ h. (refl, omega arith, left_added no_calc set rest (plus h) h)))
+    ∙ (λ i. answer_of no_calc (sym (first_stands first set front (drop n terminals)) i)
+    (fault_at (start_left n rest) (sym (same_kinds no_calc set front) i) (drop n terminals)))
+    ∙ in_order no_calc (start_left n rest) (first_term first set ++ front) (drop n terminals)

@@ -1,0 +1,6 @@
+-- The printer against the printed text.
+pub mod DecimalLemmas
+pub mod PrintingLemmas
+pub mod DigitLemmas
+pub mod SpaceLemmas
+pub mod PrintedBytesLemmas

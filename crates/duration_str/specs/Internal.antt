@@ -1,0 +1,6 @@
+-- The private contracts of the code: what a step of cutting, reading or printing does.
+pub mod Cutting
+pub mod Sorts
+pub mod Packed
+pub mod Rest
+pub mod PrintedBytes
