@@ -3,12 +3,11 @@ use Rattle.std.specs.Prelude.{◌≡◌, ℤ, [], ◌∷◌, Bool, true, false, 
 use Rattle.serde_json.specs.Data.{Data, null, string}
 use Rattle.duration_str.specs.declared.fault.Cause.TheVariants.{NotText}
 use Rattle.duration_str.specs.declared.fault.Fault.{Fault}
-use Rattle.duration_str.specs.ReadAs.{IsReadAs, IsReadAsSome}
+use Rattle.duration_str.specs.Results.{Answers, IsReadAs, IsReadAsSome}
 
 -- The value is refused, since it is no text.
 abbrev pub IsNotText : {T : Type 0} → Bool → Result T Fault → Type 0
-IsNotText optional (Ok v) = ⊥
-IsNotText optional (Err fault) = (fault.text.now ≡ []) × (fault.cause ≡ NotText optional)
+IsNotText optional result = Answers (λ v. ⊥) (λ cause. cause ≡ NotText optional) [] result
 
 -- A required value: a text is read, and all else is refused.
 abbrev pub IsRequired : {T : Type 0} → (T → ℤ) → Data → Result T Fault → Type 0

@@ -8,6 +8,7 @@ use Rattle.duration_str.specs.declared.fault.Cause.TheVariants.{OutOfRange}
 use Rattle.duration_str.specs.declared.fault.Fault.{Fault}
 use Rattle.duration_str.specs.Units.{off}
 use Rattle.duration_str.specs.Reading.{IsRead, IsRefused}
+use Rattle.duration_str.specs.Results.{Answers}
 
 -- how long a day is, in nanoseconds
 abbrev pub day_nanos : ℕ
@@ -49,5 +50,6 @@ IsDateFault reached bytes cause =
 
 -- The text is read, and the answer shows the instant that its value reaches, which is in range; or it is a fault of this text.
 abbrev pub IsDated : {T : Type 0} → (ℤ → T → Type 0) → (ℕ → ℤ) → List ℕ → Result T Fault → Type 0
-IsDated shows reached bytes (Ok v) = (nanos : ℕ) × IsRead off (chars bytes) nanos × IsInRange (reached nanos) × shows (reached nanos) v
-IsDated shows reached bytes (Err fault) = (fault.text.now ≡ bytes) × IsDateFault reached bytes fault.cause
+IsDated shows reached bytes result =
+    Answers (λ v. (nanos : ℕ) × IsRead off (chars bytes) nanos × IsInRange (reached nanos) × shows (reached nanos) v)
+    (IsDateFault reached bytes) bytes result

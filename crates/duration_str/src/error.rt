@@ -24,7 +24,8 @@ pub type DResult<T> = Result<T, DError>;
 /// The line of a cause, copied, and `None` for an overflow, which takes no memory.
 fn own_line<A: Allocator>(cause: Cause, alloc: A) -> Result<Option<String<A>>, AllocError>
     ensures none { IfOk result (λ text. IsNone text ↔ IsOverflow cause) }
-    ensures line { IfOk result (λ text. IfSome text (λ s. string_bytes s ≡ encode_utf8_all (line_of cause))) }
+    ensures line { IfOk result (λ text. IfSome text (λ s.
+        string_bytes s ≡ encode_utf8_all (line_of cause))) }
     ensures overflow { IsOverflow cause → IsOk result }
 {
     match cause {

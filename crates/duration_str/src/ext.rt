@@ -111,7 +111,8 @@ fn put_part(buffer: &mut [u8; 64], at: usize, count: u64, unit: TimeUnit) -> usi
 fn put_unit(buffer: &mut [u8; 64], at: usize, rest: &mut u64, unit: TimeUnit) -> usize
     requires count { rest.old / nanos_of unit ≤ greatest_count unit }
     requires room { at + 1 + part_bytes unit ≤ 64 }
-    ensures text { take result buffer.new ≡ with_part (take at buffer.old) unit (rest.old / nanos_of unit) }
+    ensures text { take result buffer.new
+        ≡ with_part (take at buffer.old) unit (rest.old / nanos_of unit) }
     ensures end { result ≤ at + 1 + part_bytes unit }
     ensures rest { rest.new ≡ rest.old % nanos_of unit }
 {
@@ -149,7 +150,8 @@ fn put_units(buffer: &mut [u8; 64], at: usize, nanos: u64) -> usize
 /// Writes the printed text into the front of the buffer, and returns its length.
 #[tactic(auto, unfolding(crate::specs::Internal::PrintedBytes::digits))]
 fn fill(d: Duration, buffer: &mut [u8; 64]) -> usize
-    ensures text { take result buffer.new ≡ encode_utf8_all (printed_counts (counts_of unit_lengths (as_nanos d))) }
+    ensures text { take result buffer.new
+        ≡ encode_utf8_all (printed_counts (counts_of unit_lengths (as_nanos d))) }
     ensures short { result ≤ MAX_PRINTED_LEN }
     ensures utf8 { IsUtf8 (take result buffer.new) }
 {
@@ -201,7 +203,8 @@ pub trait HumanFormat {
     /// The printed text of a length that is not negative. It fails only where memory is refused.
     fn human_format(&self, alloc: Global) -> Result<String, AllocError>
         requires { pos 0 ≤ℤ nanos self.now }
-        ensures { IfOk result (λ text. IsPrinted (unsigned_abs (nanos self.now)) (chars (string_bytes text))) };
+        ensures { IfOk result (λ text.
+            IsPrinted (unsigned_abs (nanos self.now)) (chars (string_bytes text))) };
 }
 
 /// The printed text, in a string that grows once.

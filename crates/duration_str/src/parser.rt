@@ -3,12 +3,10 @@ ghost use Rattle.std.specs.Prelude.{◌≡◌, ℕ, ◌^◌, ◌<◌, ◌≤◌,
 ghost use Rattle.std.specs.Duration.{as_nanos};
 ghost use Rattle.std.specs.Str.{chars};
 ghost use Rattle.duration_str.specs.Answer.{answer};
-ghost use Rattle.duration_str.specs.Answered.{IsAnswered};
+ghost use Rattle.duration_str.specs.Results.{IsAnswered, ParsesText, ReachesPlace};
 ghost use Rattle.duration_str.specs.Faults.{IsSliceOf, found, token_at};
-ghost use Rattle.duration_str.specs.Reading.{IsRead, IsRefused};
 ghost use Rattle.duration_str.specs.Tokenizer.{source, left};
 ghost use Rattle.duration_str.specs.Units.{off};
-ghost use Rattle.duration_str.specs.declared.fault.Expected.{Expected};
 
 pub use crate::fault::{Cause, Expected, Fault};
 use crate::reader::read;
@@ -28,11 +26,7 @@ use std::time::Duration;
 /// ```
 #[inline(always)]
 pub fn parse(input: &str) -> Result<Duration, Fault<'_>>
-    ensures read { IfOk result (λ d. IsRead off (chars input.now) (as_nanos d)) }
-    ensures accepts { (nanos : ℕ) → IsRead off (chars input.now) nanos → IsOk result }
-    ensures refused { IfErr result (λ f. (f.text.now ≡ input.now) × IsRefused off (chars input.now) f.cause) }
-    ensures answer { IsAnswered as_nanos (answer off (chars input.now)) input.now result }
-    ensures fits { IfOk result (λ d. as_nanos d < 2 ^ 64) }
+    ensures { ParsesText off input.now result }
 {
     let (answer, _) = read_text(input, Options::off());
     answer
@@ -40,11 +34,7 @@ pub fn parse(input: &str) -> Result<Duration, Fault<'_>>
 
 /// What `parse` answers.
 pub fn parse_std(input: &str) -> Result<Duration, Fault<'_>>
-    ensures read { IfOk result (λ d. IsRead off (chars input.now) (as_nanos d)) }
-    ensures accepts { (nanos : ℕ) → IsRead off (chars input.now) nanos → IsOk result }
-    ensures refused { IfErr result (λ f. (f.text.now ≡ input.now) × IsRefused off (chars input.now) f.cause) }
-    ensures answer { IsAnswered as_nanos (answer off (chars input.now)) input.now result }
-    ensures fits { IfOk result (λ d. as_nanos d < 2 ^ 64) }
+    ensures { ParsesText off input.now result }
 {
     parse(input)
 }
@@ -62,11 +52,7 @@ pub fn parse_std(input: &str) -> Result<Duration, Fault<'_>>
 /// parse_with("1+2", Options { no_calc: true, ..Options::off() })    // Err, Syntax at byte 1
 /// ```
 pub fn parse_with(input: &str, o: Options) -> Result<Duration, Fault<'_>>
-    ensures read { IfOk result (λ d. IsRead o (chars input.now) (as_nanos d)) }
-    ensures accepts { (nanos : ℕ) → IsRead o (chars input.now) nanos → IsOk result }
-    ensures refused { IfErr result (λ f. (f.text.now ≡ input.now) × IsRefused o (chars input.now) f.cause) }
-    ensures answer { IsAnswered as_nanos (answer o (chars input.now)) input.now result }
-    ensures fits { IfOk result (λ d. as_nanos d < 2 ^ 64) }
+    ensures { ParsesText o input.now result }
 {
     let (answer, _) = parse_looked(input, o);
     answer
@@ -77,14 +63,10 @@ pub fn parse_with(input: &str, o: Options) -> Result<Duration, Fault<'_>>
 /// No character is looked at twice. An accepted text is looked at whole, and one with a syntax fault at least up to its
 /// place.
 pub fn parse_looked(input: &str, o: Options) -> (Result<Duration, Fault<'_>>, u64)
-    ensures read { IfOk result.0 (λ d. IsRead o (chars input.now) (as_nanos d)) }
-    ensures accepts { (nanos : ℕ) → IsRead o (chars input.now) nanos → IsOk result.0 }
-    ensures refused { IfErr result.0 (λ f. (f.text.now ≡ input.now) × IsRefused o (chars input.now) f.cause) }
-    ensures answer { IsAnswered as_nanos (answer o (chars input.now)) input.now result.0 }
-    ensures fits { IfOk result.0 (λ d. as_nanos d < 2 ^ 64) }
+    ensures parsed { ParsesText o input.now result.0 }
     ensures once { result.1 ≤ length (chars input.now) }
     ensures whole { OnOk result.0 (result.1 ≡ length (chars input.now)) }
-    ensures front { IfErr result.0 (λ f. (place : ℕ) (expected : Expected) → f.cause ≡ Cause.Syntax place expected → length (chars (take place input.now)) ≤ result.1) }
+    ensures front { IfErr result.0 (λ f. ReachesPlace input.now f.cause result.1) }
 {
     read_text(input, o)
 }
@@ -96,7 +78,7 @@ fn read_text(input: &str, o: Options) -> (Result<Duration, Fault<'_>>, u64)
     ensures fits { IfOk result.0 (λ d. as_nanos d < 2 ^ 64) }
     ensures once { result.1 ≤ length (chars input.now) }
     ensures whole { OnOk result.0 (result.1 ≡ length (chars input.now)) }
-    ensures front { IfErr result.0 (λ f. (place : ℕ) (expected : Expected) → f.cause ≡ Cause.Syntax place expected → length (chars (take place input.now)) ≤ result.1) }
+    ensures front { IfErr result.0 (λ f. ReachesPlace input.now f.cause result.1) }
 {
     if input.is_empty() {
         let fault = Fault {
@@ -124,7 +106,8 @@ impl<'a> Fault<'a> {
     /// parse("3ms-2ms").unwrap_err().found(Options::off()) // Some("-")
     /// ```
     pub fn found(&self, o: Options) -> Option<&'a str>
-        ensures { IsSliceOf self.now.text.now (found o (chars self.now.text.now) self.now.cause) result }
+        ensures { IsSliceOf self.now.text.now
+            (found o (chars self.now.text.now) self.now.cause) result }
     {
         let Cause::Syntax { place, .. } = self.cause else {
             return None;

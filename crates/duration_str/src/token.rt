@@ -13,8 +13,9 @@ ghost use Rattle.duration_str.specs.declared.token.Sort.{Sort};
 ghost use Rattle.duration_str.specs.declared.token.Sort.TheVariants.{Number as a_number, Word as a_word};
 
 use crate::eye::Eye;
+use crate::number::number_of;
 use crate::packed::unit_of_packed;
-use crate::unit::{CondUnit, Options, TimeUnit, number_of};
+use crate::unit::{CondUnit, Options, TimeUnit};
 
 /// The sort of a piece.
 #[derive(Clone, Copy, Debug, PartialEq, Eq)]

@@ -4,7 +4,7 @@ ghost use Rattle.std.specs.Duration.{as_nanos};
 ghost use Rattle.std.specs.Str.{chars};
 ghost use Rattle.jiff.specs.Words.{signed_nanos};
 ghost use Rattle.duration_str.specs.Dates.{IsCivil, IsCivilDay, IsDated, IsInRange};
-ghost use Rattle.duration_str.specs.ReadAs.{IsReadAs};
+ghost use Rattle.duration_str.specs.Results.{IsReadAs};
 ghost use Rattle.duration_str.specs.Reading.{IsRead};
 ghost use Rattle.duration_str.specs.Units.{off};
 ghost use Rattle.duration_str.specs.declared.fault.Cause.TheVariants.{OutOfRange};
@@ -97,7 +97,8 @@ fn later(moment: Timestamp, length: Duration) -> Option<DateTime>
 /// The date and time, or the fault that there is none.
 fn in_range<'a>(at: Option<DateTime>, input: &'a str) -> Result<DateTime, Fault<'a>>
     ensures some { IfSome at (λ shown. result ≡ Ok shown) }
-    ensures none { IfNone at (IsErrAnd result (λ fault. (fault.text.now ≡ input.now) × (fault.cause ≡ OutOfRange))) }
+    ensures none { IfNone at (IsErrAnd result (λ fault.
+        (fault.text.now ≡ input.now) × (fault.cause ≡ OutOfRange))) }
 {
     match at {
         Some(at) => Ok(at),

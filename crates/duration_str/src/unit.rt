@@ -1,38 +1,16 @@
-//! The choice of options, the units of time, and the operators.
+//! The units of time, with the options under which words name them, and the operators between terms.
 ghost use Rattle.std.specs.Prelude.{◌≡◌, None, Some, encode_utf8_all};
 ghost use Rattle.std.specs.List.{list_any};
 ghost use Rattle.std.specs.Str.{bytes_eq, chars};
-ghost use Rattle.duration_str.specs.FaultText.{sign_of};
-ghost use Rattle.duration_str.specs.Text.{operator_of, IsNumber, number_of};
-ghost use Rattle.duration_str.specs.Units.{off, nanos_of, row_of, comparison_form, is_named, unit_of_word, IsRow};
-ghost use Rattle.duration_str.specs.Value.{u64_from, term_of, term_answer, term_value};
+ghost use Rattle.duration_str.specs.Text.{IsNumber, number_of};
+ghost use Rattle.duration_str.specs.Units.{nanos_of, row_of, comparison_form, is_named, unit_of_word, IsRow};
+ghost use Rattle.duration_str.specs.Value.{term_of, term_answer, term_value};
 
 use crate::fault::Cause;
+use crate::number::number_of;
+pub use crate::operator::CondUnit;
+pub use crate::options::Options;
 use std::fmt;
-
-/// Which grammar is read, and which words name units.
-#[derive(Clone, Copy, Debug, PartialEq, Eq)]
-pub struct Options {
-    /// No operator is read: terms are added as they come.
-    pub no_calc: bool,
-    /// Words are compared as they stand; else their ASCII capitals are folded to small letters.
-    pub lowercase: bool,
-    /// The Chinese names of the units are read too.
-    pub cn_unit: bool,
-}
-
-impl Options {
-    /// All three options off.
-    pub fn off() -> Options
-        ensures { result ≡ off }
-    {
-        Options {
-            no_calc: false,
-            lowercase: false,
-            cn_unit: false,
-        }
-    }
-}
 
 /// A unit of time.
 #[derive(Clone, Copy, Debug, PartialEq, Eq, Default)]
@@ -249,7 +227,8 @@ static UNITS: [TimeUnit; 11] = [
 
 /// Whether a word is one of these names.
 fn is_any(names: &[&str], word: &str, o: Options) -> bool
-    ensures { result ≡ list_any (λ name. bytes_eq (comparison_form o word.now) (comparison_form o name.now)) names.now }
+    ensures { result ≡ list_any (λ name.
+        bytes_eq (comparison_form o word.now) (comparison_form o name.now)) names.now }
 {
     names.iter().any(|name| is_name(name, word, o))
 }
@@ -262,49 +241,5 @@ fn is_name(name: &str, word: &str, o: Options) -> bool
         word == name
     } else {
         word.eq_ignore_ascii_case(name)
-    }
-}
-
-/// The number that digits write, where it is below 2^64.
-#[cold]
-#[inline(never)]
-pub(crate) fn number_of(digits: &str) -> Option<u64>
-    requires { IsNumber (chars digits.now) }
-    ensures { result ≡ u64_from (number_of (chars digits.now)) }
-{
-    digits.parse::<u64>().ok()
-}
-
-/// An operator between two terms.
-#[derive(Clone, Copy, Debug, PartialEq, Eq)]
-pub enum CondUnit {
-    /// `+`
-    Plus,
-    /// `*`
-    Star,
-}
-
-impl CondUnit {
-    /// The operator that a character is, if it is one.
-    pub fn from_char(c: char) -> Option<CondUnit>
-        ensures { result ≡ operator_of c }
-    {
-        match c {
-            '+' => Some(CondUnit::Plus),
-            '*' => Some(CondUnit::Star),
-            _ => None,
-        }
-    }
-}
-
-/// `+` or `*`.
-impl fmt::Display for CondUnit {
-    ghost output = { λ operator. Some (sign_of operator) };
-
-    fn fmt<W: fmt::Write>(&self, f: &mut fmt::Formatter<W>) -> fmt::Result {
-        match self {
-            CondUnit::Plus => f.write_str("+"),
-            CondUnit::Star => f.write_str("*"),
-        }
     }
 }

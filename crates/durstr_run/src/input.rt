@@ -14,8 +14,10 @@ const CHUNK: usize = 65_536;
 
 /// All that the reader gives.
 pub fn read_all<A: Allocator, R: Read>(alloc: A, reader: &mut R) -> Result<Vec<u8, A>, RunFault>
-    ensures ok { IfOk result (λ input. ReadsAll (R.remaining reader.old) (R.remaining reader.new) input.items) }
-    ensures too_long { IsErrOf result RunFault.TooLong → ReadsTooMuch (R.remaining reader.old) (R.remaining reader.new) }
+    ensures ok { IfOk result (λ input.
+        ReadsAll (R.remaining reader.old) (R.remaining reader.new) input.items) }
+    ensures too_long { IsErrOf result RunFault.TooLong
+        → ReadsTooMuch (R.remaining reader.old) (R.remaining reader.new) }
     ensures no_write { IsErrOf result RunFault.Write → ⊥ }
 {
     let mut input = Vec::new(alloc);

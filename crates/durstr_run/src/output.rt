@@ -61,7 +61,8 @@ pub fn output_of<A: Allocator>(
 /// Writes all of the bytes and flushes.
 pub fn write_all<W: Write>(writer: &mut W, bytes: &[u8]) -> Result<(), RunFault>
     ensures ok { OnOk result (Appends (W.contents writer.old) (W.contents writer.new) bytes.now) }
-    ensures err { OnErr result (WritesFront (W.contents writer.old) (W.contents writer.new) bytes.now) }
+    ensures err { OnErr result (WritesFront
+        (W.contents writer.old) (W.contents writer.new) bytes.now) }
     ensures kind { OnErr result (result ≡ Err RunFault.Write) }
 {
     let mut written = 0;

@@ -8,10 +8,14 @@ use duration_str::Options;
 /// The options with the field of this name on and the other two kept,
 /// or `None` where the word is none of `no_calc`, `lowercase`, `cn_unit`.
 pub fn with_word(options: Options, word: &str) -> Option<Options>
-    ensures no_calc { word.now ≡ codes "no_calc" → result ≡ Some (record options { no_calc = true }) }
-    ensures lowercase { word.now ≡ codes "lowercase" → result ≡ Some (record options { lowercase = true }) }
-    ensures cn_unit { word.now ≡ codes "cn_unit" → result ≡ Some (record options { cn_unit = true }) }
-    ensures unknown { IsNone result ↔ ((word.now ≢ codes "no_calc") × (word.now ≢ codes "lowercase") × (word.now ≢ codes "cn_unit")) }
+    ensures no_calc { word.now ≡ codes "no_calc"
+        → result ≡ Some (record options { no_calc = true }) }
+    ensures lowercase { word.now ≡ codes "lowercase"
+        → result ≡ Some (record options { lowercase = true }) }
+    ensures cn_unit { word.now ≡ codes "cn_unit"
+        → result ≡ Some (record options { cn_unit = true }) }
+    ensures unknown { IsNone result ↔ ((word.now ≢ codes "no_calc")
+        × (word.now ≢ codes "lowercase") × (word.now ≢ codes "cn_unit")) }
 {
     match word {
         "no_calc" => Some(Options {

@@ -25,9 +25,11 @@ impl<'a> Accepted<'a> {
     /// Reads the text, with all options off. A refusal is answered here, and never again.
     pub fn read(text: &'a str) -> Result<Accepted<'a>, Fault<'a>>
         ensures text { IfOk result (λ accepted. accepted.text.now ≡ text.now) }
-        ensures read { IfOk result (λ accepted. IsRead off (chars text.now) (as_nanos accepted.length)) }
+        ensures read { IfOk result (λ accepted.
+            IsRead off (chars text.now) (as_nanos accepted.length)) }
         ensures accepts { (nanos : ℕ) → IsRead off (chars text.now) nanos → IsOk result }
-        ensures refused { IfErr result (λ f. (f.text.now ≡ text.now) × IsRefused off (chars text.now) f.cause) }
+        ensures refused { IfErr result (λ f.
+            (f.text.now ≡ text.now) × IsRefused off (chars text.now) f.cause) }
     {
         one_sentence();
         match parse(text) {

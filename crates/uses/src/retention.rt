@@ -37,9 +37,11 @@ impl<'a> Period<'a> {
     /// come to 2^64 nanoseconds or more. The joined text is neither made nor read.
     pub fn total(&self, other: &Period<'_>) -> Option<Duration>
         ensures read { IfSome result (λ d. IsRead off
-            (chars self.now.accepted.text.now ++ codes "+" ++ chars other.now.accepted.text.now) (as_nanos d)) }
+            (chars self.now.accepted.text.now ++ codes "+"
+            ++ chars other.now.accepted.text.now) (as_nanos d)) }
         ensures refused { IfNone result (IsRefused off
-            (chars self.now.accepted.text.now ++ codes "+" ++ chars other.now.accepted.text.now) (Overflow None)) }
+            (chars self.now.accepted.text.now ++ codes "+"
+            ++ chars other.now.accepted.text.now) (Overflow None)) }
     {
         sum_of_texts();
         let nanos = self.accepted.length().as_nanos() + other.accepted.length().as_nanos();

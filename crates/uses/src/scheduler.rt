@@ -26,7 +26,8 @@ pub fn show<'b>(due: Duration, now: Duration, buffer: &'b mut [u8; 64]) -> &'b s
 /// Whether the text that is shown has to be replaced. The scheduler keeps the text alone, and not what was left when it
 /// was made: the text differs exactly if the time does.
 pub fn is_outdated(shown: &str, due: Duration, now: Duration) -> bool
-    ensures { (nanos : ℕ) → FitsDuration nanos → IsPrinted nanos (chars shown.now) → (IsTrue result ↔ (nanos ≢ as_nanos due - as_nanos now)) }
+    ensures { (nanos : ℕ) → FitsDuration nanos → IsPrinted nanos (chars shown.now)
+        → (IsTrue result ↔ (nanos ≢ as_nanos due - as_nanos now)) }
 {
     equal_texts();
     let mut buffer = [0u8; 64];

@@ -1,0 +1,15 @@
+//! The numbers that digits write.
+ghost use Rattle.std.specs.Prelude.{◌≡◌};
+ghost use Rattle.std.specs.Str.{chars};
+ghost use Rattle.duration_str.specs.Text.{IsNumber, number_of};
+ghost use Rattle.duration_str.specs.Value.{u64_from};
+
+/// The number that digits write, where it is below 2^64.
+#[cold]
+#[inline(never)]
+pub(crate) fn number_of(digits: &str) -> Option<u64>
+    requires { IsNumber (chars digits.now) }
+    ensures { result ≡ u64_from (number_of (chars digits.now)) }
+{
+    digits.parse::<u64>().ok()
+}

@@ -1,0 +1,40 @@
+//! The operators.
+ghost use Rattle.std.specs.Prelude.{◌≡◌, Some};
+ghost use Rattle.duration_str.specs.FaultText.{sign_of};
+ghost use Rattle.duration_str.specs.Text.{operator_of};
+
+use std::fmt;
+
+/// An operator between two terms.
+#[derive(Clone, Copy, Debug, PartialEq, Eq)]
+pub enum CondUnit {
+    /// `+`
+    Plus,
+    /// `*`
+    Star,
+}
+
+impl CondUnit {
+    /// The operator that a character is, if it is one.
+    pub fn from_char(c: char) -> Option<CondUnit>
+        ensures { result ≡ operator_of c }
+    {
+        match c {
+            '+' => Some(CondUnit::Plus),
+            '*' => Some(CondUnit::Star),
+            _ => None,
+        }
+    }
+}
+
+/// `+` or `*`.
+impl fmt::Display for CondUnit {
+    ghost output = { λ operator. Some (sign_of operator) };
+
+    fn fmt<W: fmt::Write>(&self, f: &mut fmt::Formatter<W>) -> fmt::Result {
+        match self {
+            CondUnit::Plus => f.write_str("+"),
+            CondUnit::Star => f.write_str("*"),
+        }
+    }
+}

@@ -1,0 +1,27 @@
+//! The choice of options.
+ghost use Rattle.std.specs.Prelude.{◌≡◌};
+ghost use Rattle.duration_str.specs.Units.{off};
+
+/// Which grammar is read, and which words name units.
+#[derive(Clone, Copy, Debug, PartialEq, Eq)]
+pub struct Options {
+    /// No operator is read: terms are added as they come.
+    pub no_calc: bool,
+    /// Words are compared as they stand; else their ASCII capitals are folded to small letters.
+    pub lowercase: bool,
+    /// The Chinese names of the units are read too.
+    pub cn_unit: bool,
+}
+
+impl Options {
+    /// All three options off.
+    pub fn off() -> Options
+        ensures { result ≡ off }
+    {
+        Options {
+            no_calc: false,
+            lowercase: false,
+            cn_unit: false,
+        }
+    }
+}
