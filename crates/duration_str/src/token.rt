@@ -87,7 +87,8 @@ pub struct Tokens<'a> {
     options: Options,
     ghost some: { ForSome head (StandsAt eye.text.now eye.place eye.next) },
     ghost none: { ForNone head (ahead eye.text.now eye.place ≡ []) },
-    ghost counted: { eye.looks + length (ahead eye.text.now eye.place) ≡ length (chars eye.text.now) + (if is_some head then 1 else 0) },
+    ghost counted: { eye.looks + length (ahead eye.text.now eye.place)
+        ≡ length (chars eye.text.now) + (if is_some head then 1 else 0) },
 }
 
 impl<'a> Tokens<'a> {
@@ -134,7 +135,8 @@ impl<'a> Tokens<'a> {
         requires { IsSome self.old.head }
         ensures source { source self.new ≡ source self.old }
         ensures options { options_of self.new ≡ options_of self.old }
-        ensures past { ForSome self.old.head (StandsAt (source self.old) (place_of self.old) (place_of self.new)) }
+        ensures past { ForSome self.old.head
+            (StandsAt (source self.old) (place_of self.old) (place_of self.new)) }
     {
         self.eye.step();
         self.head = self.eye.look();
@@ -160,7 +162,8 @@ impl<'a> Tokens<'a> {
     fn take_digits(&mut self) -> u64
         ensures source { source self.new ≡ source self.old }
         ensures options { options_of self.new ≡ options_of self.old }
-        ensures digits { TakesDigits (source self.old) (place_of self.old) (place_of self.new) result }
+        ensures digits { TakesDigits
+            (source self.old) (place_of self.old) (place_of self.new) result }
         ensures stops { Stops is_digit (ahead (source self.new) (place_of self.new)) }
     {
         let mut number = 0u64;
@@ -194,7 +197,8 @@ impl<'a> Tokens<'a> {
         requires { IsAhead self.old (Some a_word) }
         ensures source { source self.new ≡ source self.old }
         ensures options { options_of self.new ≡ options_of self.old }
-        ensures letters { TakesLetters (source self.old) (place_of self.old) (place_of self.new) result }
+        ensures letters { TakesLetters
+            (source self.old) (place_of self.old) (place_of self.new) result }
         ensures stops { ForSome self.new.head (λ c. is_ascii_alphabetic c ≡ false) }
     {
         let mut packed = 0u64;
@@ -218,8 +222,10 @@ impl<'a> Tokens<'a> {
     fn skip_letters(&mut self)
         ensures source { source self.new ≡ source self.old }
         ensures options { options_of self.new ≡ options_of self.old }
-        ensures letters { Passes (is_unit_letter (options_of self.old)) (source self.old) (place_of self.old) (place_of self.new) }
-        ensures stops { Stops (is_unit_letter (options_of self.old)) (ahead (source self.new) (place_of self.new)) }
+        ensures letters { Passes (is_unit_letter (options_of self.old))
+            (source self.old) (place_of self.old) (place_of self.new) }
+        ensures stops { Stops (is_unit_letter (options_of self.old))
+            (ahead (source self.new) (place_of self.new)) }
     {
         while let Some(c) = self.head
             && is_unit_letter(c, self.options)
@@ -271,7 +277,8 @@ impl<'a> Tokens<'a> {
     #[inline(always)]
     fn take_token(&mut self, sort: Sort) -> What
         requires { IsAhead self.old (Some sort) }
-        ensures { (token : Terminal) × TakesToken self.old self.new token × (result ≡ what_of token) }
+        ensures { (terminal : Terminal)
+            × TakesToken self.old self.new terminal × (result ≡ what_of terminal) }
     {
         match sort {
             Sort::Number => {
@@ -303,7 +310,8 @@ impl<'a> Tokens<'a> {
     /// Moves past the blanks, and tells whether a number is ahead.
     #[inline(always)]
     pub(crate) fn is_number_ahead(&mut self) -> bool
-        ensures { (sort : Option Sort) × LooksAhead self.old self.new sort × (result ≡ is_number sort) }
+        ensures { (sort : Option Sort)
+            × LooksAhead self.old self.new sort × (result ≡ is_number sort) }
     {
         self.skip_blanks();
         match self.head {
@@ -374,7 +382,8 @@ fn sort_at(first: char, o: Options) -> Sort
 #[cold]
 #[inline(never)]
 fn unit_by_name(word: &str, no_calc: bool, lowercase: bool, cn_unit: bool) -> Option<TimeUnit>
-    ensures { result ≡ unit_of_word (record { no_calc = no_calc; lowercase = lowercase; cn_unit = cn_unit }) (chars word.now) }
+    ensures { result ≡ unit_of_word
+        (record { no_calc = no_calc; lowercase = lowercase; cn_unit = cn_unit }) (chars word.now) }
 {
     TimeUnit::from_word(
         word,
