@@ -152,7 +152,7 @@ fn put_units(buffer: &mut [u8; 64], at: usize, nanos: u64) -> usize
 fn fill(d: Duration, buffer: &mut [u8; 64]) -> usize
     ensures text { take result buffer.new
         ≡ encode_utf8_all (printed_counts (counts_of unit_lengths (as_nanos d))) }
-    ensures short { result ≤ MAX_PRINTED_LEN }
+    ensures short { result ≤ max_printed_len }
     ensures utf8 { IsUtf8 (take result buffer.new) }
 {
     // Years are counted in seconds, since the nanoseconds of a duration can be 2^64 and more.
@@ -179,7 +179,7 @@ fn fill(d: Duration, buffer: &mut [u8; 64]) -> usize
 #[tactic(auto, unfolding(crate::specs::Internal::PrintedBytes::digits))]
 pub fn write_human<'b>(d: &Duration, buffer: &'b mut [u8; 64]) -> &'b str
     ensures text { IsPrinted (as_nanos d.now) (chars result.now) }
-    ensures short { length result.now ≤ max_printed_len }
+    ensures short { length result.now ≤ MAX_PRINTED_LEN }
 {
     let end = fill(*d, buffer);
     unsafe { std::str::from_utf8_unchecked(&buffer[..end]) }
