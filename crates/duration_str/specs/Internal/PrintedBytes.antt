@@ -1,23 +1,23 @@
--- Printed bytes, made unit by unit.
+-- The printed bytes, built unit by unit.
 use Rattle.std.specs.Prelude.{ℕ, ◌/◌, ◌%◌, List, [], ◌∷◌, ◌++◌, drop, if◌then◌else◌, ◌==◌, decimal, encode_utf8_all}
 unfoldable pub use Rattle.std.specs.Fmt.{digits}
 use Rattle.duration_str.specs.declared.unit.TimeUnit.{TimeUnit}
 use Rattle.duration_str.specs.Units.{units, row_of, nanos_of}
 
--- the bytes, and a space after them unless there are none
+-- the bytes followed by a space, unless they are empty
 abbrev pub with_space : List ℕ → List ℕ
 with_space [] = []
 with_space (b ∷ bytes) = (b ∷ bytes) ++ 32 ∷ []
 
--- the bytes with one more part, unless its count is 0
+-- the bytes followed by one more part, unless its count is 0
 abbrev pub with_part : List ℕ → TimeUnit → ℕ → List ℕ
 with_part bytes u count = if count == 0 then bytes else with_space bytes ++ (decimal count ++ encode_utf8_all (row_of u).printed)
 
--- the bytes with the parts that the units make of so many nanoseconds
+-- the bytes followed by the parts for `nanos` nanoseconds in these units
 abbrev pub with_parts : List ℕ → List TimeUnit → ℕ → List ℕ
 with_parts bytes [] nanos = bytes
 with_parts bytes (u ∷ us) nanos = with_parts (with_part bytes u (nanos / nanos_of u)) us (nanos % nanos_of u)
 
--- the units below a year
+-- the units shorter than a year
 abbrev pub units_below_year : List TimeUnit
 units_below_year = drop 1 units
