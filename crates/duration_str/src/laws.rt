@@ -62,15 +62,14 @@ pub fn greatest_breakdown()
     ensures { GreatestBreakdown }
 {}
 
-/// Two durations print the same text exactly if they are equal. So 211 seconds are the only duration printed as `3min
-/// 31s`.
+/// Two durations print the same text exactly if they are equal. So `3min 31s` is printed for 211 seconds only.
 pub fn equal_texts()
     ensures { EqualTexts }
 {}
 
 /// A printed duration is read back as itself if it is below 2^64 nanoseconds, and otherwise is refused as an overflow:
-/// without a place below 585 years, and with place 0 from there on. So `584y 3q 2mon 1w 3d 23h 34min 33s 709ms 551µs
-/// 615ns` is read as 2^64 - 1 nanoseconds, and with `616ns` it overflows.
+/// without a place below 585 years, and with place 0 from there on. So
+/// `584y 3q 2mon 1w 3d 23h 34min 33s 709ms 551µs 615ns` is read as 2^64 - 1 nanoseconds, and with `616ns` it overflows.
 pub fn reads_back()
     ensures { ReadsBack }
 {}

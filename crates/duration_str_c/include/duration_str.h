@@ -1,17 +1,17 @@
 /* Durations read from expressions such as `3m 13s 29ms`, and printed for people.
  *
- * No function allocates memory or keeps state, and all may be called from several threads at once. A text is passed as a
- * pointer and a length in bytes; it need not end with a zero byte, and must not overlap what a function writes. A null
- * text of length 0 is the empty text, and a null buffer with room for 0 bytes is one into which nothing fits; no other
- * pointer may be null. Texts are UTF-8; other bytes are refused. No zero byte is written at the end of a text.
+ * No function allocates memory or keeps state, and all may be called from several threads at once. A text is passed as
+ * a pointer and a length in bytes; it need not end with a zero byte, and must not overlap what a function writes. A
+ * null text of length 0 is the empty text, and a null buffer with room for 0 bytes is one into which nothing fits; no
+ * other pointer may be null. Texts are UTF-8; other bytes are refused. No zero byte is written at the end of a text.
  *
  * The grammar: terms, each a number and a unit such as `3m` or `29 ms`, joined by `+` or by `*`, or following one
  * another, which adds them. After a number the unit may be left out before an operator and at the end; it is seconds.
  * Blanks (space, tab, carriage return, line feed) may be anywhere except inside a number or a unit.
  * Units: y year years, q quarter quarters, mon month months, w week weeks, d day days, h hr hour hours, m min minute
  * minutes, s sec second seconds, ms msec millisecond milliseconds, µs µsec µsecond us usec usecond microsecond
- * microseconds, ns nsec nanosecond nanoseconds. A year has 365 days, a quarter 91 and a month 30. Numbers and values are
- * below 2^64.
+ * microseconds, ns nsec nanosecond nanoseconds. A year has 365 days, a quarter 91 and a month 30. Numbers and values
+ * are below 2^64.
  */
 #ifndef DURATION_STR_H
 #define DURATION_STR_H
@@ -46,7 +46,7 @@ enum duration_str_cause {
     DURATION_STR_NUMBER_TOO_LARGE = 3, /* a number is 2^64 or more */
     DURATION_STR_OVERFLOW = 4,         /* a term, a step or the value is 2^64 nanoseconds or more */
     DURATION_STR_MIXED = 5,            /* `+` and `*` are mixed */
-    DURATION_STR_OUT_OF_RANGE = 6,     /* a moment is out of range; only from duration_str_after and duration_str_before */
+    DURATION_STR_OUT_OF_RANGE = 6,     /* duration_str_after and duration_str_before only: a moment is out of range */
     DURATION_STR_NOT_TEXT = 7          /* the bytes are not UTF-8 */
 };
 
@@ -78,8 +78,8 @@ struct duration_str_moment {
     uint32_t nanos;
 };
 
-/* Reads a text with all options off. Returns true if it is read: then `*nanos` is its value in nanoseconds. Returns false
- * if it is refused, also for bytes that are not UTF-8: then `*nanos` is unchanged. */
+/* Reads a text with all options off. Returns true if it is read: then `*nanos` is its value in nanoseconds. Returns
+ * false if it is refused, also for bytes that are not UTF-8: then `*nanos` is unchanged. */
 bool duration_str_parse(const uint8_t *text, size_t length, uint64_t *nanos);
 
 /* Prints a duration of `secs` seconds and `nanos` nanoseconds, which are below 1,000,000,000, to the start of `buffer`,
@@ -87,14 +87,14 @@ bool duration_str_parse(const uint8_t *text, size_t length, uint64_t *nanos);
  * 1,000,000,000 or more; then the buffer is unchanged. */
 size_t duration_str_format(uint64_t secs, uint32_t nanos, uint8_t *buffer);
 
-/* Reads a text under these options, and writes its value to `*answer`, or why and where it is refused. Returns true if it
- * is read. */
+/* Reads a text under these options, and writes its value to `*answer`, or why and where it is refused. Returns true if
+ * it is read. */
 bool duration_str_parse_with(const uint8_t *text, size_t length, uint32_t options, struct duration_str_answer *answer);
 
-/* Moves `*moment` forward by the value of a text, which is read under these options, and writes the value or the refusal
- * to `*answer`. Returns true if it is moved. Otherwise `*moment` is unchanged, and the cause is: DURATION_STR_OUT_OF_RANGE
- * if `*moment` is not one of the moments above, whatever the text is; otherwise why the text is refused; otherwise
- * DURATION_STR_OUT_OF_RANGE, since the moment that is reached is not one of those above. */
+/* Moves `*moment` forward by the value of a text, which is read under these options, and writes the value or the
+ * refusal to `*answer`. Returns true if it is moved. Otherwise `*moment` is unchanged, and the cause is:
+ * DURATION_STR_OUT_OF_RANGE if `*moment` is not one of the moments above, whatever the text is; otherwise why the text
+ * is refused; otherwise DURATION_STR_OUT_OF_RANGE, since the moment that is reached is not one of those above. */
 bool duration_str_after(const uint8_t *text, size_t length, uint32_t options, struct duration_str_moment *moment,
                         struct duration_str_answer *answer);
 
@@ -102,15 +102,16 @@ bool duration_str_after(const uint8_t *text, size_t length, uint32_t options, st
 bool duration_str_before(const uint8_t *text, size_t length, uint32_t options, struct duration_str_moment *moment,
                          struct duration_str_answer *answer);
 
-/* Writes the message about a refused text to the start of `buffer`, which has room for `room` bytes, and returns the length
- * of the message in bytes. If that is more than `room`, nothing is written: with room 0 a caller asks for the length.
+/* Writes the message about a refused text to the start of `buffer`, which has room for `room` bytes, and returns the
+ * length of the message in bytes. If that is more than `room`, nothing is written: with room 0 a caller asks for the
+ * length.
  *
  * `*answer` is the answer of one of the calls above for this text. If the fault has a place, the message is the text,
  * below it a caret under the place, and a line that says what is wrong; or, if the text has a line feed, `byte N: ` and
- * the line. Without a place it is only the line. Any other answer is safe too: the message is only the line if the text is
- * not UTF-8, or if the place is not one of its character boundaries; and it is empty if the answer is not a refusal (its
- * cause is not from 1 to 7, or it is DURATION_STR_MIXED with an operator that is neither '+' nor '*'). A length of 2^64
- * bytes or more, which no memory has, is returned as SIZE_MAX. */
+ * the line. Without a place it is only the line. Any other answer is safe too: the message is only the line if the text
+ * is not UTF-8, or if the place is not one of its character boundaries; and it is empty if the answer is not a refusal
+ * (its cause is not from 1 to 7, or it is DURATION_STR_MIXED with an operator that is neither '+' nor '*'). A length of
+ * 2^64 bytes or more, which no memory has, is returned as SIZE_MAX. */
 size_t duration_str_message(const uint8_t *text, size_t length, const struct duration_str_answer *answer,
                             uint8_t *buffer, size_t room);
 
