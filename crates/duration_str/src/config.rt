@@ -19,8 +19,8 @@ use std::time::Duration;
 /// What can be read from a configuration value.
 ///
 /// `Duration` and `SignedDuration` are required values: a text is read by `parse`, and anything else is
-/// `NotText { optional: false }`. Their `Option`s are optional values: null and the empty text are `None`, any other text
-/// is read by `parse`, and anything else is `NotText { optional: true }`.
+/// `NotText { optional: false }`. Their `Option`s are optional values: null and the empty text are `None`, any other
+/// text is read by `parse`, and anything else is `NotText { optional: true }`.
 pub trait DeserializeDuration<'de>: Sized {
     /// What the data of a value is read as.
     ghost gives: { Data → Result Self PlainFault → Type 0 };

@@ -107,7 +107,7 @@ impl Cause {
     ///
     /// ```text
     /// let mut buffer = [0; 64];
-    /// parse("3 + ").unwrap_err().cause().write_line(&mut buffer) // Some(15), and `buffer` begins with "expected number"
+    /// parse("3 + ").unwrap_err().cause().write_line(&mut buffer) // Some(15), and `buffer` starts: "expected number"
     /// ```
     pub fn write_line(self, buffer: &mut [u8]) -> Option<usize>
         ensures { IsWritten (encode_utf8_all (line_of self)) buffer.old result buffer.new }
@@ -141,7 +141,7 @@ impl Fault<'_> {
     ///
     /// ```text
     /// let mut buffer = [0; 64];
-    /// parse("").unwrap_err().write_message(&mut buffer) // Some(11), and `buffer` begins with "Empty input"
+    /// parse("").unwrap_err().write_message(&mut buffer) // Some(11), and `buffer` starts: "Empty input"
     /// ```
     pub fn write_message(&self, buffer: &mut [u8]) -> Option<usize>
         ensures { IsWritten (fault_text self.now.text.now self.now.cause)
