@@ -8,7 +8,7 @@ ghost use Rattle.duration_str.specs.declared.unit.TimeUnit.TheVariants.{Year};
 ghost use Rattle.duration_str.specs.Units.{nanos_of, unit_lengths};
 ghost use Rattle.duration_str.specs.Printing.{IsPrinted, printed_counts, counts_of, greatest_count, part_bytes, max_printed_len};
 ghost use Rattle.duration_str.specs.declared.ext.TheConstants.{MAX_PRINTED_LEN};
-ghost use Rattle.duration_str.specs.Internal.PrintedBytes.{with_space, with_part, with_parts, units_below_year};
+ghost use Rattle.duration_str.specs.Internal.PrintedBytes.{with_space, with_part, with_parts, units_below_year, units_to_day, rest_after, most_bytes};
 
 use crate::unit::TimeUnit;
 use std::alloc::{AllocError, Allocator, Global};
@@ -125,6 +125,27 @@ fn put_unit(buffer: &mut [u8; 64], at: usize, rest: &mut u64, unit: TimeUnit) ->
     put_part(buffer, at, count, unit)
 }
 
+/// Writes the parts from quarters to days, returns where they end, and leaves the remainder below a day in `rest`.
+#[inline(always)]
+#[tactic(auto, unfolding(crate::specs::Internal::PrintedBytes::digits))]
+fn put_days(buffer: &mut [u8; 64], at: usize, rest: &mut u64) -> usize
+    requires within_year { rest.old < nanos_of Year }
+    requires after_years { at ≤ part_bytes Year }
+    ensures text { take result buffer.new
+        ≡ with_parts (take at buffer.old) units_to_day rest.old }
+    ensures end { result ≤ at + most_bytes units_to_day }
+    ensures rest { rest.new ≡ rest_after units_to_day rest.old }
+{
+    // Most durations are below a day, and one comparison costs less than one for each unit.
+    if *rest < TimeUnit::Day.nanos() {
+        return at;
+    }
+    let quarter = put_unit(buffer, at, rest, TimeUnit::Quarter);
+    let month = put_unit(buffer, quarter, rest, TimeUnit::Month);
+    let week = put_unit(buffer, month, rest, TimeUnit::Week);
+    put_unit(buffer, week, rest, TimeUnit::Day)
+}
+
 /// Writes the parts of the units below a year, and returns where they end.
 #[inline(always)]
 #[tactic(auto, unfolding(crate::specs::Internal::PrintedBytes::digits))]
@@ -135,10 +156,7 @@ fn put_units(buffer: &mut [u8; 64], at: usize, nanos: u64) -> usize
     ensures end { result ≤ max_printed_len }
 {
     let mut rest = nanos;
-    let quarter = put_unit(buffer, at, &mut rest, TimeUnit::Quarter);
-    let month = put_unit(buffer, quarter, &mut rest, TimeUnit::Month);
-    let week = put_unit(buffer, month, &mut rest, TimeUnit::Week);
-    let day = put_unit(buffer, week, &mut rest, TimeUnit::Day);
+    let day = put_days(buffer, at, &mut rest);
     let hour = put_unit(buffer, day, &mut rest, TimeUnit::Hour);
     let minute = put_unit(buffer, hour, &mut rest, TimeUnit::Minute);
     let second = put_unit(buffer, minute, &mut rest, TimeUnit::Second);
@@ -152,7 +170,7 @@ fn put_units(buffer: &mut [u8; 64], at: usize, nanos: u64) -> usize
 fn fill(d: Duration, buffer: &mut [u8; 64]) -> usize
     ensures text { take result buffer.new
         ≡ encode_utf8_all (printed_counts (counts_of unit_lengths (as_nanos d))) }
-    ensures short { result ≤ MAX_PRINTED_LEN }
+    ensures short { result ≤ max_printed_len }
     ensures utf8 { IsUtf8 (take result buffer.new) }
 {
     // Years are counted in seconds, because the nanoseconds of a duration can be 2^64 or more.
@@ -179,7 +197,7 @@ fn fill(d: Duration, buffer: &mut [u8; 64]) -> usize
 #[tactic(auto, unfolding(crate::specs::Internal::PrintedBytes::digits))]
 pub fn write_human<'b>(d: &Duration, buffer: &'b mut [u8; 64]) -> &'b str
     ensures text { IsPrinted (as_nanos d.now) (chars result.now) }
-    ensures short { length result.now ≤ max_printed_len }
+    ensures short { length result.now ≤ MAX_PRINTED_LEN }
 {
     let end = fill(*d, buffer);
     unsafe { std::str::from_utf8_unchecked(&buffer[..end]) }

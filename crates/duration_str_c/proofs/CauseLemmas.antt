@@ -4,9 +4,9 @@ use Rattle.duration_str.specs.declared.options.Options.{Options}
 use Rattle.duration_str.specs.declared.operator.CondUnit.{CondUnit}
 use Rattle.duration_str.specs.declared.fault.Cause.{Cause}
 use Rattle.duration_str.specs.declared.fault.Cause.TheVariants.{NumberTooLarge, Overflow, Mixed, OutOfRange, NotText}
-use Rattle.duration_str.specs.Grammar.{Token}
-use Rattle.duration_str.specs.Value.{Term, value_of_term, is_same_operator, together, sum_of, with_first, fits, or_else, unless, term_fault, later_fault, evaluation_fault, terms_of}
-use Rattle.duration_str.specs.Reading.{place_behind, first_fault, running_fault, early_fault, late_fault, standing_terms, IsRefused, IsRefusedAt, early, syntax_fault, late}
+use Rattle.duration_str.specs.Grammar.{Terminal}
+use Rattle.duration_str.specs.Value.{Term, value_of_term, is_same_operator, later_total, sum_of, total_of, fits, or_else, unless, term_fault, later_fault, evaluation_fault, terms_of}
+use Rattle.duration_str.specs.Reading.{place_after, first_fault, running_fault, early_fault, late_fault, complete_terms, IsRefused, IsRefusedAt, early, syntax_fault, late}
 
 -- A text can be refused for this cause.
 abbrev pub IsOfText : Cause → Type 0
@@ -37,12 +37,12 @@ term_any place t =
 
 first_any : (terms : List Term) → AnyOfText (first_fault terms)
 first_any [] = tt
-first_any (t ∷ terms) = term_any (place_behind []) t
+first_any (t ∷ terms) = term_any (place_after []) t
 
 running_any : (before terms : List Term) → AnyOfText (running_fault before terms)
 running_any before [] = tt
 running_any before (t ∷ terms) =
-    or_else_any (term_fault (place_behind before) t) _ (term_any (place_behind before) t)
+    or_else_any (term_fault (place_after before) t) _ (term_any (place_after before) t)
     (or_else_any (unless (fits (sum_of (before ++ t ∷ []))) (Overflow None)) _ (overflow_any (sum_of (before ++ t ∷ [])) None)
     (running_any (before ++ t ∷ []) terms))
 
@@ -52,25 +52,25 @@ later_any set before (t ∷ later) =
     or_else_any (unless (is_same_operator set t.operator) (Mixed set t.operator)) _
     (unless_any (is_same_operator set t.operator) (Mixed set t.operator) tt)
     (or_else_any (term_fault None t) _ (term_any None t)
-    (or_else_any (unless (fits (together set (before ++ t ∷ []))) (Overflow None)) _
-    (overflow_any (together set (before ++ t ∷ [])) None) (later_any set (before ++ t ∷ []) later)))
+    (or_else_any (unless (fits (later_total set (before ++ t ∷ []))) (Overflow None)) _
+    (overflow_any (later_total set (before ++ t ∷ [])) None) (later_any set (before ++ t ∷ []) later)))
 
 evaluation_any : (terms : List Term) → AnyOfText (evaluation_fault terms)
 evaluation_any [] = tt
 evaluation_any (t ∷ []) = tt
 evaluation_any (t ∷ u ∷ later) =
     or_else_any (later_fault u.operator [] (u ∷ later)) _ (later_any u.operator [] (u ∷ later))
-    (overflow_any (with_first u.operator t (together u.operator (u ∷ later))) None)
+    (overflow_any (total_of u.operator t (later_total u.operator (u ∷ later))) None)
 
-early_any : (no_calc : Bool) (front rest : List Token) → AnyOfText (early_fault no_calc front rest)
-early_any true front rest = running_any [] (standing_terms front rest)
-early_any false front rest = first_any (standing_terms front rest)
+early_any : (no_calc : Bool) (front rest : List Terminal) → AnyOfText (early_fault no_calc front rest)
+early_any true front rest = running_any [] (complete_terms front rest)
+early_any false front rest = first_any (complete_terms front rest)
 
-late_any : (no_calc : Bool) (tokens : List Token) → AnyOfText (late_fault no_calc tokens)
-late_any true tokens = tt
-late_any false tokens = evaluation_any (terms_of tokens)
+late_any : (no_calc : Bool) (terminals : List Terminal) → AnyOfText (late_fault no_calc terminals)
+late_any true terminals = tt
+late_any false terminals = evaluation_any (terms_of terminals)
 
-refused_at : (no_calc : Bool) (place : ℕ) (front rest : List Token) (cause : Cause)
+refused_at : (no_calc : Bool) (place : ℕ) (front rest : List Terminal) (cause : Cause)
     → IsRefusedAt no_calc place front rest cause → IsOfText cause
 refused_at no_calc place front rest cause (early e) = subst AnyOfText e (early_any no_calc front rest)
 refused_at no_calc place front rest cause (syntax_fault expected none other follows e) = subst IsOfText (sym e) tt

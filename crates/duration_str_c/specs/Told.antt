@@ -10,7 +10,7 @@ use Rattle.duration_str.specs.declared.fault.Cause.{Cause}
 use Rattle.duration_str.specs.declared.fault.Cause.TheVariants.{Empty, Syntax, NumberTooLarge, Overflow, Mixed, OutOfRange, NotText}
 use Rattle.duration_str.specs.declared.fault.Expected.{Expected}
 use Rattle.duration_str.specs.Text.{byte_len}
-use Rattle.duration_str.specs.Pieces.{Piece}
+use Rattle.duration_str.specs.Tokens.{Token}
 use Rattle.duration_str.specs.Faults.{place_of, found}
 use Rattle.duration_str.specs.Reading.{IsRead, IsRefused}
 use Rattle.duration_str_c.specs.declared.answer.Answer.{Answer}
@@ -59,9 +59,9 @@ later_sign (Mixed first later) = sign_of later
 later_sign _ = 0
 
 -- the length of a token in bytes; 0 without one
-abbrev pub piece_length : Option Piece → ℕ
-piece_length None = 0
-piece_length (Some piece) = byte_len piece.characters
+abbrev pub token_length : Option Token → ℕ
+token_length None = 0
+token_length (Some token) = byte_len token.characters
 
 -- the answer with a value
 abbrev pub value_told : ℕ → Answer
@@ -122,7 +122,7 @@ cause_told a =
 -- is a character boundary of the bytes.
 abbrev pub IsRefusalTold : Options → List ℕ → Cause → Answer → Type 0
 IsRefusalTold o bytes cause answer =
-    IsRefused o (chars bytes) cause × (answer ≡ refusal_told cause (piece_length (found o (chars bytes) cause)))
+    IsRefused o (chars bytes) cause × (answer ≡ refusal_told cause (token_length (found o (chars bytes) cause)))
     × (cause_told answer ≡ Some cause) × ForSome (place_of cause) (IsCharBoundary bytes)
 
 -- The answer has the value of the bytes, or the cause of their refusal.

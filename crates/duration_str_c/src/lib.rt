@@ -9,7 +9,8 @@ ghost use Rattle.std.specs.Int.Bits.{bit_and};
 ghost use Rattle.std.specs.Str.{chars};
 ghost use Rattle.duration_str.specs.Units.{off};
 ghost use Rattle.duration_str.specs.Reading.{IsRead};
-ghost use Rattle.duration_str.specs.Printing.{IsPrinted, max_printed_len};
+ghost use Rattle.duration_str.specs.Printing.{IsPrinted};
+ghost use Rattle.duration_str.specs.declared.ext.TheConstants.{MAX_PRINTED_LEN};
 ghost use Rattle.duration_str.specs.declared.fault.Cause.TheVariants.{NotText};
 ghost use Rattle.duration_str_c.specs.Told.{options_of, refusal_told, IsTold};
 
@@ -66,7 +67,7 @@ pub extern "C" fn duration_str_parse(text: &[u8], nanos: &mut u64) -> bool
 pub extern "C" fn duration_str_format(secs: u64, nanos: u32, buffer: &mut [u8; 64]) -> usize
     ensures text { nanos < 1_000_000_000
         → IsPrinted (secs * 1_000_000_000 + nanos) (chars (take result buffer.new)) }
-    ensures short { result ≤ max_printed_len }
+    ensures short { result ≤ MAX_PRINTED_LEN }
     ensures refused { 1_000_000_000 ≤ nanos → (result ≡ 0) × (buffer.new ≡ buffer.old) }
 {
     if nanos >= 1_000_000_000 {

@@ -1,8 +1,10 @@
 -- The printed bytes, built unit by unit.
-use Rattle.std.specs.Prelude.{ℕ, ◌/◌, ◌%◌, List, [], ◌∷◌, ◌++◌, drop, if◌then◌else◌, ◌==◌, decimal, encode_utf8_all}
+use Rattle.std.specs.Prelude.{ℕ, ◌+◌, ◌/◌, ◌%◌, List, [], ◌∷◌, ◌++◌, drop, if◌then◌else◌, ◌==◌, decimal, encode_utf8_all}
 unfoldable pub use Rattle.std.specs.Fmt.{digits}
 use Rattle.duration_str.specs.declared.unit.TimeUnit.{TimeUnit}
+use Rattle.duration_str.specs.declared.unit.TimeUnit.TheVariants.{Quarter, Month, Week, Day}
 use Rattle.duration_str.specs.Units.{units, row_of, nanos_of}
+use Rattle.duration_str.specs.Printing.{part_bytes}
 
 -- the bytes followed by a space, unless they are empty
 abbrev pub with_space : List ℕ → List ℕ
@@ -21,3 +23,17 @@ with_parts bytes (u ∷ us) nanos = with_parts (with_part bytes u (nanos / nanos
 -- the units shorter than a year
 abbrev pub units_below_year : List TimeUnit
 units_below_year = drop 1 units
+
+-- the units below a year that are a day or longer
+abbrev pub units_to_day : List TimeUnit
+units_to_day = Quarter ∷ Month ∷ Week ∷ Day ∷ []
+
+-- what these units leave of this many nanoseconds
+abbrev pub rest_after : List TimeUnit → ℕ → ℕ
+rest_after [] nanos = nanos
+rest_after (u ∷ us) nanos = rest_after us (nanos % nanos_of u)
+
+-- the most bytes that these units' parts can have, each after a space
+abbrev pub most_bytes : List TimeUnit → ℕ
+most_bytes [] = 0
+most_bytes (u ∷ us) = 1 + part_bytes u + most_bytes us

@@ -1,11 +1,11 @@
 use Rattle.std.proofs.Common.{rules, ◌∙◌, sym, ap, IsUtf8}
 use Rattle.duration_str.specs.Text.{byte_len}
 use Rattle.duration_str.proofs.OnePass.PlaceLemmas.{byte_count}
-use Rattle.duration_str_c.specs.Told.{piece_length}
+use Rattle.duration_str_c.specs.Told.{token_length}
 use Rattle.duration_str_c.proofs.answer.found_length.Goals as goal
 
 pub returns-in-Some : goal.returns-in-Some
 returns-in-Some c =
     let (piece, same, characters, at) = c.in-Some.ensures in
     let utf8 : IsUtf8 c.in-Some.piece.now = search rules in
-    sym (ap piece_length same ∙ ap byte_len (sym characters) ∙ byte_count c.in-Some.piece.now utf8)
+    sym (ap token_length same ∙ ap byte_len (sym characters) ∙ byte_count c.in-Some.piece.now utf8)
