@@ -1,4 +1,4 @@
--- The one pass against the computed answer.
+-- The one pass gives the computed answer.
 pub mod PlaceLemmas
 pub mod ReaderLemmas
 pub mod TermsLemmas

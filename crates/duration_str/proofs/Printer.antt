@@ -1,4 +1,4 @@
--- The printer against the printed text.
+-- The printer writes the printed text.
 pub mod DecimalLemmas
 pub mod PrintingLemmas
 pub mod DigitLemmas

@@ -85,7 +85,7 @@ product-first_last = refl
 pub product-steps_rounded : answer off (codes "1000000000*1ns*1ns") ≡ Ok 0
 product-steps_rounded = refl
 
--- each step is rounded down, not only the last one
+-- each step is rounded down, not just the last one
 pub product-middle_step_rounded : answer off (codes "1*1ns*1ns*1000000000") ≡ Ok 0
 product-middle_step_rounded = refl
 
@@ -367,14 +367,14 @@ abbrev AreNamesOf : Options → TimeUnit → List (List ℕ) → Type 0
 AreNamesOf o u [] = ⊤
 AreNamesOf o u (name ∷ names) = (unit_of_word o name ≡ Some u) × AreNamesOf o u names
 
--- Each name of these units is read as its unit, whether or not it is comparison_form, and each Chinese name with `cn_unit`.
+-- Each name of these units is read as its unit, with and without `lowercase`, and each Chinese name with `cn_unit`.
 abbrev AreNames : List TimeUnit → Type 0
 AreNames [] = ⊤
 AreNames (u ∷ us) =
     AreNamesOf off u (row_of u).names × AreNamesOf with_lowercase u (row_of u).names
     × AreNamesOf with_cn_unit u ((row_of u).names ++ (row_of u).chinese) × AreNames us
 
--- No name is another unit's, since each is read as one unit.
+-- No two units share a name, since each name is read as one unit.
 pub names_of_one_unit : AreNames units
 names_of_one_unit = assumption
 
@@ -395,7 +395,7 @@ capital_quarter-lowercase_refused = refl
 pub longer_word_than_quarter-refused : answer off (codes "1qs") ≡ Err (Syntax 1 after_number)
 longer_word_than_quarter-refused = refl
 
--- Before there was the quarter, its names were none of a unit, and each of the others was one.
+-- Before the quarter was added, its names named no unit, and there were 40 others.
 pub quarter_was_no_unit : map (unit_among older_units off) (row_of Quarter).names ≡ None ∷ None ∷ None ∷ []
 quarter_was_no_unit = refl
 

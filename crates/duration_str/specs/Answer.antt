@@ -1,4 +1,4 @@
--- The answer to a text, computed along the table of what may follow.
+-- The answer to a text, computed by the table of what may follow.
 use Rattle.std.specs.Prelude.{ℕ, Bool, false, List, [], ◌∷◌, Option, Some, None, Result, Ok, Err, take, drop, if◌then◌else◌, unwrap_or}
 use Rattle.duration_str.specs.declared.options.Options.{Options}
 use Rattle.duration_str.specs.declared.fault.Cause.{Cause}
@@ -10,24 +10,24 @@ use Rattle.duration_str.specs.Place.{kinds_after, last_of, front_of, start_after
 use Rattle.duration_str.specs.Value.{terms_of, value_of}
 use Rattle.duration_str.specs.Reading.{early_fault, late_fault}
 
--- whether the front is all terminals, and a sentence
+-- whether the front is all the terminals, and a sentence
 abbrev pub is_whole : Bool → List Terminal → List Terminal → Bool
 is_whole no_calc front [] = (kinds_after no_calc (last_of None front)).text_end
 is_whole no_calc front (terminal ∷ rest) = false
 
--- the answer to a sentence whose evaluation has this fault, or none
+-- the answer to a sentence, given its evaluation's fault or `None`
 abbrev pub late_answer : Option Cause → List Terminal → Result ℕ Cause
 late_answer (Some cause) terminals = Err cause
 late_answer None terminals = Ok (unwrap_or (value_of (terms_of terminals)) 0)
 
--- the answer where the terms that stand have this fault, or none
+-- the answer, given the fault that precedes a syntax fault, or `None`
 abbrev pub answer_after : Bool → ℕ → List Terminal → List Terminal → Option Cause → Result ℕ Cause
 answer_after no_calc place front rest (Some cause) = Err cause
 answer_after no_calc place front rest None =
     if is_whole no_calc front rest then late_answer (late_fault no_calc front) front
     else Err (Syntax place (kinds_after no_calc (last_of None front)))
 
--- the answer to a front and the rest, which begins at the byte `place`
+-- the answer to this front and this rest, which starts at byte `place`
 abbrev pub answer_at : Bool → ℕ → List Terminal → List Terminal → Result ℕ Cause
 answer_at no_calc place front rest = answer_after no_calc place front rest (early_fault no_calc front rest)
 

@@ -1,4 +1,4 @@
--- A moment, earlier or later by the value of a text, as a civil date in UTC.
+-- A moment moved by the value of a text, as a civil date in UTC.
 use Rattle.std.specs.Prelude.{◌≡◌, ℕ, ◌<◌, ℤ, pos, ◌+ℤ◌, ◌*ℤ◌, ◌<ℤ◌, ◌≤ℤ◌, neg_ℤ, ◌⊎◌, List, Result, Ok, Err}
 use Rattle.std.specs.Str.{chars}
 use Rattle.jiff.specs.Types.{Date, DateTime}
@@ -10,15 +10,15 @@ use Rattle.duration_str.specs.Units.{off}
 use Rattle.duration_str.specs.Reading.{IsRead, IsRefused}
 use Rattle.duration_str.specs.Results.{Answers}
 
--- how long a day is, in nanoseconds
+-- the length of a day in nanoseconds
 abbrev pub day_nanos : ℕ
 day_nanos = 86_400_000_000_000
 
--- The instant, in nanoseconds since 1970-01-01T00:00:00Z, is nanosecond `k` of the day `day`, where day 0 is 1970-01-01.
+-- The instant, in nanoseconds since 1970-01-01T00:00:00Z, is nanosecond `k` of day `day`; day 0 is 1970-01-01.
 abbrev pub IsInDay : ℤ → ℤ → ℕ → Type 0
 IsInDay instant day k = (k < day_nanos) × (instant ≡ day *ℤ pos day_nanos +ℤ pos k)
 
--- The date-time is the instant's.
+-- The date and time are the instant's.
 abbrev pub IsCivil : ℤ → DateTime → Type 0
 IsCivil instant at = IsInDay instant (epoch_day at.date) (time_nanos at.time)
 
@@ -34,21 +34,23 @@ first_instant = neg_ℤ (pos 377_705_023_201_000_000_000)
 abbrev pub last_instant : ℤ
 last_instant = pos 253_402_207_200_999_999_999
 
--- The instant is one that a `Timestamp` can have.
+-- The instant is one that a `Timestamp` can hold.
 abbrev pub IsInRange : ℤ → Type 0
 IsInRange instant = (first_instant ≤ℤ instant) × (instant ≤ℤ last_instant)
 
--- It is below the first one or above the last one.
+-- The instant is before the first or after the last.
 abbrev pub IsOutOfRange : ℤ → Type 0
 IsOutOfRange instant = (instant <ℤ first_instant) ⊎ (last_instant <ℤ instant)
 
--- The cause is the text's refusal, or out of range where the text is read and its value reaches an instant out of range.
+-- The cause is that of the text's refusal; or the text is read, its value reaches an instant out of range, and the
+-- cause is `OutOfRange`.
 abbrev pub IsDateFault : (ℕ → ℤ) → List ℕ → Cause → Type 0
 IsDateFault reached bytes cause =
     IsRefused off (chars bytes) cause
     ⊎ ((nanos : ℕ) × IsRead off (chars bytes) nanos × IsOutOfRange (reached nanos) × (cause ≡ OutOfRange))
 
--- The text is read, and the answer shows the instant that its value reaches, which is in range; or it is a fault of this text.
+-- The text is read, and the result shows the instant that its value reaches, which is in range; or the result is a
+-- fault of this text.
 abbrev pub IsDated : {T : Type 0} → (ℤ → T → Type 0) → (ℕ → ℤ) → List ℕ → Result T Fault → Type 0
 IsDated shows reached bytes result =
     Answers (λ v. (nanos : ℕ) × IsRead off (chars bytes) nanos × IsInRange (reached nanos) × shows (reached nanos) v)

@@ -1,4 +1,4 @@
--- The error that a fault becomes.
+-- The error made from a fault.
 use Rattle.std.specs.Prelude.{◌≡◌, ℕ, List, encode_utf8_all, string_bytes, ⊤}
 use Rattle.duration_str.specs.declared.fault.Cause.{Cause}
 use Rattle.duration_str.specs.declared.fault.Cause.TheVariants.{Overflow}
@@ -6,16 +6,17 @@ use Rattle.duration_str.specs.declared.error.DError.{DError}
 use Rattle.duration_str.specs.declared.error.DError.TheVariants.{ParseError, OverflowError}
 use Rattle.duration_str.specs.FaultText.{line_of}
 
+-- The cause is an overflow.
 abbrev pub IsOverflow : Cause → Type 0
 IsOverflow (Overflow place) = ⊤
 IsOverflow _ = ⊥
 
--- The error is `ParseError` of these characters.
+-- The error is `ParseError` with these characters.
 abbrev pub IsParseError : List ℕ → DError → Type 0
 IsParseError line (ParseError text) = string_bytes text ≡ encode_utf8_all line
 IsParseError line OverflowError = ⊥
 
--- The error is `OverflowError` for an overflow, else `ParseError` of the line.
+-- The error is `OverflowError` for an overflow, otherwise `ParseError` with the line of the cause.
 abbrev pub IsErrorOf : Cause → DError → Type 0
 IsErrorOf (Overflow place) error = error ≡ OverflowError
 IsErrorOf cause error = IsParseError (line_of cause) error

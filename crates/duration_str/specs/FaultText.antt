@@ -15,14 +15,14 @@ abbrev pub sign_of : CondUnit → List ℕ
 sign_of Plus = codes "+"
 sign_of Star = codes "*"
 
--- the line of a syntax fault: where a unit could stand it names units, else where an operator could stand the operators
+-- the line of a syntax fault: it names the units if a unit could stand there, otherwise the operators if one could
 abbrev pub expected_line : Expected → List ℕ
 expected_line expected =
     if expected.unit_word then codes "expected [\"y\", \"q\", \"mon\", \"w\", \"d\", \"h\", \"m\", \"s\", \"ms\", \"µs\", \"us\", \"ns\"]"
     else if expected.operator then codes "expected ['+', '*']"
     else codes "expected number"
 
--- the line of a fault, by its characters
+-- the line that says what is wrong, as characters
 abbrev pub line_of : Cause → List ℕ
 line_of Empty = codes "Empty input"
 line_of (Syntax place expected) = expected_line expected
@@ -34,23 +34,24 @@ line_of (NotText optional) =
     if optional then codes "expect duration string, null, or missing field"
     else codes "expect duration string, e.g: '1min+30'"
 
--- The text, a caret below the place, and the line. One space stands before the caret for each character before the place.
+-- The text, below it a caret after one space for each character before the place, and below that the line.
 abbrev pub caret_text : List ℕ → ℕ → List ℕ → List ℕ
 caret_text text place line = text ++ (codes "\n" ++ (replicate (length (chars (take place text))) 32 ++ (codes "^\n" ++ line)))
 
--- the place in decimal, and the line
+-- `byte N: ` with the place in decimal, and the line
 abbrev pub byte_text : ℕ → List ℕ → List ℕ
 byte_text place line = codes "byte " ++ (decimal place ++ (codes ": " ++ line))
 
+-- whether the text has a line feed
 abbrev pub has_line_feed : List ℕ → Bool
 has_line_feed text = list_any (λ b. b == 10) text
 
--- the line alone where there is no place; else `byte N: ` and the line where the text holds a line feed, and the text, a
--- caret and the line where it holds none
+-- without a place, the line alone; with one, `byte N: ` and the line if the text has a line feed, otherwise the text, a
+-- caret and the line
 abbrev pub placed_text : List ℕ → Option ℕ → List ℕ → List ℕ
 placed_text text None line = line
 placed_text text (Some place) line = if has_line_feed text then byte_text place line else caret_text text place line
 
--- the bytes of a fault's text, from the bytes of the text that was read
+-- the bytes that a fault prints as, given the bytes of the text that was read
 abbrev pub fault_text : List ℕ → Cause → List ℕ
 fault_text text cause = placed_text text (place_of cause) (encode_utf8_all (line_of cause))

@@ -1,4 +1,4 @@
--- Where a fault stands, and which token stands there.
+-- The place of a fault, and the token there.
 use denote.Ref.{Bor}
 use Rattle.std.specs.Prelude.{◌≡◌, ℕ, ◌+◌, ◌==◌, List, length, Option, Some, None, slice_range}
 use Rattle.std.specs.List.{find}
@@ -8,7 +8,7 @@ use Rattle.duration_str.specs.Tokens.{Token, tokens_of}
 use Rattle.duration_str.specs.declared.fault.Cause.{Cause}
 use Rattle.duration_str.specs.declared.fault.Cause.TheVariants.{Empty, Syntax, NumberTooLarge, Overflow, Mixed, OutOfRange, NotText}
 
--- the byte at which a fault stands, if it has a place
+-- the byte offset of a fault, if it has a place
 abbrev pub place_of : Cause → Option ℕ
 place_of Empty = None
 place_of (Syntax place expected) = Some place
@@ -18,7 +18,7 @@ place_of (Mixed first later) = None
 place_of OutOfRange = None
 place_of (NotText optional) = None
 
--- the token that starts at the byte
+-- the token that starts at byte `place`
 abbrev pub token_at : ℕ → List Token → Option Token
 token_at place tokens = find (λ p. p.start == place) tokens
 
@@ -27,7 +27,7 @@ abbrev pub found : Options → List ℕ → Cause → Option Token
 found o text (Syntax place expected) = token_at place (tokens_of o text)
 found o text cause = None
 
--- The answer is this token, as the slice of the bytes at which it stands, or `None` where there is no token.
+-- The result is this token as a slice of the bytes, or `None` if there is no token.
 abbrev pub IsSliceOf : List ℕ → Option Token → Option (Bor (List ℕ)) → Type 0
 IsSliceOf bytes token None = token ≡ None
 IsSliceOf bytes token (Some slice) =

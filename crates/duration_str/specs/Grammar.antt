@@ -1,4 +1,4 @@
--- Tokens, sentences, and the texts that a sentence spells.
+-- Terminals, sentences, and the texts that a sentence spells.
 use Rattle.std.specs.Prelude.{◌≡◌, ℕ, Bool, false, List, [], ◌∷◌, ◌++◌, Option, Some, None, if◌then◌else◌, map, ⊤}
 use Rattle.std.specs.List.{list_all}
 use Rattle.duration_str.specs.declared.options.Options.{Options}
@@ -7,18 +7,19 @@ use Rattle.duration_str.specs.declared.operator.CondUnit.{CondUnit}
 use Rattle.duration_str.specs.Text.{is_digit, is_unit_letter, operator_of, IsBlank, number_of}
 use Rattle.duration_str.specs.Units.{units, unit_among}
 
--- What a list of characters means. `other` stands in no sentence, and neither does a word that names no unit.
+-- A symbol of the grammar. No sentence contains `other`, or a word that names no unit.
 pub data Terminal : Type 0 where
   number : ℕ → Terminal
   word : Option TimeUnit → Terminal
   operator : CondUnit → Terminal
   other : Terminal
 
+-- the terminal of an operator, or `other` without one
 abbrev pub operator_or_other : Option CondUnit → Terminal
 operator_or_other None = other
 operator_or_other (Some op) = operator op
 
--- the terminal of a list of characters that are neither all digits nor all unit letters
+-- the terminal of characters that are neither all digits nor all unit letters
 abbrev pub sign_terminal : List ℕ → Terminal
 sign_terminal (c ∷ []) = operator_or_other (operator_of c)
 sign_terminal _ = other
@@ -31,7 +32,7 @@ terminal_among us o (c ∷ cs) =
     else if list_all (is_unit_letter o) (c ∷ cs) then word (unit_among us o (c ∷ cs))
     else sign_terminal (c ∷ cs)
 
--- the terminal of a list of characters
+-- the terminal that these characters stand for
 abbrev pub terminal_of : Options → List ℕ → Terminal
 terminal_of o w = terminal_among units o w
 
@@ -45,7 +46,7 @@ IsSentence no_calc (number n ∷ word (Some u) ∷ operator op ∷ more) = (no_c
 IsSentence no_calc (number n ∷ word (Some u) ∷ number m ∷ more) = IsSentence no_calc (number m ∷ more)
 IsSentence no_calc _ = ⊥
 
--- The text is blanks, and then each word with blanks after it. Nothing is said of how long a word is.
+-- The text is blanks, then each lexeme followed by blanks. Nothing is said about the length of a lexeme.
 abbrev pub Spells : List (List ℕ) → List ℕ → Type 0
 Spells [] text = IsBlank text
 Spells (w ∷ lexemes) text =

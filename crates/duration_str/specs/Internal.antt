@@ -1,4 +1,4 @@
--- The private contracts of the code: what a step of cutting, reading or printing does.
+-- The private contracts of the code: what each step of cutting, reading or printing does.
 pub mod Cutting
 pub mod Sorts
 pub mod Packed

@@ -1,4 +1,4 @@
--- The laws, each as one statement over the definitions.
+-- The laws, each as one statement about the definitions.
 use Rattle.std.specs.Prelude.{◌≡◌, ℕ, ◌+◌, ◌*◌, ◌/◌, ◌^◌, ◌<◌, ◌≤◌, Bool, true, false, List, [], ◌∷◌, ◌++◌, Some, None, map, ◌↔◌, ◌≢◌, take, drop, codes, Ok, Err, ◌⊎◌, IsTrue, not, ◌==◌}
 use Rattle.std.specs.Char.{is_ascii_uppercase}
 use Rattle.std.specs.List.{list_all}
@@ -21,43 +21,48 @@ use Rattle.duration_str.specs.Answer.{answer}
 use Rattle.duration_str.specs.Older.{older_terminals, WasSentenceOf, WasRead, WasRefused}
 use Rattle.duration_str.specs.Printing.{IsPrinted, IsGreatestBreakdown, counts_of}
 
+-- The text has no `*`.
 abbrev pub HasNoStar : List ℕ → Type 0
 HasNoStar text = IsTrue (list_all (λ c. not (c == 42)) text)
 
+-- The text has neither `+` nor `*`.
 abbrev pub HasNoOperator : List ℕ → Type 0
 HasNoOperator text = IsTrue (list_all (λ c. not (is_operator c)) text)
 
+-- The text has no ASCII capital.
 abbrev pub HasNoCapital : List ℕ → Type 0
 HasNoCapital text = IsTrue (list_all (λ c. not (is_ascii_uppercase c)) text)
 
+-- The text has none of the Chinese characters of the units.
 abbrev pub HasNoChinese : List ℕ → Type 0
 HasNoChinese text = IsTrue (list_all (λ c. not (is_chinese c)) text)
 
--- Two sentences that spell one text are equal, and a sentence spells a text exactly if its lexemes are the text's tokens.
+-- Two sentences that spell one text are equal, and a sentence spells a text exactly if its lexemes are those of the
+-- text's tokens.
 pub record OneSentence : Type 0 where
   pub equal : (o : Options) (text : List ℕ) (lexemes others : List (List ℕ)) → IsSentenceOf o lexemes text → IsSentenceOf o others text → lexemes ≡ others
   pub tokens : (o : Options) (text : List ℕ) (lexemes : List (List ℕ)) → IsSentence o.no_calc (map (terminal_of o) lexemes)
       → (Spells lexemes text ↔ (lexemes ≡ lexemes_of (tokens_of o text)))
 
--- A text has the tokens that `tokens_of` gives, and no others.
+-- The tokens of a text are those that `tokens_of` gives, and no others.
 pub record OneCut : Type 0 where
   pub are : (o : Options) (text : List ℕ) → AreTokens o 0 text (tokens_of o text)
   pub only : (o : Options) (text : List ℕ) (tokens : List Token) → AreTokens o 0 text tokens → tokens ≡ tokens_of o text
 
--- A text is read as one value or refused for one cause, and not both.
+-- A text is read as one value or refused for one cause, not both.
 pub record OneAnswer : Type 0 where
   pub some : (o : Options) (text : List ℕ) → ((nanos : ℕ) × IsRead o text nanos) ⊎ ((cause : Cause) × IsRefused o text cause)
   pub one_value : (o : Options) (text : List ℕ) (m n : ℕ) → IsRead o text m → IsRead o text n → m ≡ n
   pub one_cause : (o : Options) (text : List ℕ) (c d : Cause) → IsRefused o text c → IsRefused o text d → c ≡ d
   pub not_both : (o : Options) (text : List ℕ) (nanos : ℕ) (cause : Cause) → IsRead o text nanos → IsRefused o text cause → ⊥
 
--- The computed answer is the value that is read, or the cause of the refusal.
+-- The computed answer is the value of the text, or the cause of its refusal.
 pub record IsAnswer : Type 0 where
   pub read : (o : Options) (text : List ℕ) (nanos : ℕ) → (answer o text ≡ Ok nanos ↔ IsRead o text nanos)
   pub refused : (o : Options) (text : List ℕ) (cause : Cause) → (answer o text ≡ Err cause ↔ IsRefused o text cause)
 
--- What can follow the beginning of a sentence is told by the table from its last terminal,
--- and a walk along the table finds the longest beginning.
+-- The table says, from the last terminal, what can follow the beginning of a sentence, and following the table finds
+-- the longest beginning.
 pub record PlaceAndKinds : Type 0 where
   pub kinds : (no_calc : Bool) (front : List Terminal) (expected : Expected) → BeginsSentence no_calc front
       → (CanFollow no_calc front expected ↔ (expected ≡ kinds_after no_calc (last_of None front)))
@@ -90,22 +95,23 @@ pub record BlanksFree : Type 0 where
   pub cause : (o : Options) (a b : List ℕ) (lexemes : List (List ℕ)) (cause : Cause) → IsSentenceOf o lexemes a → Spells lexemes b
       → IsRefused o a cause → IsRefused o b cause
 
--- With `no_calc` off two accepted texts without `*`, combination by a plus, come to the sum of their values, or overflow.
+-- With `no_calc` off, two accepted texts without `*`, joined by a plus, have the sum of their values, or overflow.
 pub record SumOfTexts : Type 0 where
   pub below : (o : Options) (a b : List ℕ) (m n : ℕ) → o.no_calc ≡ false → HasNoStar a → HasNoStar b → IsRead o a m → IsRead o b n
       → m + n < 2 ^ 64 → IsRead o (a ++ codes "+" ++ b) (m + n)
   pub above : (o : Options) (a b : List ℕ) (m n : ℕ) → o.no_calc ≡ false → HasNoStar a → HasNoStar b → IsRead o a m → IsRead o b n
       → 2 ^ 64 ≤ m + n → IsRefused o (a ++ codes "+" ++ b) (Overflow None)
 
--- Two sentences of sums whose terms have the same values, each equally often, agree in acceptance and value.
+-- Two sums with the same values of terms, each equally often, are accepted alike and have the same value.
 abbrev pub Reorder : Type 0
 Reorder = (o : Options) (a b : List ℕ) (lexemes others : List (List ℕ)) (nanos : ℕ) → IsSentenceOf o lexemes a → IsSentenceOf o others b
     → AllPlus (map (terminal_of o) lexemes) → AllPlus (map (terminal_of o) others)
     → ((n : ℕ) → times_in n (map value_of_term (terms_of (map (terminal_of o) lexemes))) ≡ times_in n (map value_of_term (terms_of (map (terminal_of o) others))))
     → IsRead o a nanos → IsRead o b nanos
 
--- A text of two terms combination by `*` is read exactly where both numbers, both terms and the product of the terms in seconds,
--- rounded down to nanoseconds, are below 2^64, and then as that product. With the terms exchanged it is read as the same.
+-- A text of two terms joined by `*` is read exactly if both numbers, both terms and the product of the terms in
+-- seconds, rounded down to nanoseconds, are below 2^64, and then as that product. With the terms exchanged it is read
+-- as the same value.
 pub record TwoFactors : Type 0 where
   pub product : (o : Options) (text : List ℕ) (lexemes : List (List ℕ)) (t u : Term) (nanos : ℕ) → IsSentenceOf o lexemes text
       → terms_of (map (terminal_of o) lexemes) ≡ t ∷ u ∷ [] → u.operator ≡ Star
@@ -121,11 +127,12 @@ pub record TwoFactors : Type 0 where
 abbrev pub GreatestBreakdown : Type 0
 GreatestBreakdown = (nanos : ℕ) → IsGreatestBreakdown unit_lengths nanos (counts_of unit_lengths nanos)
 
--- Two durations print the same exactly if they are the same.
+-- Two durations print the same text exactly if they are equal.
 abbrev pub EqualTexts : Type 0
 EqualTexts = (m n : ℕ) (a b : List ℕ) → FitsDuration m → FitsDuration n → IsPrinted m a → IsPrinted n b → (a ≡ b ↔ m ≡ n)
 
--- What is printed is read back below 2^64 nanoseconds. Elsewhere it overflows: from 585 years on in the first term.
+-- A printed text is read back as its duration if that is below 2^64 nanoseconds. Otherwise it overflows: from 585 years
+-- on in its first term.
 pub record ReadsBack : Type 0 where
   pub below : (o : Options) (nanos : ℕ) (text : List ℕ) → nanos < 2 ^ 64 → IsPrinted nanos text → IsRead o text nanos
   pub above : (o : Options) (nanos : ℕ) (text : List ℕ) → 2 ^ 64 ≤ nanos → nanos < 585 * nanos_of Year → IsPrinted nanos text
@@ -133,8 +140,8 @@ pub record ReadsBack : Type 0 where
   pub far_above : (o : Options) (nanos : ℕ) (text : List ℕ) → 585 * nanos_of Year ≤ nanos → FitsDuration nanos → IsPrinted nanos text
       → IsRefused o text (Overflow (Some 0))
 
--- What was a sentence over the units before the quarter is one over all units, with the same terminals. So a text that was read
--- is read as the same value, and one whose evaluation was refused is refused for the same cause.
+-- A sentence over the units without the quarter is a sentence over all units, with the same terminals. So a text that
+-- was read is read as the same value, and one whose evaluation was refused is refused for the same cause.
 pub record OlderTexts : Type 0 where
   pub terminals : (o : Options) (lexemes : List (List ℕ)) (text : List ℕ) → WasSentenceOf o lexemes text → older_terminals o lexemes ≡ map (terminal_of o) lexemes
   pub sentence : (o : Options) (lexemes : List (List ℕ)) (text : List ℕ) → WasSentenceOf o lexemes text → IsSentenceOf o lexemes text

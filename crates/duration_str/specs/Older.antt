@@ -1,4 +1,4 @@
--- The units before there was the quarter, and what texts were read as by them.
+-- The units before the quarter was added, and what texts were read as with them.
 use Rattle.std.specs.Prelude.{◌≡◌, ℕ, List, [], ◌∷◌, Option, Some, map}
 use Rattle.duration_str.specs.declared.options.Options.{Options}
 use Rattle.duration_str.specs.declared.unit.TimeUnit.{TimeUnit}
@@ -8,11 +8,11 @@ use Rattle.duration_str.specs.Grammar.{Terminal, terminal_among, IsSentence, Spe
 use Rattle.duration_str.specs.Value.{Evaluates, terms_of, value_of}
 use Rattle.duration_str.specs.Reading.{IsRefusedAt}
 
--- the units before there was the quarter, the longest first
+-- the units before the quarter was added, the longest first
 abbrev pub older_units : List TimeUnit
 older_units = Year ∷ Month ∷ Week ∷ Day ∷ Hour ∷ Minute ∷ Second ∷ MilliSecond ∷ MicroSecond ∷ NanoSecond ∷ []
 
--- the terminals that these lexemes were
+-- the terminals that these lexemes stood for
 abbrev pub older_terminals : Options → List (List ℕ) → List Terminal
 older_terminals o lexemes = map (terminal_among older_units o) lexemes
 
@@ -28,8 +28,8 @@ pub record WasRead (o : Options) (text : List ℕ) (nanos : ℕ) : Type 0 where
   pub evaluates : Evaluates (terms_of (older_terminals o lexemes))
   pub value : value_of (terms_of (older_terminals o lexemes)) ≡ Some nanos
 
--- A sentence spelled the text, and its evaluation was refused for this cause. Nothing of the text is left after the sentence,
--- so the place at which the rest begins is free.
+-- A sentence spelled the text, and its evaluation was refused for this cause. No rest follows the sentence, so its
+-- place is arbitrary.
 pub record WasRefused (o : Options) (text : List ℕ) (cause : Cause) : Type 0 where
   pub lexemes : List (List ℕ)
   pub spells : WasSentenceOf o lexemes text

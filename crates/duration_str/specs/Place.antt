@@ -7,29 +7,29 @@ use Rattle.duration_str.specs.declared.fault.Expected.{Expected}
 use Rattle.duration_str.specs.Grammar.{Terminal, terminal_of, IsSentence, number, word, operator, other}
 use Rattle.duration_str.specs.Tokens.{Token, tokens_of, lexemes_of}
 
--- the terminals of a text: what its tokens mean
+-- the terminals of a text: what its tokens stand for
 abbrev pub terminals_of : Options → List ℕ → List Terminal
 terminals_of o text = map (terminal_of o) (lexemes_of (tokens_of o text))
 
--- Some sentence has these terminals in front.
+-- Some sentence starts with these terminals.
 abbrev pub BeginsSentence : Bool → List Terminal → Type 0
 BeginsSentence no_calc terminals = (more : List Terminal) × IsSentence no_calc (terminals ++ more)
 
--- The front is the longest list of first terminals that begins a sentence, and the rest stands after it.
+-- The front is the longest start of the terminals that begins a sentence, and the rest follows it.
 pub record IsFront (no_calc : Bool) (terminals front rest : List Terminal) : Type 0 where
   pub parts : terminals ≡ front ++ rest
   pub begins : BeginsSentence no_calc front
   pub longest : (n : ℕ) → n ≤ length terminals → BeginsSentence no_calc (take n terminals) → n ≤ length front
 
--- A kind is expected exactly if the front with some terminal of that kind after it begins a sentence,
--- and the end exactly if the front is a sentence.
+-- A kind is expected exactly if the front followed by some terminal of that kind begins a sentence, and the end exactly
+-- if the front is a sentence.
 pub record CanFollow (no_calc : Bool) (front : List Terminal) (expected : Expected) : Type 0 where
   pub number_expected : IsTrue expected.number ↔ ((n : ℕ) × BeginsSentence no_calc (front ++ number n ∷ []))
   pub unit_expected : IsTrue expected.unit_word ↔ ((u : TimeUnit) × BeginsSentence no_calc (front ++ word (Some u) ∷ []))
   pub operator_expected : IsTrue expected.operator ↔ ((op : CondUnit) × BeginsSentence no_calc (front ++ operator op ∷ []))
   pub end_expected : IsTrue expected.text_end ↔ IsSentence no_calc front
 
--- The table: what may stand after a terminal, or at the start of a text.
+-- The table: what may follow a terminal, or start a text.
 abbrev pub kinds_after : Bool → Option Terminal → Expected
 kinds_after no_calc None = record { number = true; unit_word = false; operator = false; text_end = false }
 kinds_after no_calc (Some (number n)) = record { number = false; unit_word = true; operator = not no_calc; text_end = true }
@@ -37,32 +37,32 @@ kinds_after no_calc (Some (word u)) = record { number = true; unit_word = false;
 kinds_after no_calc (Some (operator op)) = record { number = true; unit_word = false; operator = false; text_end = false }
 kinds_after no_calc (Some other) = record { number = false; unit_word = false; operator = false; text_end = false }
 
--- whether a terminal is of a kind that is expected
+-- whether the terminal is of an expected kind
 abbrev pub allows : Expected → Terminal → Bool
 allows expected (number n) = expected.number
 allows expected (word u) = expected.unit_word && is_some u
 allows expected (operator op) = expected.operator
 allows expected other = false
 
--- the last terminal, where `last` stands before them
+-- the last of these terminals; `last` if there are none
 abbrev pub last_of : Option Terminal → List Terminal → Option Terminal
 last_of last [] = last
 last_of last (terminal ∷ terminals) = last_of (Some terminal) terminals
 
--- how many terminals after `last` go by the table
+-- how many terminals after `last` the table allows
 abbrev pub front_after : Bool → Option Terminal → List Terminal → ℕ
 front_after no_calc last [] = 0
 front_after no_calc last (terminal ∷ terminals) = if allows (kinds_after no_calc last) terminal then suc (front_after no_calc (Some terminal) terminals) else 0
 
--- how many terminals the front has, by the table
+-- the length of the front, by the table
 abbrev pub front_of : Bool → List Terminal → ℕ
 front_of no_calc terminals = front_after no_calc None terminals
 
--- the byte at which the first token starts, or a text of `len` bytes ends
+-- the byte at which the first token starts; `len` without one
 abbrev pub start_or : ℕ → List Token → ℕ
 start_or len [] = len
 start_or len (token ∷ tokens) = token.start
 
--- the byte at which the token after the first n starts, or a text of `len` bytes ends
+-- the byte at which the token after the first n starts; `len` without one
 abbrev pub start_after : ℕ → ℕ → List Token → ℕ
 start_after n len tokens = start_or len (drop n tokens)

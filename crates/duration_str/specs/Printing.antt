@@ -11,58 +11,59 @@ abbrev pub weighted_sum : List ℕ → List ℕ → ℕ
 weighted_sum (l ∷ lengths) (n ∷ counts) = n * l + weighted_sum lengths counts
 weighted_sum _ _ = 0
 
--- At the first place where they differ, the first list has the smaller count.
+-- At the first position where they differ, the first list has the smaller count.
 abbrev pub IsBefore : List ℕ → List ℕ → Type 0
 IsBefore (m ∷ ms) (n ∷ ns) = (m < n) ⊎ ((m ≡ n) × IsBefore ms ns)
 IsBefore _ _ = ⊥
 
--- There is one count for each length, and the counts, each times its length, add up to the duration.
+-- There is one count for each length, and the counts times their lengths add up to the duration.
 pub record IsBreakdown (lengths : List ℕ) (nanos : ℕ) (counts : List ℕ) : Type 0 where
   pub one_each : length counts ≡ length lengths
   pub whole : weighted_sum lengths counts ≡ nanos
 
--- The counts are a breakdown, and every other breakdown comes before them.
+-- The counts are a breakdown, and every other breakdown is before them.
 pub record IsGreatestBreakdown (lengths : List ℕ) (nanos : ℕ) (counts : List ℕ) : Type 0 where
   pub breakdown : IsBreakdown lengths nanos counts
   pub greatest : (others : List ℕ) → IsBreakdown lengths nanos others → (others ≡ counts) ⊎ IsBefore others counts
 
--- the counts that are not 0, each in decimal and followed by its unit's printed name
+-- the nonzero counts, each in decimal and followed by its unit's printed name
 abbrev pub printed_parts : List TimeUnit → List ℕ → List (List ℕ)
 printed_parts (u ∷ us) (n ∷ counts) =
     if n == 0 then printed_parts us counts else (decimal n ++ (row_of u).printed) ∷ printed_parts us counts
 printed_parts _ _ = []
 
--- the parts with a space between each two, or `0s` where there is none
+-- the parts with a space between each two; `0s` if there are none
 abbrev pub spaced : List (List ℕ) → List ℕ
 spaced [] = codes "0s"
 spaced (part ∷ parts) = part ++ flat_map (λ p. codes " " ++ p) parts
 
+-- the text that prints these counts
 abbrev pub printed_counts : List ℕ → List ℕ
 printed_counts counts = spaced (printed_parts units counts)
 
--- The text is what a duration of so many nanoseconds prints as.
+-- A duration of `nanos` nanoseconds prints as this text.
 abbrev pub IsPrinted : ℕ → List ℕ → Type 0
 IsPrinted nanos text = (counts : List ℕ) × IsGreatestBreakdown unit_lengths nanos counts × (text ≡ printed_counts counts)
 
--- how often each length goes into what the longer ones leave
+-- how often each length goes into what the longer lengths leave
 abbrev pub counts_of : List ℕ → ℕ → List ℕ
 counts_of [] nanos = []
 counts_of (l ∷ lengths) nanos = nanos / l ∷ counts_of lengths (nanos % l)
 
--- the length of the unit before this one in the list, or `limit` for the first
+-- the length of the unit before this one in the list; `limit` for the first
 abbrev pub length_before : ℕ → List TimeUnit → TimeUnit → ℕ
 length_before limit [] u = limit
 length_before limit (v ∷ vs) u = if nanos_of v == nanos_of u then limit else length_before (nanos_of v) vs u
 
--- the greatest count that a unit has: the longer units leave less than the next longer one, and for the longest unit the
--- whole is below 2^64 seconds
+-- the greatest count of a unit: what the longer units leave is less than the shortest of them, and a whole duration is
+-- below 2^64 seconds
 abbrev pub greatest_count : TimeUnit → ℕ
 greatest_count u = (length_before (2 ^ 64 * 10 ^ 9) units u - 1) / nanos_of u
 
--- the most bytes that a unit's part has
+-- the most bytes that a unit's part can have
 abbrev pub part_bytes : TimeUnit → ℕ
 part_bytes u = length (decimal (greatest_count u)) + byte_len (row_of u).printed
 
--- the most bytes that a printed text has: a part of each unit, and a space between each two
+-- the most bytes that a printed text can have: a part for each unit, and a space between each two
 abbrev pub max_printed_len : ℕ
 max_printed_len = sum (map part_bytes units) + (length units - 1)

@@ -17,21 +17,22 @@ pub record IsRead (o : Options) (text : List ℕ) (nanos : ℕ) : Type 0 where
   pub evaluates : Evaluates (terms_of (map (terminal_of o) lexemes))
   pub value : value_of (terms_of (map (terminal_of o) lexemes)) ≡ Some nanos
 
--- the terminals without a last number: no unit, operator or end stands after it
+-- the terminals, less a number at the end
 abbrev pub without_last_number : List Terminal → List Terminal
 without_last_number [] = []
 without_last_number (number n ∷ []) = []
 without_last_number (terminal ∷ terminals) = terminal ∷ without_last_number terminals
 
--- the terminals of the front whose terms stand: a number with its unit, or with an operator or the end after it
+-- the terminals of the complete terms of the front; a number at its end is complete only at the end of the text
 abbrev pub complete : List Terminal → List Terminal → List Terminal
 complete front [] = front
 complete front (terminal ∷ rest) = without_last_number front
 
+-- the complete terms of the front
 abbrev pub complete_terms : List Terminal → List Terminal → List Term
 complete_terms front rest = terms_of (complete front rest)
 
--- the first term's fault has place 0, and those of the others have none
+-- the place in a term's fault, given the terms before it: 0 for the first term, otherwise none
 abbrev pub place_after : List Term → Option ℕ
 place_after [] = Some 0
 place_after (t ∷ before) = None
@@ -41,7 +42,7 @@ abbrev pub first_fault : List Term → Option Cause
 first_fault [] = None
 first_fault (t ∷ terms) = term_fault (place_after []) t
 
--- the first fault of terms that are added as they come, after those in `before`
+-- the first fault of terms that are added one by one to those in `before`
 abbrev pub running_fault : List Term → List Term → Option Cause
 running_fault before [] = None
 running_fault before (t ∷ terms) =
@@ -49,15 +50,16 @@ running_fault before (t ∷ terms) =
     (or_else (unless (fits (sum_of (before ++ t ∷ []))) (Overflow None))
     (running_fault (before ++ t ∷ []) terms))
 
--- The fault that comes before a syntax fault: that of the first term that stands, and under `no_calc` of any that stands.
+-- the fault that precedes a syntax fault: that of the first complete term; under `no_calc`, the first of adding all of
+-- them
 abbrev pub early_fault : Bool → List Terminal → List Terminal → Option Cause
 early_fault no_calc front rest = if no_calc then running_fault [] (complete_terms front rest) else first_fault (complete_terms front rest)
 
--- The fault that comes where there is no syntax fault.
+-- the fault of a text without a syntax fault
 abbrev pub late_fault : Bool → List Terminal → Option Cause
 late_fault no_calc terminals = if no_calc then None else evaluation_fault (terms_of terminals)
 
--- A text whose terminals are the front and the rest, and in which the rest begins at the byte `place`, is refused for this cause.
+-- A text of this front and this rest, which starts at byte `place`, is refused for this cause.
 pub data IsRefusedAt (no_calc : Bool) (place : ℕ) (front rest : List Terminal) (cause : Cause) : Type 0 where
   early : early_fault no_calc front rest ≡ Some cause → IsRefusedAt no_calc place front rest cause
   syntax_fault : (expected : Expected) → early_fault no_calc front rest ≡ None
@@ -68,7 +70,7 @@ pub data IsRefusedAt (no_calc : Bool) (place : ℕ) (front rest : List Terminal)
   late : early_fault no_calc front rest ≡ None → IsSentence no_calc (front ++ rest) → late_fault no_calc (front ++ rest) ≡ Some cause
       → IsRefusedAt no_calc place front rest cause
 
--- The text is refused for this cause: the empty text as `Empty`, any other by its front and by what stands after it.
+-- The text is refused for this cause: the empty text as `Empty`, any other by its front and the rest after it.
 abbrev pub IsRefused : Options → List ℕ → Cause → Type 0
 IsRefused o [] cause = cause ≡ Empty
 IsRefused o (c ∷ text) cause =

@@ -1,4 +1,4 @@
--- What a call answers that reads a text.
+-- What a call that reads a text returns.
 use Rattle.std.specs.Prelude.{◌≡◌, ℕ, ◌^◌, ◌<◌, ◌≤◌, ℤ, pos, List, Option, Result, Ok, Err, IfOk, IfErr, IsOk, IsSomeAnd, length, take}
 use Rattle.std.specs.Duration.{as_nanos}
 use Rattle.std.specs.declared.time.Duration.{Duration}
@@ -12,7 +12,8 @@ use Rattle.duration_str.specs.Units.{off}
 use Rattle.duration_str.specs.Reading.{IsRead, IsRefused}
 use Rattle.duration_str.specs.Answer.{answer}
 
--- The result is a value of which `reads` holds, or a fault of these very bytes, of whose cause `refuses` holds.
+-- The result is a value for which `reads` holds, or a fault of exactly these bytes, with a cause for which `refuses`
+-- holds.
 abbrev pub Answers : {T : Type 0} → (T → Type 0) → (Cause → Type 0) → List ℕ → Result T Fault → Type 0
 Answers reads refuses bytes (Ok value) = reads value
 Answers reads refuses bytes (Err fault) = (fault.text.now ≡ bytes) × refuses fault.cause
@@ -21,7 +22,7 @@ Answers reads refuses bytes (Err fault) = (fault.text.now ≡ bytes) × refuses 
 abbrev pub IsAnswered : {T : Type 0} → (T → ℕ) → Result ℕ Cause → List ℕ → Result T Fault → Type 0
 IsAnswered nanos_of a bytes result = Answers (λ v. a ≡ Ok (nanos_of v)) (λ cause. a ≡ Err cause) bytes result
 
--- The bytes are read under these options as the value in `Ok`, or refused for the cause in `Err`.
+-- Under these options the bytes are read as the value in `Ok`, or refused for the cause in `Err`.
 pub record ParsesText (o : Options) (bytes : List ℕ) (result : Result Duration Fault) : Type 0 where
   pub read : IfOk result (λ d. IsRead o (chars bytes) (as_nanos d))
   pub accepts : (nanos : ℕ) → IsRead o (chars bytes) nanos → IsOk result
@@ -29,20 +30,20 @@ pub record ParsesText (o : Options) (bytes : List ℕ) (result : Result Duration
   pub answer : IsAnswered as_nanos (answer o (chars bytes)) bytes result
   pub fits : IfOk result (λ d. as_nanos d < 2 ^ 64)
 
--- The characters before the place of a syntax fault are no more than the looks.
+-- There are at least as many looks as characters before the place of a syntax fault.
 abbrev pub ReachesPlace : List ℕ → Cause → ℕ → Type 0
 ReachesPlace bytes cause looks =
     (place : ℕ) (expected : Expected) → cause ≡ Syntax place expected → length (chars (take place bytes)) ≤ looks
 
--- With all options off the bytes are read as a value that the result shows, or refused for its cause.
+-- With all options off, the bytes are read as a value that the result shows, or refused for its cause.
 abbrev pub AnswersBy : {T : Type 0} → (T → ℕ → Type 0) → List ℕ → Result T Fault → Type 0
 AnswersBy shows bytes result =
     Answers (λ v. (nanos : ℕ) × IsRead off (chars bytes) nanos × shows v nanos) (IsRefused off (chars bytes)) bytes result
 
--- The value has so many nanoseconds.
+-- The bytes are read as the value in `Ok`, in nanoseconds, or refused.
 abbrev pub IsReadAs : {T : Type 0} → (T → ℤ) → List ℕ → Result T Fault → Type 0
 IsReadAs nanos_of bytes result = AnswersBy (λ v nanos. nanos_of v ≡ pos nanos) bytes result
 
--- The value is `Some` of so many nanoseconds.
+-- The bytes are read as the value in `Ok (Some ..)`, in nanoseconds, or refused.
 abbrev pub IsReadAsSome : {T : Type 0} → (T → ℤ) → List ℕ → Result (Option T) Fault → Type 0
 IsReadAsSome nanos_of bytes result = AnswersBy (λ o nanos. IsSomeAnd o (λ v. nanos_of v ≡ pos nanos)) bytes result

@@ -1,4 +1,4 @@
--- Texts: lists of characters, each by its code. The classes of characters, and what digits write.
+-- Texts as lists of character codes, the classes of characters, and the numbers that digits write.
 use Rattle.std.specs.Prelude.{ℕ, ◌+◌, ◌*◌, ◌-◌, ◌<◌, Bool, ◌&&◌, ◌||◌, List, [], ◌∷◌, nat_le, ◌==◌, IsTrue, Option, Some, None, is_some, length, if◌then◌else◌}
 use Rattle.std.specs.Char.{is_ascii_digit, is_ascii_alphabetic, len_utf8}
 use Rattle.std.specs.List.{list_any, list_all}
@@ -19,6 +19,7 @@ is_digit c = is_ascii_digit c
 abbrev pub chinese_letters : List ℕ
 chinese_letters = codes "年月周日天时分秒毫微纳"
 
+-- whether `cn_unit` adds this character to the unit letters
 abbrev pub is_chinese : ℕ → Bool
 is_chinese c = list_any (λ d. d == c) chinese_letters
 
@@ -26,10 +27,11 @@ is_chinese c = list_any (λ d. d == c) chinese_letters
 abbrev pub is_unit_letter : Options → ℕ → Bool
 is_unit_letter o c = is_ascii_alphabetic c || c == 0xB5 || (o.cn_unit && is_chinese c)
 
--- the operator that a character is: 43 is `+` and 42 is `*`
+-- the operator that a character stands for: 43 is `+`, 42 is `*`
 abbrev pub operator_of : ℕ → Option CondUnit
 operator_of c = if c == 43 then Some Plus else if c == 42 then Some Star else None
 
+-- whether a character is `+` or `*`
 abbrev pub is_operator : ℕ → Bool
 is_operator c = is_some (operator_of c)
 
@@ -41,20 +43,20 @@ IsBlank text = IsTrue (list_all is_blank text)
 abbrev pub IsNumber : List ℕ → Type 0
 IsNumber text = (0 < length text) × IsTrue (list_all is_digit text)
 
--- the number that these digits write in decimal after those of n
+-- the decimal number with the digits of n and then these
 abbrev pub number_after : ℕ → List ℕ → ℕ
 number_after n [] = n
 number_after n (c ∷ digits) = number_after (n * 10 + (c - 48)) digits
 
--- the number that digits write in decimal
+-- the decimal number with these digits
 abbrev pub number_of : List ℕ → ℕ
 number_of digits = number_after 0 digits
 
--- how many bytes a character takes in UTF-8; a number that is no character counts as four
+-- the length of a character in UTF-8, in bytes; a number that is not a character counts as four
 abbrev pub width : ℕ → ℕ
 width c = if nat_le 0xD800 c && nat_le c 0xDFFF then 4 else len_utf8 c
 
--- how many bytes a text takes in UTF-8
+-- the length of a text in UTF-8, in bytes
 abbrev pub byte_len : List ℕ → ℕ
 byte_len [] = 0
 byte_len (c ∷ text) = width c + byte_len text

@@ -1,11 +1,11 @@
--- The tokens of a text: its characters that are no blanks, cut into the longest runs of digits and of unit letters,
--- and into single other characters.
+-- The tokens of a text: its characters without the blanks, cut into the longest runs of digits and of unit letters, and
+-- into other single characters.
 use Rattle.std.specs.Prelude.{◌≡◌, ℕ, ◌+◌, Bool, false, ◌&&◌, ◌||◌, List, [], ◌∷◌, ◌++◌, if◌then◌else◌, map, ⊤, IsTrue}
 use Rattle.std.specs.List.{list_all}
 use Rattle.duration_str.specs.declared.options.Options.{Options}
 use Rattle.duration_str.specs.Text.{width, is_blank, is_digit, is_unit_letter, IsBlank, byte_len}
 
--- a token, with the byte at which it starts
+-- a token: its characters, and the byte at which it starts
 pub record Token : Type 0 where
   pub start : ℕ
   pub characters : List ℕ
@@ -14,22 +14,22 @@ pub record Token : Type 0 where
 abbrev pub are_of_one_run : Options → ℕ → ℕ → Bool
 are_of_one_run o c d = (is_digit c && is_digit d) || (is_unit_letter o c && is_unit_letter o d)
 
--- whether the run of the character c goes on in the text after it
+-- whether the run of the character c continues in the text after it
 abbrev pub goes_on : Options → ℕ → List ℕ → Bool
 goes_on o c [] = false
 goes_on o c (d ∷ _) = are_of_one_run o c d
 
--- One character that is no blank, or a run of digits or of unit letters.
+-- One character that is not a blank, or a run of digits or of unit letters.
 abbrev pub IsLexeme : Options → List ℕ → Type 0
 IsLexeme o [] = ⊥
 IsLexeme o (c ∷ cs) = (is_blank c ≡ false) × IsTrue (list_all (are_of_one_run o c) cs)
 
--- The run of these characters does not go on after them.
+-- The run of these characters ends before the rest.
 abbrev pub EndsRun : Options → List ℕ → List ℕ → Type 0
 EndsRun o [] rest = ⊤
 EndsRun o (c ∷ cs) rest = goes_on o c rest ≡ false
 
--- The text, which begins at the byte `at`, is blanks, the token, which is as long as it can be, and the rest.
+-- The text, which starts at byte `at`, is blanks, the token, as long as possible, and the rest.
 pub record IsNextToken (o : Options) (at : ℕ) (text : List ℕ) (token : Token) (rest : List ℕ) : Type 0 where
   pub blanks : List ℕ
   pub blank : IsBlank blanks
@@ -38,18 +38,18 @@ pub record IsNextToken (o : Options) (at : ℕ) (text : List ℕ) (token : Token
   pub is_lexeme : IsLexeme o token.characters
   pub ends : EndsRun o token.characters rest
 
--- The text, which begins at the byte `at`, is blanks, and then each token with blanks after it.
+-- The text, which starts at byte `at`, is blanks, then each token followed by blanks.
 abbrev pub AreTokens : Options → ℕ → List ℕ → List Token → Type 0
 AreTokens o at text [] = IsBlank text
 AreTokens o at text (token ∷ tokens) =
     (rest : List ℕ) × IsNextToken o at text token rest × AreTokens o (token.start + byte_len token.characters) rest tokens
 
--- the character c, which stands at the byte `at`, combination to the first token after it
+-- the tokens with the character c, at byte `at`, added to the front of the first one
 abbrev pub join : ℕ → ℕ → List Token → List Token
 join at c [] = record { start = at; characters = c ∷ [] } ∷ []
 join at c (token ∷ tokens) = record { start = at; characters = c ∷ token.characters } ∷ tokens
 
--- the tokens of a text that begins at the byte `at`, computed from the right
+-- the tokens of a text that starts at byte `at`, computed from the right
 abbrev pub tokens_from : Options → ℕ → List ℕ → List Token
 tokens_from o at [] = []
 tokens_from o at (c ∷ text) =
@@ -61,6 +61,6 @@ tokens_from o at (c ∷ text) =
 abbrev pub tokens_of : Options → List ℕ → List Token
 tokens_of o text = tokens_from o 0 text
 
--- the tokens without their places
+-- the characters of each token
 abbrev pub lexemes_of : List Token → List (List ℕ)
 lexemes_of tokens = map (λ token. token.characters) tokens

@@ -1,4 +1,4 @@
--- The units: how long each is, how it is printed, and the lexemes that name it.
+-- The units: their lengths, the names that are printed, and the names that are read.
 use denote.Ref.{Bor}
 use Rattle.std.specs.Prelude.{◌≡◌, encode_utf8_all, ℕ, Bool, false, ◌&&◌, ◌||◌, List, [], ◌∷◌, Option, if◌then◌else◌, map}
 use Rattle.std.specs.Char.{to_ascii_lowercase}
@@ -14,15 +14,14 @@ use Rattle.duration_str.specs.declared.unit.TimeUnit.TheVariants.{Year, Quarter,
 abbrev pub off : Options
 off = record { no_calc = false; lowercase = false; cn_unit = false }
 
--- what is said of a unit: its length in nanoseconds, the name that is printed, the names that are read,
--- and those that are read with `cn_unit` alone
+-- a unit's length in nanoseconds, the name that is printed, the names that are read, and those read only with `cn_unit`
 pub record UnitRow : Type 0 where
   pub nanos : ℕ
   pub printed : List ℕ
   pub names : List (List ℕ)
   pub chinese : List (List ℕ)
 
--- The table of units. All else that is said of units follows from it.
+-- The table of units, from which everything else about units follows.
 abbrev pub row_of : TimeUnit → UnitRow
 row_of Year = record { nanos = 31_536_000_000_000_000; printed = codes "y"; names = codes "y" ∷ codes "year" ∷ codes "years" ∷ []; chinese = codes "年" ∷ [] }
 row_of Quarter = record { nanos = 7_862_400_000_000_000; printed = codes "q"; names = codes "q" ∷ codes "quarter" ∷ codes "quarters" ∷ []; chinese = [] }
@@ -44,11 +43,11 @@ units = Year ∷ Quarter ∷ Month ∷ Week ∷ Day ∷ Hour ∷ Minute ∷ Seco
 abbrev pub nanos_of : TimeUnit → ℕ
 nanos_of u = (row_of u).nanos
 
--- the lengths, the longest first
+-- the lengths of the units, the longest first
 abbrev pub unit_lengths : List ℕ
 unit_lengths = map nanos_of units
 
--- the word as it is compared with the names: its ASCII capitals are comparison_form, unless `lowercase` is on
+-- the word as compared with the names: its ASCII capitals become small letters, unless `lowercase` is on
 abbrev pub comparison_form : Options → List ℕ → List ℕ
 comparison_form o word = if o.lowercase then word else map to_ascii_lowercase word
 
@@ -65,11 +64,11 @@ unit_among us o word = find (is_named o word) us
 abbrev pub unit_of_word : Options → List ℕ → Option TimeUnit
 unit_of_word o word = unit_among units o word
 
--- These texts are the names in UTF-8.
+-- The texts are the names in UTF-8.
 abbrev pub AreEncoded : List (Bor (List ℕ)) → List (List ℕ) → Type 0
 AreEncoded texts names = map (λ text. text.now) texts ≡ map encode_utf8_all names
 
--- The row of the code's table says what this row of the definitions' says.
+-- The code's row has the contents of this row.
 pub record IsRow (row : Row) (r : UnitRow) : Type 0 where
   pub nanos : row.nanos ≡ r.nanos
   pub printed : row.printed.now ≡ encode_utf8_all r.printed

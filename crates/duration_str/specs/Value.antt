@@ -1,4 +1,4 @@
--- The terms of a sentence, what they come to, and what is wrong with them.
+-- The terms of a sentence, their value, and their faults.
 use Rattle.std.specs.Prelude.{◌≡◌, ℕ, ◌+◌, ◌*◌, ◌/◌, ◌^◌, Bool, true, false, List, [], ◌∷◌, ◌++◌, Option, Some, None, Result, Ok, Err, if◌then◌else◌, nat_lt, ◌==◌}
 use Rattle.std.specs.List.{list_all, fold}
 use Rattle.duration_str.specs.declared.unit.TimeUnit.{TimeUnit}
@@ -16,6 +16,7 @@ pub record Term : Type 0 where
   pub number : ℕ
   pub length : ℕ
 
+-- the value of a term in nanoseconds
 abbrev pub value_of_term : Term → ℕ
 value_of_term t = t.number * t.length
 
@@ -23,51 +24,53 @@ value_of_term t = t.number * t.length
 abbrev pub second : ℕ
 second = nanos_of Second
 
--- the terms of the terminals after the operator `op`; an operator that is left out is plus
+-- the terms after the operator `op`; an operator that is left out is plus
 abbrev pub terms_after : CondUnit → List Terminal → List Term
 terms_after op (number n ∷ word (Some u) ∷ more) = record { operator = op; number = n; length = nanos_of u } ∷ terms_after Plus more
 terms_after op (number n ∷ more) = record { operator = op; number = n; length = second } ∷ terms_after Plus more
 terms_after op (operator next ∷ more) = terms_after next more
 terms_after op _ = []
 
--- the terms of a sentence; the first one's operator is plus, and means nothing
+-- the terms of a sentence; the first one's operator is plus, and has no meaning
 abbrev pub terms_of : List Terminal → List Term
 terms_of terminals = terms_after Plus terminals
 
--- Each operator that is written is plus.
+-- Every operator that is written is plus.
 abbrev pub AllPlus : List Terminal → Type 0
 AllPlus [] = Unit {0}
 AllPlus (operator op ∷ terminals) = (op ≡ Plus) × AllPlus terminals
 AllPlus (terminal ∷ terminals) = AllPlus terminals
 
+-- whether two operators are the same
 abbrev pub is_same_operator : CondUnit → CondUnit → Bool
 is_same_operator Plus Plus = true
 is_same_operator Star Star = true
 is_same_operator _ _ = false
 
+-- the sum of the terms' values
 abbrev pub sum_of : List Term → ℕ
 sum_of [] = 0
 sum_of (t ∷ terms) = value_of_term t + sum_of terms
 
--- the product of the terms' values in seconds, given in nanoseconds: from left to right, each step rounded down
+-- the product of the terms' values in seconds, as nanoseconds: from left to right, each step rounded down
 abbrev pub product_of : List Term → ℕ
 product_of terms = fold (λ p t. p * value_of_term t / second) second terms
 
--- what the later terms come to
+-- the total of the later terms: their sum or their product
 abbrev pub later_total : CondUnit → List Term → ℕ
 later_total Plus later = sum_of later
 later_total Star later = product_of later
 
--- x and rest by the operator: their sum, or their product in seconds, rounded down to nanoseconds
+-- x and the rest combined: their sum, or their product in seconds, rounded down to nanoseconds
 abbrev pub combination : CondUnit → ℕ → ℕ → ℕ
 combination Plus x rest = x + rest
 combination Star x rest = x * rest / second
 
--- the first term's value and what the later terms come to, by the operator
+-- the total including the first term
 abbrev pub total_of : CondUnit → Term → ℕ → ℕ
 total_of op t rest = combination op (value_of_term t) rest
 
--- the value of a sentence by its terms, in nanoseconds; none where the operators are mixed
+-- the value of a sentence in nanoseconds, given its terms; `None` if its operators are mixed
 abbrev pub value_of : List Term → Option ℕ
 value_of [] = None
 value_of (t ∷ []) = Some (value_of_term t)
@@ -80,20 +83,21 @@ value_of (t ∷ u ∷ later) =
 abbrev pub fits : ℕ → Bool
 fits n = nat_lt n (2 ^ 64)
 
--- the first cause of two
+-- the first cause of the two, if there is one
 abbrev pub or_else : Option Cause → Option Cause → Option Cause
 or_else (Some cause) _ = Some cause
 or_else None next = next
 
+-- the cause, unless the condition holds
 abbrev pub unless : Bool → Cause → Option Cause
 unless true _ = None
 unless false cause = Some cause
 
--- the fault of a term alone
+-- the fault of a single term
 abbrev pub term_fault : Option ℕ → Term → Option Cause
 term_fault place t = or_else (unless (fits t.number) (NumberTooLarge place)) (unless (fits (value_of_term t)) (Overflow place))
 
--- a number and a unit as a term
+-- the term of a number and a unit
 abbrev pub term_of : ℕ → TimeUnit → Term
 term_of n u = record { operator = Plus; number = n; length = nanos_of u }
 
@@ -105,12 +109,13 @@ term_answer place t = elim (term_fault place t) [ None ↦ Ok (value_of_term t) 
 abbrev pub u64_from : ℕ → Option ℕ
 u64_from n = if fits n then Some n else None
 
--- the value of a term, or its fault, from its number as `u64_from` gives it and its unit's length
+-- the value of a term, or its fault, given its unit's length and its number, which is `None` from 2^64 on
 abbrev pub term_value : Option ℕ → Option ℕ → ℕ → Result ℕ Cause
 term_value place None length = Err (NumberTooLarge place)
 term_value place (Some n) length = if fits (n * length) then Ok (n * length) else Err (Overflow place)
 
--- the first fault of the later terms: those in `before` have none, and `set` is the operator of the first later term
+-- the first fault of the later terms after those in `before`, which have none; `set` is the operator of the first later
+-- term
 abbrev pub later_fault : CondUnit → List Term → List Term → Option Cause
 later_fault set before [] = None
 later_fault set before (t ∷ later) =
@@ -119,7 +124,7 @@ later_fault set before (t ∷ later) =
     (or_else (unless (fits (later_total set (before ++ t ∷ []))) (Overflow None))
     (later_fault set (before ++ t ∷ []) later)))
 
--- the fault of a sentence whose first term has none: that of the later terms, or of the step with the first one
+-- the fault of a sentence whose first term has none: that of the later terms, or of the total including the first term
 abbrev pub evaluation_fault : List Term → Option Cause
 evaluation_fault (t ∷ u ∷ later) =
     or_else (later_fault u.operator [] (u ∷ later))
@@ -131,7 +136,7 @@ abbrev pub Evaluates : List Term → Type 0
 Evaluates [] = ⊥
 Evaluates (t ∷ later) = (term_fault None t ≡ None) × (evaluation_fault (t ∷ later) ≡ None)
 
--- how often a number stands in a list
+-- how often a number is in a list
 abbrev pub times_in : ℕ → List ℕ → ℕ
 times_in n [] = 0
 times_in n (m ∷ ms) = (if m == n then 1 else 0) + times_in n ms

@@ -18,19 +18,19 @@ use std::time::Duration;
 
 /// What can be read from a configuration value.
 ///
-/// `Duration` and `SignedDuration` are required values: a text is read by `parse`, and all else is
-/// `NotText { optional: false }`. Their `Option`s are optional ones: null and the empty text are `None`,
-/// another text is read by `parse`, and all else is `NotText { optional: true }`.
+/// `Duration` and `SignedDuration` are required values: a text is read by `parse`, and anything else is
+/// `NotText { optional: false }`. Their `Option`s are optional values: null and the empty text are `None`, any other
+/// text is read by `parse`, and anything else is `NotText { optional: true }`.
 pub trait DeserializeDuration<'de>: Sized {
-    /// What the data of a value gives.
+    /// What the data of a value is read as.
     ghost gives: { Data → Result Self PlainFault → Type 0 };
 
-    /// Reads the value. A fault of its text borrows the text; a `NotText` fault has the empty text.
+    /// Reads the value. A fault of its text borrows that text; the text of a `NotText` fault is empty.
     fn deserialize_duration(value: &'de Value) -> Result<Self, Fault<'de>>
         ensures { gives (view value.now) result };
 }
 
-/// The fault of a value that is no text.
+/// The fault of a value that is not a text.
 fn not_text<'a>(optional: bool) -> Fault<'a>
     ensures text { result.text.now ≡ [] }
     ensures cause { result.cause ≡ NotText optional }
@@ -41,7 +41,7 @@ fn not_text<'a>(optional: bool) -> Fault<'a>
     }
 }
 
-/// The text to read, or `None` where the value says that there is none.
+/// The text to read; `None` if the value says that there is none.
 fn optional_text<'a>(value: &'a Value) -> Result<Option<&'a str>, Fault<'a>>
     ensures some { IfOk result (λ o. IfSome o (λ text.
         (view value.now ≡ string text.now) × (text.now ≢ []))) }
@@ -102,8 +102,8 @@ impl<'de> DeserializeDuration<'de> for Option<SignedDuration> {
     }
 }
 
-/// Reads a configuration value as its type says: `Duration` and `SignedDuration` are required, and their
-/// `Option`s are not.
+/// Reads a configuration value as its type says: a `Duration` or `SignedDuration` is required, an `Option` of one is
+/// not.
 ///
 /// ```text
 /// deserialize_duration::<Duration>(&json!(in alloc; "1min+30")?)  // Ok, 90 s
@@ -112,8 +112,8 @@ impl<'de> DeserializeDuration<'de> for Option<SignedDuration> {
 ///
 /// # Errors
 ///
-/// The fault of a text that `parse` refuses; `NotText` for a value that is no text. Where the value is optional, null and
-/// the empty text are no errors but `None`.
+/// The fault of a text that `parse` refuses; `NotText` for a value that is not a text. If the value is optional, null
+/// and the empty text are not errors but `None`.
 pub fn deserialize_duration<'de, T: DeserializeDuration<'de>>(
     value: &'de Value,
 ) -> Result<T, Fault<'de>>
@@ -122,28 +122,28 @@ pub fn deserialize_duration<'de, T: DeserializeDuration<'de>>(
     T::deserialize_duration(value)
 }
 
-/// What `deserialize_duration` answers for a `SignedDuration`.
+/// What `deserialize_duration` returns for a `SignedDuration`.
 pub fn deserialize_duration_chrono<'de>(value: &'de Value) -> Result<SignedDuration, Fault<'de>>
     ensures { IsRequired signed_nanos (view value.now) result }
 {
     SignedDuration::deserialize_duration(value)
 }
 
-/// What `deserialize_duration_chrono` answers.
+/// What `deserialize_duration_chrono` returns.
 pub fn deserialize_duration_time<'de>(value: &'de Value) -> Result<SignedDuration, Fault<'de>>
     ensures { IsRequired signed_nanos (view value.now) result }
 {
     deserialize_duration_chrono(value)
 }
 
-/// What `deserialize_duration` answers for an `Option<Duration>`.
+/// What `deserialize_duration` returns for an `Option<Duration>`.
 pub fn deserialize_option_duration<'de>(value: &'de Value) -> Result<Option<Duration>, Fault<'de>>
     ensures { IsOptional (λ d. pos (as_nanos d)) (view value.now) result }
 {
     Option::<Duration>::deserialize_duration(value)
 }
 
-/// What `deserialize_duration` answers for an `Option<SignedDuration>`.
+/// What `deserialize_duration` returns for an `Option<SignedDuration>`.
 pub fn deserialize_option_duration_chrono<'de>(
     value: &'de Value,
 ) -> Result<Option<SignedDuration>, Fault<'de>>
@@ -152,7 +152,7 @@ pub fn deserialize_option_duration_chrono<'de>(
     Option::<SignedDuration>::deserialize_duration(value)
 }
 
-/// What `deserialize_option_duration_chrono` answers.
+/// What `deserialize_option_duration_chrono` returns.
 pub fn deserialize_option_duration_time<'de>(
     value: &'de Value,
 ) -> Result<Option<SignedDuration>, Fault<'de>>

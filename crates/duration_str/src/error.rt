@@ -1,4 +1,4 @@
-//! Faults as errors that own what they say.
+//! Faults as errors that own their text.
 ghost use Rattle.std.specs.Prelude.{◌≡◌, ◌↔◌, IfOk, IsOk, IsNone, IfSome, string_bytes, encode_utf8_all};
 ghost use Rattle.duration_str.specs.FaultText.{line_of};
 ghost use Rattle.duration_str.specs.Errors.{IsErrorOf, IsOverflow};
@@ -7,10 +7,10 @@ use crate::fault::{Cause, Fault};
 use std::alloc::{AllocError, Allocator, Global};
 use thiserror::Error;
 
-/// A fault without the text that was read. It prints as the line of the cause.
+/// A fault without the text that was read. It prints as the line that says what is wrong.
 #[derive(Debug, PartialEq, Drop, Error)]
 pub enum DError {
-    /// Any fault but an overflow, by its line.
+    /// Any fault except an overflow, with its line.
     #[error("{0}")]
     ParseError(String),
     /// A term, a step of the evaluation or the value is 2^64 nanoseconds or more.
@@ -21,7 +21,7 @@ pub enum DError {
 /// A value, or a [`DError`].
 pub type DResult<T> = Result<T, DError>;
 
-/// The line of a cause, copied, and `None` for an overflow, which takes no memory.
+/// A copy of the line of a cause; `None` for an overflow, which needs no memory.
 fn own_line<A: Allocator>(cause: Cause, alloc: A) -> Result<Option<String<A>>, AllocError>
     ensures none { IfOk result (λ text. IsNone text ↔ IsOverflow cause) }
     ensures line { IfOk result (λ text. IfSome text (λ s.
@@ -35,8 +35,8 @@ fn own_line<A: Allocator>(cause: Cause, alloc: A) -> Result<Option<String<A>>, A
 }
 
 impl Fault<'_> {
-    /// The error that this fault is: `OverflowError` for an overflow, which takes no memory and does not fail,
-    /// else `ParseError` of the line, which fails only where memory is refused.
+    /// The error for this fault: `OverflowError` for an overflow, which allocates nothing and cannot fail; otherwise
+    /// `ParseError` with the line, which fails only if memory is refused.
     ///
     /// ```text
     /// match parse("") {

@@ -1,7 +1,7 @@
-//! Durations printed for people, as `3min 13s 29ms`.
+//! Durations printed for people, such as `3min 13s 29ms`.
 //!
-//! The text has the greatest count of years, behind it the greatest count of months of what is left,
-//! and so on down to nanoseconds. Counts of 0 are left out, and the duration 0 is `0s`.
+//! The text has the greatest possible count of years, then the greatest count of quarters in what is left, and so on
+//! down to nanoseconds. Counts of 0 are left out, and the duration 0 is `0s`.
 ghost use Rattle.std.specs.Prelude.{◌≡◌, ◌+◌, ◌*◌, ◌/◌, ◌%◌, ◌^◌, ◌<◌, ◌≤◌, ◌++◌, take, length, decimal, encode_utf8_all, chars, IsUtf8, ◌↔◌, IsTrue, ℤ, pos, ◌≤ℤ◌, unsigned_abs, IfOk, string_bytes};
 ghost use Rattle.std.specs.Duration.{as_nanos};
 ghost use Rattle.duration_str.specs.declared.unit.TimeUnit.TheVariants.{Year};
@@ -14,10 +14,10 @@ use crate::unit::TimeUnit;
 use std::alloc::{AllocError, Allocator, Global};
 use std::time::Duration;
 
-/// The most bytes that a printed duration has: `100000000000y 3q 2mon 3w 6d 23h 59min 59s 999ms 999µs 999ns`.
+/// The most bytes in a printed duration: `100000000000y 3q 2mon 3w 6d 23h 59min 59s 999ms 999µs 999ns`.
 pub const MAX_PRINTED_LEN: usize = 60;
 
-/// Writes a digit at the place `at`, and returns where it ends.
+/// Writes a digit at `at`, and returns where it ends.
 #[inline(always)]
 #[tactic(auto, using(crate::proofs::Printer::DigitLemmas::put_steps))]
 fn put_digit(buffer: &mut [u8; 64], at: usize, digit: u64) -> usize
@@ -44,7 +44,7 @@ pub(crate) fn put_number(buffer: &mut [u8; 64], at: usize, n: u64) -> usize
     put_digit(buffer, end, n % 10)
 }
 
-/// Writes a count as `put_number` does. The one or two digits that most counts have take no call.
+/// Writes a count as `put_number` does. Most counts have one or two digits, which need no call.
 #[inline(always)]
 #[tactic(auto, using(crate::proofs::Printer::DigitLemmas::put_steps))]
 fn put_count(buffer: &mut [u8; 64], at: usize, n: u64) -> usize
@@ -74,7 +74,7 @@ fn put_text(buffer: &mut [u8; 64], at: usize, text: &str) -> usize
     end
 }
 
-/// Writes a space behind the first `at` bytes, unless there are none, and returns where it ends.
+/// Writes a space after the first `at` bytes unless `at` is 0, and returns where it ends.
 #[inline(always)]
 fn put_space(buffer: &mut [u8; 64], at: usize) -> usize
     requires room { at < 64 }
@@ -88,7 +88,7 @@ fn put_space(buffer: &mut [u8; 64], at: usize) -> usize
     put_text(buffer, at, " ")
 }
 
-/// Writes a unit's part behind the first `at` bytes, and returns where it ends.
+/// Writes a unit's part after the first `at` bytes, and returns where it ends.
 #[inline(always)]
 #[tactic(auto, using(crate::proofs::Printer::DigitLemmas::length_count, crate::proofs::Characters::NameLemmas::length_name))]
 fn put_part(buffer: &mut [u8; 64], at: usize, count: u64, unit: TimeUnit) -> usize
@@ -106,7 +106,7 @@ fn put_part(buffer: &mut [u8; 64], at: usize, count: u64, unit: TimeUnit) -> usi
     put_text(buffer, end, unit.name())
 }
 
-/// Writes the part that a unit makes of the rest, in nanoseconds, and leaves in `rest` what is behind the unit.
+/// Writes the unit's part of `rest`, in nanoseconds, and leaves the remainder in `rest`.
 #[inline(always)]
 fn put_unit(buffer: &mut [u8; 64], at: usize, rest: &mut u64, unit: TimeUnit) -> usize
     requires count { rest.old / nanos_of unit ≤ greatest_count unit }
@@ -116,7 +116,7 @@ fn put_unit(buffer: &mut [u8; 64], at: usize, rest: &mut u64, unit: TimeUnit) ->
     ensures end { result ≤ at + 1 + part_bytes unit }
     ensures rest { rest.new ≡ rest.old % nanos_of unit }
 {
-    // Most units take no part, and a comparison costs less than a division.
+    // Most counts are 0, and a comparison is cheaper than a division.
     if *rest < unit.nanos() {
         return at;
     }
@@ -125,7 +125,7 @@ fn put_unit(buffer: &mut [u8; 64], at: usize, rest: &mut u64, unit: TimeUnit) ->
     put_part(buffer, at, count, unit)
 }
 
-/// Writes the parts from quarters to days, returns where they end, and leaves in `rest` what is below a day.
+/// Writes the parts from quarters to days, returns where they end, and leaves the remainder below a day in `rest`.
 #[inline(always)]
 #[tactic(auto, unfolding(crate::specs::Internal::PrintedBytes::digits))]
 fn put_days(buffer: &mut [u8; 64], at: usize, rest: &mut u64) -> usize
@@ -146,7 +146,7 @@ fn put_days(buffer: &mut [u8; 64], at: usize, rest: &mut u64) -> usize
     put_unit(buffer, week, rest, TimeUnit::Day)
 }
 
-/// Writes the parts below a year, and returns where they end.
+/// Writes the parts of the units below a year, and returns where they end.
 #[inline(always)]
 #[tactic(auto, unfolding(crate::specs::Internal::PrintedBytes::digits))]
 fn put_units(buffer: &mut [u8; 64], at: usize, nanos: u64) -> usize
@@ -165,7 +165,7 @@ fn put_units(buffer: &mut [u8; 64], at: usize, nanos: u64) -> usize
     put_unit(buffer, microsecond, &mut rest, TimeUnit::NanoSecond)
 }
 
-/// Writes the printed text into the front of the buffer, and returns its length.
+/// Writes the printed text to the start of the buffer, and returns its length.
 #[tactic(auto, unfolding(crate::specs::Internal::PrintedBytes::digits))]
 fn fill(d: Duration, buffer: &mut [u8; 64]) -> usize
     ensures text { take result buffer.new
@@ -173,7 +173,7 @@ fn fill(d: Duration, buffer: &mut [u8; 64]) -> usize
     ensures short { result ≤ max_printed_len }
     ensures utf8 { IsUtf8 (take result buffer.new) }
 {
-    // Years are counted in seconds, since the nanoseconds of a duration can be 2^64 and more.
+    // Years are counted in seconds, because the nanoseconds of a duration can be 2^64 or more.
     let secs = d.as_secs();
     let second = TimeUnit::Second.nanos();
     let year = TimeUnit::Year.nanos() / second;
@@ -186,8 +186,8 @@ fn fill(d: Duration, buffer: &mut [u8; 64]) -> usize
     end
 }
 
-/// Prints a duration into the front of a buffer, whatever the buffer held. The text has at most
-/// `MAX_PRINTED_LEN` bytes. It takes no memory and does not fail.
+/// Prints a duration to the start of a buffer, whatever the buffer holds. The text has at most `MAX_PRINTED_LEN` bytes.
+/// Allocates nothing and cannot fail.
 ///
 /// ```text
 /// let mut buffer = [0; 64];
@@ -203,7 +203,7 @@ pub fn write_human<'b>(d: &Duration, buffer: &'b mut [u8; 64]) -> &'b str
     unsafe { std::str::from_utf8_unchecked(&buffer[..end]) }
 }
 
-/// What is printed for people: a length of time, which may be negative.
+/// A length of time that can be printed for people, unless it is negative.
 ///
 /// ```text
 /// let d = Duration::new(93_784, 0);
@@ -218,14 +218,14 @@ pub trait HumanFormat {
     fn is_printable(&self) -> bool
         ensures { IsTrue result ↔ (pos 0 ≤ℤ nanos self.now) };
 
-    /// The printed text of a length that is not negative. It fails only where memory is refused.
+    /// The printed text of a length that is not negative. Fails only if memory is refused.
     fn human_format(&self, alloc: Global) -> Result<String, AllocError>
         requires { pos 0 ≤ℤ nanos self.now }
         ensures { IfOk result (λ text.
             IsPrinted (unsigned_abs (nanos self.now)) (chars (string_bytes text))) };
 }
 
-/// The printed text, in a string that grows once.
+/// The printed text, in a string that is allocated once.
 fn text_of<A: Allocator>(d: Duration, alloc: A) -> Result<String<A>, AllocError>
     ensures { IfOk result (λ text. IsPrinted (as_nanos d) (chars (string_bytes text))) }
 {

@@ -1,4 +1,4 @@
-//! The only way to the text while it is cut: one character after the other, each look counted.
+//! The only access to the text while it is cut: one character after the other, and every look is counted.
 ghost use Rattle.std.specs.Prelude.{◌≡◌, ◌+◌, ◌<◌, ◌≤◌, ◌^◌, [], is_some, IfSome, IfNone, if◌then◌else◌, slice_range, IsUtf8, length};
 ghost use Rattle.std.specs.Str.{IsCharBoundary};
 ghost use Rattle.duration_str.specs.Internal.Cutting.{ahead, StandsAt};
@@ -18,7 +18,7 @@ pub(crate) struct Eye<'a> {
 }
 
 impl<'a> Eye<'a> {
-    /// At the beginning of the text, with nothing looked at.
+    /// The start of the text, before any look.
     #[inline(always)]
     pub(crate) fn new(text: &'a str) -> Eye<'a>
         ensures text { result.text.now ≡ text.now }
@@ -41,7 +41,7 @@ impl<'a> Eye<'a> {
         self.place
     }
 
-    /// How often a character was looked at.
+    /// How many times a character was looked at.
     #[inline(always)]
     pub(crate) fn looks(&self) -> u64
         ensures { result ≡ self.now.looks }
@@ -49,7 +49,7 @@ impl<'a> Eye<'a> {
         self.looks
     }
 
-    /// Takes the character at the place, and counts it; `None` at the end of the text.
+    /// Looks at the character at the place; `None` at the end of the text.
     #[inline(always)]
     pub(crate) fn look(&mut self) -> Option<char>
         requires { self.old.looks + 1 < 2 ^ 64 }
@@ -90,8 +90,8 @@ impl<'a> Eye<'a> {
     }
 }
 
-/// The character at a place. `next` becomes the place after it; a pair of both as the result would be kept together as
-/// one value, whose parts the compiler does not tell apart.
+/// The character at a place. `next` becomes the place after it; if both were returned as a pair, the compiler would
+/// keep the pair together as one value.
 #[inline]
 fn character_at(text: &str, place: usize, next: &mut usize) -> char
     requires boundary { IsCharBoundary text.now place }
@@ -110,7 +110,7 @@ fn character_at(text: &str, place: usize, next: &mut usize) -> char
     }
 }
 
-/// The character at a place, of any number of bytes, and the place after it.
+/// The character at a place, of any width, and the place after it.
 #[cold]
 #[inline(never)]
 fn decoded_at(text: &str, place: usize) -> (char, usize)

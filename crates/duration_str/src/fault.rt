@@ -1,4 +1,4 @@
-//! Why a text is refused, and where, with the text that shows it.
+//! Why a text is refused and where, shown with the text.
 ghost use Rattle.std.specs.Prelude.{◌≡◌, ◌≤◌, Some, replicate, length, take};
 ghost use Rattle.std.specs.Option.{ForSome};
 ghost use Rattle.std.specs.Str.{IsCharBoundary, chars};
@@ -21,28 +21,28 @@ pub struct Expected {
     pub text_end: bool,
 }
 
-/// Why a text is refused. A place is a byte of the text.
+/// Why a text is refused. A place is a byte offset in the text.
 #[derive(Clone, Copy, Debug, PartialEq, Eq)]
 pub enum Cause {
     /// The text is empty.
     Empty,
-    /// No sentence goes on at the place as the text does.
+    /// At `place`, no sentence continues as the text does.
     Syntax { place: usize, expected: Expected },
     /// A number is 2^64 or more.
     NumberTooLarge { place: Option<usize> },
     /// A term, a step of the evaluation or the value is 2^64 nanoseconds or more.
     Overflow { place: Option<usize> },
-    /// The operator `later` stands where `first` was set before.
+    /// The operator `later` follows the different operator `first`.
     Mixed { first: CondUnit, later: CondUnit },
     /// The date is out of range.
     OutOfRange,
-    /// A configuration value is no text.
+    /// A configuration value is not a text.
     NotText { optional: bool },
 }
 
 impl Cause {
-    /// The byte at which the fault stands, from 0 to the text's length: that of every syntax fault, and 0 for a first
-    /// term that is too large. Else `None`.
+    /// Byte offset of the fault: set for syntax faults, 0 for an oversized first term, otherwise `None`. It is at most
+    /// the length of the text.
     ///
     /// ```text
     /// parse("1m 3-5").unwrap_err().cause().place() // Some(4)
@@ -59,10 +59,10 @@ impl Cause {
     }
 }
 
-/// A refusal: the text that was read, and the cause. It prints as what a person is told.
+/// A refusal: the text that was read, and the cause. It prints as a message for people.
 #[derive(Clone, Copy, Debug, PartialEq, Eq)]
 pub struct Fault<'a> {
-    /// The whole text that was read, and for `NotText` the empty text.
+    /// The whole text that was read; the empty text for `NotText`.
     pub text: &'a str,
     /// Why it is refused.
     pub cause: Cause,
@@ -71,7 +71,7 @@ pub struct Fault<'a> {
 }
 
 impl<'a> Fault<'a> {
-    /// The whole text that was read, and for `NotText` the empty text.
+    /// The whole text that was read; the empty text for `NotText`.
     pub fn text(&self) -> &'a str
         ensures { result ≡ self.now.text }
     {
@@ -88,7 +88,7 @@ impl<'a> Fault<'a> {
 
 const SPACES: &str = "                                                                ";
 
-/// So many spaces, at most 64.
+/// This many spaces, at most 64.
 fn short_run(count: usize) -> &'static str
     requires { count ≤ 64 }
     ensures { result.now ≡ replicate count 32 }
@@ -96,7 +96,7 @@ fn short_run(count: usize) -> &'static str
     &SPACES[..count]
 }
 
-/// So many spaces, written in runs.
+/// This many spaces, written in runs.
 #[derive(Clone, Copy)]
 struct Spaces(usize);
 
@@ -113,7 +113,7 @@ impl fmt::Display for Spaces {
     }
 }
 
-/// How many characters stand before the place.
+/// The number of characters before the place.
 pub(crate) fn chars_before(text: &str, place: usize) -> usize
     requires { IsCharBoundary text.now place }
     ensures { result ≡ length (chars (take place text.now)) }
@@ -121,8 +121,8 @@ pub(crate) fn chars_before(text: &str, place: usize) -> usize
     text[..place].chars().count()
 }
 
-/// The line of the cause. Where the fault has a place, the text stands above it, with a caret below the place,
-/// or, where the text holds a line feed, the place in bytes before it: `byte 5: expected number`.
+/// The line that says what is wrong. If the fault has a place, the text and a caret under the place are printed above
+/// it; or, if the text has a line feed, the byte offset is printed before it: `byte 5: expected number`.
 ///
 /// ```text
 /// 3ms-2ms

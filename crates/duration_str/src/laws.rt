@@ -1,9 +1,9 @@
-//! Laws over the definitions: each function does nothing, and its contract is a law.
+//! Laws about the definitions: each function does nothing, and its contract is a law.
 ghost use Rattle.duration_str.specs.Laws.{OneSentence, OneCut, OneAnswer, IsAnswer, PlaceAndKinds, NoCalcAgrees, OptionsIdle, BlanksFree, SumOfTexts, Reorder, TwoFactors, GreatestBreakdown, EqualTexts, ReadsBack, OlderTexts};
 
-/// At most one sentence spells a text, and its words are the text's pieces; a text is read as one value or refused for
-/// one cause, and not both, and the computed answer says which. So `3m31s` is spelled by `3`, `m`, `31`, `s` and by no
-/// other sentence, and is read as 211 seconds.
+/// At most one sentence spells a text, and its lexemes are those of the text's tokens; a text is read as one value or
+/// refused for one cause, not both, and the computed answer says which. So `3m31s` is spelled by `3`, `m`, `31`, `s`
+/// and by no other sentence, and is read as 211 seconds.
 pub fn one_sentence()
     ensures sentence { OneSentence }
     ensures pieces { OneCut }
@@ -11,48 +11,48 @@ pub fn one_sentence()
     ensures computed { IsAnswer }
 {}
 
-/// What can follow the beginning of a sentence is told by its last token, and the longest beginning is as long as the
-/// table allows each token behind the one before it. So `1m` is followed by a number, an operator (not under `no_calc`)
-/// or the end, and the longest beginning in `1m 3-5` is `1m 3`.
+/// The last terminal determines what can follow the beginning of a sentence, and the longest beginning reaches as far
+/// as the table allows each terminal after the one before it. So `1m` can be followed by a number, an operator (not
+/// under `no_calc`) or the end, and the longest beginning in `1m 3-5` is `1m 3`.
 pub fn place_and_kinds()
     ensures { PlaceAndKinds }
 {}
 
-/// Without operators `no_calc` changes neither what is accepted nor its value. So `2h 37m` is 9,420 seconds with and
-/// without `no_calc`. Where both refuse, the causes may differ.
+/// Without operators, `no_calc` changes neither what is accepted nor its value. So `2h 37m` is 9,420 seconds with and
+/// without `no_calc`. If both refuse a text, the causes may differ.
 pub fn no_calc_agrees()
     ensures { NoCalcAgrees }
 {}
 
-/// `lowercase` changes nothing on texts without ASCII capitals, and `cn_unit` nothing on texts without the Chinese
+/// `lowercase` changes nothing for texts without ASCII capitals, and `cn_unit` nothing for texts without the Chinese
 /// characters of the units: neither the value nor the cause of a refusal. So `1m` is 60 seconds with and without them,
 /// and `0mxyz` is a syntax fault at 1.
 pub fn options_idle()
     ensures { OptionsIdle }
 {}
 
-/// Texts that one sentence spells, which so differ in blanks alone, have the same value, or are refused for the same
-/// cause. So `3 m31 s0 ns` and `3m31s0ns` are both 211 seconds.
+/// Texts that one sentence spells differ only in blanks, and have the same value, or are refused for the same cause. So
+/// `3 m31 s0 ns` and `3m31s0ns` are both 211 seconds.
 pub fn blanks_free()
     ensures { BlanksFree }
 {}
 
-/// Two accepted texts without `*`, joined by a plus, come to the sum of their values where that is below 2^64
-/// nanoseconds, and else are refused as an overflow without place; `no_calc` is off. So `1m 2s` and `3` are joined to
-/// `1m 2s+3`, which is 65 seconds, and `580y+580y` overflows.
+/// Two accepted texts without `*`, joined by a plus, have the sum of their values if it is below 2^64 nanoseconds, and
+/// otherwise are refused as an overflow without a place; `no_calc` is off. So `1m 2s` and `3` are joined to `1m 2s+3`,
+/// which is 65 seconds, and `580y+580y` overflows.
 pub fn sum_of_texts()
     ensures { SumOfTexts }
 {}
 
-/// Two sentences of sums whose terms have the same values, each equally often, agree in acceptance and value. So
-/// `1ns+30s` and `30s+1ns` are both 30,000,000,001 nanoseconds.
+/// Two sums with the same values of terms, each equally often, are accepted alike and have the same value. So `1ns+30s`
+/// and `30s+1ns` are both 30,000,000,001 nanoseconds.
 pub fn reorder()
     ensures { Reorder }
 {}
 
-/// A product of two terms is accepted exactly where both numbers, both terms and the product, rounded down to
-/// nanoseconds, are below 2^64, and the exchanged product agrees in acceptance and value. So `1m*10ms` and `10ms*1m`
-/// are both 600 milliseconds.
+/// A product of two terms is accepted exactly if both numbers, both terms and the product, rounded down to nanoseconds,
+/// are below 2^64. The exchanged product is accepted alike and has the same value. So `1m*10ms` and `10ms*1m` are both
+/// 600 milliseconds.
 pub fn two_factors()
     ensures { TwoFactors }
 {}
@@ -62,22 +62,22 @@ pub fn greatest_breakdown()
     ensures { GreatestBreakdown }
 {}
 
-/// Two durations print the same exactly if they are the same. So no duration but 211 seconds prints as `3min 31s`.
+/// Two durations print the same text exactly if they are equal. So `3min 31s` is printed for 211 seconds only.
 pub fn equal_texts()
     ensures { EqualTexts }
 {}
 
-/// What a duration prints as is read back as that duration below 2^64 nanoseconds, and else refused as an overflow:
-/// without place below 585 years, and with place 0 from there on. So
+/// A printed duration is read back as itself if it is below 2^64 nanoseconds, and otherwise is refused as an overflow:
+/// without a place below 585 years, and with place 0 from there on. So
 /// `584y 3q 2mon 1w 3d 23h 34min 33s 709ms 551µs 615ns` is read as 2^64 - 1 nanoseconds, and with `616ns` it overflows.
 pub fn reads_back()
     ensures { ReadsBack }
 {}
 
-/// A text that was read before there was the quarter is read as the same value, under every choice of options, and one
-/// that was spelled by a sentence and refused by its evaluation is refused for the same cause. So a stored `1y 2mon` keeps
-/// its 425 days. Nothing is promised of other texts, as `1q`, which was a syntax fault and is read now, nor of printed
-/// ones: 91 days were printed as `3mon 1d`.
+/// A text that was read before the quarter was added is read as the same value, under every choice of options, and one
+/// that a sentence spelled but whose evaluation was refused is refused for the same cause. So a stored `1y 2mon` keeps
+/// its 425 days. Nothing is promised about other texts, such as `1q`, which was a syntax fault and is read now, nor
+/// about printed ones: 91 days were printed as `3mon 1d`.
 pub fn older_texts()
     ensures { OlderTexts }
 {}

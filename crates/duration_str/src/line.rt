@@ -6,7 +6,7 @@ use crate::fault::Cause;
 use crate::unit::CondUnit;
 
 impl Cause {
-    /// The line.
+    /// The line of this cause.
     pub(crate) fn line(self) -> &'static str
         ensures { result.now ≡ encode_utf8_all (line_of self) }
     {

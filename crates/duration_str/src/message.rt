@@ -1,6 +1,6 @@
-//! The text of a fault, in a buffer.
+//! The text of a fault, written to a buffer.
 //!
-//! A `Display` may fail for no reason that its contract names, so what is printed through one can't be promised.
+//! A `Display` may fail for reasons that its contract does not name, so nothing can be promised of what it prints.
 ghost use Rattle.std.specs.Prelude.{◌≡◌, ◌≤◌, ◌-◌, ◌^◌, ◌++◌, min, length, take, replicate, decimal, encode_utf8_all};
 ghost use Rattle.std.specs.Str.{IsCharBoundary};
 ghost use Rattle.duration_str.specs.FaultText.{fault_text, byte_text, caret_text, line_of};
@@ -9,7 +9,7 @@ ghost use Rattle.duration_str.specs.Buffers.{IsInFront, IsWritten};
 use crate::ext::put_number;
 use crate::fault::{Cause, Fault, chars_before};
 
-/// Writes a part after the first `at` bytes, and returns where it ends, if there is room.
+/// Writes a part after the first `at` bytes, and returns where it ends; `None` if there is no room.
 fn put(buffer: &mut [u8], at: usize, part: &[u8]) -> Option<usize>
     requires { at ≤ length buffer.old }
     ensures { IsWritten (take at buffer.old ++ part.now) buffer.old result buffer.new }
@@ -22,7 +22,7 @@ fn put(buffer: &mut [u8], at: usize, part: &[u8]) -> Option<usize>
     Some(end)
 }
 
-/// Writes so many spaces as `put` does.
+/// Writes this many spaces, as `put` does.
 fn put_spaces(buffer: &mut [u8], at: usize, count: usize) -> Option<usize>
     requires { at ≤ length buffer.old }
     ensures { IsInFront (take at buffer.old ++ replicate count 32) result buffer.new }
@@ -55,7 +55,7 @@ fn put_byte(buffer: &mut [u8], place: usize, line: &str) -> Option<usize>
     put(buffer, colon, line.as_bytes())
 }
 
-/// Writes the text, a caret below the place, and the line.
+/// Writes the text, a caret under the place, and the line.
 fn put_caret(buffer: &mut [u8], text: &str, place: usize, line: &str) -> Option<usize>
     requires { IsCharBoundary text.now place }
     ensures { IsInFront (caret_text text.now place line.now) result buffer.new }
@@ -67,7 +67,7 @@ fn put_caret(buffer: &mut [u8], text: &str, place: usize, line: &str) -> Option<
     put(buffer, caret, line.as_bytes())
 }
 
-/// How many digits a number has in decimal.
+/// The number of decimal digits.
 fn decimal_len(number: usize) -> usize
     ensures digits { result ≡ length (decimal number) }
     ensures short { result ≤ 20 }
@@ -76,14 +76,14 @@ fn decimal_len(number: usize) -> usize
     put_number(&mut digits, 0, number as u64)
 }
 
-/// How many bytes `put_byte` writes.
+/// The number of bytes that `put_byte` writes.
 fn byte_len(place: usize, line: &str) -> usize
     ensures { result ≡ min (length (byte_text place line.now)) (2 ^ 64 - 1) }
 {
     line.len().saturating_add(decimal_len(place) + 7)
 }
 
-/// How many bytes `put_caret` writes.
+/// The number of bytes that `put_caret` writes.
 fn caret_len(text: &str, place: usize, line: &str) -> usize
     requires { IsCharBoundary text.now place }
     ensures { result ≡ min (length (caret_text text.now place line.now)) (2 ^ 64 - 1) }
@@ -94,20 +94,20 @@ fn caret_len(text: &str, place: usize, line: &str) -> usize
 }
 
 impl Cause {
-    /// How many bytes the line has that says why the text is refused.
+    /// The length in bytes of the line that `write_line` writes.
     pub fn line_len(self) -> usize
         ensures { result ≡ length (encode_utf8_all (line_of self)) }
     {
         self.line().len()
     }
 
-    /// Writes the line that says why the text is refused into the front of a buffer, and returns its length in bytes.
+    /// Writes the line that says why the text is refused to the start of a buffer, and returns its length in bytes.
     ///
-    /// `None` where it has more bytes than the buffer, which then stays as it is. It takes no memory.
+    /// `None` if it is longer than the buffer, which is then unchanged. Allocates nothing.
     ///
     /// ```text
     /// let mut buffer = [0; 64];
-    /// parse("3 + ").unwrap_err().cause().write_line(&mut buffer) // Some(15), and `buffer` begins with "expected number"
+    /// parse("3 + ").unwrap_err().cause().write_line(&mut buffer) // Some(15), and `buffer` starts: "expected number"
     /// ```
     pub fn write_line(self, buffer: &mut [u8]) -> Option<usize>
         ensures { IsWritten (encode_utf8_all (line_of self)) buffer.old result buffer.new }
@@ -117,7 +117,7 @@ impl Cause {
 }
 
 impl Fault<'_> {
-    /// How many bytes the message has that `write_message` writes; `usize::MAX` where they are more than that.
+    /// The length in bytes of the message that `write_message` writes; `usize::MAX` if it is greater than that.
     ///
     /// ```text
     /// parse("3ms-2ms").unwrap_err().message_len() // 32
@@ -135,13 +135,13 @@ impl Fault<'_> {
         caret_len(self.text, place, line)
     }
 
-    /// Writes what the fault prints as into the front of a buffer, and returns its length in bytes.
+    /// Writes what the fault prints as to the start of a buffer, and returns its length in bytes.
     ///
-    /// `None` where it has more bytes than the buffer, which then stays as it is. It takes no memory.
+    /// `None` if it is longer than the buffer, which is then unchanged. Allocates nothing.
     ///
     /// ```text
     /// let mut buffer = [0; 64];
-    /// parse("").unwrap_err().write_message(&mut buffer) // Some(11), and `buffer` begins with "Empty input"
+    /// parse("").unwrap_err().write_message(&mut buffer) // Some(11), and `buffer` starts: "Empty input"
     /// ```
     pub fn write_message(&self, buffer: &mut [u8]) -> Option<usize>
         ensures { IsWritten (fault_text self.now.text.now self.now.cause)
@@ -153,7 +153,7 @@ impl Fault<'_> {
         self.put_message(buffer)
     }
 
-    /// Writes the message, and returns where it ends, if there is room.
+    /// Writes the message, and returns where it ends; `None` if there is no room.
     fn put_message(&self, buffer: &mut [u8]) -> Option<usize>
         ensures { IsInFront (fault_text self.now.text.now self.now.cause) result buffer.new }
     {

@@ -4,7 +4,7 @@ ghost use Rattle.std.specs.Str.{chars};
 ghost use Rattle.duration_str.specs.Text.{IsNumber, number_of};
 ghost use Rattle.duration_str.specs.Value.{u64_from};
 
-/// The number that digits write, where it is below 2^64.
+/// The number that digits write; `None` from 2^64 on.
 #[cold]
 #[inline(never)]
 pub(crate) fn number_of(digits: &str) -> Option<u64>

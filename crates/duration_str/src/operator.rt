@@ -15,7 +15,7 @@ pub enum CondUnit {
 }
 
 impl CondUnit {
-    /// The operator that a character is, if it is one.
+    /// The operator that a character stands for, if any.
     pub fn from_char(c: char) -> Option<CondUnit>
         ensures { result ≡ operator_of c }
     {

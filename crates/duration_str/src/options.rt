@@ -5,11 +5,11 @@ ghost use Rattle.duration_str.specs.Units.{off};
 /// Which grammar is read, and which words name units.
 #[derive(Clone, Copy, Debug, PartialEq, Eq)]
 pub struct Options {
-    /// No operator is read: terms are added as they come.
+    /// Operators are not read, and the terms are added one by one.
     pub no_calc: bool,
-    /// Words are compared as they stand; else their ASCII capitals are folded to small letters.
+    /// Words are compared as written; otherwise ASCII capitals are read as small letters.
     pub lowercase: bool,
-    /// The Chinese names of the units are read too.
+    /// The Chinese names of the units are also read.
     pub cn_unit: bool,
 }
 

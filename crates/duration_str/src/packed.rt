@@ -1,15 +1,15 @@
-//! Units by the numbers that their ASCII names pack to: five bits for each letter, in which the case does not show.
+//! Units by the packed numbers of their ASCII names: five bits for each letter, ignoring case.
 ghost use Rattle.std.specs.Prelude.{◌≡◌};
 ghost use Rattle.duration_str.specs.Internal.Packed.{unit_of_packed};
 
 use crate::unit::TimeUnit;
 
-/// The unit whose name packs to this number.
+/// The unit with a name that packs to this number.
 #[inline]
 pub(crate) fn unit_of_packed(packed: u64) -> Option<TimeUnit>
     ensures { result ≡ unit_of_packed packed }
 {
-    // Computed in 128 bits, of which the compiler makes one multiplication of 64.
+    // Computed in 128 bits, which the compiler turns into one multiplication of 64 bits.
     let slot = (packed as u128 * SPREAD as u128 >> 58) % 64;
     let (name, unit) = SLOTS[slot as usize];
     if name == packed { Some(unit) } else { None }
@@ -19,7 +19,7 @@ pub(crate) fn unit_of_packed(packed: u64) -> Option<TimeUnit>
 /// one, and writes the table below.
 const SPREAD: u64 = 8_353_693_844_369_934_821;
 
-/// Marks an empty slot. The number 2 is no name's, and its own slot is taken, so it is never found.
+/// Marks an empty slot. No name packs to 2, and the slot of 2 is taken, so it is never found.
 const NO_NAME: (u64, TimeUnit) = (2, TimeUnit::Year);
 
 /// The packed names, each in its slot.

@@ -1,4 +1,4 @@
-//! Reading: what a text means as a duration, or why it means none.
+//! Reading: the duration that a text means, or why it means none.
 ghost use Rattle.std.specs.Prelude.{◌≡◌, ℕ, ◌^◌, ◌<◌, ◌≤◌, length, take, IfOk, IfErr, IsOk, OnOk};
 ghost use Rattle.std.specs.Duration.{as_nanos};
 ghost use Rattle.std.specs.Str.{chars};
@@ -16,8 +16,8 @@ use std::time::Duration;
 
 /// The duration that a text means with all options off.
 ///
-/// It answers what `parse_with` answers for `Options::off()`: terms such as `3m`, `29ms` or `10`, which counts as
-/// seconds, joined by `+` or by `*`; a left-out operator is a plus. The value is below 2^64 nanoseconds.
+/// It returns what `parse_with` returns for `Options::off()`. Terms such as `3m`, `29ms` or `10`, which is seconds, are
+/// joined by `+` or by `*`; an operator that is left out is a plus. The value is below 2^64 nanoseconds.
 ///
 /// ```text
 /// parse("3m + 13s + 29ms") // Ok(Duration::from_millis(193_029))
@@ -32,7 +32,7 @@ pub fn parse(input: &str) -> Result<Duration, Fault<'_>>
     answer
 }
 
-/// What `parse` answers.
+/// What `parse` returns.
 pub fn parse_std(input: &str) -> Result<Duration, Fault<'_>>
     ensures { ParsesText off input.now result }
 {
@@ -41,11 +41,11 @@ pub fn parse_std(input: &str) -> Result<Duration, Fault<'_>>
 
 /// The duration that a text means under these options.
 ///
-/// `Ok` exactly where a sentence of the grammar spells the text and evaluates, with its value, which is below 2^64
-/// nanoseconds. A refusal holds the text, and the first of these causes: `Empty` for the empty text; a fault of the first
-/// term's value; `Syntax` where no sentence goes on as the text does, with what could stand there; then the first fault
-/// of the evaluation. Under `no_calc` the terms are summed as they end, and their faults come before later syntax faults.
-/// It takes no memory.
+/// `Ok` exactly if a sentence of the grammar spells the text and evaluates, with its value, which is below 2^64
+/// nanoseconds. A refusal holds the text, and the first of these causes: `Empty` for the empty text; a fault in the
+/// value of the first term; `Syntax` if no sentence continues as the text does, with what could stand there; the first
+/// fault of the evaluation. Under `no_calc` the terms are added one by one, and their faults precede later syntax
+/// faults. Allocates nothing.
 ///
 /// ```text
 /// parse_with("2h 37m", Options { no_calc: true, ..Options::off() }) // Ok(Duration::from_secs(9_420))
@@ -58,10 +58,10 @@ pub fn parse_with(input: &str, o: Options) -> Result<Duration, Fault<'_>>
     answer
 }
 
-/// What `parse_with` answers, and how often a character of the text was looked at.
+/// What `parse_with` returns, and how many times a character of the text was looked at.
 ///
-/// No character is looked at twice. An accepted text is looked at whole, and one with a syntax fault at least up to its
-/// place.
+/// No character is looked at twice. All characters of an accepted text are looked at, and at least those before the
+/// place of a syntax fault.
 pub fn parse_looked(input: &str, o: Options) -> (Result<Duration, Fault<'_>>, u64)
     ensures parsed { ParsesText o input.now result.0 }
     ensures once { result.1 ≤ length (chars input.now) }
@@ -71,7 +71,7 @@ pub fn parse_looked(input: &str, o: Options) -> (Result<Duration, Fault<'_>>, u6
     read_text(input, o)
 }
 
-/// The answer, as it is computed, and the looks.
+/// The computed answer, and the looks.
 #[inline(always)]
 fn read_text(input: &str, o: Options) -> (Result<Duration, Fault<'_>>, u64)
     ensures answer { IsAnswered as_nanos (answer o (chars input.now)) input.now result.0 }
@@ -97,9 +97,9 @@ fn read_text(input: &str, o: Options) -> (Result<Duration, Fault<'_>>, u64)
 }
 
 impl<'a> Fault<'a> {
-    /// The piece that starts at the place of a syntax fault, as a slice of the text.
+    /// The token that starts at the place of a syntax fault, as a slice of the text.
     ///
-    /// The text is cut under these options. `None` where no piece starts at the place, which with the options of the
+    /// The text is cut under these options. `None` if no token starts at the place, which with the options of the
     /// reading is the end of the text, and for every other cause.
     ///
     /// ```text
@@ -116,7 +116,7 @@ impl<'a> Fault<'a> {
     }
 }
 
-/// The piece that starts at the place, among those that are left.
+/// The token that starts at the place, among those that are left.
 fn token_at<'a>(mut tokens: Tokens<'a>, place: usize) -> Option<&'a str>
     ensures { IsSliceOf (source tokens.entry) (token_at place (left tokens.entry)) result }
 {

@@ -1,4 +1,4 @@
-//! The pieces of a text: numbers, words, operators, and single other characters.
+//! The tokens of a text: numbers, words, operators, and other single characters.
 ghost use Rattle.std.specs.Prelude.{◌≡◌, ◌+◌, ◌%◌, ◌^◌, ◌≤◌, [], ◌&&◌, ◌||◌, ◌==◌, length, take, is_some, Option, IsSome, if◌then◌else◌, false, Some, IsUtf8};
 ghost use Rattle.std.specs.Option.{ForSome, ForNone};
 ghost use Rattle.std.specs.Char.{is_ascii_alphabetic};
@@ -17,31 +17,31 @@ use crate::number::number_of;
 use crate::packed::unit_of_packed;
 use crate::unit::{CondUnit, Options, TimeUnit};
 
-/// The sort of a piece.
+/// The sort of a token.
 #[derive(Clone, Copy, Debug, PartialEq, Eq)]
 pub enum What {
     /// Digits.
     Number,
-    /// Unit letters, with the unit that they name.
+    /// Unit letters, with the unit that they name, if any.
     Word(Option<TimeUnit>),
     /// `+` or `*`.
     Operator(CondUnit),
-    /// Any other character that is no blank.
+    /// Any other character that is not a blank.
     Other,
 }
 
-/// A piece of a text.
+/// A token of a text.
 #[derive(Clone, Copy, Debug, PartialEq, Eq)]
 pub struct Token<'a> {
-    /// The byte of the source at which it begins.
+    /// The byte of the source at which it starts.
     pub start: usize,
-    /// The slice of the source that it is.
+    /// Its slice of the source.
     pub text: &'a str,
     /// Its sort.
     pub what: What,
 }
 
-/// The sort of a piece that its first character tells.
+/// The sort of a token, by its first character.
 #[derive(Clone, Copy)]
 pub(crate) enum Sort {
     Number,
@@ -50,7 +50,7 @@ pub(crate) enum Sort {
     Other,
 }
 
-/// A number: its digits, and what they write modulo 2^64.
+/// A run of digits and its value modulo 2^64.
 #[derive(Clone, Copy)]
 pub(crate) struct Number<'a> {
     digits: &'a str,
@@ -63,7 +63,7 @@ pub(crate) struct Number<'a> {
 impl<'a> Number<'a> {
     ghost use Rattle.duration_str.specs.Tokenizer.{u64_of};
 
-    /// The number, where it is below 2^64.
+    /// The number; `None` from 2^64 on.
     #[inline(always)]
     pub(crate) fn value(self) -> Option<u64>
         ensures { result ≡ u64_of self.entry }
@@ -71,18 +71,18 @@ impl<'a> Number<'a> {
         if self.digits.len() <= MOST_DIGITS {
             Some(self.low)
         } else {
-            // `?` keeps this way apart, as in `take_word`.
+            // `?` keeps this path separate, as in `take_word`.
             let number = number_of(self.digits)?;
             Some(number)
         }
     }
 }
 
-/// The pieces of a text, in order. Each character is looked at once, when it comes.
+/// The tokens of a text, in order. Each character is looked at once, when it is reached.
 #[derive(Drop)]
 pub struct Tokens<'a> {
     eye: Eye<'a>,
-    /// The character at the place, which was looked at; `None` at the end.
+    /// The character at the place, already looked at; `None` at the end.
     head: Option<char>,
     options: Options,
     ghost some: { ForSome head (StandsAt eye.text.now eye.place eye.next) },
@@ -95,7 +95,7 @@ impl<'a> Tokens<'a> {
     ghost use Rattle.duration_str.specs.Grammar.{Terminal, word};
     ghost use Rattle.duration_str.specs.Tokenizer.{source, options_of, place_of, looks_of, left, what_of, IsAhead, LooksAhead, is_number, IsSign, u64_of, TakesNumber, TakesToken, TakesSign};
 
-    /// The pieces of a text, cut under these options.
+    /// The tokens of a text, cut under these options.
     #[inline(always)]
     pub fn new(text: &'a str, o: Options) -> Tokens<'a>
         ensures source { source result ≡ text.now }
@@ -111,7 +111,7 @@ impl<'a> Tokens<'a> {
         }
     }
 
-    /// How often a character of the text was looked at.
+    /// How many times a character of the text was looked at.
     #[inline(always)]
     pub fn looked(&self) -> u64
         ensures count { result ≡ looks_of self.now }
@@ -157,7 +157,7 @@ impl<'a> Tokens<'a> {
         }
     }
 
-    /// Moves past the digits, and gives their number modulo 2^64.
+    /// Moves past the digits, and returns their number modulo 2^64.
     #[inline(always)]
     fn take_digits(&mut self) -> u64
         ensures source { source self.new ≡ source self.old }
@@ -190,8 +190,8 @@ impl<'a> Tokens<'a> {
         }
     }
 
-    /// Moves past the ASCII letters that the word ahead begins with, and gives them packed modulo 2^64.
-    /// Its first character is a unit letter, so there the test for ASCII is enough.
+    /// Moves past the ASCII letters at the start of the word ahead, and returns their packed number modulo 2^64. The
+    /// word's first character is a unit letter, so testing it for ASCII is enough.
     #[inline(always)]
     fn take_ascii_letters(&mut self) -> u64
         requires { IsAhead self.old (Some a_word) }
@@ -234,7 +234,7 @@ impl<'a> Tokens<'a> {
         }
     }
 
-    /// Takes the word ahead, and gives the unit that it names.
+    /// Takes the word ahead, and returns the unit that it names.
     #[inline(always)]
     pub(crate) fn take_word(&mut self) -> Option<TimeUnit>
         requires { IsAhead self.old (Some a_word) }
@@ -251,19 +251,19 @@ impl<'a> Tokens<'a> {
             unit_of_packed(packed)
         } else {
             self.skip_letters();
-            // The flags one by one: the address of `self.options` would keep all of `self` in memory.
+            // Each flag by itself: with the address of `self.options`, the compiler would keep all of `self` in memory.
             let Options {
                 no_calc,
                 lowercase,
                 cn_unit,
             } = self.options;
-            // By `?` the compiler keeps this way apart from the usual one, whose answer it then needn't test again.
+            // With `?` the compiler keeps this path apart from the usual one, whose result it then need not test again.
             let unit = unit_by_name(self.eye.since(start), no_calc, lowercase, cn_unit)?;
             Some(unit)
         }
     }
 
-    /// Takes the single character ahead, an operator or another one that is neither a digit nor a unit letter.
+    /// Takes the single character ahead: an operator, or one that is neither a digit nor a unit letter.
     #[inline(always)]
     pub(crate) fn take_sign(&mut self)
         requires { (sort : Sort) × IsSign sort × IsAhead self.old (Some sort) }
@@ -273,7 +273,7 @@ impl<'a> Tokens<'a> {
         self.advance();
     }
 
-    /// Takes the piece ahead, which is of this sort.
+    /// Takes the token ahead, which is of this sort.
     #[inline(always)]
     fn take_token(&mut self, sort: Sort) -> What
         requires { IsAhead self.old (Some sort) }
@@ -297,7 +297,7 @@ impl<'a> Tokens<'a> {
         }
     }
 
-    /// Moves past the blanks, and gives the sort of the piece ahead; `None` at the end.
+    /// Moves past the blanks, and returns the sort of the token ahead; `None` at the end.
     #[inline(always)]
     pub(crate) fn sort_ahead(&mut self) -> Option<Sort>
         ensures { LooksAhead self.old self.new result }
@@ -307,7 +307,7 @@ impl<'a> Tokens<'a> {
         Some(sort_at(first, self.options))
     }
 
-    /// Moves past the blanks, and tells whether a number is ahead.
+    /// Moves past the blanks, and returns whether a number is ahead.
     #[inline(always)]
     pub(crate) fn is_number_ahead(&mut self) -> bool
         ensures { (sort : Option Sort)
@@ -320,7 +320,7 @@ impl<'a> Tokens<'a> {
         }
     }
 
-    /// The sort of the piece ahead, as `sort_ahead` gives it. After a number it is mostly a word, so a letter is tested for first.
+    /// What `sort_ahead` returns. After a number a word is most likely, so letters are tested first.
     #[inline(always)]
     pub(crate) fn sort_after_number(&mut self) -> Option<Sort>
         ensures { LooksAhead self.old self.new result }
@@ -352,16 +352,16 @@ impl<'a> Iterator for Tokens<'a> {
     }
 }
 
-/// What is gathered of digits and letters is kept modulo this.
+/// The values of digits and letters are kept modulo this.
 const MODULUS: u128 = 1 << 64;
 
-/// The most digits whose number is always below 2^64.
+/// The most digits whose number is certainly below 2^64.
 const MOST_DIGITS: usize = 19;
 
-/// The most letters that a `u64` holds packed.
+/// The most letters whose packed number fits into a `u64`.
 const MOST_LETTERS: usize = 12;
 
-/// The sort of a piece that begins with this character.
+/// The sort of a token that starts with this character.
 #[inline(always)]
 fn sort_at(first: char, o: Options) -> Sort
     ensures { result ≡ sort_at o first }
@@ -378,7 +378,8 @@ fn sort_at(first: char, o: Options) -> Sort
     }
 }
 
-/// The unit that a word names, one of many letters or with letters beyond ASCII, or any under `lowercase`.
+/// The unit that a word names. For words with many letters or with letters beyond ASCII, and for all words under
+/// `lowercase`.
 #[cold]
 #[inline(never)]
 fn unit_by_name(word: &str, no_calc: bool, lowercase: bool, cn_unit: bool) -> Option<TimeUnit>
@@ -403,7 +404,7 @@ fn is_unit_letter(c: char, o: Options) -> bool
     c.is_ascii_alphabetic() || !c.is_ascii() && is_wide_letter(c, o.cn_unit)
 }
 
-/// Whether a character that is no ASCII letter is a unit letter: `µ`, and those that the option `cn_unit` adds.
+/// Whether a character beyond ASCII is a unit letter: `µ`, and those that the option `cn_unit` adds.
 #[cold]
 #[inline(never)]
 fn is_wide_letter(c: char, cn_unit: bool) -> bool

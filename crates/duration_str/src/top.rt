@@ -23,7 +23,7 @@ use jiff::{SignedDuration, Timestamp};
 use std::alloc::{AllocError, Global};
 use std::time::Duration;
 
-/// Printable where it is not negative, and printed as its length.
+/// A signed duration is printed as its length, unless it is negative.
 impl HumanFormat for SignedDuration {
     ghost nanos = { signed_nanos };
 
@@ -36,7 +36,7 @@ impl HumanFormat for SignedDuration {
     }
 }
 
-/// The same length, signed.
+/// The same length as a signed duration.
 fn to_signed(length: Duration) -> SignedDuration
     requires { as_nanos length < 2 ^ 64 }
     ensures { signed_nanos result ≡ pos (as_nanos length) }
@@ -44,7 +44,7 @@ fn to_signed(length: Duration) -> SignedDuration
     SignedDuration::from_nanos_i128(length.as_nanos() as i128)
 }
 
-/// Reads a text as `parse` does, into a signed duration, which holds every value that a text can have.
+/// Reads a text as `parse` does, into a signed duration, which can hold every value of a text.
 ///
 /// ```text
 /// parse_chrono("1h+30s") // Ok(SignedDuration::from_secs(3_630))
@@ -57,7 +57,7 @@ pub fn parse_chrono(input: &str) -> Result<SignedDuration, Fault<'_>>
     Ok(to_signed(length))
 }
 
-/// What `parse_chrono` answers.
+/// What `parse_chrono` returns.
 pub fn parse_time(input: &str) -> Result<SignedDuration, Fault<'_>>
     ensures answer { IsReadAs signed_nanos input.now result }
     ensures accepts { (nanos : ℕ) → IsRead off (chars input.now) nanos → IsOk result }
@@ -72,7 +72,7 @@ fn at_utc(moment: Timestamp) -> DateTime
     Offset::UTC.to_datetime(moment)
 }
 
-/// The date and time so long before the moment, or `None` out of range.
+/// The date and time this long before the moment; `None` if out of range.
 fn earlier(moment: Timestamp, length: Duration) -> Option<DateTime>
     ensures shown { IfSome result (IsCivil (moment.nanosecond -ℤ pos (as_nanos length))) }
     ensures within { IsSome result ↔ IsInRange (moment.nanosecond -ℤ pos (as_nanos length)) }
@@ -83,7 +83,7 @@ fn earlier(moment: Timestamp, length: Duration) -> Option<DateTime>
     }
 }
 
-/// The date and time so long after the moment, or `None` out of range.
+/// The date and time this long after the moment; `None` if out of range.
 fn later(moment: Timestamp, length: Duration) -> Option<DateTime>
     ensures shown { IfSome result (IsCivil (moment.nanosecond +ℤ pos (as_nanos length))) }
     ensures within { IsSome result ↔ IsInRange (moment.nanosecond +ℤ pos (as_nanos length)) }
@@ -94,7 +94,7 @@ fn later(moment: Timestamp, length: Duration) -> Option<DateTime>
     }
 }
 
-/// The date and time, or the fault that there is none.
+/// The date and time, or `OutOfRange` if there is none.
 fn in_range<'a>(at: Option<DateTime>, input: &'a str) -> Result<DateTime, Fault<'a>>
     ensures some { IfSome at (λ shown. result ≡ Ok shown) }
     ensures none { IfNone at (IsErrAnd result (λ fault.
@@ -111,8 +111,7 @@ fn in_range<'a>(at: Option<DateTime>, input: &'a str) -> Result<DateTime, Fault<
 
 /// The moment minus the value of the text, as a date and time in UTC.
 ///
-/// The text is read by `parse`, and its refusal comes first. `OutOfRange` where the instant is below
-/// `Timestamp::MIN`.
+/// The text is read by `parse`, and its refusal comes first. `OutOfRange` if the instant is before `Timestamp::MIN`.
 pub fn before_naive_date_time(moment: Timestamp, input: &str) -> Result<DateTime, Fault<'_>>
     ensures { IsDated IsCivil (λ nanos. moment.nanosecond -ℤ pos nanos) input.now result }
 {
@@ -122,8 +121,7 @@ pub fn before_naive_date_time(moment: Timestamp, input: &str) -> Result<DateTime
 
 /// The moment plus the value of the text, as a date and time in UTC.
 ///
-/// The text is read by `parse`, and its refusal comes first. `OutOfRange` where the instant is above
-/// `Timestamp::MAX`.
+/// The text is read by `parse`, and its refusal comes first. `OutOfRange` if the instant is after `Timestamp::MAX`.
 ///
 /// ```text
 /// after_naive_date_time(Timestamp::UNIX_EPOCH, "180d") // Ok, 1970-06-30T00:00:00

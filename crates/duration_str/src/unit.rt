@@ -1,4 +1,4 @@
-//! The units of time, with the options under which words name them, and the operators between terms.
+//! The units of time and their names, with the options and operators that are used with them.
 ghost use Rattle.std.specs.Prelude.{◌≡◌, None, Some, encode_utf8_all};
 ghost use Rattle.std.specs.List.{list_any};
 ghost use Rattle.std.specs.Str.{bytes_eq, chars};
@@ -142,7 +142,7 @@ impl TimeUnit {
         }
     }
 
-    /// The unit that a word names under these options, if it names one.
+    /// The unit that a word names under these options, if any.
     ///
     /// `from_word("Minutes", Options::off())` is `Some(TimeUnit::Minute)`.
     pub fn from_word(word: &str, o: Options) -> Option<TimeUnit>
@@ -155,7 +155,8 @@ impl TimeUnit {
     ///
     /// # Errors
     ///
-    /// `NumberTooLarge` for a number of 2^64 or more, else `Overflow` for a value of 2^64 or more, both without place.
+    /// `NumberTooLarge` for a number of 2^64 or more, otherwise `Overflow` for a value of 2^64 or more, both without a
+    /// place.
     pub fn value(self, number: &str) -> Result<u64, Cause>
         requires { IsNumber (chars number.now) }
         ensures { result ≡ term_answer None (term_of (number_of (chars number.now)) self) }
@@ -163,7 +164,7 @@ impl TimeUnit {
         self.times(number_of(number), None)
     }
 
-    /// The value in nanoseconds of a term with this number, which is `None` from 2^64 on. The place is that of its fault.
+    /// The value of a term in nanoseconds. `number` is `None` if it exceeds `u64`; `place` goes into the error.
     #[inline]
     pub(crate) fn times(self, number: Option<u64>, place: Option<usize>) -> Result<u64, Cause>
         ensures { result ≡ term_value place number (nanos_of self) }
@@ -171,7 +172,7 @@ impl TimeUnit {
         let Some(n) = number else {
             return Err(Cause::NumberTooLarge { place });
         };
-        // Tested in 128 bits, for which the compiler needs fewer instructions than for `checked_mul`.
+        // Checked in 128 bits, which takes fewer instructions than `checked_mul`.
         match u64::try_from(n as u128 * self.nanos() as u128) {
             Ok(value) => Ok(value),
             Err(_) => Err(Cause::Overflow { place }),
@@ -202,11 +203,11 @@ impl fmt::Display for TimeUnit {
 struct Row {
     /// The length in nanoseconds.
     nanos: u64,
-    /// The name that is printed.
+    /// The printed name.
     printed: &'static str,
-    /// The names that are read under any options.
+    /// The names that are read under all options.
     names: &'static [&'static str],
-    /// The names that the option `cn_unit` adds.
+    /// The names that are also read with the option `cn_unit`.
     chinese: &'static [&'static str],
 }
 

@@ -1,4 +1,4 @@
--- A text is refused for a cause of its own: not as a date out of range, nor as a value that is no text.
+-- The causes for which a text can be refused: all but a date out of range and a value that is not a text.
 use Rattle.std.proofs.Common.{ℕ, Bool, true, false, List, [], ◌∷◌, ◌++◌, Option, Some, None, subst, sym}
 use Rattle.duration_str.specs.declared.options.Options.{Options}
 use Rattle.duration_str.specs.declared.operator.CondUnit.{CondUnit}
@@ -8,13 +8,13 @@ use Rattle.duration_str.specs.Grammar.{Terminal}
 use Rattle.duration_str.specs.Value.{Term, value_of_term, is_same_operator, later_total, sum_of, total_of, fits, or_else, unless, term_fault, later_fault, evaluation_fault, terms_of}
 use Rattle.duration_str.specs.Reading.{place_after, first_fault, running_fault, early_fault, late_fault, complete_terms, IsRefused, IsRefusedAt, early, syntax_fault, late}
 
--- Reading a text can have this cause.
+-- A text can be refused for this cause.
 abbrev pub IsOfText : Cause → Type 0
 IsOfText OutOfRange = ⊥
 IsOfText (NotText optional) = ⊥
 IsOfText _ = Unit {0}
 
--- The same, of a fault if there is one.
+-- The same for a fault, if there is one.
 abbrev AnyOfText : Option Cause → Type 0
 AnyOfText None = Unit {0}
 AnyOfText (Some cause) = IsOfText cause

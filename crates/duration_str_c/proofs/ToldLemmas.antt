@@ -1,4 +1,4 @@
--- What an answer tells of a cause is enough to know it.
+-- An answer says enough about a cause to recover it.
 use Rattle.std.proofs.Common.{◌≡◌, ℕ, Bool, true, false, List, Some, None, refl, ap, subst}
 use Rattle.duration_str.specs.declared.options.Options.{Options}
 use Rattle.duration_str.specs.declared.operator.CondUnit.{CondUnit}
@@ -13,7 +13,7 @@ use Rattle.duration_str_c.proofs.CauseLemmas.{IsOfText}
 abbrev kinds : Bool → Bool → Bool → Bool → Expected
 kinds number unit_word operator text_end = record { number = number; unit_word = unit_word; operator = operator; text_end = text_end }
 
--- The bits hold each kind.
+-- The kinds are recovered from their bits.
 kinds_again : (a b c d : Bool) → expected_of (bits_of (kinds a b c d)) ≡ kinds a b c d
 kinds_again true true true true = refl
 kinds_again true true true false = refl
@@ -38,7 +38,7 @@ mixed_again Plus Star n = refl
 mixed_again Star Plus n = refl
 mixed_again Star Star n = refl
 
--- The cause of a text is told again by the answer that tells it.
+-- The cause of a text is recovered from its answer.
 pub told_again : (cause : Cause) (n : ℕ) → IsOfText cause → cause_told (refusal_told cause n) ≡ Some cause
 told_again Empty n h = refl
 told_again (Syntax place e) n h = ap (λ (e : Expected). Some (Syntax place e)) (kinds_again e.number e.unit_word e.operator e.text_end)
@@ -50,7 +50,7 @@ told_again (Mixed first later) n h = mixed_again first later n
 told_again OutOfRange n h = refl
 told_again (NotText optional) n h = absurd h
 
--- A refusal that is told of bytes is told of the same bytes under the same options.
+-- An answer that refuses bytes also refuses equal bytes under equal options.
 pub refusal_moves : (o p : Options) (bytes same : List ℕ) (cause : Cause) (answer : Answer) → o ≡ p → bytes ≡ same
     → IsRefusalTold o bytes cause answer → IsRefusalTold p same cause answer
 refusal_moves o p bytes same cause answer e f told =

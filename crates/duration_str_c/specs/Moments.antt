@@ -12,21 +12,21 @@ use Rattle.duration_str_c.specs.declared.moment.Direction.TheVariants.{After, Be
 use Rattle.duration_str_c.specs.declared.moment.Moment.{Moment}
 use Rattle.duration_str_c.specs.Told.{value_told, refusal_told, IsRefusalTold}
 
--- how many nanoseconds after 1970-01-01T00:00:00Z the moment is
+-- the nanoseconds from 1970-01-01T00:00:00Z to the moment
 abbrev pub instant_of : Moment → ℤ
 instant_of m = m.secs *ℤ pos 1_000_000_000 +ℤ pos m.nanos
 
--- Its nanoseconds are part of a second, and it is an instant that a timestamp can have.
+-- Its nanoseconds are less than a second, and it is an instant that a `Timestamp` can hold.
 abbrev pub IsMoment : Moment → Type 0
 IsMoment m = (m.nanos < 1_000_000_000) × IsInRange (instant_of m)
 
--- the instant so many nanoseconds after or before this one
+-- the instant this many nanoseconds after or before another one
 abbrev pub moved : Direction → ℤ → ℕ → ℤ
 moved After instant nanos = instant +ℤ pos nanos
 moved Before instant nanos = instant -ℤ pos nanos
 
--- The bytes are read, and the moment is now the instant that their value reaches, which the answer tells as a value. Or the
--- moment stays, and the answer tells the refusal of the bytes, or that the instant is out of range.
+-- The bytes are read, the answer has their value, and the moment is now the instant that it reaches. Or the moment is
+-- unchanged, and the answer has the refusal of the bytes, or says that the instant is out of range.
 abbrev pub IsMoved : (ℕ → ℤ) → Options → List ℕ → Moment → Moment → Answer → Type 0
 IsMoved reached o bytes old new answer =
     ((nanos : ℕ) × IsRead o (chars bytes) nanos × IsMoment new × (instant_of new ≡ reached nanos) × (answer ≡ value_told nanos))

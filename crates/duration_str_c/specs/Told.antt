@@ -1,4 +1,4 @@
--- What a caller of C is told of a text.
+-- The answer that a caller of C gets for a text.
 use Rattle.std.specs.Prelude.{◌≡◌, ℕ, ◌+◌, ◌==◌, Bool, false, not, List, ◌⊎◌, Option, Some, None, if◌then◌else◌, is_some, unwrap_or}
 use Rattle.std.specs.Int.Bits.{bit_and}
 use Rattle.std.specs.Option.{ForSome}
@@ -19,7 +19,7 @@ use Rattle.duration_str_c.specs.declared.answer.Answer.{Answer}
 abbrev pub has : ℕ → ℕ → Bool
 has bits flag = not (bit_and bits flag == 0)
 
--- the options whose bits are set; no other bit counts
+-- the options whose bits are set; other bits have no effect
 abbrev pub options_of : ℕ → Options
 options_of bits = record { no_calc = has bits 1; lowercase = has bits 2; cn_unit = has bits 4 }
 
@@ -33,12 +33,12 @@ number_of (Mixed first later) = 5
 number_of OutOfRange = 6
 number_of (NotText optional) = 7
 
--- the bits of what could stand at a place
+-- the bits of the kinds that could stand at a place
 abbrev pub bits_of : Expected → ℕ
 bits_of e =
     (if e.number then 1 else 0) + (if e.unit_word then 2 else 0) + (if e.operator then 4 else 0) + (if e.text_end then 8 else 0)
 
--- what could stand at the place of a fault; nothing but for a syntax fault
+-- the bits of the kinds that could stand at the place of a syntax fault; 0 for other causes
 abbrev pub expected_bits : Cause → ℕ
 expected_bits (Syntax place expected) = bits_of expected
 expected_bits _ = 0
@@ -48,22 +48,22 @@ abbrev pub sign_of : CondUnit → ℕ
 sign_of Plus = 43
 sign_of Star = 42
 
--- the operator that came first, where operators are mixed
+-- the first operator for mixed operators, otherwise 0
 abbrev pub first_sign : Cause → ℕ
 first_sign (Mixed first later) = sign_of first
 first_sign _ = 0
 
--- the operator that came later, where operators are mixed
+-- the later operator for mixed operators, otherwise 0
 abbrev pub later_sign : Cause → ℕ
 later_sign (Mixed first later) = sign_of later
 later_sign _ = 0
 
--- how many bytes a token has, and 0 where there is none
+-- the length of a token in bytes; 0 without one
 abbrev pub token_length : Option Token → ℕ
 token_length None = 0
 token_length (Some token) = byte_len token.characters
 
--- a value
+-- the answer with a value
 abbrev pub value_told : ℕ → Answer
 value_told nanos = record {
   nanos = nanos;
@@ -76,7 +76,7 @@ value_told nanos = record {
   later_operator = 0;
 }
 
--- a refusal, and how many bytes the token has that was found at its place
+-- the answer with a refusal, and the length of the token at its place
 abbrev pub refusal_told : Cause → ℕ → Answer
 refusal_told cause found_length = record {
   nanos = 0;
@@ -89,11 +89,11 @@ refusal_told cause found_length = record {
   later_operator = later_sign cause;
 }
 
--- what could stand at a place, by its bits
+-- the kinds that could stand at a place, given their bits
 abbrev pub expected_of : ℕ → Expected
 expected_of bits = record { number = has bits 1; unit_word = has bits 2; operator = has bits 4; text_end = has bits 8 }
 
--- the place that an answer tells
+-- the place in an answer, if it has one
 abbrev pub place_told : Answer → Option ℕ
 place_told a = if a.has_place == 0 then None else Some a.place
 
@@ -101,12 +101,12 @@ place_told a = if a.has_place == 0 then None else Some a.place
 abbrev pub operator_told : ℕ → Option CondUnit
 operator_told sign = if sign == 43 then Some Plus else if sign == 42 then Some Star else None
 
--- the fault of two operators, where there are both
+-- the fault of two mixed operators, if both are operators
 abbrev pub mixed_told : Option CondUnit → Option CondUnit → Option Cause
 mixed_told (Some first) (Some later) = Some (Mixed first later)
 mixed_told _ _ = None
 
--- the cause that an answer tells; none where it tells a value, and where no call tells it
+-- the cause in an answer; `None` if it has a value, or is one that no call gives
 abbrev pub cause_told : Answer → Option Cause
 cause_told a =
     if a.cause == 1 then Some Empty
@@ -118,14 +118,14 @@ cause_told a =
     else if a.cause == 7 then Some (NotText false)
     else None
 
--- The answer tells that the bytes are refused for this cause. The cause can be told from the answer again, and its place is
--- a character boundary of the bytes.
+-- The answer says that the bytes are refused for this cause. The cause can be recovered from the answer, and its place
+-- is a character boundary of the bytes.
 abbrev pub IsRefusalTold : Options → List ℕ → Cause → Answer → Type 0
 IsRefusalTold o bytes cause answer =
     IsRefused o (chars bytes) cause × (answer ≡ refusal_told cause (token_length (found o (chars bytes) cause)))
     × (cause_told answer ≡ Some cause) × ForSome (place_of cause) (IsCharBoundary bytes)
 
--- The answer tells the value of the bytes, or the refusal that comes first.
+-- The answer has the value of the bytes, or the cause of their refusal.
 abbrev pub IsTold : Options → List ℕ → Answer → Type 0
 IsTold o bytes answer =
     ((nanos : ℕ) × IsRead o (chars bytes) nanos × (answer ≡ value_told nanos))

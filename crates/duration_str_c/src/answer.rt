@@ -1,4 +1,4 @@
-//! Answers: the value of a text, or all that a fault has, as a struct of C.
+//! Answers: the value of a text or everything about its fault, as a C struct.
 ghost use Rattle.std.specs.Prelude.{◌≡◌};
 ghost use Rattle.std.specs.Str.{chars};
 ghost use Rattle.duration_str.specs.Faults.{found};
@@ -29,21 +29,21 @@ const OPERATOR: u32 = 4;
 
 const END: u32 = 8;
 
-/// What a text is read as, or why it is refused. What a case does not name is 0.
+/// What a text is read as, or why it is refused. Fields that a case does not use are 0.
 #[repr(C)]
 #[derive(Clone, Copy)]
 pub struct Answer {
-    /// The value in nanoseconds, where the text is read.
+    /// The value in nanoseconds, if the text is read.
     pub nanos: u64,
-    /// The byte at which the fault stands, where it has a place.
+    /// The byte offset of the fault, if it has a place.
     pub place: usize,
-    /// For a syntax fault: how many bytes the piece has that stands at the place; 0 at the end.
+    /// For a syntax fault: the length in bytes of the token at the place; 0 at the end.
     pub found_length: usize,
-    /// 0 where the text is read, else the number of the cause, from 1 for `Empty` to 7 for `NotText`.
+    /// 0 if the text is read, otherwise the number of the cause, from 1 for `Empty` to 7 for `NotText`.
     pub cause: u32,
     /// For a syntax fault: what could stand at the place, as bits: 1 a number, 2 a unit, 4 an operator, 8 the end.
     pub expected: u32,
-    /// 1 where the fault has a place, else 0.
+    /// 1 if the fault has a place, otherwise 0.
     pub has_place: u8,
     /// For mixed operators: the one that came first, as its character.
     pub first_operator: u8,
@@ -52,7 +52,7 @@ pub struct Answer {
 }
 
 impl Answer {
-    /// A value.
+    /// The answer with a value.
     pub(crate) fn value(nanos: u64) -> Answer
         ensures { result ≡ value_told nanos }
     {
@@ -68,7 +68,7 @@ impl Answer {
         }
     }
 
-    /// A refusal, with the length of the piece at its place.
+    /// The answer with a refusal, and the length of the token at its place.
     pub(crate) fn refusal(cause: Cause, found_length: usize) -> Answer
         ensures { result ≡ refusal_told cause found_length }
     {
@@ -86,7 +86,7 @@ impl Answer {
         }
     }
 
-    /// The cause that it tells. `None` where it tells a value, and where no call tells it.
+    /// The cause in this answer; `None` if it has a value, or is one that no call gives.
     pub(crate) fn cause(self) -> Option<Cause>
         ensures { result ≡ cause_told self }
     {
@@ -109,7 +109,7 @@ impl Answer {
         }
     }
 
-    /// The place that it tells.
+    /// The place in this answer, if it has one.
     fn told_place(self) -> Option<usize>
         ensures { result ≡ place_told self }
     {
@@ -120,7 +120,7 @@ impl Answer {
         }
     }
 
-    /// The fault of its two operators, where both are operators.
+    /// The fault of its two operators, if both are operators.
     fn mixed(self) -> Option<Cause>
         ensures { result ≡ mixed_told (operator_told self.first_operator)
             (operator_told self.later_operator) }
@@ -131,7 +131,7 @@ impl Answer {
     }
 }
 
-/// The fault for which a text is refused under these options.
+/// The answer with the fault for which a text is refused under these options.
 pub(crate) fn refused(fault: Fault<'_>, options: Options) -> Answer
     requires { IsRefused options (chars fault.text.now) fault.cause }
     ensures { IsRefusalTold options fault.entry.text.now fault.entry.cause result }
@@ -139,7 +139,7 @@ pub(crate) fn refused(fault: Fault<'_>, options: Options) -> Answer
     Answer::refusal(fault.cause(), found_length(&fault, options))
 }
 
-/// How many bytes the piece has that stands at the place of a syntax fault, and 0 where there is none.
+/// The length in bytes of the token at the place of a syntax fault; 0 without one.
 fn found_length(fault: &Fault<'_>, options: Options) -> usize
     ensures { result ≡ token_length (found options (chars fault.now.text.now) fault.now.cause) }
 {
@@ -164,7 +164,7 @@ fn number_of(cause: Cause) -> u32
     }
 }
 
-/// The bits of what could stand at the place; none but for a syntax fault.
+/// The bits of the kinds that could stand at the place of a syntax fault; 0 for other causes.
 fn expected_bits(cause: Cause) -> u32
     ensures { result ≡ expected_bits cause }
 {
@@ -174,7 +174,7 @@ fn expected_bits(cause: Cause) -> u32
     }
 }
 
-/// The bits of what could stand at a place.
+/// The bits of the kinds that could stand at a place.
 fn bits_of(expected: Expected) -> u32
     ensures { result ≡ bits_of expected }
 {
@@ -185,7 +185,7 @@ fn bits_of(expected: Expected) -> u32
     number + unit + operator + end
 }
 
-/// What could stand at a place, by its bits.
+/// The kinds that could stand at a place, given their bits.
 fn expected_of(bits: u32) -> Expected
     ensures { result ≡ expected_of bits }
 {
@@ -197,7 +197,7 @@ fn expected_of(bits: u32) -> Expected
     }
 }
 
-/// The characters of the first and the later operator, where operators are mixed.
+/// The characters of the first and the later operator for mixed operators, otherwise 0.
 fn signs_of(cause: Cause) -> (u8, u8)
     ensures first { result.0 ≡ first_sign cause }
     ensures later { result.1 ≡ later_sign cause }

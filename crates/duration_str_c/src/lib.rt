@@ -1,6 +1,6 @@
-//! The library for C: `include/duration_str.h` declares what stands here.
+//! The library for C: `include/duration_str.h` declares these functions.
 //!
-//! Nothing takes memory. Bytes that are no UTF-8 are refused.
+//! Nothing is allocated. Bytes that are not UTF-8 are refused.
 #![tactic(auto)]
 
 ghost use Rattle.std.specs.Prelude.{◌≡◌, ℕ, ◌+◌, ◌*◌, ◌<◌, ◌≤◌, ◌==◌, false, IsTrue, IsFalse, IfSome, IfNone, IsUtf8, take};
@@ -28,7 +28,7 @@ const LOWERCASE: u32 = 2;
 
 const CN_UNIT: u32 = 4;
 
-/// The options whose bits are set. No other bit counts.
+/// The options whose bits are set. Other bits have no effect.
 fn options_of(bits: u32) -> Options
     ensures options { result ≡ options_of bits }
     ensures three_bits { result ≡ options_of (bit_and bits 7) }
@@ -40,7 +40,7 @@ fn options_of(bits: u32) -> Options
     }
 }
 
-/// Reads a text with all options off into nanoseconds. False where it is refused, and `nanos` stays.
+/// Reads a text with all options off into nanoseconds. Returns false if it is refused, and then `nanos` is unchanged.
 #[unsafe(no_mangle)]
 pub extern "C" fn duration_str_parse(text: &[u8], nanos: &mut u64) -> bool
     ensures read { IsTrue result → IsRead off (chars text.now) nanos.new }
@@ -61,8 +61,8 @@ pub extern "C" fn duration_str_parse(text: &[u8], nanos: &mut u64) -> bool
     }
 }
 
-/// Prints a duration into the front of the buffer, and gives the text's length. It is 0 where `nanos` is no part of a
-/// second, and the buffer stays.
+/// Prints a duration to the start of the buffer, and returns the length of the text. If `nanos` is a second or more,
+/// returns 0, and the buffer is unchanged.
 #[unsafe(no_mangle)]
 pub extern "C" fn duration_str_format(secs: u64, nanos: u32, buffer: &mut [u8; 64]) -> usize
     ensures text { nanos < 1_000_000_000
@@ -80,7 +80,7 @@ pub extern "C" fn duration_str_format(secs: u64, nanos: u32, buffer: &mut [u8; 6
     end
 }
 
-/// Reads a text under the options whose bits are set. True where it is read.
+/// Reads a text under the options whose bits are set. Returns true if it is read.
 #[unsafe(no_mangle)]
 pub extern "C" fn duration_str_parse_with(text: &[u8], options: u32, answer: &mut Answer) -> bool
     ensures told { IsUtf8 text.now → IsTold (options_of options) text.now answer.new }
@@ -91,7 +91,7 @@ pub extern "C" fn duration_str_parse_with(text: &[u8], options: u32, answer: &mu
     answer.cause == 0
 }
 
-/// What reading the bytes tells, under the options whose bits are set.
+/// The answer for the bytes under the options whose bits are set.
 fn told(bytes: &[u8], options: u32) -> Answer
     ensures told { IsUtf8 bytes.now → IsTold (options_of options) bytes.now result }
     ensures not_text { ¬ (IsUtf8 bytes.now) → result ≡ refusal_told (NotText false) 0 }
@@ -106,7 +106,7 @@ fn told(bytes: &[u8], options: u32) -> Answer
     }
 }
 
-/// The version: a million for each major, a thousand for each minor, and one for each patch number.
+/// The version: the major number times a million, plus the minor number times a thousand, plus the patch number.
 #[unsafe(no_mangle)]
 pub extern "C" fn duration_str_version() -> u32
     ensures { result ≡ 19_000 }
@@ -114,7 +114,7 @@ pub extern "C" fn duration_str_version() -> u32
     19_000
 }
 
-/// The bytes as a text, where they are UTF-8. Most are ASCII, for which there is a shorter test.
+/// The bytes as a text, if they are UTF-8. Most are ASCII, which can be tested faster.
 #[inline(always)]
 fn text_of(bytes: &[u8]) -> Option<&str>
     ensures text { IfSome result (λ text. (text.now ≡ bytes.now) × IsUtf8 bytes.now) }

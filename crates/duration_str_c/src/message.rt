@@ -1,6 +1,6 @@
-//! What a person is told by an answer.
+//! The message for an answer.
 //!
-//! An answer comes from a caller, and can be any: none makes a message that is not one of these.
+//! An answer comes from a caller and can be anything, but every one gives one of these messages.
 ghost use Rattle.std.specs.Prelude.{◌≡◌, Some, None, IfSome, IfNone, IsUtf8, encode_utf8_all};
 ghost use Rattle.duration_str.specs.FaultText.{fault_text, line_of};
 ghost use Rattle.duration_str.specs.declared.fault.Cause.{Cause};
@@ -11,10 +11,11 @@ use crate::answer::Answer;
 use crate::text_of;
 use duration_str::{Cause, Fault};
 
-/// Writes what a person is told of a refused text into the front of the buffer, and gives how many bytes that is. Where
-/// they are more than the buffer, nothing is written.
+/// Writes the message about a refused text to the start of the buffer, and returns its length in bytes. If it is longer
+/// than the buffer, nothing is written.
 ///
-/// The message is the line alone where the cause can't be a fault of this text, and empty where the answer tells none.
+/// The message is only the line if this text cannot have a fault with this cause, and is empty if the answer has no
+/// cause.
 #[unsafe(no_mangle)]
 pub extern "C" fn duration_str_message(text: &[u8], answer: &Answer, buffer: &mut [u8]) -> usize
     ensures whole { (cause : Cause) → cause_told answer.now ≡ Some cause
@@ -38,7 +39,7 @@ pub extern "C" fn duration_str_message(text: &[u8], answer: &Answer, buffer: &mu
     }
 }
 
-/// Writes the line that says what is wrong, as `duration_str_message` writes the message.
+/// Writes the line that says what is wrong, in the same way as `duration_str_message` writes the message.
 #[unsafe(no_mangle)]
 pub extern "C" fn duration_str_line(answer: &Answer, buffer: &mut [u8]) -> usize
     ensures line { (cause : Cause) → cause_told answer.now ≡ Some cause
@@ -52,7 +53,7 @@ pub extern "C" fn duration_str_line(answer: &Answer, buffer: &mut [u8]) -> usize
     }
 }
 
-/// Writes the line of the cause, if there is room, and gives how many bytes it has.
+/// Writes the line of the cause if there is room, and returns its length in bytes.
 fn show_line(cause: Cause, buffer: &mut [u8]) -> usize
     ensures { IsShown (encode_utf8_all (line_of cause)) buffer.old result buffer.new }
 {
@@ -60,7 +61,7 @@ fn show_line(cause: Cause, buffer: &mut [u8]) -> usize
     cause.line_len()
 }
 
-/// The fault that these bytes are refused for this cause, where it can be.
+/// The fault of these bytes with this cause; `None` if they cannot have it.
 fn fault_of<'a>(bytes: &'a [u8], cause: Cause) -> Option<Fault<'a>>
     ensures fault { IfSome result (λ fault. (fault.text.now ≡ bytes.now) × (fault.cause ≡ cause)) }
     ensures can { IfSome result (λ fault. CanFault bytes.now cause) }

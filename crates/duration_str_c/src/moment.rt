@@ -1,4 +1,4 @@
-//! Moments, and those before and after them by the value of a text.
+//! Moments, and how the value of a text moves them.
 ghost use Rattle.std.specs.Prelude.{◌≡◌, ◌==◌, false, ◌↔◌, pos, ◌+ℤ◌, ◌-ℤ◌, IsUtf8, IsSome, IfSome, IfNone};
 ghost use Rattle.std.specs.Duration.{as_nanos};
 ghost use Rattle.duration_str.specs.Dates.{IsInRange, IsOutOfRange};
@@ -18,13 +18,13 @@ const SECOND: i128 = 1_000_000_000;
 #[repr(C)]
 #[derive(Clone, Copy)]
 pub struct Moment {
-    /// The whole seconds, which are negative before 1970.
+    /// Whole seconds, negative before 1970.
     pub secs: i64,
     /// The nanoseconds after them, below 1,000,000,000.
     pub nanos: u32,
 }
 
-/// Where a moment moves.
+/// The direction in which a moment moves.
 #[derive(Clone, Copy)]
 enum Direction {
     /// Forward.
@@ -33,7 +33,7 @@ enum Direction {
     Before,
 }
 
-/// The same moment, if it is one that a timestamp can have.
+/// The timestamp of the moment, if there is one.
 fn timestamp_of(moment: Moment) -> Option<Timestamp>
     ensures within { IsSome result ↔ IsMoment moment }
     ensures same { IfSome result (λ t. t.nanosecond ≡ instant_of moment) }
@@ -60,7 +60,7 @@ fn moment_of(timestamp: Timestamp) -> Moment
     }
 }
 
-/// The moment so long after or before a timestamp, if a timestamp can have it.
+/// The moment this long after or before a timestamp; `None` if out of range.
 fn moved(from: Timestamp, length: Duration, direction: Direction) -> Option<Moment>
     ensures moment { IfSome result IsMoment }
     ensures reached { IfSome result
@@ -78,7 +78,7 @@ fn moved(from: Timestamp, length: Duration, direction: Direction) -> Option<Mome
     }
 }
 
-/// Moves the moment by the value of a text, and gives what is told of it.
+/// Moves the moment by the value of a text, and returns the answer.
 fn told_of_move(text: &[u8], options: u32, moment: &mut Moment, direction: Direction) -> Answer
     ensures told { IsMoment moment.old → IsUtf8 text.now
         → IsMoved (moved direction (instant_of moment.old)) (options_of options) text.now
@@ -106,8 +106,8 @@ fn told_of_move(text: &[u8], options: u32, moment: &mut Moment, direction: Direc
     Answer::value(length.as_nanos() as u64)
 }
 
-/// Moves the moment forward by the value of a text, which is read under the options whose bits are set. True where it is
-/// moved; else it stays, and the answer tells why.
+/// Moves the moment forward by the value of a text, which is read under the options whose bits are set. Returns true if
+/// it is moved; otherwise it is unchanged, and the answer says why.
 #[unsafe(no_mangle)]
 pub extern "C" fn duration_str_after(
     text: &[u8],
@@ -128,7 +128,7 @@ pub extern "C" fn duration_str_after(
     answer.cause == 0
 }
 
-/// Moves the moment back as `duration_str_after` moves it forward.
+/// Moves the moment back, in the same way as `duration_str_after` moves it forward.
 #[unsafe(no_mangle)]
 pub extern "C" fn duration_str_before(
     text: &[u8],

@@ -1,4 +1,4 @@
-// The calls as a C caller makes them.
+// The functions called as from C.
 use crate::answer::Answer;
 use crate::message::{duration_str_line, duration_str_message};
 use crate::moment::{Moment, duration_str_after, duration_str_before};
@@ -20,7 +20,7 @@ const NOT_TEXT: u32 = 7;
 
 const NO_CALC: u32 = 1;
 
-/// An answer in which every field has to be written.
+/// An answer in which every field must be overwritten.
 fn unwritten() -> Answer {
     Answer {
         nanos: 77,
@@ -34,14 +34,14 @@ fn unwritten() -> Answer {
     }
 }
 
-/// What is told of the bytes under these options.
+/// The answer for the bytes under these options.
 fn answer_to(bytes: &[u8], options: u32) -> Answer {
     let mut answer = unwritten();
     duration_str_parse_with(bytes, options, &mut answer);
     answer
 }
 
-/// The fields of an answer but for the value and the operators.
+/// The fields of an answer, without the value and the operators.
 fn place_of(answer: Answer) -> (u32, u8, usize, usize, u32) {
     (
         answer.cause,

@@ -11,7 +11,7 @@ use std::process::Abort;
 use std::test::Fail;
 use std::time::Duration;
 
-/// Each call reads the required value as so many seconds.
+/// Each call reads the required value as this many seconds.
 fn assert_required_is(rt: &impl Abort, value: &Value, secs: u32) {
     let plain = Duration::from_secs(u64::from(secs));
     assert_eq!(rt; deserialize_duration::<Duration>(value), Ok(plain));
@@ -21,7 +21,7 @@ fn assert_required_is(rt: &impl Abort, value: &Value, secs: u32) {
     assert_eq!(rt; deserialize_duration_time(value), Ok(signed));
 }
 
-/// Each call refuses the required value by this fault.
+/// Each call refuses the required value with this fault.
 fn assert_required_fails(rt: &impl Abort, value: &Value, fault: Fault<'_>) {
     assert_eq!(rt; deserialize_duration::<Duration>(value), Err(fault));
     assert_eq!(rt; deserialize_duration::<SignedDuration>(value), Err(fault));
@@ -29,7 +29,7 @@ fn assert_required_fails(rt: &impl Abort, value: &Value, fault: Fault<'_>) {
     assert_eq!(rt; deserialize_duration_time(value), Err(fault));
 }
 
-/// Each call reads the optional value as so many seconds, or as `None`.
+/// Each call reads the optional value as this many seconds, or as `None`.
 fn assert_optional_is(rt: &impl Abort, value: &Value, secs: Option<u32>) {
     let (plain, signed) = match secs {
         Some(secs) => (
@@ -48,7 +48,7 @@ fn assert_optional_is(rt: &impl Abort, value: &Value, secs: Option<u32>) {
     assert_eq!(rt; deserialize_option_duration_time(value), Ok(signed));
 }
 
-/// Each call refuses the optional value by this fault.
+/// Each call refuses the optional value with this fault.
 fn assert_optional_fails(rt: &impl Abort, value: &Value, fault: Fault<'_>) {
     assert_eq!(rt; deserialize_duration::<Option<Duration>>(value), Err(fault));
     assert_eq!(rt; deserialize_option_duration(value), Err(fault));
@@ -60,7 +60,7 @@ fn assert_optional_fails(rt: &impl Abort, value: &Value, fault: Fault<'_>) {
     assert_eq!(rt; deserialize_option_duration_time(value), Err(fault));
 }
 
-/// The fault of a value that is no text.
+/// The fault of a value that is not a text.
 fn no_text<'a>(optional: bool) -> Fault<'a> {
     Fault {
         text: "",

@@ -13,7 +13,7 @@ fn longest() -> Duration {
     Duration::new(3_153_600_000_031_190_399, 999_999_999)
 }
 
-/// The printed text of any value that has one.
+/// The printed text of a value that is not negative.
 fn formatted<T: HumanFormat>(value: &T, alloc: Global) -> Result<Option<String>, AllocError> {
     if value.is_printable() {
         Ok(Some(value.human_format(alloc)?))

@@ -10,7 +10,7 @@ const TOO_LARGE: &str = "number too large to fit in target type";
 
 const OVERFLOW: &str = "overflow error";
 
-/// Texts that are refused under these options, each with what stands below it: the caret and the line.
+/// Texts that are refused under these options, each with what is printed below it: the caret and the line.
 const POINTED: [(&str, Options, &str, &str); 24] = [
     ("   ", OFF, "   ^", NUMBER),
     ("1m+", OFF, "   ^", NUMBER),
@@ -148,7 +148,7 @@ fn finds_the_piece_at_the_place(rt: HostRuntime) {
 
 #[test]
 fn finds_no_piece_under_other_options(rt: HostRuntime) {
-    // With the option the word `m分` begins at byte 1, and none at byte 2.
+    // With the option, the word `m分` starts at byte 1, and no token at byte 2.
     let found = match parse_with("1m分", Options::off()) {
         Ok(_) => Some("read"),
         Err(fault) => fault.found(CN_UNIT),

@@ -1,6 +1,6 @@
-//! Tests of what the library's public calls answer.
+//! Tests of what the library's public functions return.
 //!
-//! Those that refuse memory stand in the library, beside the private functions that take any allocator.
+//! Those that refuse memory are in the library, next to the private functions that take any allocator.
 #![tactic(auto)]
 
 #[cfg(test)]

@@ -1,9 +1,10 @@
-// Faults written into buffers that have just room, more, and one byte less.
+// Faults written to buffers that are exactly large enough, larger, and one byte too small.
 use crate::refusal::refusal;
 use crate::vectors::OFF;
 use duration_str::Fault;
 
-/// Whether the fault's message has just these bytes, which a buffer with as much room takes, and none with less.
+/// Whether the fault's message is exactly these bytes, which fit into a buffer of that length, and not into a smaller
+/// one.
 fn fills<const N: usize>(fault: Fault<'_>, message: &[u8; N]) -> bool {
     let mut buffer = [b'#'; N];
     let shorter = &mut buffer[..N - 1];

@@ -26,14 +26,14 @@ const STAR_THEN_PLUS: Cause = Cause::Mixed {
     later: CondUnit::Plus,
 };
 
-/// The text is read as so many nanoseconds.
+/// The text is read as this many nanoseconds.
 fn assert_read(rt: &impl Abort, text: &str, o: Options, nanos: u64) {
     let wanted = Ok(Duration::from_nanos(nanos));
     assert_eq!(rt; parse_with(text, o), wanted, "{text}");
     assert_eq!(rt; parse_looked(text, o).0, wanted, "{text}");
 }
 
-/// The text is refused for this cause, by a fault that holds it.
+/// The text is refused for this cause, in a fault that holds it.
 fn assert_refused(rt: &impl Abort, text: &str, o: Options, cause: Cause) {
     for answer in [parse_with(text, o), parse_looked(text, o).0] {
         match answer {
@@ -82,7 +82,7 @@ fn multiplies_step_by_step(rt: HostRuntime) {
     assert_refused(&rt, "0*580y*2", off, OVERFLOW);
     assert_read(&rt, "1ns*1ns*1000000000", off, 1);
     assert_read(&rt, "1000000000*1ns*1ns", off, 0);
-    // The last factor takes 2^48 nanoseconds to 2^64 of them, or to 2^48 less.
+    // The last factor makes 2^48 nanoseconds into 2^64, or into 2^48 less.
     assert_refused(&rt, "0*281474976710656ns*65536", off, OVERFLOW);
     assert_read(&rt, "0*281474976710656ns*65535", off, 0);
 }
@@ -258,7 +258,7 @@ fn refuses_many_blanks(rt: HostRuntime) -> Result<(), Fail> {
 
 #[test]
 fn counts_looks(rt: HostRuntime) {
-    // Never more than the characters; in an accepted text no fewer, and at a syntax fault at least those before it.
+    // Never more looks than characters; as many for an accepted text, and at least those before a syntax fault.
     for (text, least, most) in [
         ("", 0, 0),
         ("3m 13s 29ms", 11, 11),

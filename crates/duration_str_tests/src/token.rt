@@ -1,9 +1,9 @@
-// The pieces of texts, and how often their characters are looked at.
+// The tokens of texts, and how many times their characters are looked at.
 use crate::vectors::{CN_UNIT, LOWERCASE};
 use duration_str::{CondUnit, Options, TimeUnit, Token, Tokens, What};
 use std::process::Abort;
 
-/// The text is cut into these pieces, and then ends for good.
+/// The text is cut into these tokens, and then the iterator stays at its end.
 fn assert_cut(rt: &impl Abort, text: &str, o: Options, pieces: &[(usize, &str, What)]) {
     let mut tokens = Tokens::new(text, o);
     for (start, piece, what) in pieces.iter().copied() {
@@ -153,7 +153,7 @@ fn takes_chinese_letters_by_the_option(rt: HostRuntime) {
 
 #[test]
 fn looks_at_each_character_once(rt: HostRuntime) {
-    // The characters up to the end of each piece, and those of the whole text.
+    // The characters up to the end of each token, and those of the whole text.
     for (text, ends, all) in [
         ("", [].as_slice(), 0),
         ("   ", &[], 3),

@@ -14,7 +14,7 @@ use jiff::{SignedDuration, Timestamp};
 use std::test::Fail;
 use std::time::Duration;
 
-/// The texts that are printed for what is read from the first.
+/// Texts, and the printed texts of the durations that they are read as.
 const PRINTED: [(&str, &str); 7] = [
     ("0s", "0s"),
     ("1y 12d 3s", "1y 1w 5d 3s"),
@@ -30,7 +30,7 @@ fn midnight(year: i16, month: i8, day: i8) -> Result<Timestamp, jiff::Error> {
     Offset::UTC.to_timestamp(Date::new(year, month, day)?.at(0, 0, 0, 0))
 }
 
-/// The fault of this text.
+/// The fault with which the text is refused.
 fn fault<'a>(text: &'a str, cause: Cause) -> Fault<'a>
     requires { ForSome (place_of cause) (IsCharBoundary text.now) }
 {

@@ -152,14 +152,14 @@ fn knows_no_other_word(rt: HostRuntime) {
     }
 }
 
-/// Whether a text has digits alone.
+/// Whether a text is all digits.
 fn are_digits(text: &str) -> bool
     ensures { result ≡ list_all is_digit (chars text.now) }
 {
     text.chars().all(|c| c.is_ascii_digit())
 }
 
-/// What `value` answers for this number, or `None` where the text is none.
+/// What `value` returns for this number; `None` if the text is not a number.
 fn value_of(unit: TimeUnit, number: &str) -> Option<Result<u64, Cause>> {
     if number.chars().next().is_some() && are_digits(number) {
         Some(unit.value(number))
@@ -168,7 +168,8 @@ fn value_of(unit: TimeUnit, number: &str) -> Option<Result<u64, Cause>> {
     }
 }
 
-/// The last number of each unit but the nanosecond whose value is below 2^64 nanoseconds, that value, and the next number.
+/// For each unit except the nanosecond, the last number with a value below 2^64 nanoseconds, that value, and the next
+/// number.
 const LAST_VALUES: [(TimeUnit, &str, u64, &str); 10] = [
     (TimeUnit::Year, "584", 18_417_024_000_000_000_000, "585"),
     (

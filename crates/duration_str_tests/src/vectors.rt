@@ -1,4 +1,4 @@
-//! What tests share: choices of options, what can stand at a place, the lines that say it, and texts with their values.
+//! What tests share: options, what can stand at a place, the lines that say it, and texts with their values.
 ghost use Rattle.std.specs.Prelude.{◌≡◌};
 ghost use Rattle.duration_str.specs.declared.fault.Cause.TheVariants.{Syntax};
 
@@ -11,28 +11,28 @@ pub const OFF: Options = Options {
     cn_unit: false,
 };
 
-/// `no_calc` alone.
+/// Only `no_calc`.
 pub const NO_CALC: Options = Options {
     no_calc: true,
     lowercase: false,
     cn_unit: false,
 };
 
-/// `lowercase` alone.
+/// Only `lowercase`.
 pub const LOWERCASE: Options = Options {
     no_calc: false,
     lowercase: true,
     cn_unit: false,
 };
 
-/// `cn_unit` alone.
+/// Only `cn_unit`.
 pub const CN_UNIT: Options = Options {
     no_calc: false,
     lowercase: false,
     cn_unit: true,
 };
 
-/// What can stand at the start and behind an operator.
+/// What can stand at the start and after an operator.
 pub const START: Expected = Expected {
     number: true,
     unit_word: false,
@@ -40,7 +40,7 @@ pub const START: Expected = Expected {
     text_end: false,
 };
 
-/// What can stand behind a number.
+/// What can stand after a number.
 pub const AFTER_NUMBER: Expected = Expected {
     number: false,
     unit_word: true,
@@ -48,7 +48,7 @@ pub const AFTER_NUMBER: Expected = Expected {
     text_end: true,
 };
 
-/// What can stand behind a unit.
+/// What can stand after a unit.
 pub const AFTER_UNIT: Expected = Expected {
     number: true,
     unit_word: false,
@@ -56,7 +56,7 @@ pub const AFTER_UNIT: Expected = Expected {
     text_end: true,
 };
 
-/// What can stand behind a number where no operator is read.
+/// What can stand after a number under `no_calc`.
 pub const ALONE_AFTER_NUMBER: Expected = Expected {
     number: false,
     unit_word: true,
@@ -64,7 +64,7 @@ pub const ALONE_AFTER_NUMBER: Expected = Expected {
     text_end: true,
 };
 
-/// What can stand behind a unit where no operator is read.
+/// What can stand after a unit under `no_calc`.
 pub const ALONE_AFTER_UNIT: Expected = Expected {
     number: true,
     unit_word: false,
@@ -83,13 +83,13 @@ pub fn syntax(place: usize, expected: Expected) -> Cause
 pub const UNITS: &str =
     "expected [\"y\", \"q\", \"mon\", \"w\", \"d\", \"h\", \"m\", \"s\", \"ms\", \"µs\", \"us\", \"ns\"]";
 
-/// The line where no unit could stand, but an operator.
+/// The line where no unit could stand, but an operator could.
 pub const OPERATORS: &str = "expected ['+', '*']";
 
-/// The line where neither could stand, but a number.
+/// The line where only a number could stand.
 pub const NUMBER: &str = "expected number";
 
-/// Each text with the nanoseconds that it is read as with all options off.
+/// Texts and the nanoseconds that they are read as with all options off.
 pub const VALUES: [(&str, u64); 65] = [
     ("0", 0),
     ("0    ", 0),

@@ -1,4 +1,4 @@
-//! Reads durations from standard input, a line each, and prints them.
+//! Reads durations from standard input, one on each line, and prints them.
 //!
 //! The words of the command line choose the options: `no_calc`, `lowercase`, `cn_unit`.
 #![tactic(auto)]
@@ -9,7 +9,7 @@ use std::env;
 use std::io::ErrorKind;
 use std::process::ExitCode;
 
-/// Runs by the words of the command line, and answers the status and the line on standard error.
+/// Runs with the words of the command line, and returns the status and the line for standard error.
 fn ended(rt: &HostRuntime) -> (u8, &'static str) {
     let words = match env::args(rt) {
         Ok(words) => words,
@@ -29,7 +29,7 @@ fn ended(rt: &HostRuntime) -> (u8, &'static str) {
 fn main(rt: HostRuntime) -> ExitCode {
     let (status, line) = ended(&rt);
     if !line.is_empty() {
-        // The status says the same, so a failure of this line is let go.
+        // The status says the same, so a failure to write this line is ignored.
         let _ = eprintln!(rt; "{line}");
     }
     ExitCode::from(status)

@@ -9,13 +9,13 @@ use Rattle.durstr_run.specs.Lines.{lines_of, less_empty_last}
 abbrev is_line_feed : ℕ → Bool
 is_line_feed b = b == 10
 
--- A part before others stays.
+-- A part that is not the last one is kept.
 less_empty_last-cons : (part : List ℕ) (parts : List (List ℕ)) → 0 < length parts → less_empty_last (part ∷ parts) ≡ part ∷ less_empty_last parts
 less_empty_last-cons part [] h = absurd (omega arith)
 less_empty_last-cons [] (next ∷ parts) h = refl
 less_empty_last-cons (b ∷ part) (next ∷ parts) h = refl
 
--- The only part stays where it is not empty.
+-- A single part is kept if it is not empty.
 less_empty_last-one : (part : List ℕ) → 0 < length part → less_empty_last (part ∷ []) ≡ part ∷ []
 less_empty_last-one [] h = absurd (omega arith)
 less_empty_last-one (b ∷ part) h = refl
@@ -31,7 +31,7 @@ lines_of-Some bytes i e =
     let known : slice_split is_line_feed bytes ≡ take i bytes ∷ slice_split is_line_feed (drop (i + 1) bytes) = rw at at split in
     ap less_empty_last known ∙ less_empty_last-cons (take i bytes) (slice_split is_line_feed (drop (i + 1) bytes)) (omega (arith, length-slice_split is_line_feed (drop (i + 1) bytes)))
 
--- Without a line feed all bytes are one line.
+-- Without a line feed, all bytes are one line.
 pub lines_of-None : (bytes : List ℕ) → 0 < length bytes → All (λ b. is_line_feed b ≡ false) bytes → lines_of bytes ≡ bytes ∷ lines_of []
 unfolding lines_of
 lines_of-None bytes h e = ap less_empty_last (slice_split_none is_line_feed bytes e) ∙ less_empty_last-one bytes h

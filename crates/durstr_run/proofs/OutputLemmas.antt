@@ -5,19 +5,19 @@ use Rattle.duration_str.specs.declared.options.Options.{Options}
 use Rattle.durstr_run.specs.Lines.{lines_of}
 use Rattle.durstr_run.specs.Output.{IsLineOutput, AreOutputs, IsOutput}
 
--- What is written so far, with any output for the bytes that are left behind it, is an output for the whole input.
+-- What is written so far, followed by any output for the bytes that are left, is an output for the whole input.
 abbrev pub Continues : Options → List ℕ → List ℕ → List ℕ → Bool → Type 0
 Continues o input left written so_far =
     (tail : List ℕ) (others : Bool) → IsOutput o left tail others → IsOutput o input (written ++ tail) (so_far && others)
 
--- The output for the first line and that for the rest are one for the whole.
+-- The output for the first line and the output for the rest are an output for the whole.
 first_and_rest : (o : Options) (bytes line rest text tail : List ℕ) (accepted others : Bool)
     → lines_of bytes ≡ line ∷ lines_of rest → IsLineOutput o line text accepted → IsOutput o rest tail others
     → IsOutput o bytes (text ++ (10 ∷ tail)) (accepted && others)
 first_and_rest o bytes line rest text tail accepted others cut here after =
     subst (λ lines. AreOutputs o lines (text ++ (10 ∷ tail)) (accepted && others)) (sym cut) (text, tail, accepted, others, here, after, refl, refl)
 
--- The output for one more line is written.
+-- The output for one more line was written.
 pub Continues-line : (o : Options) (input left line rest written longer : List ℕ) (so_far accepted : Bool)
     → Continues o input left written so_far
     → lines_of left ≡ line ∷ lines_of rest
@@ -32,7 +32,7 @@ Continues-line o input left line rest written longer so_far accepted before cut 
     subst (λ out. IsOutput o input out ((so_far && accepted) && others)) joined
     (subst (λ all. IsOutput o input (written ++ (text ++ (10 ∷ tail))) all) (sym (and_assoc so_far accepted others)) whole)
 
--- No bytes have no output.
+-- The output for no bytes is empty.
 IsOutput-nil : (o : Options) (bytes : List ℕ) → length bytes ≡ 0 → IsOutput o bytes [] true
 unfolding lines_of
 IsOutput-nil o [] e = (refl, refl)

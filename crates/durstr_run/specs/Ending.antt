@@ -1,4 +1,4 @@
--- How the program ends after each answer of a run.
+-- How the program ends after each result of a run.
 use Rattle.std.specs.Prelude.{ℕ, Bool, true, false, List, [], Result, Ok, Err, codes}
 use Rattle.durstr_run.specs.declared.fault.RunFault.{RunFault}
 use Rattle.durstr_run.specs.declared.fault.RunFault.TheVariants as faults
@@ -12,7 +12,7 @@ status_of (Err faults.Write) = 2
 status_of (Err faults.TooLong) = 2
 status_of (Err faults.Memory) = 3
 
--- the line on standard error, empty where there is none
+-- the line on standard error; empty if there is none
 abbrev pub line_of : Result Bool RunFault → List ℕ
 line_of (Ok accepted) = []
 line_of (Err faults.Read) = codes "durstr: read failed"

@@ -1,4 +1,4 @@
--- What is written for the bytes that were read.
+-- What is written for the bytes that are read.
 use Rattle.std.specs.Prelude.{◌≡◌, ℕ, Bool, true, false, ◌&&◌, ◌⊎◌, List, [], ◌∷◌, ◌++◌, codes, encode_utf8_all}
 use Rattle.std.specs.Fmt.{decimal}
 use Rattle.std.specs.Str.{IsUtf8, chars}
@@ -9,7 +9,7 @@ use Rattle.duration_str.specs.Printing.{IsPrinted}
 use Rattle.duration_str.specs.FaultText.{fault_text}
 use Rattle.durstr_run.specs.Lines.{lines_of}
 
--- An accepted line prints its value in nanoseconds, a space, and the same as a duration.
+-- An accepted line prints its value in nanoseconds, a space, and the value as a duration.
 pub record PrintsValue (o : Options) (line text : List ℕ) : Type 0 where
   pub nanos : ℕ
   pub human : List ℕ
@@ -25,22 +25,23 @@ pub record PrintsFault (o : Options) (line text : List ℕ) : Type 0 where
   pub refused : IsRefused o (chars line) cause
   pub shown : text ≡ fault_text line cause
 
--- Bytes that are no text say so.
+-- Bytes that are not UTF-8 print a line that says so.
 abbrev pub PrintsNotUtf8 : List ℕ → List ℕ → Type 0
 PrintsNotUtf8 line text = (IsUtf8 line → ⊥) × (text ≡ codes "not UTF-8")
 
--- The text is what is printed for a line, without its line feed, and the line is accepted or not.
+-- The text is printed for this line, which has no line feed, and the flag says whether the line is accepted.
 unfoldable pub IsLineOutput : Options → List ℕ → List ℕ → Bool → Type 0
 IsLineOutput o line text true = PrintsValue o line text
 IsLineOutput o line text false = PrintsFault o line text ⊎ PrintsNotUtf8 line text
 
--- The bytes are what is printed for these lines, each with a line feed behind it, and all lines are accepted or not.
+-- The bytes are the output for these lines, each followed by a line feed, and the flag says whether all lines are
+-- accepted.
 abbrev pub AreOutputs : Options → List (List ℕ) → List ℕ → Bool → Type 0
 AreOutputs o [] out all = (out ≡ []) × (all ≡ true)
 AreOutputs o (line ∷ lines) out all =
     (text rest : List ℕ) × (accepted others : Bool) × IsLineOutput o line text accepted × AreOutputs o lines rest others
     × (out ≡ text ++ (10 ∷ rest)) × (all ≡ (accepted && others))
 
--- The bytes are the output for the input, and all of its lines are accepted or not.
+-- The bytes are the output for the input, and the flag says whether all of its lines are accepted.
 abbrev pub IsOutput : Options → List ℕ → List ℕ → Bool → Type 0
 IsOutput o input out all = AreOutputs o (lines_of input) out all

@@ -4,16 +4,16 @@ ghost use Rattle.durstr_run.specs.declared.fault.RunFault.TheVariants.{Memory};
 
 use std::alloc::AllocError;
 
-/// Why a run ended before all was written.
+/// Why a run ended before everything was written.
 #[derive(Clone, Copy, Debug, PartialEq, Eq)]
 pub enum RunFault {
-    /// A read answered an error.
+    /// A read failed.
     Read,
-    /// A write or the flush answered an error, or a write of a nonempty piece took nothing.
+    /// A write or the flush failed, or a write of a nonempty part took nothing.
     Write,
     /// The reader gave more than 1,048,576 bytes.
     TooLong,
-    /// A growth was refused.
+    /// Memory was refused.
     Memory,
 }
 

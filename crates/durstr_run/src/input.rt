@@ -9,10 +9,10 @@ use std::io::Read;
 /// The most bytes that an input may have.
 const LIMIT: usize = 1_048_576;
 
-/// The most bytes that one read asks for.
+/// The most bytes that one read requests.
 const CHUNK: usize = 65_536;
 
-/// All that the reader gives.
+/// Everything that the reader gives.
 pub fn read_all<A: Allocator, R: Read>(alloc: A, reader: &mut R) -> Result<Vec<u8, A>, RunFault>
     ensures ok { IfOk result (λ input.
         ReadsAll (R.remaining reader.old) (R.remaining reader.new) input.items) }

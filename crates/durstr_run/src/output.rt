@@ -10,7 +10,7 @@ use duration_str::{Options, parse_with, write_human};
 use std::alloc::{AllocError, Allocator};
 use std::io::Write;
 
-/// Adds the output for one line and a line feed, and answers whether the line was accepted.
+/// Adds the output for one line and a line feed, and returns whether the line was accepted.
 fn push_line<A: Allocator>(
     out: &mut String<A>,
     line: &[u8],
@@ -58,7 +58,7 @@ pub fn output_of<A: Allocator>(
     Ok((out, all_accepted))
 }
 
-/// Writes all of the bytes and flushes.
+/// Writes all the bytes and flushes.
 pub fn write_all<W: Write>(writer: &mut W, bytes: &[u8]) -> Result<(), RunFault>
     ensures ok { OnOk result (Appends (W.contents writer.old) (W.contents writer.new) bytes.now) }
     ensures err { OnErr result (WritesFront

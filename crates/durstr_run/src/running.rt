@@ -9,14 +9,15 @@ use duration_str::Options;
 use std::alloc::{Allocator, Global};
 use std::io::{Read, Write};
 
-/// Reads the whole input, and then writes the output for its lines.
+/// Reads the whole input, then writes the output for its lines.
 ///
-/// Lines end at line feeds. Each gives its own output and a line feed: an accepted line its nanoseconds,
-/// a space and the printed duration, a refused one its fault text, and one that is not UTF-8 says so.
+/// Lines end at line feeds. For each line the output has a text and a line feed: for an accepted line its nanoseconds,
+/// a space and the printed duration, for a refused one its fault text, and for one that is not UTF-8 a text that says
+/// so.
 ///
-/// `Ok(true)`: every line was accepted. `Ok(false)`: some line was not. In both cases all was written and flushed.
-/// The input may have 1,048,576 bytes. After `Read`, `TooLong` and `Memory` nothing was written,
-/// after `Write` a beginning of the output.
+/// `Ok(true)`: every line was accepted. `Ok(false)`: some line was not. In both cases everything was written and
+/// flushed. The input may have 1,048,576 bytes. After `Read`, `TooLong` and `Memory` nothing was written, after `Write`
+/// a beginning of the output.
 pub fn run<R: Read, W: Write>(
     alloc: Global,
     reader: &mut R,
@@ -33,7 +34,7 @@ pub fn run<R: Read, W: Write>(
     run_in(&alloc, reader, writer, options)
 }
 
-/// `run` over any allocator.
+/// `run` with any allocator.
 fn run_in<A: Allocator, R: Read, W: Write>(
     alloc: &A,
     reader: &mut R,

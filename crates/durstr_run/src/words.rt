@@ -5,8 +5,8 @@ ghost use Rattle.durstr_run.specs.Ending.{status_of, line_of};
 use crate::fault::RunFault;
 use duration_str::Options;
 
-/// The options with the field of this name on and the other two kept,
-/// or `None` where the word is none of `no_calc`, `lowercase`, `cn_unit`.
+/// The options with the field of this name on and the others unchanged; `None` if the word is not `no_calc`,
+/// `lowercase` or `cn_unit`.
 pub fn with_word(options: Options, word: &str) -> Option<Options>
     ensures no_calc { word.now ≡ codes "no_calc"
         → result ≡ Some (record options { no_calc = true }) }
@@ -34,7 +34,7 @@ pub fn with_word(options: Options, word: &str) -> Option<Options>
     }
 }
 
-/// The exit status for this answer of `run`, and the line for standard error, empty where there is none.
+/// The exit status for this result of `run`, and the line for standard error, which is empty if there is none.
 pub fn ending(answer: Result<bool, RunFault>) -> (u8, &'static str)
     ensures status { result.0 ≡ status_of answer }
     ensures line { result.1.now ≡ line_of answer }

@@ -1,6 +1,6 @@
-//! Tests of what strangers hand in: very long texts, and characters that look like others.
+//! Tests of hostile input: very long texts, and characters that look like others.
 //!
-//! Refused memory and failing devices are tested beside the functions that take an allocator, a reader or a writer.
+//! Refused memory and failing devices are tested next to the functions that take an allocator, a reader or a writer.
 #![tactic(auto)]
 
 #[cfg(test)]

@@ -1,4 +1,4 @@
-// Long texts, look-alikes, and calls that have no memory to ask for.
+// Long texts, look-alikes, and calls that have no allocator.
 use arrayvec::ArrayString;
 use duration_str::{
     Cause, Expected, Fault, Options, after_naive_date, deserialize_duration, parse, parse_with,
@@ -17,7 +17,7 @@ use std::process::Abort;
 use std::test::Fail;
 use std::time::Duration;
 
-/// The part so many times, between a head and a tail.
+/// The part repeated this many times, between a head and a tail.
 fn long(
     rt: &HostRuntime,
     head: &str,
@@ -29,7 +29,7 @@ fn long(
     format!(in rt.alloc(); "{head}{run}{tail}")
 }
 
-/// The fault that refuses the text.
+/// The fault with which the text is refused.
 fn refusal<'a>(rt: &impl Abort, text: &'a str, o: Options) -> Fault<'a> {
     parse_with(text, o).err().expect(rt, "a refused text")
 }
@@ -50,8 +50,8 @@ fn reads_long_texts(rt: HostRuntime) -> Result<(), Fail> {
     Ok(())
 }
 
-/// A head, a part, how many times it stands, a tail, and the options; then the place of the syntax fault, what could stand
-/// there, and the line.
+/// A head, a part, how many times it is repeated, a tail, and the options; then the place of the syntax fault, what
+/// could stand there, and the line.
 const SYNTAX_FAULTS: [(&str, &str, usize, &str, Options, usize, Expected, &str); 7] = [
     ("", "9", 100_000, " 2", OFF, 100_001, AFTER_NUMBER, UNITS),
     ("1s", " ", 100_000, "x", OFF, 100_002, AFTER_UNIT, OPERATORS),
@@ -62,7 +62,7 @@ const SYNTAX_FAULTS: [(&str, &str, usize, &str, Options, usize, Expected, &str);
     ("1s", "-", 100_000, "", OFF, 2, AFTER_UNIT, OPERATORS),
 ];
 
-/// The text is refused for this cause, and the fault shows the whole text and this line.
+/// The text is refused for this cause, and the fault prints the whole text and this line.
 fn assert_refused(
     rt: &impl Abort,
     alloc: Global,
@@ -139,8 +139,8 @@ fn takes_look_alikes_for_what_they_are(rt: HostRuntime) {
     }
 }
 
-/// Reads, prints, shows a fault, and gives dates and configured durations. It is handed no allocator, so that there is
-/// no memory that these calls could ask for.
+/// Reads, prints, prints a fault, and computes dates and configured durations. It takes no allocator, so these calls
+/// have nothing to allocate from.
 fn answer_without_memory(rt: &impl Abort, config: &Value, day: Date) {
     let d = Duration::new(193, 29_000_000);
     assert_eq!(rt; parse("3m 13s 29ms"), Ok(d));

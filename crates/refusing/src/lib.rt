@@ -1,11 +1,11 @@
-//! An allocator that refuses from a chosen request on, for tests of what happens where memory is refused.
+//! An allocator that refuses all requests after the first few, for tests of what happens when memory is refused.
 #![tactic(auto)]
 
 use std::alloc::{AllocError, Allocator};
 use std::cell::Cell;
 
-/// Hands requests on to another allocator, and refuses them once a number of them was met.
-/// What was handed out before stays valid, and can be given back at any time.
+/// Passes requests on to another allocator, and refuses them after a number of them were granted. Memory that was
+/// granted stays valid, and can be given back at any time.
 ///
 /// ```text
 /// let memory = Refusing::new(rt.alloc(), 1);
@@ -18,8 +18,7 @@ pub struct Refusing<B: Allocator> {
 }
 
 impl<B: Allocator> Refusing<B> {
-    /// Meets the first `granted` requests from `inner`, and refuses all that come after.
-    /// A growth is one request.
+    /// Grants the first `granted` requests from `inner`, and refuses all later ones. Growing a block is one request.
     pub fn new(inner: B, granted: u64) -> Refusing<B> {
         Refusing {
             inner,
@@ -34,7 +33,7 @@ impl<B: Allocator> Drop for Refusing<B> {
     }
 }
 
-/// Whether no request is left; else takes one off.
+/// Whether no request is left; otherwise one is used up.
 fn is_spent(left: &Cell<u64>) -> bool {
     let count = left.get();
     if count == 0 {

@@ -1,11 +1,11 @@
--- An accepted text from its facts, and back.
+-- An accepted text from its facts, and its facts from the text.
 use Rattle.std.proofs.Common.{ℕ, List, subst, ⊎_elim}
 use Rattle.duration_str.specs.Laws.{OneAnswer}
 use Rattle.duration_str.specs.Reading.{IsRead}
 use Rattle.duration_str.specs.Units.{off}
 use Rattle.uses.specs.Accepted.{IsNeverRefused, HasNoOtherValue}
 
--- A text that is never refused is read as a value, and that is the only one that it has.
+-- A text that is never refused is read as a value, which is its only one.
 pub read_as_kept : OneAnswer → (text : List ℕ) (nanos : ℕ) → IsNeverRefused text → HasNoOtherValue text nanos → IsRead off text nanos
 read_as_kept law text nanos never_refused no_other =
     ⊎_elim

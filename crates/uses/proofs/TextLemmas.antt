@@ -1,4 +1,4 @@
--- Texts that are compared by their bytes.
+-- Texts compared by their bytes.
 use Rattle.std.proofs.Common.{◌≡◌, ◌≢◌, ◌↔◌, ℕ, Bool, true, false, List, not, IsTrue, IsUtf8, refl, ap, sym, ◌∙◌}
 use Rattle.std.specs.Str.{chars, bytes_eq}
 use Rattle.std.proofs.lemmas.Str.{encodes-chars}
@@ -13,7 +13,8 @@ differ_by : (equal differ : Bool) (P Q : Type 0) → (equal ≡ true → P) × (
 differ_by true differ P Q decides is to from = (λ h. absurd (true≢false (sym h ∙ is)), λ h. absurd (h (to (decides.0 refl))))
 differ_by false differ P Q decides is to from = (λ h q. true≢false (sym (decides.1 (from q))), λ h. is)
 
--- Texts differ in their bytes exactly if what their characters tell differs.
+-- If the characters of two texts are equal exactly when two numbers are, their bytes differ exactly when the numbers
+-- do.
 pub differ_by_chars : {m n : ℕ} (a b : List ℕ) (differ : Bool) → IsUtf8 a → IsUtf8 b → differ ≡ not (bytes_eq a b) → (chars a ≡ chars b ↔ m ≡ n) → (IsTrue differ ↔ (m ≢ n))
 differ_by_chars {m} {n} a b differ ua ub is same =
     differ_by (bytes_eq a b) differ (a ≡ b) (m ≡ n) (bytes_eq-Decides a b) is (λ e. same.0 (ap chars e)) (λ e. chars_tell a b ua ub (same.1 e))

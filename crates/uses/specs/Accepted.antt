@@ -1,10 +1,10 @@
--- What is known of a text that was accepted once.
+-- What is known of a text that was accepted.
 use Rattle.std.specs.Prelude.{◌≡◌, ℕ, List}
 use Rattle.duration_str.specs.declared.fault.Cause.{Cause}
 use Rattle.duration_str.specs.Reading.{IsRead, IsRefused}
 use Rattle.duration_str.specs.Units.{off}
 
--- No cause refuses the text.
+-- The text is refused for no cause.
 abbrev pub IsNeverRefused : List ℕ → Type 0
 IsNeverRefused text = (cause : Cause) → IsRefused off text cause → ⊥
 

@@ -1,4 +1,4 @@
--- What a configuration of a service says.
+-- The durations in the configuration of a service.
 use Rattle.std.specs.Prelude.{◌≡◌, ℤ, pos, Option, Some, None, Result, Ok, Err, codes}
 use Rattle.std.specs.declared.time.Duration.{Duration}
 use Rattle.std.specs.Duration.{as_nanos}
@@ -10,14 +10,15 @@ use Rattle.uses.specs.declared.settings.Settings.{Settings}
 use Rattle.uses.specs.declared.settings.SettingsFault.{SettingsFault}
 use Rattle.uses.specs.declared.settings.SettingsFault.TheVariants.{NoTimeout, Timeout, KeepAlive}
 
+-- the length of a duration in nanoseconds
 abbrev nanos_of : Duration → ℤ
 nanos_of d = pos (as_nanos d)
 
--- The required field is there, and gives this.
+-- The required field is present, and is read as this result.
 abbrev GivesTimeout : Data → Result Duration Fault → Type 0
 GivesTimeout config result = (field : Data) × (get (codes "timeout") config ≡ Some field) × IsRequired nanos_of field result
 
--- The optional field gives this, and where it is missing `None`.
+-- The optional field is read as this result; if it is missing, the result is `None`.
 abbrev GivesKeepAlive : Data → Result (Option Duration) Fault → Type 0
 GivesKeepAlive config result = keep_alive (get (codes "keep_alive") config)
   where

@@ -1,4 +1,4 @@
--- What a table of durations holds, and why one is refused.
+-- The texts of a table of durations, and why they are refused.
 use Rattle.std.specs.Prelude.{◌≡◌, ℕ, List, ◌⊎◌}
 use Rattle.std.specs.Str.{chars}
 use Rattle.duration_str.specs.declared.fault.Fault.{Fault}
@@ -24,11 +24,11 @@ pub record HoldsTexts (connect idle session : List ℕ) (table : Table) : Type 0
 abbrev pub IsAccepted : List ℕ → Type 0
 IsAccepted text = (nanos : ℕ) × IsRead off (chars text) nanos
 
--- The fault refuses the text.
+-- The fault is the refusal of this text.
 abbrev pub Refuses : List ℕ → Fault → Type 0
 Refuses text fault = (fault.text.now ≡ text) × IsRefused off (chars text) fault.cause
 
--- The fault refuses the first of these texts that is not accepted.
+-- The fault is the refusal of the first of these texts that is not accepted.
 abbrev pub IsFirstFault : List ℕ → List ℕ → List ℕ → Fault → Type 0
 IsFirstFault connect idle session fault =
     Refuses connect fault

@@ -1,4 +1,4 @@
-//! Texts that were read once.
+//! Texts that are read once.
 ghost use Rattle.std.specs.Prelude.{◌≡◌, ℕ, IsOk, IfOk, IfErr};
 ghost use Rattle.std.specs.Duration.{as_nanos};
 ghost use Rattle.std.specs.Str.{chars};
@@ -22,7 +22,7 @@ pub struct Accepted<'a> {
 }
 
 impl<'a> Accepted<'a> {
-    /// Reads the text, with all options off. A refusal is answered here, and never again.
+    /// Reads the text with all options off. If it is refused, it is refused here, and never later.
     pub fn read(text: &'a str) -> Result<Accepted<'a>, Fault<'a>>
         ensures text { IfOk result (λ accepted. accepted.text.now ≡ text.now) }
         ensures read { IfOk result (λ accepted.
@@ -38,7 +38,7 @@ impl<'a> Accepted<'a> {
         }
     }
 
-    /// The duration, from when the text was read.
+    /// The duration, stored when the text was read.
     pub fn length(&self) -> Duration
         ensures kept { result ≡ self.now.length }
         ensures read { IsRead off (chars self.now.text.now) (as_nanos result) }
@@ -47,7 +47,7 @@ impl<'a> Accepted<'a> {
         self.length
     }
 
-    /// The duration, by reading the text again. It is the one that was kept.
+    /// The duration, by reading the text again. It is the stored one.
     pub fn read_again(&self) -> Duration
         ensures { as_nanos result ≡ as_nanos self.now.length }
     {

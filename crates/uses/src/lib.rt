@@ -1,4 +1,4 @@
-//! Callers of `duration_str`. They rest on what it promises and on its laws, and on nothing of how it works.
+//! Callers of `duration_str`. They rely on its contracts and its laws, and not on how it works.
 #![tactic(auto)]
 
 pub mod accepted;

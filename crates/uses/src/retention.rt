@@ -1,4 +1,4 @@
-//! How long to keep what two periods together ask for.
+//! How long to keep something for two periods together.
 ghost use Rattle.std.specs.Prelude.{◌≡◌, ◌==◌, ◌++◌, None, not, codes, IfSome, IfNone};
 ghost use Rattle.std.specs.Duration.{as_nanos};
 ghost use Rattle.std.specs.List.{list_all};
@@ -12,7 +12,7 @@ use crate::accepted::Accepted;
 use duration_str::laws::sum_of_texts;
 use std::time::Duration;
 
-/// An accepted text without `*`, so that another one can be added to it.
+/// An accepted text without `*`, to which another one can be added.
 #[derive(Clone, Copy)]
 pub struct Period<'a> {
     /// The text with its duration.
@@ -21,7 +21,7 @@ pub struct Period<'a> {
 }
 
 impl<'a> Period<'a> {
-    /// The period that an accepted text says, or `None` where it has a `*`.
+    /// The period of an accepted text; `None` if it has a `*`.
     pub fn new(accepted: Accepted<'a>) -> Option<Period<'a>>
         ensures some { IfSome result (λ period. period.accepted ≡ accepted.entry) }
         ensures none { IfNone result (HasNoStar (chars accepted.entry.text.now) → ⊥) }
@@ -33,8 +33,8 @@ impl<'a> Period<'a> {
         }
     }
 
-    /// The duration that both texts, joined by a plus, are read as; `None` where the joined text is refused, since both
-    /// come to 2^64 nanoseconds or more. The joined text is neither made nor read.
+    /// The duration that both texts, joined by a plus, are read as; `None` if the joined text is refused because their
+    /// sum is 2^64 nanoseconds or more. The joined text is never built.
     pub fn total(&self, other: &Period<'_>) -> Option<Duration>
         ensures read { IfSome result (λ d. IsRead off
             (chars self.now.accepted.text.now ++ codes "+"

@@ -1,4 +1,4 @@
-//! The time that is left until a job is due, as a scheduler shows it.
+//! The time until a job is due, as a scheduler shows it.
 ghost use Rattle.std.specs.Prelude.{◌≡◌, ℕ, ◌-◌, ◌↔◌, ◌≢◌, IsTrue};
 ghost use Rattle.std.specs.Duration.{as_nanos};
 ghost use Rattle.std.specs.Str.{chars};
@@ -9,22 +9,22 @@ use duration_str::laws::equal_texts;
 use duration_str::write_human;
 use std::time::Duration;
 
-/// What is left from `now` until `due`, and nothing from then on; both are counted from one moment.
+/// The time from `now` until `due`, or zero after that; both are counted from the same moment.
 pub fn remaining(due: Duration, now: Duration) -> Duration
     ensures { as_nanos result ≡ as_nanos due - as_nanos now }
 {
     due.saturating_sub(now)
 }
 
-/// What is left, as it is shown.
+/// The time that is left, as it is shown.
 pub fn show<'b>(due: Duration, now: Duration, buffer: &'b mut [u8; 64]) -> &'b str
     ensures { IsPrinted (as_nanos due - as_nanos now) (chars result.now) }
 {
     write_human(&remaining(due, now), buffer)
 }
 
-/// Whether the text that is shown has to be replaced. The scheduler keeps the text alone, and not what was left when it
-/// was made: the text differs exactly if the time does.
+/// Whether the text that is shown must be replaced. The scheduler stores only the text, not the time that it shows: the
+/// text differs exactly if the time does.
 pub fn is_outdated(shown: &str, due: Duration, now: Duration) -> bool
     ensures { (nanos : ℕ) → FitsDuration nanos → IsPrinted nanos (chars shown.now)
         → (IsTrue result ↔ (nanos ≢ as_nanos due - as_nanos now)) }

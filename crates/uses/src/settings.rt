@@ -10,9 +10,9 @@ use std::time::Duration;
 /// How long a service waits, and for what.
 #[derive(Clone, Copy, Debug, PartialEq, Eq)]
 pub struct Settings {
-    /// The field `timeout`, which has to be there.
+    /// The required field `timeout`.
     pub timeout: Duration,
-    /// The field `keep_alive`; a missing field, null and the empty text say that there is none.
+    /// The field `keep_alive`; `None` if it is missing, null or the empty text.
     pub keep_alive: Option<Duration>,
 }
 
@@ -21,9 +21,9 @@ pub struct Settings {
 pub enum SettingsFault<'a> {
     /// The field `timeout` is missing.
     NoTimeout,
-    /// The field `timeout` is no duration.
+    /// The field `timeout` is not a duration.
     Timeout(Fault<'a>),
-    /// The field `keep_alive` is no duration.
+    /// The field `keep_alive` is not a duration.
     KeepAlive(Fault<'a>),
 }
 
@@ -112,7 +112,7 @@ mod tests {
         Ok(())
     }
 
-    /// Whether the optional field is refused, and why a field is.
+    /// Whether the refused field is the optional one, and the cause.
     fn cause(config: &Value) -> Option<(bool, Cause)> {
         match Settings::read(config) {
             Err(SettingsFault::Timeout(fault)) => Some((false, fault.cause())),

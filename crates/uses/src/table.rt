@@ -13,9 +13,9 @@ use std::time::Duration;
 /// What a duration is for.
 #[derive(Clone, Copy, Debug, PartialEq, Eq)]
 pub enum Key {
-    /// Until a connection is made.
+    /// Until a connection is established.
     Connect,
-    /// Until a connection that is not used is closed.
+    /// Until an unused connection is closed.
     Idle,
     /// Until a session ends.
     Session,
@@ -24,16 +24,16 @@ pub enum Key {
 /// The durations of a server, each with its text.
 #[derive(Clone, Copy)]
 pub struct Table<'a> {
-    /// The one for `Key::Connect`.
+    /// The duration for `Key::Connect`.
     pub connect: Accepted<'a>,
-    /// The one for `Key::Idle`.
+    /// The duration for `Key::Idle`.
     pub idle: Accepted<'a>,
-    /// The one for `Key::Session`.
+    /// The duration for `Key::Session`.
     pub session: Accepted<'a>,
 }
 
 impl<'a> Table<'a> {
-    /// Reads the texts in this order, and answers the fault of the first that is refused.
+    /// Reads the texts in this order, and returns the fault of the first that is refused.
     pub fn read(connect: &'a str, idle: &'a str, session: &'a str) -> Result<Table<'a>, Fault<'a>>
         ensures texts { IfOk result (HoldsTexts connect.now idle.now session.now) }
         ensures fault { IfErr result (IsFirstFault connect.now idle.now session.now) }
@@ -56,7 +56,7 @@ impl<'a> Table<'a> {
         }
     }
 
-    /// The duration for this key, which is the one that its text is read as. No look-up fails.
+    /// The duration for this key, which its text is read as. No look-up fails.
     pub fn get(&self, key: Key) -> Duration
         ensures { IsRead off (chars (text_of self.now key)) (as_nanos result) }
     {

@@ -4,7 +4,7 @@ use duration_str::{Cause, parse};
 use std::process::Abort;
 use std::time::Duration;
 
-/// The period that an accepted text without `*` says.
+/// The period of an accepted text without `*`.
 fn period<'a>(rt: &impl Abort, text: &'a str) -> Period<'a> {
     let accepted = Accepted::read(text).ok().expect(rt, "an accepted text");
     Period::new(accepted).expect(rt, "a text without a star")

@@ -46,7 +46,7 @@ letter-not_digit o c e =
 pub letter_of_ascii : (o : Options) (c : ℕ) → is_ascii_alphabetic c ≡ true → is_unit_letter o c ≡ true
 letter_of_ascii o c e = rw e refl
 
--- the unit letters of ASCII are its letters
+-- an ASCII character that is not a letter is not a unit letter
 pub no_letter_of_ascii : (o : Options) (c : ℕ) → is_ascii c ≡ true → is_ascii_alphabetic c ≡ false → is_unit_letter o c ≡ false
 no_letter_of_ascii o c small e = grind (arith, nat_tests)
 
@@ -57,7 +57,8 @@ ascii_letter o c letter small = by_test (is_ascii_alphabetic c) refl
     by_test true e = refl
     by_test false e = absurd (true≢false (sym letter ∙ no_letter_of_ascii o c small e))
 
--- The tests a, b, c are of digits and p, q, r of unit letters, at three characters of which the first two are of one run.
+-- The tests a, b, c are for digits and p, q, r for unit letters, at three characters of which the first two are of one
+-- run.
 same_class : (a b c p q r : Bool) → (a ≡ true → p ≡ false) → (b ≡ true → q ≡ false) → ((a && b) || (p && q)) ≡ true
     → ((b && c) || (q && r)) ≡ ((a && c) || (p && r))
 same_class a b c p q r h k e = grind arith

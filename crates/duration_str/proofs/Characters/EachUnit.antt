@@ -1,4 +1,4 @@
--- What holds of each unit holds of every unit.
+-- A property that holds of each unit in the table holds of every unit.
 use Rattle.std.proofs.Common.{◌≡◌, Bool, true, List, [], ◌∷◌}
 use Rattle.std.proofs.lemmas.Bool.{and_parts}
 use Rattle.std.specs.Prelude.{⊤}
@@ -28,6 +28,6 @@ each_passes : (test : TimeUnit → Bool) (us : List TimeUnit) → list_all test 
 each_passes test [] h = tt
 each_passes test (u ∷ us) h = let parts = and_parts (test u) (list_all test us) h in (parts.0, each_passes test us parts.1)
 
--- A test that each unit of the table passes is passed by every unit.
+-- A test passed by each unit of the table is passed by every unit.
 pub all_units : (test : TimeUnit → Bool) → list_all test units ≡ true → (u : TimeUnit) → test u ≡ true
 all_units test h = each_unit (λ u. test u ≡ true) (each_passes test units h)

@@ -1,4 +1,4 @@
--- Digits, as std's `parse` reads them.
+-- Digits as read by std's `parse`.
 use Rattle.std.proofs.Common.{◌≡◌, ℕ, ◌+◌, ◌-◌, ◌*◌, ◌^◌, ◌<◌, ◌≤◌, true, false, cond, eqb, List, [], ◌∷◌, ◌++◌, drop, length, Result, Ok, Err, Option, Some, None, IsUtf8, refl, ap, sym, ◌∙◌, subst, arith, ⊎_elim}
 use Rattle.std.proofs.lemmas.Bool.{le-ltb, lt-ltb, cases_lt, and_parts}
 use Rattle.std.specs.Prelude.{IsTrue}
@@ -44,7 +44,7 @@ no_plus (c ∷ cs) all =
     let r = digit_range c (and_parts (is_digit c) (list_all is_digit cs) all).0 in
     let differs : eqb c 43 ≡ false = grind (arith, nat_tests) in ap (λ b. drop (cond b 1 0) (c ∷ cs)) differs
 
--- `parse` gives the number of digits exactly where it is below 2^64
+-- `parse` gives the number of the digits exactly if it is below 2^64
 parsed : {E : Type 0} (bs : List ℕ) (r : Result ℕ E) → IsUtf8 bs → IsNumber (chars bs) → ParsesUnsigned 64 10 bs r → OkIff r (number_of (chars bs) < 2 ^ 64) (number_of (chars bs))
 parsed {E} bs r utf8 number parses =
     let cs = chars bs in
@@ -69,12 +69,12 @@ ok_u64 : {E : Type 0} (r : Result ℕ E) (n : ℕ) → OkIff r (n < 2 ^ 64) n �
 ok_u64 (Ok x) n h = ap Some h.1 ∙ sym (u64_some n h.0)
 ok_u64 (Err e) n h = sym (u64_none n (⊎_elim (λ lt. absurd (h lt)) (λ ge. ge) (cases_lt n (2 ^ 64))))
 
--- the number that `parse` gives of digits
+-- the number that `parse` gives for digits
 pub parsed_u64 : {E : Type 0} (bs : List ℕ) (r : Result ℕ E) (number : Option ℕ) → IsUtf8 bs → IsNumber (chars bs) → ParsesUnsigned 64 10 bs r → number ≡ result_ok r
     → number ≡ u64_from (number_of (chars bs))
 parsed_u64 bs r number utf8 digits parses is = is ∙ ok_u64 r (number_of (chars bs)) (parsed bs r utf8 digits parses)
 
--- how large a number of so many digits is
+-- an upper bound on a number with this many digits
 pub number_below : (n : ℕ) (cs : List ℕ) → IsTrue (list_all is_digit cs) → number_after n cs < (n + 1) * 10 ^ length cs
 number_below n [] all = omega arith
 number_below n (c ∷ cs) all =

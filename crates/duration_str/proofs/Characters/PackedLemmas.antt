@@ -1,4 +1,4 @@
--- Names as numbers, and their slots.
+-- Packed names and their slots.
 use Rattle.std.proofs.Common.{◌≡◌, ℕ, zero, suc, ◌+◌, ◌*◌, ◌/◌, ◌%◌, ◌^◌, ◌<◌, ◌≤◌, Bool, true, false, leb, eqb, ◌&&◌, ◌||◌, List, [], ◌∷◌, map, length, get_or, Option, Some, None, refl, ap, sym, ◌∙◌, arith, ⊎_elim, inl, inr, ◌⊎◌, lit<, add-zero, zero-add}
 use Rattle.std.proofs.Math.Nat.{pow-succ', mul-le-mul_right, mod-lt, pow-le-pow_right}
 use Rattle.std.proofs.lemmas.Bool.{cases_lt, eq-eqb, eqb-true, and_parts, and_from, true≢false, false_from_ne_true}
@@ -27,7 +27,7 @@ is_small_letter c = leb 97 c && leb c 122
 abbrev are_small : List ℕ → Bool
 are_small cs = list_all is_small_letter cs
 
--- ---- how large the number of a word is
+-- ---- the size of a packed number
 
 at_least : (n : ℕ) (cs : List ℕ) → n * 32 ^ length cs ≤ packed_after n cs
 at_least n [] = omega arith
@@ -44,11 +44,11 @@ below n (c ∷ cs) =
     let step : (n * 32 + c % 32 + 1) * 32 ^ length cs ≤ (n * 32 + 32) * 32 ^ length cs = mul-le-mul_right (32 ^ length cs) (omega (arith, small)) in
     let pow : 32 ^ length (c ∷ cs) ≡ 32 * 32 ^ length cs = pow-succ' 32 (length cs) in rw pow (omega (arith, less, step))
 
--- the number of a word of at most 12 letters is exact
+-- the packed number of a word of at most 12 letters is exact
 pub exact : (w : List ℕ) (n : ℕ) → length w ≤ 12 → n ≡ packed w % 2 ^ 64 → n ≡ packed w
 exact w n h e = let up = below 0 w in let pow : 32 ^ length w ≤ 32 ^ 12 = pow-le-pow_right (lit< tt) h in omega (arith, up, pow, e)
 
--- ---- different lexemes of small letters have different numbers
+-- ---- different words of small letters have different packed numbers
 
 small_letter : (c : ℕ) → is_small_letter c ≡ true → (97 ≤ c) × (c ≤ 122)
 small_letter c e = grind (arith, nat_tests)
@@ -84,7 +84,7 @@ packed_same xs ys ex ey e =
     (λ ge'. (same_letters 0 0 xs ys ex ey (omega (arith, ge, ge')) e).1) (cases_lt (length ys) (length xs)))
     (cases_lt (length xs) (length ys))
 
--- ---- the word in small letters
+-- ---- a word in small letters
 
 lower_letter : (c : ℕ) → is_ascii_alphabetic c ≡ true → (is_small_letter (to_ascii_lowercase c) ≡ true) × (to_ascii_lowercase c % 32 ≡ c % 32)
 lower_letter c e = (grind (arith, nat_tests), grind (arith, nat_tests))
@@ -99,7 +99,7 @@ lower_packed n (c ∷ cs) e =
     let b = and_parts (is_ascii_alphabetic c) (list_all is_ascii_alphabetic cs) e in
     ap (λ r. packed_after (n * 32 + r) (map to_ascii_lowercase cs)) (lower_letter c b.0).1 ∙ lower_packed (n * 32 + c % 32) cs b.1
 
--- ---- a word of small letters is a name where their numbers agree
+-- ---- a word of small letters is a name if their packed numbers are equal
 
 name_test : (v name : List ℕ) → are_small v ≡ true → bytes_eq v name ≡ packs_to (packed v) name
 name_test v name small =
@@ -116,7 +116,7 @@ names_test : (v : List ℕ) (names : List (List ℕ)) → are_small v ≡ true �
 names_test v [] small = refl
 names_test v (name ∷ names) small = (λ i. name_test v name small i || names_test v names small i)
 
--- no Chinese name has small letters
+-- no Chinese name is all small letters
 no_chinese : (n : ℕ) (u : TimeUnit) → list_any (packs_to n) (row_of u).chinese ≡ false
 no_chinese n = each_unit (λ u. list_any (packs_to n) (row_of u).chinese ≡ false) assumption
 
@@ -148,7 +148,7 @@ unit_by_number o w off letters = (λ i. find (λ u. named_by_number o w u off le
 abbrev pub slot : ℕ → ℕ
 slot n = n * SPREAD / 2 ^ 58 % 64
 
--- what the entries say, where each that is looked for in its place stands in its slot
+-- what each entry says, or, for an entry in its own slot, the unit of its number
 abbrev pub found_from : ℕ → List (ℕ × TimeUnit) → List (Option TimeUnit)
 found_from i [] = []
 found_from i (e ∷ es) = (if eqb (slot e.0) i then unit_of_packed e.0 else Some e.1) ∷ found_from (i + 1) es
@@ -161,7 +161,7 @@ found_at (e ∷ es) i (suc j) d lt =
     found_at es (i + 1) j d (omega (arith, lt))
     ∙ ap (λ k. if eqb (slot (get_or es j d).0) k then unit_of_packed (get_or es j d).0 else Some (get_or es j d).1) (let e' : i + 1 + j ≡ i + suc j = omega arith in e')
 
--- where the slot's number is the one that is looked for, its unit is found
+-- if the number in the slot is the one searched for, its unit is found
 pub slot_found : (table : List (ℕ × TimeUnit)) (n : ℕ) (d : ℕ × TimeUnit) → length table ≡ 64 → found_from 0 table ≡ map (λ e. Some e.1) table → n < 2 ^ 64
     → (get_or table (slot n) d).0 ≡ n → Some (get_or table (slot n) d).1 ≡ unit_of_packed n
 slot_found table n d len right small key =
@@ -171,7 +171,7 @@ slot_found table n d len right small key =
     let says : get_or (found_from 0 table) (slot n) None ≡ Some (get_or table (slot n) d).1 = ap (λ l. get_or l (slot n) None) right ∙ get_or-map (λ (e : ℕ × TimeUnit). Some e.1) table (slot n) d None within in
     sym says ∙ at ∙ ap (λ b. if b then unit_of_packed (get_or table (slot n) d).0 else Some (get_or table (slot n) d).1) stands ∙ ap unit_of_packed key
 
--- whether a name, if it has small letters alone, stands in its slot
+-- whether a name, if it is all small letters, is in its slot
 abbrev pub is_kept : List (ℕ × TimeUnit) → (ℕ × TimeUnit) → List ℕ → Bool
 is_kept table d name = if are_small name then eqb (get_or table (slot (packed name)) d).0 (packed name) else true
 
@@ -203,7 +203,7 @@ none_of_units table d (u ∷ us) n kept differs =
     none_of_units table d us n b.1 differs
     ∙ sym (ap (λ t. if t then Some u else find (λ v. list_any (packs_to n) (row_of v).names) us) (none_of_names table d (row_of u).names n b.0 differs))
 
--- where it is another, no name has the number that is looked for
+-- if the number in the slot is another one, no name has the number searched for
 pub slot_empty : (table : List (ℕ × TimeUnit)) (n : ℕ) (d : ℕ × TimeUnit) → are_kept table d units ≡ true → ((get_or table (slot n) d).0 ≡ n → ⊥) → None ≡ unit_of_packed n
 unfolding unit_of_packed
 slot_empty table n d kept differs = none_of_units table d units n kept differs

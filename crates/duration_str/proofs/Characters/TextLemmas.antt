@@ -15,11 +15,11 @@ not_surrogate : (c : ℕ) → (c < 55296) ⊎ ((57344 ≤ c) × (c < 1114112)) �
 not_surrogate c (inl h) = grind (arith, nat_tests)
 not_surrogate c (inr h) = grind (arith, nat_tests)
 
--- a character takes as many bytes as its UTF-8 has
+-- the width of a character is the length of its UTF-8
 pub width-scalar : (c : ℕ) → scalar c ≡ true → width c ≡ len_utf8 c
 width-scalar c e = ap (λ b. if b then 4 else len_utf8 c) (not_surrogate c (scalar_cases c e))
 
--- the character whose UTF-8 the bytes at a place begin with
+-- the character whose UTF-8 is at a place
 pub stands_char : (text rest : List ℕ) (place c : ℕ) → IsUtf8 (drop place text) → drop place text ≡ encode_utf8 c ++ rest → StandsAt text place (place + len_utf8 c) c
 stands_char text rest place c utf8 begins =
     let all : ahead text place ≡ c ∷ chars rest = chars_past_char (drop place text) rest c utf8 begins in
@@ -34,11 +34,11 @@ ascii_begins : (text : List ℕ) (place b : ℕ) → place < length text → b �
 ascii_begins text place b inside is small =
     drop_more text place 0 inside ∙ ap (λ x. x ∷ drop (place + 1) text) (sym is) ∙ ap (λ l. l ++ drop (place + 1) text) (sym (encode_ascii b small))
 
--- nothing lies ahead of the end
+-- nothing is ahead of the end
 pub end_ahead : (text : List ℕ) (place : ℕ) → length text ≤ place → ahead text place ≡ []
 end_ahead text place end = ap chars (drop_all place text end) ∙ chars-nil
 
--- an ASCII character at a place, with the place after it
+-- an ASCII character at a place, and the place after it
 pub ascii_stands : (text : List ℕ) (place b : ℕ) → IsUtf8 text → IsCharBoundary text place → place < length text → b ≡ get_or text place 0 → b < 128
     → StandsAt text place (place + 1) b × IsCharBoundary text (place + 1)
 ascii_stands text place b utf8 boundary inside is small =
@@ -49,7 +49,7 @@ ascii_stands text place b utf8 boundary inside is small =
       IsCharBoundary-past_char text (drop (place + 1) text) place b boundary.0 ahead_utf8 begins,
     )
 
--- every character takes a byte
+-- the width of a character is not 0
 pub width_some : (c : ℕ) → 1 ≤ width c
 width_some c = elim (leb 55296 c && leb c 57343) as (λ b. 1 ≤ (if b then 4 else len_utf8 c)) [ true ↦ omega arith | false ↦ (len_utf8_bounds c).0 ]
 

@@ -1,4 +1,4 @@
--- Words and names: their bytes and their characters, and ASCII capitals.
+-- Words and names, as bytes and as characters, and their ASCII capitals.
 use Rattle.std.proofs.Common.{◌≡◌, ℕ, ◌+◌, ◌/◌, ◌%◌, ◌<◌, ◌≤◌, Bool, true, false, cond, ltb, eqb, not, ◌||◌, ◌&&◌, Option, Some, None, List, [], ◌∷◌, ◌++◌, map, IsUtf8, refl, ap, sym, ◌∙◌, arith, ⊎_elim}
 use Rattle.std.specs.Prelude.{if◌then◌else◌}
 use Rattle.std.specs.List.{list_any, list_all, find}
@@ -18,7 +18,7 @@ use Rattle.duration_str.specs.declared.unit.TimeUnit.{TimeUnit}
 use Rattle.duration_str.specs.Units.{units, row_of, nanos_of, comparison_form, is_named, unit_among, unit_of_word, AreEncoded}
 use Rattle.duration_str.proofs.Characters.EachUnit.{each_unit, all_units}
 
--- two tests that hold of the same
+-- two tests for equivalent conditions are equal
 same_tests : (a b : Bool) (P Q : Type 0) → Decides a P → Decides b Q → (P → Q) → (Q → P) → a ≡ b
 same_tests true true P Q da db f g = refl
 same_tests true false P Q da db f g = sym (db.1 (f (da.0 refl)))
@@ -37,7 +37,7 @@ lower-append : (xs ys : List ℕ) → map to_ascii_lowercase (xs ++ ys) ≡ map 
 lower-append [] ys = refl
 lower-append (x ∷ xs) ys = ap (λ l. to_ascii_lowercase x ∷ l) (lower-append xs ys)
 
--- no byte is one of an ASCII character
+-- no byte is ASCII
 AllBig : List ℕ → Type 0
 AllBig [] = Unit {0}
 AllBig (b ∷ bs) = (128 ≤ b) × AllBig bs
@@ -67,7 +67,7 @@ lower-encodes : (cs : List ℕ) → map to_ascii_lowercase (encodes cs) ≡ enco
 lower-encodes [] = refl
 lower-encodes (c ∷ cs) = lower-append (encode c) (encodes cs) ∙ (λ i. lower-encode c i ++ lower-encodes cs i)
 
--- the bytes of a comparison_form text
+-- the comparison form of a text's bytes
 comparison_form-encodes : (o : Options) (cs : List ℕ) → comparison_form o (encodes cs) ≡ encodes (comparison_form o cs)
 comparison_form-encodes o cs = elim o.lowercase as (λ b. (if b then encodes cs else map to_ascii_lowercase (encodes cs)) ≡ encodes (if b then cs else map to_ascii_lowercase cs)) [ true ↦ refl | false ↦ lower-encodes cs ]
 
@@ -82,11 +82,11 @@ small_form o name h =
     let same = (bytes_eq-Decides (map to_ascii_lowercase name) name).0 h in
     elim o.lowercase as (λ b. (if b then name else map to_ascii_lowercase name) ≡ name) [ true ↦ refl | false ↦ same ]
 
--- texts are equal where their bytes are
+-- texts are equal if their bytes are
 bytes_eq-encodes : (v w : List ℕ) → bytes_eq (encodes v) (encodes w) ≡ bytes_eq v w
 bytes_eq-encodes v w = same_tests (bytes_eq (encodes v) (encodes w)) (bytes_eq v w) _ _ (bytes_eq-Decides (encodes v) (encodes w)) (bytes_eq-Decides v w) (encodes_same v w) (ap encodes)
 
--- a word is compared with a name by their bytes
+-- a word can be compared with a name by their bytes
 name_test : (o : Options) (word name : List ℕ) → IsUtf8 word → is_small name ≡ true → bytes_eq (comparison_form o word) (comparison_form o (encodes name)) ≡ bytes_eq (comparison_form o (chars word)) name
 name_test o word name utf8 small =
     (λ i. bytes_eq ((ap (comparison_form o) (sym (encodes-chars word utf8)) ∙ comparison_form-encodes o (chars word)) i) ((comparison_form-encodes o name ∙ ap encodes (small_form o name small)) i))
@@ -103,13 +103,13 @@ any_now : (test : List ℕ → Bool) (texts : List (Bor (List ℕ))) → list_an
 any_now test [] = refl
 any_now test (text ∷ texts) = ap (λ b. test text.now || b) (any_now test texts)
 
--- a word is looked for among names by their bytes
+-- a word can be searched among names by their bytes
 any_name : (o : Options) (word : List ℕ) (texts : List (Bor (List ℕ))) (names : List (List ℕ)) → IsUtf8 word → AreEncoded texts names → list_all is_small names ≡ true
     → list_any (λ text. bytes_eq (comparison_form o word) (comparison_form o text.now)) texts ≡ list_any (bytes_eq (comparison_form o (chars word))) names
 any_name o word texts names utf8 encoded small =
     any_now (λ bytes. bytes_eq (comparison_form o word) (comparison_form o bytes)) texts ∙ ap (list_any (λ bytes. bytes_eq (comparison_form o word) (comparison_form o bytes))) encoded ∙ names_test o word names utf8 small
 
--- the names of the table have no ASCII capital
+-- the names in the table have no ASCII capitals
 names_small : (u : TimeUnit) → (list_all is_small (row_of u).names ≡ true) × (list_all is_small (row_of u).chinese ≡ true)
 names_small = each_unit (λ u. (list_all is_small (row_of u).names ≡ true) × (list_all is_small (row_of u).chinese ≡ true)) assumption
 
@@ -128,7 +128,7 @@ by_chinese o word u texts r utf8 encoded is = is ∙ any_name o word texts (row_
 abbrev all_names : TimeUnit → List (List ℕ)
 all_names u = (row_of u).names ++ (row_of u).chinese
 
--- whether no name of the first unit is a name of the second
+-- whether the two units share no name
 abbrev are_apart : TimeUnit → TimeUnit → Bool
 are_apart u v = list_all (λ name. not (list_any (bytes_eq name) (all_names v))) (all_names u)
 
@@ -144,7 +144,7 @@ unit_by_length = each_unit (λ u. find (λ v. eqb (nanos_of v) (nanos_of u)) uni
 same_length : (u v : TimeUnit) → nanos_of u ≡ nanos_of v → u ≡ v
 same_length u v e = same_Some u v (sym (unit_by_length u) ∙ ap (λ n. find (λ w. eqb (nanos_of w) n) units) e ∙ unit_by_length v)
 
--- a word among both lists is a name that they share
+-- a word in both lists is a name that they share
 shared : (w : List ℕ) (xs ys : List (List ℕ)) → list_any (bytes_eq w) xs ≡ true → list_any (bytes_eq w) ys ≡ true
     → list_all (λ x. not (list_any (bytes_eq x) ys)) xs ≡ true → ⊥
 shared w [] ys h k apart = absurd (true≢false (sym h))
@@ -169,7 +169,7 @@ one_unit o w u v h k =
     (λ apart. absurd (shared (comparison_form o w) (all_names u) (all_names v) (among_all o w u h) (among_all o w v k) apart))
     (or_cases (eqb (nanos_of u) (nanos_of v)) (are_apart u v) (all_apart u v))
 
--- what is found among some units is named by the word
+-- a unit found among some units is named by the word
 found_named : (o : Options) (w : List ℕ) (us : List TimeUnit) (u : TimeUnit) → unit_among us o w ≡ Some u → is_named o w u ≡ true
 found_named o w [] u h = absurd (none-some u h)
 found_named o w (v ∷ us) u h = go (is_named o w v) refl h (found_named o w us u)
@@ -179,7 +179,7 @@ found_named o w (v ∷ us) u h = go (is_named o w v) refl h (found_named o w us 
     go true e h later = ap (is_named o w) (sym (same_Some v u h)) ∙ e
     go false e h later = later h
 
--- A unit of the list that the word names is found, since no other one is named.
+-- A unit of the list that the word names is found, since the word names no other.
 found_only : (o : Options) (w : List ℕ) (us : List TimeUnit) (u : TimeUnit) → is_named o w u ≡ true
     → list_any (λ v. eqb (nanos_of v) (nanos_of u)) us ≡ true → unit_among us o w ≡ Some u
 found_only o w [] u h there = absurd (true≢false (sym there))
@@ -192,6 +192,6 @@ found_only o w (v ∷ us) u h there = go (is_named o w v) refl (found_only o w u
         (λ (same : eqb (nanos_of v) (nanos_of u) ≡ true). absurd (true≢false (sym h ∙ ap (is_named o w) (sym (same_length v u (eqb-true (nanos_of v) (nanos_of u) same))) ∙ e)))
         later (or_cases (eqb (nanos_of v) (nanos_of u)) (list_any (λ v. eqb (nanos_of v) (nanos_of u)) us) there)
 
--- What is found among some of the units is found among all.
+-- A unit found among some units is found among all.
 pub found_among_all : (o : Options) (w : List ℕ) (us : List TimeUnit) (u : TimeUnit) → unit_among us o w ≡ Some u → unit_of_word o w ≡ Some u
 found_among_all o w us u h = found_only o w units u (found_named o w us u h) (all_units (λ u. list_any (λ v. eqb (nanos_of v) (nanos_of u)) units) refl u)

@@ -1,4 +1,4 @@
--- The steps of cutting, over a text, the byte up to which it is cut, and the looks.
+-- The steps of cutting, in terms of a text, the byte up to which it is cut, and the looks.
 use Rattle.std.proofs.Common.{◌≡◌, ℕ, ◌+◌, ◌-◌, ◌*◌, ◌%◌, ◌<◌, ◌≤◌, ◌^◌, Bool, true, false, List, [], ◌∷◌, ◌++◌, length, take, drop, Option, Some, None, IsUtf8, refl, ap, sym, ◌∙◌, subst, arith, lit<}
 use Rattle.std.specs.Prelude.{is_some, IsSome, IfSome, IsTrue, slice_range, if◌then◌else◌}
 use Rattle.std.specs.List.{list_all}
@@ -27,9 +27,9 @@ use Rattle.duration_str.proofs.Characters.TextLemmas.{width_some, byte_len-appen
 use Rattle.duration_str.proofs.Characters.NumberLemmas.{u64_some, number_below}
 use Rattle.duration_str.proofs.Characters.PackedLemmas.{exact, unit_by_number}
 
--- ---- how often a character was looked at
+-- ---- how many times a character was looked at
 
--- the looks so far and the characters ahead, of which the head was looked at, are all characters
+-- the looks so far and the characters ahead, counting a looked-at head only once, are all the characters
 abbrev pub IsCounted : List ℕ → ℕ → ℕ → Option ℕ → Type 0
 IsCounted text place looks head = looks + length (ahead text place) ≡ length (chars text) + (if is_some head then 1 else 0)
 
@@ -37,33 +37,33 @@ IsCounted text place looks head = looks + length (ahead text place) ≡ length (
 chars_short : (text : List ℕ) → IsUtf8 text → length (chars text) ≤ length text
 chars_short text utf8 = let few = length-le-encodes (chars text) in let same = ap length (encodes-chars text utf8) in omega (arith, few, same)
 
--- past the head, no character ahead was looked at
+-- no character after the head was looked at
 pub counted_past : (text : List ℕ) (place next looks : ℕ) (head : Option ℕ) → IsSome head → ForSome head (StandsAt text place next) → IsCounted text place looks head
     → looks + length (ahead text next) ≡ length (chars text)
 counted_past text place next looks None h stands counted = absurd cc
 counted_past text place next looks (Some c) h stands counted = let len = ap length (stands c refl).head in omega (arith, len, counted)
 
--- the looks fit their type
+-- one more look fits into 64 bits
 pub looks_fit : (text : List ℕ) (place looks : ℕ) → IsUtf8 text → length text < 2 ^ 63 → looks + length (ahead text place) ≡ length (chars text) → looks + 1 < 2 ^ 64
 looks_fit text place looks utf8 short counted = let few = chars_short text utf8 in omega (arith, few, short, counted)
 
--- at most all characters were looked at
+-- there are at most as many looks as characters
 pub looks_most : (text : List ℕ) (place next looks : ℕ) (head : Option ℕ) → ForSome head (StandsAt text place next) → IsCounted text place looks head → looks ≤ length (chars text)
 looks_most text place next looks None stands counted = omega (arith, counted)
 looks_most text place next looks (Some c) stands counted = let len = ap length (stands c refl).head in omega (arith, len, counted)
 
--- the characters of the two parts of a text
+-- the characters before and after a place are all the characters
 pub parts_count : (text : List ℕ) (place : ℕ) → IsUtf8 text → IsCharBoundary text place → length (chars text) ≡ length (chars (take place text)) + length (ahead text place)
 parts_count text place utf8 boundary =
     ap length (sym (ap chars (take-append-drop place text)) ∙ chars-append (take place text) (drop place text) (IsUtf8-take text place utf8 boundary))
     ∙ length-append (chars (take place text)) (ahead text place)
 
--- each character after the place was looked at
+-- each character before the place was looked at
 pub looks_least : (text : List ℕ) (place looks : ℕ) (head : Option ℕ) → IsUtf8 text → IsCharBoundary text place → IsCounted text place looks head
     → length (chars (take place text)) ≤ looks
 looks_least text place looks head utf8 boundary counted = let parts = parts_count text place utf8 boundary in omega (arith, parts, counted)
 
--- what a look found, after the text and the place stayed
+-- what a look found, if the text and the place stay the same
 pub stands_same : (text text' : List ℕ) (place place' next : ℕ) (head : Option ℕ) → text' ≡ text → place' ≡ place → IfSome head (StandsAt text place next)
     → ForSome head (StandsAt text' place' next)
 stands_same text text' place place' next None e p h = λ c is. cc
@@ -79,7 +79,6 @@ passes_none test text place = record { characters = []; between = record { cut =
 list_all-push : (test : ℕ → Bool) (cs : List ℕ) (c : ℕ) → IsTrue (list_all test cs) → test c ≡ true → IsTrue (list_all test (cs ++ c ∷ []))
 list_all-push test cs c all e = list_all-append test cs (c ∷ []) ∙ and_from _ _ all (and_from _ _ e refl)
 
--- one more character
 pub passes_more : (test : ℕ → Bool) (text : List ℕ) (place at next c : ℕ) → Passes test text place at → StandsAt text at next c → test c ≡ true → Passes test text place next
 passes_more test text place at next c passed stands e =
     let len = byte_len-append passed.characters (c ∷ []) in
@@ -92,7 +91,7 @@ passes_more test text place at next c passed stands e =
       all = list_all-push test passed.characters c passed.all e;
     }
 
--- what follows passes the test too
+-- one run that passes after another
 pub passes_on : (test : ℕ → Bool) (text : List ℕ) (place at next : ℕ) → Passes test text place at → Passes test text at next → Passes test text place next
 passes_on test text place at next passed more =
     let len = byte_len-append passed.characters more.characters in
@@ -105,26 +104,26 @@ passes_on test text place at next passed more =
       all = list_all-append test passed.characters more.characters ∙ and_from _ _ passed.all more.all;
     }
 
--- the same characters pass a weaker test
+-- characters that pass a test also pass a weaker one
 pub passes_weaker : (test weaker : ℕ → Bool) (text : List ℕ) (place next : ℕ) → ((c : ℕ) → test c ≡ true → weaker c ≡ true) → Passes test text place next → Passes weaker text place next
 passes_weaker test weaker text place next follows passed =
     record { characters = passed.characters; between = passed.between; all = all_weaker test weaker passed.characters follows passed.all }
 
--- the text is shorter ahead of the next place
+-- less text is ahead of the next place
 pub ahead_shorter : (text text' : List ℕ) (place next c : ℕ) → text' ≡ text → StandsAt text place next c → length (ahead text' next) < length (ahead text place)
 ahead_shorter text text' place next c same stands = let len = ap length stands.head in omega (arith, len, ap (λ t. length (ahead t next)) same)
 
--- the text stops where its head fails the test
+-- the text stops if its head fails the test
 pub stops_at : (test : ℕ → Bool) (text : List ℕ) (place next c : ℕ) → StandsAt text place next c → test c ≡ false → Stops test (ahead text place)
 stops_at test text place next c stands e = subst (Stops test) (sym stands.head) e
 
--- the head of the text that is left passes the test, and is passed
+-- the head of what is left passes the test, and joins the run
 pub passes_head : (test : ℕ → Bool) (text left : List ℕ) (place at next : ℕ) (head : Option ℕ) (c : ℕ) → left ≡ text → Passes test text place at → head ≡ Some c
     → ForSome head (StandsAt left at next) → test c ≡ true → Passes test text place next
 passes_head test text left place at next head c same passed is stands e =
     passes_more test text place at next c passed (subst (λ t. StandsAt t at next c) same (stands c is)) e
 
--- ---- digits and letters that are gathered
+-- ---- values of digits and letters
 
 number_after-push : (n : ℕ) (cs : List ℕ) (c : ℕ) → number_after n (cs ++ c ∷ []) ≡ number_after n cs * 10 + (c - 48)
 number_after-push n [] c = refl
@@ -138,7 +137,6 @@ pub digits_none : (text : List ℕ) (place : ℕ) → TakesDigits text place pla
 unfolding passes_none
 digits_none text place = record { run = passes_none is_digit text place; number = refl }
 
--- one more digit
 pub digits_head : (text left : List ℕ) (place at next : ℕ) (head : Option ℕ) (c value value' : ℕ) → left ≡ text → TakesDigits text place at value → head ≡ Some c
     → ForSome head (StandsAt left at next) → is_digit c ≡ true → value' ≡ (value * 10 + (c - 48)) % 2 ^ 64 → TakesDigits text place next value'
 unfolding passes_head passes_more
@@ -154,7 +152,6 @@ pub letters_none : (text : List ℕ) (place : ℕ) → TakesLetters text place p
 unfolding passes_none
 letters_none text place = record { run = passes_none is_ascii_alphabetic text place; number = refl }
 
--- one more ASCII letter
 pub letters_head : (text left : List ℕ) (place at next : ℕ) (head : Option ℕ) (c value value' : ℕ) → left ≡ text → TakesLetters text place at value → head ≡ Some c
     → ForSome head (StandsAt left at next) → is_ascii_alphabetic c ≡ true → value' ≡ (value * 32 + c % 32) % 2 ^ 64 → TakesLetters text place next value'
 unfolding passes_head passes_more
@@ -166,13 +163,13 @@ letters_head text left place at next head c value value' same taken is stands e 
       number = omega (arith, more, push, before);
     }
 
--- ---- what stands between two places
+-- ---- the characters between two places
 
 length-le-byte_len : (cs : List ℕ) → length cs ≤ byte_len cs
 length-le-byte_len [] = omega arith
 length-le-byte_len (c ∷ cs) = let one = width_some c in let rest = length-le-byte_len cs in omega (arith, one, rest)
 
--- so many characters at most
+-- an upper bound on the number of characters
 pub between_count : (text : List ℕ) (place next n : ℕ) (cs : List ℕ) → Between text place next cs → next - place ≤ n → length cs ≤ n
 between_count text place next n cs between few = let len = length-le-byte_len cs in let bytes = between.bytes in omega (arith, len, bytes, few)
 
@@ -184,9 +181,9 @@ chars_between text place next cs slice between is utf8 =
     let parts : slice ++ drop next text ≡ drop place text = (λ i. is i ++ sym there i) ∙ take-append-drop (next - place) (drop place text) in
     append_cancel_right (chars slice) cs (ahead text next) (sym (chars-append slice (drop next text) utf8) ∙ ap chars parts ∙ between.cut)
 
--- ---- numbers and lexemes
+-- ---- numbers and words
 
--- few digits come to less than 2^64
+-- a number with at most 19 digits is below 2^64
 pub short_number : (digits : List ℕ) (low : ℕ) → IsUtf8 digits → IsNumber (chars digits) → low ≡ number_of (chars digits) % 2 ^ 64 → length digits ≤ 19
     → Some low ≡ u64_from (number_of (chars digits))
 short_number digits low utf8 number same short =
@@ -199,7 +196,7 @@ short_number digits low utf8 number same short =
     let whole : low ≡ number_of cs = omega (arith, same, small) in
     ap Some whole ∙ sym (u64_some (number_of cs) small)
 
--- a word of ASCII letters, few enough that their packed number tells them
+-- a word of at most 12 ASCII letters, identified by its packed number
 pub short_word : (o : Options) (text : List ℕ) (place next value : ℕ) (unit : Option TimeUnit) → TakesLetters text place next value → o.lowercase ≡ false → next - place ≤ 12
     → unit ≡ unit_of_packed value → TakesWord o text place next unit
 unfolding passes_weaker
@@ -211,14 +208,14 @@ short_word o text place next value unit taken off short found =
       named = found ∙ ap unit_of_packed (exact cs value few taken.number) ∙ sym (unit_by_number o cs off taken.run.all);
     }
 
--- a word by its slice, in which any unit letters follow the ASCII letters
+-- a word by its slice: ASCII letters, then any unit letters
 pub long_word : (o : Options) (text : List ℕ) (place at next value : ℕ) (slice : List ℕ) (unit : Option TimeUnit) → TakesLetters text place at value
     → Passes (is_unit_letter o) text at next → slice ≡ slice_range text place next → IsUtf8 slice → unit ≡ unit_of_word o (chars slice) → TakesWord o text place next unit
 long_word o text place at next value slice unit taken passed is utf8 found =
     let run = passes_on (is_unit_letter o) text place at next (passes_weaker is_ascii_alphabetic (is_unit_letter o) text place at (letter_of_ascii o) taken.run) passed in
     record { run = run; named = found ∙ ap (unit_of_word o) (chars_between text place next run.characters slice run.between is utf8) }
 
--- the slice of a text that stayed, from a place that was u64_from
+-- a slice of the same text from the same place
 pub same_slice : (slice text text' : List ℕ) (start place next : ℕ) → slice ≡ slice_range text start next → text ≡ text' → start ≡ place → slice ≡ slice_range text' place next
 same_slice slice text text' start place next is same there = is ∙ (λ i. slice_range (same i) (there i) next)
 
@@ -230,13 +227,12 @@ blanks_no_token o at (b ∷ blanks) rest h =
     let parts = and_parts (is_blank b) (list_all is_blank blanks) h in
     rw (parts.0) (blanks_no_token o (at + width b) blanks rest parts.1) ∙ ap (λ n. tokens_from o n rest) (add_assoc at (width b) (byte_len blanks))
 
--- the same tokens are left after blanks
+-- skipping blanks leaves the same tokens
 pub blanks_passed : (o : Options) (text : List ℕ) (place next : ℕ) → Passes is_blank text place next → tokens_from o place (ahead text place) ≡ tokens_from o next (ahead text next)
 blanks_passed o text place next blanks =
     ap (tokens_from o place) blanks.between.cut ∙ blanks_no_token o place blanks.characters (ahead text next) blanks.all
     ∙ ap (λ n. tokens_from o n (ahead text next)) (sym blanks.between.bytes)
 
--- a token is taken
 pub token_taken : (o : Options) (text : List ℕ) (place next : ℕ) (cs : List ℕ) → Between text place next cs → IsLexeme o cs → EndsRun o cs (ahead text next)
     → tokens_from o place (ahead text place) ≡ record { start = place; characters = cs } ∷ tokens_from o next (ahead text next)
 token_taken o text place next cs between is_lexeme ends =
@@ -246,7 +242,7 @@ token_taken o text place next cs between is_lexeme ends =
     step : place + 0 + byte_len cs ≡ next
     step = omega (arith, between.bytes)
 
--- where nothing lies ahead, the place is the end of the text
+-- if nothing is ahead, the place is the end of the text
 pub place_at_end : (text : List ℕ) (place : ℕ) → IsUtf8 text → IsCharBoundary text place → ahead text place ≡ [] → place ≡ length text
 place_at_end text place utf8 boundary nothing =
     let bytes = ap length (sym (encodes-chars (drop place text) (IsUtf8-drop text place utf8 boundary)) ∙ ap encodes nothing) in

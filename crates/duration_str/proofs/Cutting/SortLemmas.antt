@@ -19,7 +19,7 @@ use Rattle.duration_str.proofs.Characters.CharacterLemmas.{digit-not_letter, let
 use Rattle.duration_str.proofs.Cutting.TokenLemmas.{tokens_are}
 use Rattle.duration_str.proofs.Sentences.SpellingLemmas.{all_weaker, digits_are_lexeme, letters_are_lexeme}
 
--- where the first character passes the test, and the characters that pass it end, there are some
+-- if the character ahead passes the test, the run of characters that pass it is not empty
 some_passed : (test : ℕ → Bool) (text : List ℕ) (place next at c : ℕ) (cs : List ℕ) → Between text place next cs → Stops test (ahead text next) → StandsAt text place at c → test c ≡ true
     → cs ≡ [] → ⊥
 some_passed test text place next at c cs between stops stands e none =
@@ -27,7 +27,7 @@ some_passed test text place next at c cs between stops stands e none =
     let stopped : test c ≡ false = subst (Stops test) same stops in
     true≢false (sym e ∙ stopped)
 
--- a run of digits ends where no digit stands
+-- a run of digits ends before a character that is not a digit
 digits_end : (o : Options) (c : ℕ) (rest : List ℕ) → is_digit c ≡ true → Stops is_digit rest → goes_on o c rest ≡ false
 digits_end o c [] e stops = refl
 digits_end o c (d ∷ rest) e stops = rw (e, stops, digit-not_letter o c e) refl
@@ -44,7 +44,6 @@ letters_mean o c cs all =
     let first : is_digit c ≡ false = letter-not_digit o c (and_parts (is_unit_letter o c) (list_all (is_unit_letter o) cs) all).0 in
     rw (first, all) refl
 
--- a number
 pub number_stands : (o : Options) (text : List ℕ) (place next at c : ℕ) (run : Passes is_digit text place next) → Stops is_digit (ahead text next) → StandsAt text place at c → is_digit c ≡ true
     → IsNumber run.characters × StandsToken o text place next (number (number_of run.characters))
 number_stands o text place next at c run stops stands e = by_characters run.characters refl
@@ -63,7 +62,6 @@ number_stands o text place next at c run stops stands e = by_characters run.char
           },
         )
 
--- a word
 pub word_stands : (o : Options) (text : List ℕ) (place next at c : ℕ) (unit : Option TimeUnit) → TakesWord o text place next unit → Stops (is_unit_letter o) (ahead text next)
     → StandsAt text place at c → is_unit_letter o c ≡ true → StandsToken o text place next (word unit)
 word_stands o text place next at c unit taken stops stands e = by_characters taken.run.characters refl
@@ -95,7 +93,7 @@ sign_stands o text place next c stands b e f = record {
   is_terminal = rw (e, f) refl;
 }
 
--- ---- the class of a character that is of this sort
+-- ---- the class of a character, given its sort
 
 pub digit_of_sort : (o : Options) (c : ℕ) → Number ≡ sort_at o c → is_digit c ≡ true
 digit_of_sort o c is = by_class (is_digit c) (is_unit_letter o c) (operator_of c) is
@@ -106,7 +104,7 @@ digit_of_sort o c is = by_class (is_digit c) (is_unit_letter o c) (operator_of c
     by_class false false None h = absurd cc
     by_class false false (Some op) h = absurd cc
 
--- A token is a number where its first character is a digit.
+-- A token is a number exactly if its first character is a digit.
 pub digit_sort : (o : Options) (c : ℕ) → is_digit c ≡ is_number (Some (sort_at o c))
 digit_sort o c = by_class (is_digit c) (is_unit_letter o c) (operator_of c)
   where
@@ -138,7 +136,7 @@ pub sign_sorts : (op : Option CondUnit) → sign_sort op ≡ sort_of (operator_o
 sign_sorts None = refl
 sign_sorts (Some op) = refl
 
--- ---- the token that begins with a character
+-- ---- the token that starts with a character
 
 left_false : (a b p q : Bool) → ((a && b) || (p && q)) ≡ true → a ≡ false → q ≡ true
 left_false a b p true h e = refl
@@ -152,7 +150,7 @@ right_false a false true q h e = absurd cc
 right_false true false false q h e = absurd cc
 right_false false false false q h e = absurd cc
 
--- The first character of a token tells the sort of its terminal.
+-- The first character of a token determines the sort of its terminal.
 token_sort : (o : Options) (c : ℕ) (cs : List ℕ) → IsLexeme o (c ∷ cs) → sort_at o c ≡ sort_of (terminal_of o (c ∷ cs))
 token_sort o c cs p = by_class (is_digit c) (is_unit_letter o c) refl refl
   where
@@ -169,7 +167,7 @@ token_sort o c cs p = by_class (is_digit c) (is_unit_letter o c) refl refl
         rw (e, f, rest) refl
     by_class false false e f = alone cs e f p.1
 
--- A text that begins with a character that is no blank begins with a token of that character.
+-- A text that starts with a character other than a blank starts with a token of that character.
 pub first_token : (o : Options) (at c : ℕ) (text : List ℕ) → is_blank c ≡ false
     → (cs : List ℕ) × (rest : List Token) × (tokens_from o at (c ∷ text) ≡ record { start = at; characters = cs } ∷ rest) × (sort_at o c ≡ sort_of (terminal_of o cs))
 first_token o at c text e = of_tokens (tokens_from o at (c ∷ text)) refl (tokens_are o at (c ∷ text))

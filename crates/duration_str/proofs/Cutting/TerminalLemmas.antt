@@ -1,4 +1,4 @@
--- What the terminal of a word can be.
+-- The possible terminals of a list of characters.
 use Rattle.std.proofs.Common.{◌≡◌, ℕ, Bool, true, false, List, [], ◌∷◌, Option, Some, None, IsTrue, if◌then◌else◌, refl}
 use Rattle.std.specs.List.{list_all}
 use Rattle.duration_str.specs.declared.options.Options.{Options}
@@ -7,7 +7,8 @@ use Rattle.duration_str.specs.Text.{is_digit, is_unit_letter, operator_of, numbe
 use Rattle.duration_str.specs.Units.{unit_of_word}
 use Rattle.duration_str.specs.Grammar.{Terminal, number, word, operator, other, terminal_of, sign_terminal, operator_or_other}
 
--- What holds in each of five cases holds of each word and its terminal: no characters, digits, unit letters, an operator, and all else.
+-- A property of characters and their terminal holds if it holds in five cases: no characters, digits, unit letters, an
+-- operator, and anything else.
 pub terminal_cases : (o : Options) (P : List ℕ → Terminal → Type 0) → P [] other
     → ((c : ℕ) (cs : List ℕ) → IsTrue (list_all is_digit (c ∷ cs)) → P (c ∷ cs) (number (number_of (c ∷ cs))))
     → ((c : ℕ) (cs : List ℕ) → IsTrue (list_all (is_unit_letter o) (c ∷ cs)) → P (c ∷ cs) (word (unit_of_word o (c ∷ cs))))

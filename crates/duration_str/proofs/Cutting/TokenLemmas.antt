@@ -12,7 +12,7 @@ abbrev Stops : (ℕ → Bool) → List ℕ → Type 0
 Stops test [] = Unit {0}
 Stops test (c ∷ _) = test c ≡ false
 
--- There is one way to part a list before its first character that fails a test.
+-- There is one way to split a list before its first character that fails a test.
 parted_once : (test : ℕ → Bool) (xs ys r s : List ℕ) → IsTrue (list_all test xs) → IsTrue (list_all test ys)
     → Stops test r → Stops test s → xs ++ r ≡ ys ++ s → (xs ≡ ys) × (r ≡ s)
 parted_once test [] [] r s h k p q e = (refl, e)
@@ -32,7 +32,7 @@ stops_at : (o : Options) (c : ℕ) (rest : List ℕ) → goes_on o c rest ≡ fa
 stops_at o c [] h = tt
 stops_at o c (d ∷ rest) h = h
 
--- There is one way to part a text into blanks, a token and the rest.
+-- There is one way to split a text into blanks, a token and the rest.
 parts_once : (o : Options) (a b cs ds r s : List ℕ) → IsBlank a → IsBlank b → IsLexeme o cs → IsLexeme o ds
     → EndsRun o cs r → EndsRun o ds s → a ++ (cs ++ r) ≡ b ++ (ds ++ s) → (a ≡ b) × (cs ≡ ds) × (r ≡ s)
 parts_once o a b [] ds r s ha hb hc hd er es e = absurd hc
@@ -60,7 +60,7 @@ next_once o at text p q r s h k =
     let starts : p.start ≡ q.start = h.start ∙ ap (λ (b : List ℕ). at + byte_len b) same.0 ∙ sym k.start in
     (ap₂ (λ (start : ℕ) (cs : List ℕ). let token : Token = record { start = start; characters = cs } in token) starts same.1, same.2)
 
--- A text has one list of tokens.
+-- A text has only one list of tokens.
 pub tokens_once : (o : Options) (at : ℕ) (text : List ℕ) (ps qs : List Token) → AreTokens o at text ps → AreTokens o at text qs → ps ≡ qs
 tokens_once o at text [] [] h k = refl
 tokens_once o at text [] (q ∷ qs) h k = absurd (no_token o k.1.blanks q.characters k.0 k.1.is_lexeme (subst IsBlank k.1.parts h))
@@ -110,7 +110,7 @@ ends_of_run : (o : Options) (c d : ℕ) (rest : List ℕ) → are_of_one_run o c
 ends_of_run o c d [] h k = refl
 ends_of_run o c d (e ∷ rest) h k = sym (same_run o c d e h) ∙ k
 
--- The character c stands in front of the first token of the text after it, and is of one run with it.
+-- The character c comes before the first token of the text after it, and is in one run with it.
 joined_in_front : (o : Options) (at c d : ℕ) (text blanks cs rest : List ℕ) (start : ℕ) (ps : List Token)
     → is_blank c ≡ false → are_of_one_run o c d ≡ true
     → IsBlank blanks → d ∷ text ≡ blanks ++ (cs ++ rest) → start ≡ (at + width c) + byte_len blanks → IsLexeme o cs → EndsRun o cs rest

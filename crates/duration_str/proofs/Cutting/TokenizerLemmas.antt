@@ -1,4 +1,4 @@
--- The steps of `Tokens`: what lies ahead, and the next token.
+-- The steps of `Tokens`: what is ahead, and the next token.
 use Rattle.std.proofs.Common.{◌≡◌, ℕ, ◌-◌, ◌%◌, ◌^◌, ◌≤◌, drop, length-drop, arith, true, List, [], ◌∷◌, length, Option, Some, None, IsUtf8, refl, sym, ap, subst, ◌∙◌}
 use Rattle.std.specs.Prelude.{slice_range}
 use Rattle.std.specs.Str.{IsCharBoundary, chars}
@@ -22,13 +22,13 @@ use Rattle.duration_str.specs.Tokenizer.{source, options_of, place_of, left, wha
 use Rattle.duration_str.proofs.Cutting.CuttingLemmas.{chars_between, long_word, same_slice, blanks_passed, token_taken, place_at_end}
 use Rattle.duration_str.proofs.Cutting.SortLemmas.{number_stands, word_stands, sign_stands, digit_of_sort, letter_of_sort, sign_of_sort, sign_sorts, first_token}
 
--- what is left of the text from a place on, after the source and the options stayed
+-- the tokens that are left after a step, in terms of the source and the options before it
 left_same : (s t : Tokens) → source t ≡ source s → options_of t ≡ options_of s → left t ≡ tokens_from (options_of s) (place_of t) (ahead (source s) (place_of t))
 left_same s t text o = (λ i. tokens_from (o i) (place_of t) (ahead (text i) (place_of t)))
 
--- ---- what lies ahead
+-- ---- what is ahead
 
--- from s, past the blanks up to t
+-- skipping the blanks from s to t
 pub looks_ahead : (s t : Tokens) (sort : Option Sort) → source t ≡ source s → options_of t ≡ options_of s → Passes is_blank (source s) (place_of s) (place_of t) → IsAhead t sort → LooksAhead s t sort
 looks_ahead s t sort text o blanks ahead = record {
   same_source = text;
@@ -42,7 +42,7 @@ none_left s end =
     let nothing : ahead (source s) (place_of s) ≡ [] = s.none end in
     (ap (tokens_from (options_of s) (place_of s)) nothing, place_at_end (source s) (place_of s) (IsUtf8-had s.eye.text.now s.eye.utf8) s.eye.at_place nothing)
 
--- The first token that is left starts at the place, and its terminal is of the sort ahead.
+-- The first token that is left starts at the place, and its terminal has the sort ahead.
 pub first_left : (s : Tokens) (sort : Sort) → IsAhead s (Some sort)
     → (cs : List ℕ) × (rest : List Token) × (left s ≡ record { start = place_of s; characters = cs } ∷ rest) × (sort ≡ sort_of (terminal_of (options_of s) cs))
 first_left s sort h =
@@ -56,7 +56,7 @@ one_sort s a b h k =
     let same : h.0 ≡ k.0 = cc in
     h.3 ∙ ap (sort_at (options_of s)) same ∙ sym k.3
 
--- a word begins with a unit letter
+-- a word starts with a unit letter
 pub letter_ahead : (s : Tokens) (c : ℕ) → IsAhead s (Some Word) → s.head ≡ Some c → is_unit_letter (options_of s) c ≡ true
 letter_ahead s c h is =
     let heads = sym h.1 ∙ is in
@@ -76,7 +76,7 @@ takes_token s t terminal text o token = record {
   is_terminal = token.is_terminal;
 }
 
--- The slice from s to t is the number ahead, and low is what it comes to but for a multiple of 2^64.
+-- The slice from s to t is the number ahead, and `low` is its value modulo 2^64.
 pub takes_number : (s t : Tokens) (low start : ℕ) (slice : List ℕ) → IsAhead s (Some Number) → source t ≡ source s → options_of t ≡ options_of s
     → TakesDigits (source s) (place_of s) (place_of t) low → Stops is_digit (ahead (source t) (place_of t)) → start ≡ place_of s → slice ≡ slice_range (source t) start (place_of t) → IsUtf8 slice
     → IsNumber (chars slice) × (low ≡ number_of (chars slice) % 2 ^ 64) × TakesNumber s t (u64_from (number_of (chars slice)))
@@ -96,7 +96,7 @@ takes_word s t unit h text o taken stops =
     (word_stands (options_of s) (source s) (place_of s) (place_of t) s.eye.next h.0 unit taken (subst (λ l. Stops (is_unit_letter (options_of s)) (ahead l (place_of t))) text stops)
     (s.some h.0 h.1) (letter_of_sort (options_of s) h.0 h.3))
 
--- a word by its slice: ASCII letters from s to m, and any unit letters from there to t
+-- a word by its slice: ASCII letters from s to m, then any unit letters up to t
 pub takes_long_word : (s m t : Tokens) (value start : ℕ) (slice : List ℕ) (unit : Option TimeUnit) → IsAhead s (Some Word) → source m ≡ source s → options_of m ≡ options_of s
     → TakesLetters (source s) (place_of s) (place_of m) value → source t ≡ source m → options_of t ≡ options_of m
     → Passes (is_unit_letter (options_of m)) (source m) (place_of m) (place_of t) → Stops (is_unit_letter (options_of m)) (ahead (source t) (place_of t))
@@ -108,7 +108,7 @@ takes_long_word s m t value start slice unit h text o letters later_text later_o
     (same_slice slice (source t) (source s) start (place_of s) (place_of t) is (later_text ∙ text) there) utf8 (found ∙ ap (λ o. unit_of_word o (chars slice)) (later_o ∙ o)))
     (subst (λ o. Stops (is_unit_letter o) (ahead (source t) (place_of t))) o stops)
 
--- from s past the character ahead
+-- taking the single character ahead
 pub takes_sign : (s t : Tokens) (sort : Sort) → IsSign sort → IsAhead s (Some sort) → source t ≡ source s → options_of t ≡ options_of s
     → ((c : ℕ) → s.head ≡ Some c → StandsAt (source s) (place_of s) (place_of t) c) → (terminal : Terminal) × TakesToken s t terminal × (sort ≡ sort_of terminal)
 takes_sign s t sort sign h text o past =
@@ -118,7 +118,7 @@ takes_sign s t sort sign h text o past =
       class.2 ∙ sign_sorts (operator_of h.0),
     )
 
--- the sort tells what the terminal of a single character is
+-- the terminal of a single character, given its sort
 pub sign_what : (terminal : Terminal) (op : CondUnit) → Operator op ≡ sort_of terminal → whats.Operator op ≡ what_of terminal
 sign_what (number n) op e = absurd cc
 sign_what (word u) op e = absurd cc
@@ -131,7 +131,7 @@ other_what (word u) e = absurd cc
 other_what (operator next) e = absurd cc
 other_what other e = refl
 
--- a terminal is the first token that was left
+-- the token that was taken is the next one
 pub takes_terminal : (s m t : Tokens) (x : RustToken) (terminal : Terminal) → source m ≡ source s → options_of m ≡ options_of s → left m ≡ left s → TakesToken m t terminal
     → x.start ≡ place_of m → x.text.now ≡ slice_range (source t) x.start (place_of t) → IsUtf8 x.text.now → x.what ≡ what_of terminal → IsCharBoundary (source m) (place_of m)
     → IsCharBoundary (source t) (place_of t) → YieldsNextToken s (Some x) t

@@ -11,7 +11,7 @@ EndInOne [] = ⊥
 EndInOne (l ∷ []) = l ≡ 1
 EndInOne (l ∷ m ∷ lengths) = (1 ≤ l) × EndInOne (m ∷ lengths)
 
--- The weighted sum of the counts is the duration.
+-- The counts times their lengths add up to the duration.
 counts_whole : (lengths : List ℕ) (nanos : ℕ) → EndInOne lengths → weighted_sum lengths (counts_of lengths nanos) ≡ nanos
 counts_whole [] nanos h = absurd h
 counts_whole (l ∷ []) nanos h = rw h (omega arith)
@@ -30,19 +30,19 @@ first_within m l rest nanos h e =
     let product : m * l ≤ nanos = omega arith in
     (le-div_iff_mul-le h).1 product
 
--- Where the first count is the quotient, what the others come to is the remainder.
+-- If the first count is the quotient, the others total the remainder.
 rest_same : (m l rest nanos : ℕ) → m * l + rest ≡ nanos → m ≡ nanos / l → rest ≡ nanos % l
 rest_same m l rest nanos e s =
     let product : nanos / l * l + rest ≡ nanos = subst (λ (x : ℕ). x * l + rest ≡ nanos) s e in
     omega (arith, div-add-mod' nanos l)
 
--- Of the length 1 there are as many as the duration has nanoseconds.
+-- The only count of length 1 is the number of nanoseconds.
 only_count : (n l nanos : ℕ) → l ≡ 1 → n * l + 0 ≡ nanos → n ≡ nanos / l
 only_count n l nanos h e =
     let one : n * 1 + 0 ≡ nanos = subst (λ (x : ℕ). n * x + 0 ≡ nanos) h e in
     rw h (omega arith)
 
--- A list is compared with the counts by its first count, and then by the others.
+-- A list is compared with the counts by its first count, then by the others.
 by_first : (x n nanos : ℕ) (others counts : List ℕ) → 1 ≤ x → (rest : ℕ) → n * x + rest ≡ nanos
     → (rest ≡ nanos % x → (others ≡ counts) ⊎ IsBefore others counts)
     → (n < nanos / x) ⊎ (nanos / x ≤ n)
@@ -80,7 +80,7 @@ not_before_each_other (m ∷ ms) (n ∷ ns) (inl h) (inr k) = let e : n ≡ m = 
 not_before_each_other (m ∷ ms) (n ∷ ns) (inr h) (inl k) = let e : m ≡ n = h.0 in omega arith
 not_before_each_other (m ∷ ms) (n ∷ ns) (inr h) (inr k) = not_before_each_other ms ns h.1 k.1
 
--- A duration has one greatest breakdown.
+-- A duration has only one greatest breakdown.
 pub one_greatest : (lengths : List ℕ) (nanos : ℕ) (a b : List ℕ) → IsGreatestBreakdown lengths nanos a
     → IsGreatestBreakdown lengths nanos b → a ≡ b
 one_greatest lengths nanos a b h k = ⊎_elim (λ same. same)

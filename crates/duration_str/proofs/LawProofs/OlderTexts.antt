@@ -1,4 +1,4 @@
--- The law `older_texts`: what was a sentence over the units before the quarter is one over all units.
+-- The law `older_texts`: a sentence over the units without the quarter is a sentence over all units.
 use Rattle.std.proofs.Common.{◌≡◌, ℕ, Bool, true, false, List, [], ◌∷◌, ◌++◌, map, length, Option, Some, None, IsTrue, if◌then◌else◌, refl, sym, ap, ap₂, subst, ◌∙◌, append-nil}
 use Rattle.std.proofs.lemmas.Bool.{true≢false, and_parts}
 use Rattle.std.specs.List.{list_all, find}
@@ -17,7 +17,7 @@ use Rattle.duration_str.proofs.Characters.UnitLemmas.{found_among_all}
 use Rattle.duration_str.proofs.Sentences.AnswerLemmas.{sentence_refused}
 use Rattle.duration_str.proofs.Sentences.FrontLemmas.{AreAllowed, whole_allowed, sentence_allowed}
 
--- the terminal of a word, from its two tests and the unit that it names
+-- the terminal of characters, given the two tests and the unit that they name
 abbrev terminal_by : Bool → Bool → List ℕ → Option TimeUnit → Terminal
 terminal_by digits letters w unit = if digits then number (number_of w) else if letters then word unit else sign_terminal w
 
@@ -33,7 +33,7 @@ same_by o last w true letters a = refl
 same_by o last w false true a = ap word (same_word o last w _ refl a)
 same_by o last w false false a = refl
 
--- a word that may stand where it does is the terminal that it was
+-- a lexeme that the table allows where it is has the same terminal as before
 same_terminal : (o : Options) (last : Option Terminal) (w : List ℕ) → IsTrue (allows (kinds_after o.no_calc last) (terminal_among older_units o w))
     → terminal_among older_units o w ≡ terminal_of o w
 same_terminal o last [] a = refl

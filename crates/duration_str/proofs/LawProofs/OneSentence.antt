@@ -1,4 +1,4 @@
--- A text has one list of tokens, and at most one sentence spells it.
+-- A text has only one list of tokens, and at most one sentence spells it.
 use Rattle.std.proofs.Common.{List, ℕ, sym, subst, ◌∙◌}
 use Rattle.duration_str.specs.Grammar.{Spells}
 use Rattle.duration_str.specs.Tokens.{tokens_of}

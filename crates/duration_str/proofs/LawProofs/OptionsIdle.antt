@@ -42,9 +42,9 @@ refused_alike o p (c ∷ text) cause h r =
       subst₂ (λ (nc : Bool) (ps : List Token). IsRefusedAt nc (place ps) r.0 r.1 cause) h.grammar h.tokens r.3,
     )
 
--- ---- Options that agree on characters and lexemes give the same tokens and terminals
+-- ---- Options that agree on characters and words give the same tokens and terminals
 
--- On characters that pass the test both options have the same unit letters, and on lexemes of them the same units.
+-- For characters that pass the test both options have the same unit letters, and for words of them the same units.
 record Agree (test : ℕ → Bool) (o p : Options) : Type 0 where
   letter : (c : ℕ) → test c ≡ true → is_unit_letter o c ≡ is_unit_letter p c
   unit : (w : List ℕ) → IsTrue (list_all test w) → unit_of_word o w ≡ unit_of_word p w
@@ -102,7 +102,7 @@ all_lower : (w : List ℕ) → HasNoCapital w → map to_ascii_lowercase w ≡ w
 all_lower [] h = refl
 all_lower (c ∷ w) h = ap₂ ◌∷◌ (lower_same c (and_parts _ _ h).0) (all_lower w (and_parts _ _ h).1)
 
--- the unit that has this name, without further folding
+-- the unit with exactly this name, capitals included
 abbrev unit_of_name : Bool → List ℕ → Option TimeUnit
 unit_of_name cn_unit w = find (λ u. list_any (bytes_eq w) (row_of u).names || (cn_unit && list_any (bytes_eq w) (row_of u).chinese)) units
 
@@ -140,7 +140,7 @@ abbrev begins_chinese : List ℕ → Bool
 begins_chinese [] = false
 begins_chinese (d ∷ ds) = is_chinese d
 
--- A name that begins with a Chinese character is no word without them.
+-- A name that starts with a Chinese character is not a word without them.
 other_name : (w name : List ℕ) → HasNoChinese w → IsTrue (begins_chinese name) → bytes_eq w name ≡ false
 other_name [] [] h k = absurd (true≢false (sym k))
 other_name [] (d ∷ ds) h k = refl
@@ -155,7 +155,7 @@ other_names : (w : List ℕ) (names : List (List ℕ)) → HasNoChinese w → Is
 other_names w [] h k = refl
 other_names w (name ∷ names) h k = or_from _ _ (other_name w name h (and_parts _ _ k).0) (other_names w names h (and_parts _ _ k).1)
 
--- The word is no Chinese name of these units.
+-- The word is not a Chinese name of these units.
 abbrev NamesNoChinese : List ℕ → List TimeUnit → Type 0
 NamesNoChinese w [] = Unit {0}
 NamesNoChinese w (u ∷ us) = (list_any (bytes_eq w) (row_of u).chinese ≡ false) × NamesNoChinese w us

@@ -1,4 +1,4 @@
--- The table tells what can follow the beginning of a sentence, and finds the front.
+-- The table says what can follow the beginning of a sentence, and finds the front.
 use Rattle.std.proofs.Common.{◌≡◌, Bool, true, ◌≢◌, List, [], ◌∷◌, Option, Some, None, IsTrue, sym, ◌∙◌}
 use Rattle.std.proofs.lemmas.Bool.{true≢false}
 use Rattle.duration_str.specs.declared.operator.CondUnit.{CondUnit}

@@ -1,4 +1,4 @@
--- What is printed is read back below 2^64 nanoseconds, and elsewhere overflows.
+-- A printed text is read back below 2^64 nanoseconds, and otherwise overflows.
 use Rattle.std.proofs.Common.{◌≡◌, ℕ, ◌+◌, ◌*◌, ◌/◌, ◌^◌, ◌≤◌, ◌<◌, Bool, true, false, ◌==◌, List, [], ◌∷◌, map, drop, Some, None, arith, sym, ap, subst, ◌∙◌}
 use Rattle.std.proofs.lemmas.Bool.{ne_eqb}
 use Rattle.std.specs.Duration.{FitsDuration}

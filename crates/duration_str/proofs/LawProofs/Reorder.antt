@@ -1,4 +1,4 @@
--- Sums whose terms have the same values, each equally often, come to the same.
+-- Sums with the same values of terms, each equally often, are equal.
 use Rattle.std.proofs.Common.{◌≡◌, ℕ, ◌+◌, ◌≤◌, Bool, true, false, ◌==◌, List, [], ◌∷◌, map, if◌then◌else◌, arith, refl, sym, ap, ◌∙◌}
 use Rattle.std.proofs.lemmas.Bool.{eqb-true, eq-eqb, cond-true}
 use Rattle.duration_str.specs.Value.{Term, value_of_term, sum_of, times_in}
@@ -10,12 +10,12 @@ abbrev total : List ℕ → ℕ
 total [] = 0
 total (n ∷ ns) = n + total ns
 
--- the list without the first n
+-- the list without its first n
 abbrev without : ℕ → List ℕ → List ℕ
 without n [] = []
 without n (m ∷ ms) = if m == n then ms else m ∷ without n ms
 
--- how often the one number x is n
+-- how often n is in the list of x alone
 abbrev is_times : ℕ → ℕ → ℕ
 is_times x n = if x == n then 1 else 0
 

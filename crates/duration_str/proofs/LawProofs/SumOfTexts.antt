@@ -1,4 +1,4 @@
--- Two accepted texts without `*`, combination by a plus, come to the sum of their values, or overflow.
+-- Two accepted texts without `*`, joined by a plus, have the sum of their values, or overflow.
 use Rattle.std.proofs.Common.{◌≡◌, ℕ, ◌+◌, ◌^◌, ◌<◌, ◌≤◌, Bool, true, false, not, ◌==◌, List, [], ◌∷◌, ◌++◌, map, Option, Some, None, if◌then◌else◌, codes, refl, sym, ap, ap₂, subst, ◌∙◌, append_assoc}
 use Rattle.std.proofs.lemmas.Bool.{true≢false, and_parts, and_from}
 use Rattle.std.proofs.lemmas.List.{map-append}
@@ -19,7 +19,7 @@ use Rattle.duration_str.proofs.Sentences.SumLemmas.{sum-append}
 use Rattle.duration_str.proofs.Sentences.AnswerLemmas.{read_below}
 use Rattle.duration_str.proofs.Sentences.SumReadings.{IsSumOf, terms_of_lexemes, sum_read, read_sum, EachFits, sum_fits_each, sum_overflows}
 
--- ---- The combination lexemes spell the combination text
+-- ---- The joined lexemes spell the joined text
 
 spells_after_blanks : (lexemes : List (List ℕ)) (s t : List ℕ) → IsBlank s → Spells lexemes t → Spells lexemes (s ++ t)
 spells_after_blanks [] s t h k = list_all-append _ s t ∙ and_from _ _ h k
@@ -51,7 +51,7 @@ plus_terminal o = at o.no_calc o.lowercase o.cn_unit
     at no_calc lowercase true = refl
     at no_calc lowercase false = refl
 
--- Where a sentence can end a plus can stand.
+-- A plus can follow wherever a sentence can end.
 plus_allowed : (last : Option Terminal) (ys : List Terminal) → AreAllowedWhole false last [] → AreAllowedWhole false None ys
     → AreAllowedWhole false last (operator Plus ∷ ys)
 plus_allowed None ys h k = cc
@@ -81,7 +81,7 @@ both_terms op (number n ∷ word (Some u) ∷ number m ∷ more) ys s =
     ap (λ (ts : List Term). record { operator = op; number = n; length = nanos_of u } ∷ ts) (both_terms Plus (number m ∷ more) ys s)
 both_terms op _ ys s = absurd s
 
--- ---- A text without `*` has no other operator than plus
+-- ---- A text without `*` has no operator other than plus
 
 no_star_plus : (c : ℕ) (op : CondUnit) → not (c == 42) ≡ true → operator_of c ≡ Some op → op ≡ Plus
 no_star_plus c op h e = by_tests _ _ refl e
@@ -113,7 +113,7 @@ both_plus (word u ∷ xs) ys h k = both_plus xs ys h k
 both_plus (operator op ∷ xs) ys h k = (h.0, both_plus xs ys h.1 k)
 both_plus (other ∷ xs) ys h k = both_plus xs ys h k
 
--- ---- The combination text
+-- ---- The joined text
 
 both_fit : (xs ys : List Term) → EachFits xs → EachFits ys → EachFits (xs ++ ys)
 both_fit [] ys h k = k
@@ -151,7 +151,7 @@ joined_terms : (o : Options) (lexemes others : List (List ℕ)) → IsSentence f
 joined_terms o lexemes others s =
     ap terms_of (joined_terminals o lexemes others) ∙ both_terms Plus (map (terminal_of o) lexemes) (map (terminal_of o) others) s
 
--- What is known of the combination text of two that are read.
+-- What is known of the joined text of two texts that are read.
 record IsJoined (o : Options) (text : List ℕ) (nanos : ℕ) : Type 0 where
   lexemes : List (List ℕ)
   sum : IsSumOf o lexemes text

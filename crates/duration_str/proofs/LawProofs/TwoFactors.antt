@@ -1,4 +1,4 @@
--- A product of two terms is accepted exactly where both terms and their product fit, and so is the exchanged product.
+-- A product of two terms is accepted exactly if both terms and their product fit, and so is the exchanged product.
 use Rattle.std.proofs.Common.{◌≡◌, ℕ, ◌*◌, ◌/◌, ◌^◌, ◌<◌, List, [], ◌∷◌, map, Some, None, arith, refl, sym, ap, ap₂, subst, subst₂, ◌∙◌, mul-div_cancel, mul_comm}
 use Rattle.duration_str.specs.declared.options.Options.{Options}
 use Rattle.duration_str.specs.declared.operator.CondUnit.{CondUnit}
@@ -11,7 +11,7 @@ use Rattle.duration_str.specs.Laws.{TwoFactors}
 use Rattle.duration_str.proofs.Sentences.FaultLemmas.{fault_by, no_fault, no_faults, below_no_fault, no_fault_below}
 use Rattle.duration_str.proofs.Sentences.AnswerLemmas.{read_sentence}
 
--- The numbers m and n, their terms of the lengths l and k, and the product of the terms are below 2^64.
+-- The numbers m and n, their terms with the lengths l and k, and the product of the terms are below 2^64.
 record Fit (m l n k : ℕ) : Type 0 where
   number : m < 2 ^ 64
   value : m * l < 2 ^ 64
@@ -25,7 +25,7 @@ FitBoth t u = Fit t.number t.length u.number u.length
 abbrev product_with : Term → Term → ℕ
 product_with t u = value_of_term t * value_of_term u / second
 
--- The first step of a product gives the later term's value.
+-- The first step of a product is the value of the later term.
 one_step : (x : ℕ) → second * x / second ≡ x
 one_step x = ap (λ (n : ℕ). n / second) (mul_comm second x) ∙ mul-div_cancel x (omega arith)
 

@@ -1,4 +1,4 @@
--- Later terms are combination one by one, and their faults come in the order of the whole list's.
+-- Combining the later terms one by one gives their faults in the order of the whole list.
 use Rattle.std.proofs.Common.{◌≡◌, ℕ, ◌+◌, ◌*◌, ◌/◌, ◌^◌, ◌<◌, ◌≤◌, Bool, true, false, List, [], ◌∷◌, ◌++◌, Option, Some, None, Result, Ok, Err, IsTrue, if◌then◌else◌, unwrap_or, refl, ap, sym, subst, ◌∙◌, arith, append_assoc, append-nil}
 use Rattle.std.specs.Option.{ok_or}
 use Rattle.std.specs.Result.{result_err, result_and}
@@ -15,7 +15,7 @@ use Rattle.duration_str.proofs.Sentences.FaultLemmas.{no_faults, term_no_fault_b
 use Rattle.duration_str.proofs.Sentences.SumLemmas.{AreAdded, sum-append, running_none, running_none_below, below_evaluate}
 use Rattle.duration_str.proofs.Sentences.AnswerLemmas.{later_value}
 
--- the answer to a text with these terms, and with this syntax fault after them, or none
+-- the answer to a text with these terms, given the syntax fault after them or `None`
 abbrev pub answer_of : Bool → List Term → Option Cause → Result ℕ Cause
 answer_of no_calc terms syntax =
     fault_or (if no_calc then running_fault [] terms else first_fault terms)
@@ -50,11 +50,11 @@ later_append set before (x ∷ xs) ys =
 
 -- ---- One more later term
 
--- the value of later terms, or the first fault of one
+-- the value of the later terms, or their first fault
 abbrev value_by : CondUnit → List Term → Result ℕ Cause
 value_by set later = fault_or (later_fault set [] later) (Ok (later_total set later))
 
--- A term's fault tells its value.
+-- The value of a term, or its fault, as `term_value` gives it.
 pub term_told : (place : Option ℕ) (t : Term) → term_value place (u64_from t.number) t.length ≡ fault_or (term_fault place t) (Ok (value_of_term t))
 term_told place t = by_fit (fits t.number)
   where
@@ -97,7 +97,7 @@ fault_joined : (set : CondUnit) (x : ℕ) (fault rest : Option Cause) (y r : Res
 fault_joined set x None rest y r h = h
 fault_joined set x (Some cause) rest y r h = refl
 
--- an operator that was not set, where there is no fault before it
+-- a different operator is a fault unless there is an earlier one
 operator_told : (set next : CondUnit) (x : ℕ) (y r : Result ℕ Cause) (fault rest : Option Cause) (same : Bool) → join set (Ok x) y ≡ fault_or rest r
     → join set (result_and (fault_or fault (Ok x)) (if same then fault_or fault (Ok x) else Err (Mixed set next))) y
     ≡ fault_or (or_else fault (or_else (unless same (Mixed set next)) rest)) r
@@ -105,7 +105,7 @@ operator_told set next x y r (Some cause) rest same h = refl
 operator_told set next x y r None rest false h = refl
 operator_told set next x y r None rest true h = h
 
--- One more term is combination, if its operator is the one that was set.
+-- One more term is combined if its operator is the one that was set.
 one_more : (set : CondUnit) (before : List Term) (t : Term)
     → join set (before_operator set (value_by set before) t.operator) (term_value None (u64_from t.number) t.length) ≡ value_by set (before ++ t ∷ [])
 one_more set before t =
@@ -121,14 +121,15 @@ one_more set before t =
 
 -- ---- All terms, one by one
 
--- the answer with the first value and the later terms' so far, where these terms are left, and this syntax fault after them
+-- the answer, given the first value and the later terms so far, the terms that are left, and the syntax fault after
+-- them
 abbrev pub answer_with : Bool → ℕ → CondUnit → Result ℕ Cause → List Term → Option Cause → Result ℕ Cause
 answer_with no_calc first set later [] syntax = fault_or syntax (join set (Ok first) later)
 answer_with no_calc first set later (t ∷ terms) syntax =
     let next = join set (before_operator set later t.operator) (term_value None (u64_from t.number) t.length) in
     fault_or (at_once no_calc (join set (Ok first) next)) (answer_with no_calc first set next terms syntax)
 
--- the answer with the first value, where these terms are left after it
+-- the answer, given the first value and the terms after it
 abbrev pub answer_after_first : Bool → ℕ → List Term → Option Cause → Result ℕ Cause
 answer_after_first no_calc first [] syntax = fault_or syntax (Ok first)
 answer_after_first no_calc first (t ∷ terms) syntax = answer_with no_calc first t.operator (Ok (nothing_of t.operator)) (t ∷ terms) syntax
@@ -140,18 +141,18 @@ default_left first set before (t ∷ later) syntax =
     ap (λ x. answer_with false first set x later syntax) (one_more set before t) ∙ default_left first set (before ++ t ∷ []) later syntax
     ∙ ap (λ l. fault_or syntax (join set (Ok first) (value_by set l))) (append_assoc before (t ∷ []) later)
 
--- Later terms that are added have no fault where the sum of all is below 2^64.
+-- Later terms that are added have no fault if the sum of all terms is below 2^64.
 added_none : (f : Term) (later : List Term) → AreAdded (f ∷ later) → sum_of (f ∷ later) < 2 ^ 64 → later_fault Plus [] later ≡ None
 added_none f [] a h = refl
 added_none f (u ∷ later) a h =
     let faults = (below_evaluate (f ∷ u ∷ later) (omega arith) a h).1 in
     subst (λ set. later_fault set [] (u ∷ later) ≡ None) a.2.0 (no_faults (later_fault u.operator [] (u ∷ later)) _ faults).0
 
--- a sum above one of 2^64 or more
+-- a sum is 2^64 or more if a part of it is
 stays_large : (n m : ℕ) → m ≤ n → fits m ≡ false → fits n ≡ false
 stays_large n m order large = false_from_ne_true (fits n) (λ h. true≢false (sym (lt-ltb m (2 ^ 64) (omega (arith, ltb-true n (2 ^ 64) h, order))) ∙ large))
 
--- the fault of the later terms' sum, and of that with the first term, is one
+-- the overflow of the later terms' sum, and that of the sum with the first term, are one fault
 sum_told : (first sum : ℕ) (own : Option Cause) → or_else own (or_else (unless (fits (first + sum)) (Overflow None)) None)
     ≡ result_err (join Plus (Ok first) (fault_or (or_else own (or_else (unless (fits sum) (Overflow None)) None)) (Ok sum)))
 sum_told first sum (Some cause) = refl
@@ -166,7 +167,7 @@ sum_told first sum None = by (fits sum) refl
     by true e = all (fits (first + sum))
     by false e = rw (stays_large (first + sum) sum (omega arith) e) refl
 
--- Under `no_calc` one more term's fault, or that of the sum, is told at once.
+-- Under `no_calc` the fault of one more term, or of the sum, is reported at once.
 checked_sum : (f : Term) (before : List Term) (t : Term) → t.operator ≡ Plus → AreAdded (f ∷ before) → running_fault [] (f ∷ before) ≡ None
     → running_fault [] (f ∷ before ++ t ∷ []) ≡ result_err (join Plus (Ok (value_of_term f)) (value_by Plus (before ++ t ∷ [])))
 checked_sum f before t plus a none =
@@ -180,7 +181,7 @@ checked_sum f before t plus a none =
     running_append [] (f ∷ before) (t ∷ []) ∙ ap (λ e. or_else e (running_fault (f ∷ before) (t ∷ []))) none
     ∙ sum_told (value_of_term f) sum own ∙ ap (λ e. result_err (join Plus (Ok (value_of_term f)) (fault_or e (Ok sum)))) (sym later)
 
--- the first fault of all, where the first of two parts has none or has it
+-- the first fault of all, whether the first of two parts has it or not
 first_of : (fault rest all : Option Cause) (x r : Result ℕ Cause) → all ≡ or_else fault rest → (fault ≡ None → x ≡ fault_or all r)
     → fault_or fault x ≡ fault_or all r
 first_of None rest all x r h k = k refl
@@ -211,7 +212,7 @@ whole_told set x y (Some cause) v h = refl
 whole_told set x y None v h =
     joined_told set x y ∙ ap (λ w. fault_or (unless (fits (combination set x y)) (Overflow None)) (Ok (unwrap_or w 0))) (sym (h refl))
 
--- The first value combination with that of all later terms has the fault and the value of the whole list.
+-- The first value combined with that of all later terms has the fault and the value of the whole list.
 whole_value : (f u : Term) (later : List Term) → join u.operator (Ok (value_of_term f)) (value_by u.operator (u ∷ later))
     ≡ fault_or (evaluation_fault (f ∷ u ∷ later)) (Ok (unwrap_or (value_of (f ∷ u ∷ later)) 0))
 whole_value f u later =
@@ -229,7 +230,7 @@ default_answer f (u ∷ later) syntax =
     (sym (ap (λ x. answer_with false (value_of_term f) u.operator x (u ∷ later) syntax) (nothing_together u.operator)
     ∙ default_left (value_of_term f) u.operator [] (u ∷ later) syntax ∙ ap (fault_or syntax) (whole_value f u later)))
 
--- Under `no_calc` terms without a fault have none by default.
+-- Under `no_calc`, terms without an early fault have no late fault.
 no_calc_value : (f : Term) (later : List Term) (syntax fault : Option Cause) → AreAdded (f ∷ later) → running_fault [] (f ∷ later) ≡ fault
     → fault_or fault (fault_or syntax (fault_or (evaluation_fault (f ∷ later)) (Ok (unwrap_or (value_of (f ∷ later)) 0))))
     ≡ fault_or fault (fault_or syntax (Ok (unwrap_or (value_of (f ∷ later)) 0)))
@@ -254,7 +255,7 @@ no_calc_answer f later syntax a =
     sym (first_of (term_fault (Some 0) f) _ (running_fault [] (f ∷ later)) _ (fault_or syntax (Ok (unwrap_or (value_of (f ∷ later)) 0))) refl
     (λ e. no_calc_after f later syntax a (running_none [] (f ∷ []) (a.0, a.1, tt) (omega (arith, term_no_fault_below (Some 0) f e)))))
 
--- The answer to terms is that of reading them one by one.
+-- The answer to terms is the answer of reading them one by one.
 pub one_by_one : (no_calc : Bool) (f : Term) (later : List Term) (syntax : Option Cause) → (IsTrue no_calc → AreAdded (f ∷ later))
     → answer_of no_calc (f ∷ later) syntax ≡ fault_or (term_fault (Some 0) f) (answer_after_first no_calc (value_of_term f) later syntax)
 one_by_one false f later syntax added = default_answer f later syntax

@@ -1,4 +1,4 @@
--- Where a fault stands: at a character boundary of the text.
+-- The place of a fault is a character boundary of the text.
 use Rattle.std.proofs.Common.{◌≡◌, ℕ, zero, suc, ◌+◌, ◌-◌, ◌≤◌, Bool, true, false, List, [], ◌∷◌, ◌++◌, length, take, drop, Option, Some, None, Result, Ok, Err, if◌then◌else◌, IsUtf8, refl, ap, sym, subst, ◌∙◌, arith, append_assoc, length-append}
 use Rattle.std.specs.Option.{ForSome}
 use Rattle.std.specs.Str.{IsCharBoundary, chars}
@@ -26,14 +26,14 @@ if_holds : {A : Type 0} (P : A → Type 0) (b : Bool) (x y : A) → P x → P y 
 if_holds P true x y h k = h
 if_holds P false x y h k = k
 
--- ---- Places of the answer's fault, by a property of places
+-- ---- A property of the place of the answer's fault
 
--- The place of the fault, if there is one and it has a place, is one of these.
+-- The place of the fault, if there is one, has the property.
 abbrev FaultStands : (ℕ → Type 0) → Option Cause → Type 0
 FaultStands P None = Unit {0}
 FaultStands P (Some cause) = ForSome (place_of cause) P
 
--- The same of an answer.
+-- The same for an answer.
 abbrev AnswerStands : (ℕ → Type 0) → Result ℕ Cause → Type 0
 AnswerStands P (Ok nanos) = Unit {0}
 AnswerStands P (Err cause) = ForSome (place_of cause) P
@@ -143,11 +143,11 @@ encoded_len (c ∷ cs) e =
     let h = and_parts (scalar c) (scalars cs) e in
     omega (arith, width-scalar c h.0, length-encode c, encoded_len cs h.1, length-append (encode c) (encodes cs))
 
--- A text has the bytes of its characters.
+-- The bytes of a text are those of its characters.
 pub byte_count : (bs : List ℕ) → IsUtf8 bs → byte_len (chars bs) ≡ length bs
 byte_count bs utf8 = encoded_len (chars bs) (scalars-chars bs utf8) ∙ ap length (encodes-chars bs utf8)
 
--- The bytes of the first characters end at a boundary.
+-- The bytes of some first characters end at a boundary.
 seam : (bs xs ys : List ℕ) → IsUtf8 bs → chars bs ≡ xs ++ ys → IsCharBoundary bs (byte_len xs)
 seam bs xs ys utf8 e =
     let all : scalars (xs ++ ys) ≡ true = ap scalars (sym e) ∙ scalars-chars bs utf8 in
@@ -155,7 +155,7 @@ seam bs xs ys utf8 e =
     let whole : bs ≡ encodes xs ++ encodes ys = sym (encodes-chars bs utf8) ∙ ap encodes e ∙ encodes-append xs ys in
     subst (IsCharBoundary bs) (sym (encoded_len xs parts.0)) (IsCharBoundary-at_seam bs (encodes xs) (encodes ys) whole (ys, (parts.1, refl)))
 
--- The characters `xs` stand before those that have these tokens.
+-- The characters `xs` come before those with these tokens.
 all_start : (o : Options) (bs xs cs : List ℕ) (at : ℕ) (tokens : List Token) → IsUtf8 bs → chars bs ≡ xs ++ cs → at ≡ byte_len xs
     → AreTokens o at cs tokens → AllStart (IsCharBoundary bs) tokens
 all_start o bs xs cs at [] utf8 e w a = tt
@@ -172,7 +172,7 @@ all_start o bs xs cs at (p ∷ tokens) utf8 e w a =
       all_start o bs (before ++ p.characters) rest (p.start + byte_len p.characters) tokens utf8 next end a.2,
     )
 
--- A fault of the answer stands at a character boundary.
+-- The place of the answer's fault is a character boundary.
 pub fault_placed : (o : Options) (bs : List ℕ) (c : Cause) → IsUtf8 bs → answer o (chars bs) ≡ Err c → ForSome (place_of c) (IsCharBoundary bs)
 fault_placed o bs c utf8 e =
     subst (AnswerStands (IsCharBoundary bs)) e
@@ -180,7 +180,7 @@ fault_placed o bs c utf8 e =
     (subst (IsCharBoundary bs) (sym (byte_count bs utf8)) (IsCharBoundary-end bs))
     (all_start o bs [] (chars bs) 0 (tokens_of o (chars bs)) utf8 refl refl (tokens_are o 0 (chars bs))))
 
--- At most as many characters stand before an earlier place.
+-- There are at most as many characters before an earlier place.
 pub chars_before : (bs : List ℕ) (place at : ℕ) → IsUtf8 bs → IsCharBoundary bs place → place ≤ at
     → length (chars (take place bs)) ≤ length (chars (take at bs))
 chars_before bs place at utf8 boundary order =

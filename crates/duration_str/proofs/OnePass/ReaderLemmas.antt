@@ -1,4 +1,4 @@
--- The reader's steps: what is left next, by the sort that is ahead, and what is left after it.
+-- The reader's steps: what comes next, by the sort ahead, and what is left after it.
 use Rattle.std.proofs.Common.{◌≡◌, ℕ, Bool, true, false, length, Option, Some, None, Result, Ok, Err, IsTrue, refl, sym, ap, subst, ◌∙◌, if◌then◌else◌}
 use Rattle.duration_str.specs.declared.unit.TimeUnit.{TimeUnit}
 use Rattle.duration_str.specs.declared.unit.TimeUnit.TheVariants.{Second}
@@ -17,7 +17,7 @@ use Rattle.duration_str.specs.Tokenizer.{source, options_of, place_of, left, IsA
 use Rattle.duration_str.specs.Internal.Rest.{Rest, terminal_at, end_at, rest_from, rest_of, lacks_number, fault_or, Read, leaving, unit_read, operator_read}
 use Rattle.duration_str.proofs.Cutting.TokenizerLemmas.{none_left, first_left}
 
--- ---- What is left next
+-- ---- What comes next
 
 same_rest : (s m : Tokens) (sort : Option Sort) → LooksAhead s m sort → rest_of m ≡ rest_of s
 same_rest s m sort look = (λ i. rest_from (look.same_options i) (length (look.same_source i)) (look.same_left i))
@@ -28,7 +28,7 @@ at_end s m look =
     let none = none_left m look.ahead in
     (sym (same_rest s m None look) ∙ ap (rest_from (options_of m) (length (source m))) none.0 ∙ ap end_at (sym none.1), none.1)
 
--- The rest starts at this byte with a terminal of this sort.
+-- The rest starts at this byte, with a terminal of this sort.
 abbrev pub StartsWith : Sort → ℕ → Rest → Type 0
 StartsWith sorts.Number at rest = (n : ℕ) × (more : Rest) × (rest ≡ terminal_at at (number n) more)
 StartsWith sorts.Word at rest = (u : Option TimeUnit) × (more : Rest) × (rest ≡ terminal_at at (word u) more)
@@ -48,18 +48,18 @@ starts s m ahead sort look is =
     (by_terminal (terminal_of (options_of m) first.0) (place_of m) (rest_of s) (rest_from (options_of m) (length (source m)) first.1)
     (sym (same_rest s m ahead look) ∙ ap (rest_from (options_of m) (length (source m))) first.2))
 
--- A number is ahead.
+-- With a number ahead, the rest starts with it.
 pub at_number : (s : Tokens) → IsAhead s (Some sorts.Number) → StartsWith sorts.Number (place_of s) (rest_of s)
 at_number s ahead = starts s s _ sorts.Number (record { same_source = refl; same_options = refl; same_left = refl; ahead = ahead }) refl
 
--- A terminal that may not stand here is refused at its place.
+-- A terminal that the table does not allow is refused at its place.
 pub refused : {A : Type 0} (f : Rest → Result A Cause) (expected : Expected) (rest first : Rest) (at place : ℕ) → rest ≡ first
     → f first ≡ Err (Syntax at expected) → place ≡ at → Err (Syntax place expected) ≡ f rest
 refused f expected rest first at place here is there = ap (λ p. Err (Syntax p expected)) there ∙ sym (ap f here ∙ is)
 
 -- ---- A number
 
--- A number comes, or its lack is a fault at the place.
+-- A number follows, or its absence is a fault at the place.
 pub number_comes : (s m : Tokens) (sort : Option Sort) → LooksAhead s m sort
     → lacks_number (rest_of s) ≡ (if is_number sort then None else Some (Syntax (place_of m) (kinds_after false None)))
 number_comes s m None look = ap lacks_number (at_end s m look).0
@@ -68,7 +68,7 @@ number_comes s m (Some sorts.Word) look = ap lacks_number (starts s m _ _ look r
 number_comes s m (Some (sorts.Operator op)) look = ap lacks_number (starts s m _ _ look refl).1
 number_comes s m (Some sorts.Other) look = ap lacks_number (starts s m _ _ look refl).1
 
--- A sort that is a number's is `Number`.
+-- The only sort of numbers is `Number`.
 pub number_is : (sort : Option Sort) → is_number sort ≡ true → sort ≡ Some sorts.Number
 number_is None e = absurd cc
 number_is (Some sorts.Number) e = refl
@@ -85,7 +85,7 @@ unit_left_out s m ahead op look is =
     let here = (starts s m ahead _ look is).1 in
     ap (λ rest. leaving rest (Ok Second)) (same_rest s m ahead look ∙ here) ∙ sym (ap (unit_read false) here)
 
--- a left-out plus before a number, which is not taken
+-- plus before a number, which is not taken
 pub plus_left_out : (no_calc : Bool) (s m : Tokens) (ahead : Option Sort) → LooksAhead s m ahead → ahead ≡ Some sorts.Number
     → leaving (rest_of m) (Ok (Some Plus)) ≡ operator_read no_calc (rest_of s)
 plus_left_out no_calc s m ahead look is =
@@ -103,7 +103,6 @@ after_token s t terminal taken =
     ap (rest_from (options_of s) (length (source s))) taken.first
     ∙ (λ i. terminal_at (place_of s) (sym taken.is_terminal i) (rest_from (sym taken.same_options i) (length (sym taken.same_source i)) (left t)))
 
--- an operator is taken
 pub operator_taken : (s m t : Tokens) (ahead : Option Sort) (op : CondUnit) → LooksAhead s m ahead → ahead ≡ Some (sorts.Operator op) → TakesSign m t
     → operator_read false (rest_of s) ≡ leaving (rest_of t) (fault_or (lacks_number (rest_of t)) (Ok (Some op)))
 operator_taken s m t ahead op look is takes =
@@ -116,7 +115,7 @@ abbrev operator_of : Result (Read (Option CondUnit)) Cause → Option CondUnit
 operator_of (Ok r) = r.item
 operator_of (Err cause) = None
 
--- Under `no_calc` an operator is a left-out plus.
+-- Under `no_calc` the only operator is a plus that is left out.
 pub plus_alone : (no_calc : Bool) (rest after : Rest) (op : CondUnit) → leaving after (Ok (Some op)) ≡ operator_read no_calc rest → IsTrue no_calc → op ≡ Plus
 plus_alone no_calc (end_at at) after op e h = let none = ap operator_of e in absurd cc
 plus_alone no_calc (terminal_at at (number n) rest) after op e h = let same = ap operator_of e in cc

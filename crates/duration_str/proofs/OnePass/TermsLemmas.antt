@@ -1,4 +1,4 @@
--- The terms that are left, as they are read, and the answer by them.
+-- The terms that are left while a text is read, and the answer that they give.
 use Rattle.std.proofs.Common.{◌≡◌, ℕ, ◌^◌, ◌<◌, Bool, true, false, List, [], ◌∷◌, ◌++◌, length, take, drop, Option, Some, None, Result, Ok, Err, if◌then◌else◌, unwrap_or, IsTrue, refl, sym, ap, subst, ◌∙◌, arith}
 use Rattle.std.proofs.lemmas.Bool.{true≢false}
 use Rattle.duration_str.specs.declared.unit.TimeUnit.{TimeUnit}
@@ -30,19 +30,19 @@ pub record Ended : Type 0 where
   pub terms : List Term
   pub fault : Option Cause
 
--- the syntax fault where these kinds may follow, and these terminals do
+-- the syntax fault at a place with these kinds expected and these terminals following
 abbrev pub fault_at : ℕ → Expected → List Terminal → Option Cause
 fault_at place expected [] = unless expected.text_end (Syntax place expected)
 fault_at place expected (terminal ∷ terminals) = Some (Syntax place expected)
 
--- what goes by the table of the rest, and what comes after that
+-- the part of the rest that the table allows, and what follows it
 abbrev front_in : Bool → Rest → List Terminal
 front_in no_calc rest = take (front_of no_calc (terminals_in rest)) (terminals_in rest)
 
 abbrev after_in : Bool → Rest → List Terminal
 after_in no_calc rest = drop (front_of no_calc (terminals_in rest)) (terminals_in rest)
 
--- the terms of what is left after the operator `op`, and how they end
+-- the terms that are left after the operator `op`, and the syntax fault after them
 abbrev pub left_after : Bool → CondUnit → Rest → Ended
 left_after no_calc op rest = record {
   terms = terms_after op (complete (front_in no_calc rest) (after_in no_calc rest));
@@ -54,12 +54,12 @@ abbrev pub next_terms : Bool → Option CondUnit → Rest → Ended
 next_terms no_calc None rest = record { terms = []; fault = None }
 next_terms no_calc (Some op) rest = left_after no_calc op rest
 
--- the terms after a unit, by the operator that is read there
+-- the terms after a unit, given what was read as the operator after it
 abbrev pub after_unit : Bool → Result (Read (Option CondUnit)) Cause → Ended
 after_unit no_calc (Ok r) = next_terms no_calc r.item r.rest
 after_unit no_calc (Err cause) = record { terms = []; fault = Some cause }
 
--- the terms from the number n on, by the unit that is read after it
+-- the terms from the number n on, given what was read as the unit after it
 abbrev pub after_number : Bool → CondUnit → ℕ → Result (Read TimeUnit) Cause → Ended
 after_number no_calc op n (Ok r) =
     let more = after_unit no_calc (operator_read no_calc r.rest) in
@@ -83,7 +83,7 @@ at_operator : (op next : CondUnit) (front rest : List Terminal)
 at_operator op next front [] = refl
 at_operator op next front (terminal ∷ rest) = refl
 
--- A number begins a term, by the unit and the operator that are read after it.
+-- The terms from a number on are determined by the unit and the operator read after it.
 terms_read : (no_calc : Bool) (op : CondUnit) (at n : ℕ) (rest : Rest)
     → left_after no_calc op (terminal_at at (number n) rest) ≡ after_number no_calc op n (unit_read no_calc rest)
 terms_read no_calc op at n (end_at p) = refl
@@ -119,7 +119,7 @@ terms_read false op at n (terminal_at p (operator next) (terminal_at q (word v) 
 terms_read false op at n (terminal_at p (operator next) (terminal_at q (operator o) rest)) = refl
 terms_read false op at n (terminal_at p (operator next) (terminal_at q other rest)) = refl
 
--- A number is taken, and r is what reading the unit after it gives.
+-- A number is taken, and r is the result of reading the unit after it.
 pub number_taken : (no_calc : Bool) (op : CondUnit) (s a : Tokens) (n : Option ℕ) (taken : TakesNumber s a n)
     (r : Result (Read TimeUnit) Cause) → r ≡ unit_read no_calc (rest_of a)
     → left_after no_calc op (rest_of s) ≡ after_number no_calc op taken.0 r
@@ -129,15 +129,15 @@ number_taken no_calc op s a n taken r is =
 
 -- ---- Steps of the answer
 
--- the answer with the first value and the later terms' so far, where this is left
+-- the answer, given the first value, the later terms so far, and what is left
 abbrev pub with_left : Bool → ℕ → CondUnit → Result ℕ Cause → Ended → Result ℕ Cause
 with_left no_calc first set later left = answer_with no_calc first set later left.terms left.fault
 
--- the answer with the first value, where this is left after it
+-- the answer, given the first value and what is left after it
 abbrev pub total_of : Bool → ℕ → Ended → Result ℕ Cause
 total_of no_calc first left = answer_after_first no_calc first left.terms left.fault
 
--- What holds of a term that begins with any number, before the terms that are left, holds where a number is ahead.
+-- A property of the terms that are left after any number holds if a number is ahead.
 by_number : {A : Type 0} (no_calc : Bool) (f g : Ended → A) (op next : CondUnit) (s : Tokens) → IsAhead s (Some Number)
     → ((n : ℕ) (r : Result (Read TimeUnit) Cause) → f (after_number no_calc op n r) ≡ g (after_number no_calc next n r))
     → f (left_after no_calc op (rest_of s)) ≡ g (left_after no_calc next (rest_of s))
@@ -157,13 +157,13 @@ operator_set no_calc first set s ahead =
     by n (Ok r) = refl
     by n (Err cause) = refl
 
--- The operator that was set is no fault.
+-- The operator that was set is not a fault.
 same_operator : (set : CondUnit) (later : Result ℕ Cause) → before_operator set later set ≡ later
 same_operator Plus (Ok total) = refl
 same_operator Star (Ok total) = refl
 same_operator set (Err cause) = refl
 
--- An operator is held against the one that was set as soon as it is read.
+-- Checking an operator when it is read gives the same answer as checking it with its term.
 pub operator_next : (no_calc : Bool) (first : ℕ) (set next : CondUnit) (later : Result ℕ Cause) (s : Tokens) → IsAhead s (Some Number)
     → with_left no_calc first set (before_operator set later next) (left_after no_calc set (rest_of s))
     ≡ with_left no_calc first set later (left_after no_calc next (rest_of s))
@@ -178,8 +178,8 @@ operator_next no_calc first set next later s ahead =
         (same_operator set (before_operator set later next))
     by n (Err cause) = refl
 
--- A later term is read up to b, and added: `next` is the later terms' value with it, `fault` ends the loop at once, and r
--- is read as the operator after it.
+-- A later term is read up to b and added: `next` is the later terms' value including it, `fault` ends the loop at once,
+-- and r is read as the operator after it.
 pub later_read : (no_calc : Bool) (first : ℕ) (set : CondUnit) (later next all : Result ℕ Cause) (fault : Option Cause) (s a b : Tokens)
     (n : Option ℕ) (u : TimeUnit) (r : Result (Read (Option CondUnit)) Cause)
     → with_left no_calc first set later (left_after no_calc set (rest_of s)) ≡ all → TakesNumber s a n
@@ -193,11 +193,10 @@ later_read no_calc first set later next all fault s a b n u r same taken unit is
     ∙ ap (λ x. fault_or (at_once no_calc (join set (Ok first) x)) (with_left no_calc first set x after)) added
     ∙ sym (ap (with_left no_calc first set later) (number_taken no_calc set s a n taken _ unit)) ∙ same
 
--- how many terms are left
 abbrev pub count : Ended → ℕ
 count left = length left.terms
 
--- A term that is taken is one less.
+-- Taking a term leaves fewer.
 pub fewer : (no_calc : Bool) (set next : CondUnit) (s a b d : Tokens) (n : Option ℕ) (u : TimeUnit) → TakesNumber s a n
     → leaving (rest_of b) (Ok u) ≡ unit_read no_calc (rest_of a) → leaving (rest_of d) (Ok (Some next)) ≡ operator_read no_calc (rest_of b)
     → IsAhead d (Some Number) → count (left_after no_calc set (rest_of d)) < count (left_after no_calc set (rest_of s))
@@ -210,7 +209,7 @@ fewer no_calc set next s a b d n u taken unit op ahead =
     by n (Ok r) = refl
     by n (Err cause) = refl
 
--- ---- The answer in its order: the early fault, that of the syntax, the late one, and the value
+-- ---- The answer in order: the early fault, the syntax fault, the late fault, and the value
 
 whole_told : (whole : Bool) (cause : Cause) (late : Option Cause) (terminals : List Terminal)
     → fault_or (unless whole cause) (fault_or late (Ok (unwrap_or (value_of (terms_of terminals)) 0))) ≡ (if whole then late_answer late terminals else Err cause)
@@ -230,7 +229,7 @@ in_order : (no_calc : Bool) (place : ℕ) (front rest : List Terminal)
 in_order no_calc place front [] = answer_told no_calc place front [] _
 in_order no_calc place front (terminal ∷ rest) = answer_told no_calc place front (terminal ∷ rest) _
 
--- ---- The answer by the terms that are left
+-- ---- The answer in terms of what is left
 
 without_last_plus : (terminals : List Terminal) → AllPlus terminals → AllPlus (without_last_number terminals)
 without_last_plus [] a = tt
@@ -244,7 +243,7 @@ complete_plus : (front rest : List Terminal) → AllPlus front → AllPlus (comp
 complete_plus front [] a = a
 complete_plus front (terminal ∷ rest) a = without_last_plus front a
 
--- Under `no_calc` the terms that are left are added.
+-- Under `no_calc` all terms that are left are added.
 left_added : (no_calc : Bool) (op : CondUnit) (rest : Rest) → op ≡ Plus → IsTrue no_calc → AreAdded (left_after no_calc op rest).terms
 left_added false op rest plus h = absurd (true≢false (sym h))
 left_added true op rest plus h =
@@ -254,7 +253,7 @@ left_added true op rest plus h =
     subst (λ set. AreAdded (terms_after set stands)) (sym plus)
     (terms_added stands (complete_plus front _ (allowed_plus None front (begins_allowed true front (table_front true terminals).begins))))
 
--- the answer by the first value, or its fault, where this is left after it
+-- the answer, given the first value or its fault, and what is left after it
 abbrev pub by_first : Bool → Result ℕ Cause → Ended → Result ℕ Cause
 by_first no_calc (Ok first) left = total_of no_calc first left
 by_first no_calc (Err cause) left = Err cause
@@ -277,7 +276,7 @@ no_terms : (no_calc : Bool) (cause : Cause) → Err cause ≡ answer_of no_calc 
 no_terms false cause = refl
 no_terms true cause = refl
 
--- The first unit is not read.
+-- The first unit cannot be read.
 pub first_unread : (no_calc : Bool) (s m a : Tokens) (n : Option ℕ) (cause : Cause) → rest_of m ≡ rest_of s → TakesNumber m a n
     → Err cause ≡ unit_read no_calc (rest_of a) → Err cause ≡ answer_left no_calc [] (rest_of s)
 first_unread no_calc s m a n cause same taken unit =
@@ -308,7 +307,7 @@ same_kinds : (no_calc : Bool) (op : CondUnit) (front : List Terminal)
 same_kinds no_calc op [] = refl
 same_kinds no_calc op (terminal ∷ front) = refl
 
--- A first term in nanoseconds has their value.
+-- A first term of this many nanoseconds can stand for the first value.
 pub from_later : (no_calc : Bool) (first : ℕ) (set : CondUnit) (rest : Rest) → first < 2 ^ 64 → (IsTrue no_calc → set ≡ Plus)
     → total_of no_calc first (left_after no_calc set rest) ≡ answer_left no_calc (first_term first set) rest
 from_later no_calc first set rest below plus =

@@ -1,4 +1,4 @@
--- What is read of all that is left at the start of a text is the text's answer.
+-- The result of reading everything from the start of a text is the text's answer.
 use Rattle.std.proofs.Common.{◌≡◌, ℕ, zero, suc, ◌<◌, List, [], ◌∷◌, Result, Err, map, take, drop, length, IsUtf8, refl, ap, sym, ◌∙◌, arith}
 use Rattle.std.specs.Str.{chars}
 use Rattle.std.proofs.lemmas.Str.{chars-nil}
@@ -40,7 +40,7 @@ byte_positive : (n m : ℕ) → m ≡ n → (n ≡ 0 → ⊥) → 0 < m
 byte_positive zero m e h = absurd (h refl)
 byte_positive (suc n) m e h = omega (arith, e)
 
--- What is read of all that is left of a text at its start is the text's answer.
+-- The result of reading everything from the start of a text is the text's answer.
 pub text_answer : (o : Options) (bs : List ℕ) (terminals : Tokens) (r : Result ℕ Cause) → IsUtf8 bs → (length bs ≡ 0 → ⊥)
     → source terminals ≡ bs → options_of terminals ≡ o → left terminals ≡ tokens_of o (chars bs)
     → r ≡ answer_left o.no_calc [] (rest_of terminals) → answer o (chars bs) ≡ r

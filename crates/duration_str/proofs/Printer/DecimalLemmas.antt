@@ -1,4 +1,4 @@
--- The decimal digits of a number are that number's terminal.
+-- The terminal of a number's decimal digits is that number.
 use Rattle.std.proofs.Common.{◌≡◌, ℕ, ◌+◌, ◌-◌, ◌*◌, ◌/◌, ◌%◌, ◌^◌, ◌≤◌, ◌<◌, true, List, [], ◌∷◌, ◌++◌, length, IsTrue, decimal, arith, refl, ap, ◌∙◌}
 use Rattle.std.proofs.lemmas.Bool.{and_from, cond-true}
 use Rattle.std.proofs.lemmas.Bool.Decides.{nat_tests}

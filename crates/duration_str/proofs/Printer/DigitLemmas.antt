@@ -1,4 +1,4 @@
--- Steps of writing a number in decimal, and how long it gets.
+-- The steps of writing a number in decimal, and its length.
 use Rattle.std.proofs.Common.{◌≡◌, ℕ, suc, ◌+◌, ◌/◌, ◌%◌, ◌^◌, ◌<◌, ◌≤◌, ◌++◌, List, [], ◌∷◌, length, decimal, arith, append_assoc, sym, ap, ◌∙◌, length-append, ltb, true, refl}
 use Rattle.std.proofs.lemmas.Bool.{ltb-true}
 use Rattle.std.proofs.lemmas.Fmt.{decimal_digit, decimal_step, decimal_by_steps, decimal_nonempty, length-decimal-le}
@@ -14,7 +14,7 @@ length_one n h = ap length (decimal_digit n h)
 pub length_step : (n : ℕ) → 10 ≤ n → n < 2 ^ 64 → length (decimal n) ≡ length (decimal (n / 10)) + 1
 length_step n low high = ap length (decimal_step n low high) ∙ length-append _ _
 
--- Behind the digits of n / 10, the last digit completes those of n.
+-- The last digit after those of n / 10 gives the digits of n.
 pub put_last : (bytes before after : List ℕ) (n : ℕ) → after ≡ before ++ decimal (n % 10) → before ≡ bytes ++ decimal (n / 10) → 10 ≤ n → n < 2 ^ 64
     → after ≡ bytes ++ decimal n
 put_last bytes before after n last first low high =
@@ -24,7 +24,7 @@ put_last bytes before after n last first low high =
 
 pub ruleset put_steps = (decimal_digit, length_one, length_step, take_more_set)
 
--- a number is below the power of ten with as many zeros as it has digits
+-- a number is below 10 to the power of the number of its digits
 below_power : (n : ℕ) → n < 2 ^ 64 → n < 10 ^ length (decimal n)
 below_power = decimal_by_steps (λ n ds. n < 10 ^ length ds) (λ n small. omega arith) (λ n ds big below.
     let longer : length (ds ++ (48 + n % 10) ∷ []) ≡ suc (length ds) = omega (arith, length-append ds ((48 + n % 10) ∷ [])) in

@@ -1,4 +1,4 @@
--- The bytes that are made unit by unit are the UTF-8 of the printed text.
+-- The bytes built unit by unit are the UTF-8 of the printed text.
 use Rattle.std.proofs.Common.{◌≡◌, ℕ, ◌+◌, ◌*◌, ◌/◌, ◌%◌, ◌^◌, ◌<◌, ◌≤◌, ◌==◌, false, List, [], ◌∷◌, ◌++◌, length, take, map, decimal, encode_utf8_all, refl, ap, sym, ◌∙◌, inl, inr, arith, length-append, append_assoc, append-nil, eq-zero-or-pos, lit<}
 use Rattle.std.specs.List.{flat_map}
 use lib.Chars.{codes}
@@ -21,7 +21,7 @@ with_part_none bytes u count h = rw h
 with_part_more : (bytes : List ℕ) (u : TimeUnit) (count : ℕ) → 0 < count → with_part bytes u count ≡ with_space bytes ++ (decimal count ++ encode_utf8_all (row_of u).printed)
 with_part_more bytes u count h = grind (arith, nat_tests)
 
--- the parts of the text that the units print of so many nanoseconds
+-- the printed parts for this many nanoseconds in these units
 abbrev parts_of : List TimeUnit → ℕ → List (List ℕ)
 parts_of us nanos = printed_parts us (counts_of (map nanos_of us) nanos)
 
@@ -48,7 +48,7 @@ smaller_div nanos l h = omega (arith, div-le_self nanos l)
 smaller_mod : (nanos l : ℕ) → nanos < 10 ^ 64 → nanos % l < 10 ^ 64
 smaller_mod nanos l h = omega (arith, mod-le nanos l)
 
--- one more part behind some bytes, and others behind it
+-- one more part after some bytes, and others after it
 more_after : (bytes : List ℕ) (n : ℕ) (name rest : List ℕ) → n < 10 ^ 64
     → (with_space bytes ++ (decimal n ++ encode_utf8_all name)) ++ encode_utf8_all rest ≡ with_space bytes ++ encode_utf8_all ((decimal n ++ name) ++ rest)
 more_after bytes n name rest h =
@@ -58,7 +58,7 @@ space_some : (bytes : List ℕ) → 0 < length bytes → with_space bytes ≡ by
 space_some [] h = absurd (omega arith)
 space_some (b ∷ bytes) h = refl
 
--- behind some bytes each part follows a space
+-- after some bytes, each part follows a space
 grown_after : (us : List TimeUnit) (bytes : List ℕ) (nanos : ℕ) → nanos < 10 ^ 64 → 0 < length bytes
     → with_parts bytes us nanos ≡ bytes ++ encode_utf8_all (behind (parts_of us nanos))
 unfolding lib.Utf8.encode
@@ -80,7 +80,7 @@ grown_after (u ∷ us) bytes nanos h some =
           ∙ ap (λ ps. bytes ++ encode_utf8_all (behind ps)) (sym (parts_more u us nanos more))
     ]
 
--- the bytes, or `0s` where there are none
+-- the bytes, or `0s` if there are none
 abbrev pub ended : List ℕ → List ℕ
 ended [] = codes "0s"
 ended (b ∷ bytes) = b ∷ bytes
@@ -112,7 +112,7 @@ ended_units (u ∷ us) nanos h =
           ∙ ap (λ ps. encode_utf8_all (spaced ps)) (sym (parts_more u us nanos more))
     ]
 
--- the years from whole seconds, and then the rest in nanoseconds
+-- the years from whole seconds, then the rest in nanoseconds
 pub printed_from_seconds : (nanos secs subsec second year : ℕ) (years bytes : List ℕ) → nanos < 10 ^ 64
     → secs ≡ nanos / 1_000_000_000 → subsec ≡ nanos % 1_000_000_000 → second ≡ nanos_of Second → year ≡ nanos_of Year
     → years ≡ with_part [] Year (secs / (year / second)) → bytes ≡ with_parts years units_below_year (secs % (year / second) * second + subsec)

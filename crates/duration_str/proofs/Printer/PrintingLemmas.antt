@@ -1,4 +1,4 @@
--- The text that a duration prints as is spelled by a sum that comes to the duration.
+-- A printed text is spelled by a sum whose total is the duration.
 use Rattle.std.proofs.Common.{◌≡◌, ℕ, ◌+◌, ◌*◌, ◌%◌, ◌^◌, ◌<◌, Bool, true, false, ◌==◌, List, [], ◌∷◌, ◌++◌, map, drop, Some, if◌then◌else◌, decimal, codes, arith, refl, sym, ap, ap₂, subst, ◌∙◌, append_assoc}
 use Rattle.std.proofs.lemmas.Bool.{eqb-true}
 use Rattle.std.specs.List.{flat_map}
@@ -14,7 +14,7 @@ use Rattle.duration_str.proofs.Printer.DecimalLemmas.{decimal_terminal}
 use Rattle.duration_str.proofs.LawProofs.GreatestBreakdown.{one_greatest, greatest_breakdown_holds}
 use Rattle.duration_str.proofs.Sentences.SumReadings.{IsSumOf, terms_of_lexemes}
 
--- the lexemes of the counts that are not 0, and their terminals
+-- the lexemes of the nonzero counts, and their terminals
 abbrev printed_lexemes : List TimeUnit → List ℕ → List (List ℕ)
 printed_lexemes (u ∷ us) (n ∷ counts) = if n == 0 then printed_lexemes us counts else decimal n ∷ (row_of u).printed ∷ printed_lexemes us counts
 printed_lexemes _ _ = []
@@ -23,7 +23,7 @@ abbrev pub printed_terminals : List TimeUnit → List ℕ → List Terminal
 printed_terminals (u ∷ us) (n ∷ counts) = if n == 0 then printed_terminals us counts else number n ∷ word (Some u) ∷ printed_terminals us counts
 printed_terminals _ _ = []
 
--- the lexemes and terminals of `0s`, where there are no others
+-- the lexemes and terminals of `0s`, if there are no others
 abbrev or_zero_lexemes : List (List ℕ) → List (List ℕ)
 or_zero_lexemes [] = codes "0" ∷ codes "s" ∷ []
 or_zero_lexemes (w ∷ lexemes) = w ∷ lexemes
@@ -32,7 +32,7 @@ abbrev or_zero_terminals : List Terminal → List Terminal
 or_zero_terminals [] = number 0 ∷ word (Some Second) ∷ []
 or_zero_terminals (t ∷ terminals) = t ∷ terminals
 
--- the lexemes and terminals of what a duration prints as
+-- the lexemes and terminals of the printed text of a duration
 abbrev pub duration_lexemes : ℕ → List (List ℕ)
 duration_lexemes nanos = or_zero_lexemes (printed_lexemes units (counts_of unit_lengths nanos))
 
@@ -81,7 +81,7 @@ all_spelled _ _ = ([], codes "s", refl, refl, ([], [], refl, refl, refl))
 
 -- ---- The lexemes have these terminals
 
--- Each printed name is a name of its unit, under all options.
+-- Each printed name is a name of its unit under all options.
 printed_terminal : (o : Options) (u : TimeUnit) → terminal_of o (row_of u).printed ≡ word (Some u)
 printed_terminal o = at o.no_calc o.lowercase o.cn_unit
   where
@@ -127,7 +127,7 @@ terminals_of_duration o nanos h =
 
 -- ---- The terminals are a sentence without operators
 
--- The terminals are numbers, each with a unit.
+-- The terminals are numbers, each followed by a unit.
 abbrev AreUnitTerms : List Terminal → Type 0
 AreUnitTerms [] = Unit {0}
 AreUnitTerms (number n ∷ word (Some u) ∷ terminals) = AreUnitTerms terminals
@@ -176,7 +176,7 @@ printed_is_sum o nanos text h p =
       plus = subst AllPlus same (unit_terms_plus (duration_terminals nanos) (or_zero_unit_terms (printed_terminals units counts) unit_terms));
     }
 
--- ---- The sum comes to the duration
+-- ---- The total is the duration
 
 sum_printed : (us : List TimeUnit) (counts : List ℕ) → sum_of (terms_of (printed_terminals us counts)) ≡ weighted_sum (map nanos_of us) counts
 sum_printed [] counts = refl

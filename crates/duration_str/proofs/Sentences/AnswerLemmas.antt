@@ -1,4 +1,4 @@
--- A text is read or refused, and not both, and the computed answer says which.
+-- A text is read or refused, not both, and the computed answer says which.
 use Rattle.std.proofs.Common.{◌≡◌, ℕ, ◌^◌, ◌<◌, ◌≤◌, Bool, true, false, ◌⊎◌, inl, inr, List, [], ◌∷◌, ◌++◌, map, length, take, drop, Option, Some, None, Result, Ok, Err, unwrap_or, if◌then◌else◌, arith, refl, sym, ap, subst, subst₂, ◌∙◌, append-nil}
 use Rattle.std.proofs.lemmas.Bool.{true≢false, and_parts, cond-true}
 use Rattle.std.proofs.lemmas.List.{length-take-le}
@@ -62,7 +62,7 @@ evaluates_from false terminals s e l = evaluates_by_faults (terms_of terminals) 
 evaluates_from true terminals s e l =
     below_evaluate (terms_of terminals) (has_terms true terminals s) (terms_added terminals (no_calc_plus terminals s)) (running_none_below (terms_of terminals) e)
 
--- ---- The value of what evaluates
+-- ---- The value of terms that evaluate
 
 same_later : (set : CondUnit) (before later : List Term) → later_fault set before later ≡ None
     → list_all (λ v. is_same_operator set v.operator) later ≡ true
@@ -85,7 +85,7 @@ has_value_below (t ∷ u ∷ later) e =
     let faults = no_faults (later_fault u.operator [] (u ∷ later)) _ e.1 in
     (total_of u.operator t (later_total u.operator (u ∷ later)), later_value t u later faults.0, no_fault_below _ (Overflow None) faults.1)
 
--- ---- Readings and refusals by terminals
+-- ---- Readings and refusals in terms of terminals
 
 sentence_front : (no_calc : Bool) (terminals : List Terminal) → IsSentence no_calc terminals → IsFront no_calc terminals terminals []
 sentence_front no_calc terminals s = record {
@@ -153,11 +153,11 @@ evaluates_not_refused no_calc place terminals cause s e (late k n f) =
     let found : late_fault no_calc terminals ≡ Some cause = subst (λ (ts : List Terminal). late_fault no_calc ts ≡ Some cause) (append-nil terminals) f in
     cc
 
--- The refusal of a text whose front and rest these are.
+-- The refusal of a text with this front and this rest.
 abbrev IsRefusedFrom : Options → List ℕ → Cause → List Terminal → List Terminal → Type 0
 IsRefusedFrom o text cause front rest = IsRefusedAt o.no_calc (start_after (length front) (byte_len text) (tokens_of o text)) front rest cause
 
--- A sentence has no syntax fault, so its refusal has no place of the text.
+-- A sentence has no syntax fault, so its refusal does not depend on the place of the rest.
 place_free : (no_calc : Bool) (p q : ℕ) (terminals : List Terminal) (cause : Cause) → IsSentence no_calc terminals
     → IsRefusedAt no_calc p terminals [] cause → IsRefusedAt no_calc q terminals [] cause
 place_free no_calc p q terminals cause s (early e) = early e
@@ -199,12 +199,12 @@ one_cause_at o (x ∷ text) c d h k =
 
 -- ---- The computed answer
 
--- what a result means for a text
+-- the meaning of a result for a text
 abbrev Means : Options → List ℕ → Result ℕ Cause → Type 0
 Means o text (Ok nanos) = IsRead o text nanos
 Means o text (Err cause) = IsRefused o text cause
 
--- what a result means for a front and the rest, which begins at the byte `place`
+-- the meaning of a result for a front and a rest that starts at byte `place`
 abbrev MeansAt : Bool → ℕ → List Terminal → List Terminal → Result ℕ Cause → Type 0
 MeansAt no_calc place front rest (Ok nanos) = (rest ≡ []) × IsReadAs no_calc front nanos
 MeansAt no_calc place front rest (Err cause) = IsRefusedAt no_calc place front rest cause

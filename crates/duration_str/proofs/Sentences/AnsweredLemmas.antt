@@ -1,4 +1,4 @@
--- What a call answers, by the sentences of the text.
+-- The result of a call, in terms of the sentences of the text.
 use Rattle.std.proofs.Common.{ℕ, List, Result, Ok, Err, IfOk, IfErr, IsOk, ◌≡◌, ◌^◌, ◌<◌, ◌∙◌, refl, sym}
 use Rattle.std.specs.Duration.{as_nanos}
 use Rattle.std.specs.declared.time.Duration.{Duration}

@@ -1,4 +1,4 @@
--- The first fault of two, and the faults of a term alone.
+-- The first fault of two, and the faults of a single term.
 use Rattle.std.proofs.Common.{◌≡◌, ℕ, ◌*◌, ◌^◌, ◌≤◌, ◌<◌, Bool, true, false, List, [], Option, Some, None, arith, refl, ap}
 use Rattle.std.proofs.lemmas.Bool.{lt-ltb, ltb-true, le-ltb}
 use Rattle.duration_str.specs.declared.operator.CondUnit.{CondUnit}
@@ -6,7 +6,7 @@ use Rattle.duration_str.specs.declared.fault.Cause.{Cause}
 use Rattle.duration_str.specs.declared.fault.Cause.TheVariants.{NumberTooLarge, Overflow}
 use Rattle.duration_str.specs.Value.{Term, value_of_term, later_total, total_of, fits, or_else, unless, term_fault, later_fault}
 
--- the fault of a sentence whose first term has none, and whose first later term sets the operator `set`
+-- the fault of a sentence whose first term has none; `set` is the operator of the first later term
 abbrev pub fault_by : CondUnit → Term → List Term → Option Cause
 fault_by set t later = or_else (later_fault set [] later) (unless (fits (total_of set t (later_total set later))) (Overflow None))
 
@@ -55,7 +55,7 @@ term_below_no_fault place t l h =
 pub term_no_fault_below : (place : Option ℕ) (t : Term) → term_fault place t ≡ None → value_of_term t < 2 ^ 64
 term_no_fault_below place t h = no_fault_below (value_of_term t) (Overflow place) (no_faults (unless (fits t.number) (NumberTooLarge place)) _ h).1
 
--- Whether a term has a fault does not rest on its place.
+-- Whether a term has a fault does not depend on its place.
 pub fault_moves : (p q : Option ℕ) (t : Term) → term_fault p t ≡ None → term_fault q t ≡ None
 fault_moves p q t h =
     let parts = no_faults (unless (fits t.number) (NumberTooLarge p)) (unless (fits (value_of_term t)) (Overflow p)) h in

@@ -1,4 +1,4 @@
--- Sentences by the table of what may follow a terminal, and the front of a list of terminals.
+-- Sentences in terms of the table of what may follow a terminal, and the front of a list of terminals.
 use Rattle.std.proofs.Common.{◌≡◌, ℕ, suc, zero, ◌≤◌, Bool, true, false, ◌↔◌, List, [], ◌∷◌, ◌++◌, Option, Some, None, take, drop, length, IsTrue, if◌then◌else◌, arith, refl, sym, ap, subst, ◌∙◌, zero-le, le_antisymm, suc-le-suc, le_of_suc-le-suc}
 use Rattle.std.proofs.lemmas.Bool.{true≢false, not_from_false, not-true, not_from_true, and_from, and_parts}
 use Rattle.std.proofs.lemmas.List.{take-append-drop, take_at, drop_at, length-append}
@@ -21,7 +21,7 @@ AreAllowedWhole no_calc last (t ∷ terminals) = IsTrue (allows (kinds_after no_
 
 -- ---- A sentence is what the table allows
 
--- Behind an operator stands what stands at the start.
+-- What may stand at the start may stand after an operator.
 pub after_operator : (no_calc : Bool) (op : CondUnit) (terminals : List Terminal)
     → AreAllowedWhole no_calc None terminals → AreAllowedWhole no_calc (Some (operator op)) terminals
 after_operator no_calc op [] h = h
@@ -65,13 +65,13 @@ first_allowed : (no_calc : Bool) (last : Option Terminal) (terminals more : List
 first_allowed no_calc last [] more h = tt
 first_allowed no_calc last (t ∷ terminals) more h = (h.0, first_allowed no_calc (Some t) terminals more h.1)
 
--- terminals that complete a sentence whose terminals so far end with this one
+-- terminals that complete a sentence, given the last terminal so far
 completion : Option Terminal → List Terminal
 completion None = number 0 ∷ []
 completion (Some (operator op)) = number 0 ∷ []
 completion (Some _) = []
 
--- The terminal is none that stands in no sentence.
+-- The terminal is not `other`.
 abbrev pub CanBeLast : Option Terminal → Type 0
 CanBeLast (Some other) = ⊥
 CanBeLast _ = Unit {0}

@@ -1,4 +1,4 @@
--- A sentence spells a text exactly if its lexemes are the text's tokens.
+-- A sentence spells a text exactly if its lexemes are those of the text's tokens.
 use Rattle.std.proofs.Common.{◌≡◌, ℕ, ◌+◌, Bool, true, false, ◌&&◌, ◌⊎◌, inl, inr, List, [], ◌∷◌, ◌++◌, map, Option, Some, None, IsTrue, refl, sym, ap, subst, ◌∙◌}
 use Rattle.std.proofs.lemmas.Bool.{true≢false, and_from, and_parts, or_cases, or_left, or_right, false_from_ne_true}
 use Rattle.std.proofs.lemmas.List.Folds.{list_all-append}
@@ -14,7 +14,7 @@ use Rattle.duration_str.proofs.Cutting.TokenLemmas.{tokens_once, tokens_are}
 use Rattle.duration_str.proofs.Cutting.TerminalLemmas.{terminal_cases}
 use Rattle.duration_str.proofs.Sentences.FrontLemmas.{AreAllowedWhole, sentence_allowed}
 
--- A test that follows from another one holds of each character of which that one holds.
+-- Characters that pass a test also pass a weaker one.
 pub all_weaker : (p q : ℕ → Bool) (cs : List ℕ) → ((c : ℕ) → p c ≡ true → q c ≡ true) → IsTrue (list_all p cs) → IsTrue (list_all q cs)
 all_weaker p q [] weaker h = refl
 all_weaker p q (c ∷ cs) weaker h = and_from _ _ (weaker c (and_parts _ _ h).0) (all_weaker p q cs weaker (and_parts _ _ h).1)
@@ -33,7 +33,7 @@ letters_are_lexeme o c cs h =
     λ d e. or_right (is_digit c && is_digit d) (is_unit_letter o c && is_unit_letter o d) (and_from _ _ first e) in
     (letter-not_blank o c first, all_weaker (is_unit_letter o) (are_of_one_run o c) cs in_run (and_parts _ _ h).1)
 
--- A word whose terminal is of an expected kind is a token.
+-- Characters whose terminal is of an expected kind are a lexeme.
 allowed_is_lexeme : (o : Options) (expected : Expected) (w : List ℕ) → IsTrue (allows expected (terminal_of o w)) → IsLexeme o w
 allowed_is_lexeme o expected = terminal_cases o (λ w t. IsTrue (allows expected t) → IsLexeme o w)
     (λ h. true≢false (sym h)) (λ c cs digits h. digits_are_lexeme o c cs digits) (λ c cs letters h. letters_are_lexeme o c cs letters)
@@ -81,7 +81,7 @@ not_two_lexemes o other (word v) h k a = true≢false (sym a)
 not_two_lexemes o s other h k a = true≢false (sym a)
 not_two_lexemes o s t h k a = cc
 
--- Where the table allows the terminal of one word after that of another, the lexemes are of different runs.
+-- If the table allows the terminal of one lexeme after that of another, the two are not of one run.
 allowed_apart : (o : Options) (c : ℕ) (cs : List ℕ) (d : ℕ) (ds : List ℕ)
     → IsTrue (allows (kinds_after o.no_calc (Some (terminal_of o (c ∷ cs)))) (terminal_of o (d ∷ ds))) → are_of_one_run o c d ≡ false
 allowed_apart o c cs d ds a = false_from_ne_true _ (λ (run : are_of_one_run o c d ≡ true). both (or_cases _ _ run))
@@ -101,7 +101,7 @@ stops_before o c cs (b ∷ blanks) w rest h a = stops_at_blank o c b (and_parts 
 stops_before o c cs [] [] rest h a = absurd (true≢false (sym a))
 stops_before o c cs [] (d ∷ ds) rest h a = allowed_apart o c cs d ds a
 
--- The run of a word of a sentence ends where the word ends.
+-- A run in a sentence ends where its lexeme ends.
 ends_in_sentence : (o : Options) (w rest : List ℕ) (ws : List (List ℕ)) → AreAllowedWhole o.no_calc (Some (terminal_of o w)) (map (terminal_of o) ws)
     → Spells ws rest → EndsRun o w rest
 ends_in_sentence o [] rest ws a s = tt
@@ -153,7 +153,7 @@ sentence_terminals o text lexemes s = ap (map (terminal_of o)) (sentence_tokens 
 pub empty_no_sentence : (o : Options) (lexemes : List (List ℕ)) → IsSentenceOf o lexemes [] → ⊥
 empty_no_sentence o lexemes s = subst (IsSentence o.no_calc) (sentence_terminals o [] lexemes s) s.0
 
--- Each word has only characters that pass the test.
+-- All characters of each lexeme pass the test.
 abbrev pub EachPasses : (ℕ → Bool) → List (List ℕ) → Type 0
 EachPasses test [] = Unit {0}
 EachPasses test (w ∷ lexemes) = IsTrue (list_all test w) × EachPasses test lexemes

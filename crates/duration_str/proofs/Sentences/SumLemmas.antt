@@ -1,4 +1,4 @@
--- Terms that are added: they evaluate exactly if their sum is below 2^64, and then come to it.
+-- Terms that are added evaluate exactly if their sum is below 2^64, and the sum is their value.
 use Rattle.std.proofs.Common.{◌≡◌, ◌+◌, ◌^◌, ◌≤◌, ◌<◌, Bool, true, leb, List, [], ◌∷◌, ◌++◌, length, Some, None, arith, refl, sym, ap, subst, append_assoc, append-nil}
 use Rattle.std.specs.List.{list_all}
 use Rattle.std.proofs.lemmas.Bool.{leb-true}

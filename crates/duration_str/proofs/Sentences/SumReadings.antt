@@ -1,4 +1,4 @@
--- A text that a sum spells is read as its sum below 2^64, and else is refused as an overflow.
+-- A text that a sum spells is read as the sum if it is below 2^64, and otherwise refused as an overflow.
 use Rattle.std.proofs.Common.{◌≡◌, ℕ, ◌+◌, ◌^◌, ◌≤◌, ◌<◌, ◌⊎◌, inl, inr, ⊎_elim, Bool, true, false, List, [], ◌∷◌, ◌++◌, map, length, Option, Some, None, arith, refl, sym, ap, subst, ◌∙◌, append_assoc, append-nil}
 use Rattle.std.proofs.lemmas.Bool.{cases_lt}
 use Rattle.duration_str.specs.declared.options.Options.{Options}

@@ -1,11 +1,11 @@
--- Units by the numbers that their names pack to.
+-- Units by the packed numbers of their names.
 use Rattle.std.specs.Prelude.{ℕ, Bool, ◌&&◌, ◌==◌, nat_le, List, Option}
 use Rattle.std.specs.List.{list_any, list_all, find}
 use Rattle.duration_str.specs.declared.unit.TimeUnit.{TimeUnit}
 use Rattle.duration_str.specs.Units.{units, row_of}
 use Rattle.duration_str.specs.Internal.Cutting.{packed}
 
--- whether a name has small ASCII letters alone, and packs to n
+-- whether a name is all lower-case ASCII letters and packs to n
 abbrev pub packs_to : ℕ → List ℕ → Bool
 packs_to n name = list_all (λ c. nat_le 97 c && nat_le c 122) name && packed name == n
 

@@ -1,4 +1,4 @@
--- What is left of a text while it is read: what is read next of it, and the answer.
+-- What is left of a text while it is read: the next thing to read, and the answer.
 use Rattle.std.specs.Prelude.{◌≡◌, ℕ, zero, suc, ◌≤◌, Bool, false, List, [], ◌∷◌, ◌++◌, length, take, drop, Option, Some, None, Result, Ok, Err, IfErr, if◌then◌else◌}
 use Rattle.std.specs.Option.{ForSome, ok_or}
 use Rattle.std.specs.Result.{result_and, result_err}
@@ -20,34 +20,34 @@ use Rattle.duration_str.specs.Tokenizer.{source, options_of, place_of, left, IsA
 use Rattle.duration_str.specs.Units.{nanos_of}
 use Rattle.duration_str.specs.declared.token.Sort.TheVariants.{Number}
 
--- ---- What is left, and what is read next of it
+-- ---- What is left, and what is read next
 
 -- The terminals that are left, each with the byte at which it starts, and the byte at which the text ends.
 pub data Rest : Type 0 where
   terminal_at : ℕ → Terminal → Rest → Rest
   end_at : ℕ → Rest
 
--- what is left of a text of `len` bytes, when these tokens are
+-- what is left of a text of `len` bytes, given the tokens that are left
 abbrev pub rest_from : Options → ℕ → List Token → Rest
 rest_from o len [] = end_at len
 rest_from o len (p ∷ tokens) = terminal_at p.start (terminal_of o p.characters) (rest_from o len tokens)
 
--- what is left to cut
+-- what is left to read
 abbrev pub rest_of : Tokens → Rest
 rest_of s = rest_from (options_of s) (length (source s)) (left s)
 
--- the byte at which the rest goes on after its first n terminals, or ends
+-- the byte at which the rest after its first n terminals starts, or at which the text ends
 abbrev pub start_left : ℕ → Rest → ℕ
 start_left n (end_at at) = at
 start_left zero (terminal_at at terminal rest) = at
 start_left (suc n) (terminal_at at terminal rest) = start_left n rest
 
--- the rest without its places
+-- the terminals of the rest, without their places
 abbrev pub terminals_in : Rest → List Terminal
 terminals_in (terminal_at at terminal rest) = terminal ∷ terminals_in rest
 terminals_in (end_at at) = []
 
--- the fault that the rest may not follow the terminal `last`, or stand at the start of a text
+-- the syntax fault that the rest may not follow the terminal `last`, or may not start a text
 abbrev pub misplaced : Bool → Option Terminal → Rest → Cause
 misplaced no_calc last rest = Syntax (start_left 0 rest) (kinds_after no_calc last)
 
@@ -56,29 +56,29 @@ pub record Read (A : Type 0) : Type 0 where
   pub item : A
   pub rest : Rest
 
--- a result of reading, with the rest after it
+-- a result paired with the rest after it, or its fault
 abbrev pub leaving : {A : Type 0} → Rest → Result A Cause → Result (Read A) Cause
 leaving rest (Ok item) = Ok (record { item = item; rest = rest })
 leaving rest (Err cause) = Err cause
 
--- The fault where a number has to come, as at the start and after an operator, and none comes.
+-- the fault if the rest does not start with a number, as it must at the start of a text and after an operator
 abbrev pub lacks_number : Rest → Option Cause
 lacks_number (terminal_at at (number n) rest) = None
 lacks_number rest = Some (misplaced false None rest)
 
--- the fault, or else the result
+-- the fault if there is one, otherwise the result
 abbrev pub fault_or : {A : Type 0} → Option Cause → Result A Cause → Result A Cause
 fault_or (Some cause) result = Err cause
 fault_or None result = result
 
--- the unit after a number: seconds before an operator and at the end
+-- the unit after a number; seconds if it is left out before an operator or at the end
 abbrev pub unit_read : Bool → Rest → Result (Read TimeUnit) Cause
 unit_read no_calc (terminal_at at (word (Some u)) rest) = leaving rest (Ok u)
 unit_read false (terminal_at at (operator op) rest) = leaving (terminal_at at (operator op) rest) (Ok Second)
 unit_read no_calc (end_at at) = leaving (end_at at) (Ok Second)
 unit_read no_calc rest = Err (misplaced no_calc (Some (number 0)) rest)
 
--- the operator after a unit, up to the number that has to follow: plus where it is left out, and none at the end
+-- the operator after a unit, which a number must follow; plus if it is left out, `None` at the end
 abbrev pub operator_read : Bool → Rest → Result (Read (Option CondUnit)) Cause
 operator_read no_calc (terminal_at at (number n) rest) = leaving (terminal_at at (number n) rest) (Ok (Some Plus))
 operator_read false (terminal_at at (operator op) rest) = leaving rest (fault_or (lacks_number rest) (Ok (Some op)))
@@ -87,40 +87,41 @@ operator_read no_calc rest = Err (misplaced no_calc (Some (word None)) rest)
 
 -- ---- Places
 
--- The fault's place, if it has one, is not beyond the byte `at`.
+-- The fault has no place, or one at or before byte `at`.
 abbrev pub IsCut : ℕ → Cause → Type 0
 IsCut at cause = ForSome (fault_place cause) (λ place. place ≤ at)
 
+-- The fault has no place.
 abbrev pub IsPlaceless : Cause → Type 0
 IsPlaceless cause = fault_place cause ≡ None
 
 -- ---- The answer
 
--- the answer to a text that has these terminals in front, where this is left and a number has to come
+-- the answer to a text that starts with these terminals, when this rest is left and must start with a number
 abbrev pub answer_left : Bool → List Terminal → Rest → Result ℕ Cause
 answer_left no_calc front rest =
     let terminals = terminals_in rest in
     let n = front_of no_calc terminals in
     answer_at no_calc (start_left n rest) (front ++ take n terminals) (drop n terminals)
 
--- a first term of so many nanoseconds, and the operator after it
+-- a first term of `nanos` nanoseconds, and the operator after it
 abbrev pub first_term : ℕ → CondUnit → List Terminal
 first_term nanos op = number nanos ∷ word (Some NanoSecond) ∷ operator op ∷ []
 
 -- ---- Values, or the first fault
 
--- two values by the operator, where that is below 2^64
+-- two values combined by the operator, if that is below 2^64; otherwise an overflow, or the first fault of the two
 abbrev pub join : CondUnit → Result ℕ Cause → Result ℕ Cause → Result ℕ Cause
 join op (Ok x) (Ok y) = ok_or (u64_from (combination op x y)) (Overflow None)
 join op (Ok x) (Err cause) = Err cause
 join op (Err cause) y = Err cause
 
--- the value of no later terms
+-- the neutral value: 0 for sums, one second for products
 abbrev pub nothing_of : CondUnit → ℕ
 nothing_of Plus = 0
 nothing_of Star = second
 
--- the later terms' value before the operator `next`: another one than was set is a fault
+-- the later terms' value, or their first fault; `Mixed` if the operator `next` differs from `set`
 abbrev pub before_operator : CondUnit → Result ℕ Cause → CondUnit → Result ℕ Cause
 before_operator set later next = result_and later (if is_same_operator set next then later else Err (Mixed set next))
 
@@ -128,22 +129,22 @@ before_operator set later next = result_and later (if is_same_operator set next 
 abbrev pub later_term : Option ℕ → TimeUnit → Result ℕ Cause
 later_term n unit = term_value None n (nanos_of unit)
 
--- the fault of a value where it is not held back, as under `no_calc`
+-- the fault of a value if it is reported at once, as under `no_calc`
 abbrev pub at_once : Bool → Result ℕ Cause → Option Cause
 at_once no_calc value = if no_calc then result_err value else None
 
 -- ---- Steps of the reader
 
--- The result is what `f` reads of the rest, and the rest after it is left.
+-- The result is what `f` reads from the rest, and the rest after it is left.
 abbrev pub Reads : {A : Type 0} → (Rest → Result (Read A) Cause) → Tokens → Tokens → Result A Cause → Type 0
 Reads f old new result = leaving (rest_of new) result ≡ f (rest_of old)
 
--- The source stays, and a fault does not stand beyond the place up to which it is cut.
+-- The source stays the same, and the place of a fault is not beyond the place reached.
 pub record CutsOn {A : Type 0} (old new : Tokens) (result : Result A Cause) : Type 0 where
   pub same_source : source new ≡ source old
   pub reached : IfErr result (IsCut (place_of new))
 
--- A number is ahead after an operator; without one the whole source is cut.
+-- After an operator a number is ahead; without an operator the whole source is cut.
 abbrev pub IsBefore : Tokens → Option CondUnit → Type 0
 IsBefore s None = place_of s ≡ length (source s)
 IsBefore s (Some op) = IsAhead s (Some Number)

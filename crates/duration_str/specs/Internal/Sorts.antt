@@ -9,6 +9,7 @@ use Rattle.duration_str.specs.Grammar.{Terminal, number, word, operator, other, 
 use Rattle.duration_str.specs.Tokens.{IsLexeme, EndsRun}
 use Rattle.duration_str.specs.Internal.Cutting.{ahead, Between}
 
+-- the sort of an operator, or `Other` without one
 abbrev pub sign_sort : Option CondUnit → Sort
 sign_sort (Some op) = sorts.Operator op
 sign_sort None = sorts.Other
@@ -17,14 +18,14 @@ sign_sort None = sorts.Other
 abbrev pub sort_at : Options → ℕ → Sort
 sort_at o c = if is_digit c then sorts.Number else if is_unit_letter o c then sorts.Word else sign_sort (operator_of c)
 
--- the sort of a token that has this terminal
+-- the sort of a token that stands for this terminal
 abbrev pub sort_of : Terminal → Sort
 sort_of (number n) = sorts.Number
 sort_of (word u) = sorts.Word
 sort_of (operator op) = sorts.Operator op
 sort_of other = sorts.Other
 
--- From `place` to `next` stands a token, as long as it can be, which has this terminal.
+-- The characters from `place` to `next` are a token, as long as possible, that stands for this terminal.
 pub record StandsToken (o : Options) (text : List ℕ) (place next : ℕ) (terminal : Terminal) : Type 0 where
   pub characters : List ℕ
   pub between : Between text place next characters

@@ -1,4 +1,4 @@
-// Runs over readers, writers and an allocator in memory.
+// Runs with readers, writers and an allocator in memory.
 ghost use Rattle.std.specs.Prelude.{◌≤◌};
 
 use super::{run, run_in};
@@ -13,7 +13,7 @@ const INPUT: &[u8] = b"3m31\n\n580y*2";
 
 const OUTPUT: &[u8] = b"211000000000 3min 31s\nEmpty input\noverflow error\n";
 
-/// Gives at most `step` bytes a call, and fails once `calls` calls were made.
+/// Gives at most `step` bytes per call, and fails after `calls` calls.
 #[derive(Drop)]
 struct Source<'a> {
     bytes: &'a [u8],
@@ -55,7 +55,7 @@ impl Read for Blanks {
     }
 }
 
-/// Takes at most `step` bytes a call into a fixed buffer, and fails once `calls` calls were made.
+/// Takes at most `step` bytes per call into a fixed buffer, and fails after `calls` calls.
 #[derive(Drop)]
 struct Sink {
     held: [u8; 64],
@@ -107,7 +107,7 @@ impl Write for Sink {
     }
 }
 
-/// The answer of a run with all options off, and what it wrote.
+/// The result of a run with all options off, and what it wrote.
 fn ran<R: Read + Drop>(
     rt: &HostRuntime,
     mut reader: R,

@@ -1,6 +1,6 @@
 use Rattle.std.proofs.Common.{rules}
 use Rattle.duration_str.proofs.ext.put_units.Goals as goal
 
--- Here the digits of a count stay closed.
+-- The digits of a count are not unfolded here.
 pub returns-clause-text : goal.returns-clause-text
 returns-clause-text c = search rules

@@ -2,7 +2,7 @@ use Rattle.std.proofs.Common.{◌-◌, ◌≤◌, replicate}
 use Rattle.std.specs.Fmt.{HasWritten, IsPlainFormatter}
 use Rattle.duration_str.proofs.fault.SpacesDisplay.fmt.Given as goal
 
--- what isn't left is written
+-- everything that is not left was written
 abbrev pub invariant-loop-left : goal.invariant-loop-left
 invariant-loop-left g l = record {
   within : l.left ≤ l.initial.left;

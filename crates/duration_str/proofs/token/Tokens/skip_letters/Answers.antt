@@ -5,7 +5,7 @@ use Rattle.duration_str.specs.Tokenizer.{source, options_of, place_of}
 use Rattle.duration_str.proofs.Cutting.CuttingLemmas.{passes_none, passes_head, ahead_shorter, stops_at}
 use Rattle.duration_str.proofs.token.Tokens.skip_letters.Goals as goal
 
--- the options stayed, so the test is that of the beginning
+-- the options stay the same, so the test is the one from the start
 letter_test : (o o' : Options) (c : ℕ) (r b : Bool) → o' ≡ o → r ≡ is_unit_letter o' c → r ≡ b → is_unit_letter o c ≡ b
 letter_test o o' c r b same is e = ap (λ x. is_unit_letter x c) (sym same) ∙ sym is ∙ e
 

@@ -2,7 +2,7 @@ use Rattle.std.proofs.Common.{◌≡◌, Bool, true, false, ◌||◌, ◌&&◌, 
 use Rattle.duration_str.proofs.Characters.UnitLemmas.{by_name, by_chinese}
 use Rattle.duration_str.proofs.unit.TimeUnit.is_named.Goals as goal
 
--- A word that is none of the names is looked for among those that `cn_unit` adds.
+-- A word that is none of the names is searched among those that `cn_unit` adds.
 found_second : (r s n cn ch : Bool) → r ≡ n → r ≡ false → cn ≡ true → s ≡ ch → s ≡ (n || (cn && ch))
 found_second r s n cn ch e h on f = rw (sym e, h, on) f
 
