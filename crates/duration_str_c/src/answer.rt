@@ -144,7 +144,7 @@ fn found_length(fault: &Fault<'_>, options: Options) -> usize
     ensures { result ≡ token_length (found options (chars fault.now.text.now) fault.now.cause) }
 {
     match fault.found(options) {
-        Some(piece) => piece.len(),
+        Some(token) => token.len(),
         None => 0,
     }
 }

@@ -76,16 +76,16 @@ fn shows_the_line_alone(rt: HostRuntime) -> Result<(), Fail> {
 
 #[test]
 fn names_the_byte_where_there_are_lines(rt: HostRuntime) -> Result<(), Fail> {
-    let behind_operator = refusal(&rt, "1m\n+\nx", OFF).to_string(rt.alloc())?;
-    assert_eq!(rt; behind_operator.as_str(), "byte 5: expected number");
-    let behind_number = refusal(&rt, "1\n2", OFF).to_string(rt.alloc())?;
+    let after_operator = refusal(&rt, "1m\n+\nx", OFF).to_string(rt.alloc())?;
+    assert_eq!(rt; after_operator.as_str(), "byte 5: expected number");
+    let after_number = refusal(&rt, "1\n2", OFF).to_string(rt.alloc())?;
     let want = format!(in rt.alloc(); "byte 2: {UNITS}")?;
-    assert_eq!(rt; behind_number.as_str(), want.as_str());
+    assert_eq!(rt; after_number.as_str(), want.as_str());
     Ok(())
 }
 
 #[test]
-fn points_behind_many_blanks(rt: HostRuntime) -> Result<(), Fail> {
+fn points_after_many_blanks(rt: HostRuntime) -> Result<(), Fail> {
     let blanks = " ".repeat(rt.alloc(), 100_000)?;
     let text = format!(in rt.alloc(); "{blanks}x")?;
     let got = refusal(&rt, &text, OFF).to_string(rt.alloc())?;
