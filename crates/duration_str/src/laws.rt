@@ -6,7 +6,7 @@ ghost use Rattle.duration_str.specs.Laws.{OneSentence, OneCut, OneAnswer, IsAnsw
 /// and by no other sentence, and is read as 211 seconds.
 pub fn one_sentence()
     ensures sentence { OneSentence }
-    ensures pieces { OneCut }
+    ensures tokens { OneCut }
     ensures answer { OneAnswer }
     ensures computed { IsAnswer }
 {}

@@ -5,8 +5,8 @@ use Rattle.duration_str.proofs.laws.one_sentence.Goals as goal
 pub returns-clause-sentence : goal.returns-clause-sentence
 returns-clause-sentence c = one_sentence_holds
 
-pub returns-clause-pieces : goal.returns-clause-pieces
-returns-clause-pieces c = one_cut_holds
+pub returns-clause-tokens : goal.returns-clause-tokens
+returns-clause-tokens c = one_cut_holds
 
 pub returns-clause-answer : goal.returns-clause-answer
 returns-clause-answer c = one_answer_holds
