@@ -1,0 +1,452 @@
+"""What a text means, as README.md says it, computed the naive way.
+
+This is a second reader, against which `compare` holds the program. It was written from the documents, not from the
+Rattle code, and works in another manner: it tries all the ways to split a text into tokens, and keeps those that are
+sentences; it tries which tokens go on after a beginning; and its numbers are whole numbers without bound. Where the
+documents say that there is only one of something, it looks for all of them and fails where it finds another.
+"""
+import functools
+import typing
+
+SECOND = 10**9
+DAY = 86_400 * SECOND
+LIMIT = 2**64
+
+
+class Unit(typing.NamedTuple):
+    """A unit: its length in nanoseconds, its printed name, its names, and those that `cn_unit` adds."""
+
+    length: int
+    printed: str
+    names: str
+    chinese: str = ""
+
+
+# The table of units, in the order in which they are printed.
+UNITS = (
+    Unit(365 * DAY, "y", "y year years", "年"),
+    Unit(91 * DAY, "q", "q quarter quarters"),
+    Unit(30 * DAY, "mon", "mon month months", "月"),
+    Unit(7 * DAY, "w", "w week weeks", "周"),
+    Unit(DAY, "d", "d day days", "日 天"),
+    Unit(3_600 * SECOND, "h", "h hr hour hours", "时"),
+    Unit(60 * SECOND, "min", "m min minute minutes", "分"),
+    Unit(SECOND, "s", "s sec second seconds", "秒"),
+    Unit(10**6, "ms", "ms msec millisecond milliseconds", "毫秒"),
+    Unit(10**3, "µs", "µs µsec µsecond us usec usecond microsecond microseconds", "微秒"),
+    Unit(1, "ns", "ns nsec nanosecond nanoseconds", "纳秒"),
+)
+
+# The line of a syntax fault where a unit could stand, and the most bytes that a printed duration has.
+UNIT_LINE = 'expected ["y", "q", "mon", "w", "d", "h", "m", "s", "ms", "µs", "us", "ns"]'
+LONGEST_PRINTED = 60
+
+LINES = {
+    "empty": "Empty input",
+    "number too large": "number too large to fit in target type",
+    "overflow": "overflow error",
+}
+
+BLANKS = " \t\r\n"
+DIGITS = "0123456789"
+OPERATORS = "+*"
+LETTERS = "abcdefghijklmnopqrstuvwxyzABCDEFGHIJKLMNOPQRSTUVWXYZ\u00b5"
+CHINESE = "年月周日天时分秒毫微纳"
+FOLDED = str.maketrans("ABCDEFGHIJKLMNOPQRSTUVWXYZ", "abcdefghijklmnopqrstuvwxyz")
+
+
+class Options(typing.NamedTuple):
+    """A choice of options."""
+
+    no_calc: bool = False
+    lowercase: bool = False
+    cn_unit: bool = False
+
+    def words(self):
+        """The words of the command line that make this choice."""
+        return [name for name, on in zip(self._fields, self) if on]
+
+
+CHOICES = [Options(*(bool(bits >> bit & 1) for bit in range(3))) for bits in range(8)]
+
+
+class Token(typing.NamedTuple):
+    """A number with its digits, a unit with its length, or an operator with its sign."""
+
+    kind: str
+    what: object
+
+
+class Answer(typing.NamedTuple):
+    """The value of a text, or why it is refused. A place counts characters."""
+
+    cause: str
+    value: typing.Optional[int] = None
+    place: typing.Optional[int] = None
+    expected: frozenset = frozenset()
+    found: str = ""
+    operators: str = ""
+
+
+# ---- Characters, words and tokens
+
+def is_letter(character, options):
+    return character in LETTERS or options.cn_unit and character in CHINESE
+
+
+@functools.lru_cache(None)
+def unit_of(word, options):
+    """The length of the unit that has this word as a name."""
+    folded = word if options.lowercase else word.translate(FOLDED)
+    lengths = [
+        unit.length
+        for unit in UNITS
+        if folded in unit.names.split() or options.cn_unit and folded in unit.chinese.split()
+    ]
+    assert len(lengths) <= 1, word
+    return lengths[0] if lengths else None
+
+
+@functools.lru_cache(1 << 16)
+def sort_of(piece, options):
+    """What a piece is made of: digits, letters, one operator, one other character; None for anything else."""
+    if piece and all(character in DIGITS for character in piece):
+        return "digits"
+    if piece and all(is_letter(character, options) for character in piece):
+        return "letters"
+    if len(piece) == 1 and piece not in BLANKS:
+        return "operator" if piece in OPERATORS else "other"
+    return None
+
+
+@functools.lru_cache(1 << 16)
+def token_of(piece, options):
+    """The token that a piece is, if it is one."""
+    match sort_of(piece, options):
+        case "digits":
+            return Token("number", piece)
+        case "letters" if unit_of(piece, options) is not None:
+            return Token("unit", unit_of(piece, options))
+        case "operator":
+            return Token("operator", piece)
+    return None
+
+
+# ---- Sentences
+
+def is_sentence(kinds, options):
+    """Whether these kinds of tokens, in order, are a sentence, by the rules of the grammar."""
+    match kinds:
+        case ["number"] | ["number", "unit"]:
+            return True
+        case ["number", "operator", *rest] if not options.no_calc:
+            return is_sentence(rest, options)
+        case ["number", "unit", "operator", *rest] if not options.no_calc:
+            return is_sentence(rest, options)
+        case ["number", "unit", *rest]:
+            return is_sentence(rest, options)
+    return False
+
+
+KINDS = ("number", "unit", "operator")
+
+
+@functools.lru_cache(1 << 20)
+def begins_sentence(kinds, options):
+    """Whether some sentence has these kinds of tokens in front.
+
+    A rule of the grammar asks for at most a number after what it has read, so if any sentence goes on after them, one
+    does with a single token.
+    """
+    return is_sentence(list(kinds), options) or any(is_sentence([*kinds, kind], options) for kind in KINDS)
+
+
+def with_calc(options):
+    """The options with `no_calc` off, which tells sentences apart, but neither tokens nor pieces."""
+    return Options(False, options.lowercase, options.cn_unit)
+
+
+@functools.lru_cache(1 << 10)
+def tokens_at_each_place(text, options):
+    """For each place, each token that begins there, with its end."""
+    places = []
+    for at in range(len(text)):
+        tokens = []
+        for end in range(at + 1, len(text) + 1):
+            piece = text[at:end]
+            if sort_of(piece, options) is None:
+                break
+            if token := token_of(piece, options):
+                tokens.append((token, end))
+        places.append(tokens)
+    return places
+
+
+def listed(pairs):
+    """The list that is given as pairs of its first item and the rest."""
+    items = []
+    while pairs:
+        item, pairs = pairs
+        items.append(item)
+    return items
+
+
+def sentences(text, options):
+    """All sentences that spell the text: each way to split it into blanks and tokens that the grammar allows.
+
+    The rests of the text are gone through from the shortest on. For each stands what it can be split into: a sentence;
+    what is left of one after a number; what is left of one after a number and a unit.
+    """
+    whole, after_number, after_unit = [()] * len(text) + [[]], [()] * len(text) + [[()]], [()] * len(text) + [[()]]
+    places = tokens_at_each_place(text, with_calc(options))
+    for at in reversed(range(len(text))):
+        if text[at] in BLANKS:
+            whole[at], after_number[at], after_unit[at] = whole[at + 1], after_number[at + 1], after_unit[at + 1]
+            continue
+        numbers, units, signs = [], [], []
+        for token, end in places[at]:
+            if token.kind == "number":
+                numbers += [(token, rest) for rest in after_number[end]]
+            elif token.kind == "unit":
+                units += [(token, rest) for rest in after_unit[end]]
+            elif not options.no_calc:
+                signs += [(token, rest) for rest in whole[end]]
+        whole[at], after_number[at], after_unit[at] = numbers, units + signs, numbers + signs
+    return [tuple(listed(pairs)) for pairs in whole[0]]
+
+
+# ---- Pieces and the place of a syntax fault
+
+@functools.lru_cache(1 << 10)
+def piece_lists(text, options):
+    """All ways to cut the text into blanks and pieces, where no two pieces of digits or of letters touch each other.
+
+    A piece is given with the place of its first character. The rests of the text are gone through from the shortest on.
+    """
+    lists = [()] * len(text) + [[()]]
+    for at in reversed(range(len(text))):
+        if text[at] in BLANKS:
+            lists[at] = lists[at + 1]
+            continue
+        found = []
+        for end in range(at + 1, len(text) + 1):
+            piece = text[at:end]
+            sort = sort_of(piece, options)
+            if sort is None:
+                break
+            for rest in lists[end]:
+                if not (rest and rest[0][0] == end and touches(sort, sort_of(rest[0][1], options))):
+                    found.append(((at, piece), rest))
+        lists[at] = found
+    return [listed(pairs) for pairs in lists[0]]
+
+
+def touches(sort, other):
+    """Whether pieces of these sorts are cut apart only where a blank is between them."""
+    return sort == other and sort in ("digits", "letters")
+
+
+class Front(typing.NamedTuple):
+    """The longest list of first pieces that begins a sentence, and the piece that comes next, if there is one."""
+
+    tokens: tuple
+    next: typing.Optional[tuple]
+
+    def kinds(self):
+        return tuple(token.kind for token in self.tokens)
+
+
+def front_of(text, options):
+    (pieces,) = piece_lists(text, with_calc(options))
+    tokens = ()
+    for piece in pieces:
+        token = token_of(piece[1], options)
+        kinds = (*(token.kind for token in tokens), token.kind) if token else ()
+        if token is None or not begins_sentence(kinds, options):
+            return Front(tokens, piece)
+        tokens = (*tokens, token)
+    return Front(tokens, None)
+
+
+def syntax_fault(text, front, options):
+    """The fault that is after the front; None where the front is all of the text, and a sentence."""
+    ends = is_sentence(list(front.kinds()), options)
+    if front.next is None and ends:
+        return None
+    expected = {kind for kind in KINDS if begins_sentence((*front.kinds(), kind), options)}
+    place, found = front.next or (len(text), "")
+    return Answer("syntax", place=place, expected=frozenset(expected | ({"end"} if ends else set())), found=found)
+
+
+# ---- Values
+
+class Term(typing.NamedTuple):
+    """A term: its number, the length of its unit, and the operator before it."""
+
+    number: int
+    length: int
+    operator: str
+
+    def value(self):
+        return self.number * self.length
+
+    def fault(self):
+        if self.number >= LIMIT:
+            return "number too large"
+        return "overflow" if self.value() >= LIMIT else None
+
+
+def terms_of(tokens):
+    """The terms of a sentence, or of the beginning of one; a number without unit is in seconds."""
+    terms = []
+    operator = "+"
+    for at, token in enumerate(tokens):
+        if token.kind == "number":
+            unit = tokens[at + 1 : at + 2]
+            length = unit[0].what if unit and unit[0].kind == "unit" else SECOND
+            terms.append(Term(int(token.what), length, operator))
+            operator = "+"
+        elif token.kind == "operator":
+            operator = token.what
+    return terms
+
+
+def product(values):
+    """A product of later terms in seconds, from left to right, each step rounded down to nanoseconds."""
+    result = SECOND
+    for value in values:
+        result = result * value // SECOND
+    return result
+
+
+def value_of(terms):
+    first, *later = terms
+    if later and all(term.operator == "*" for term in later):
+        return first.value() * product([term.value() for term in later]) // SECOND
+    return sum(term.value() for term in terms)
+
+
+def evaluation_fault(terms):
+    """The first fault of the later terms, in order, and then of the whole."""
+    later = terms[1:]
+    for count, term in enumerate(later, 1):
+        if term.operator != later[0].operator:
+            return Answer("mixed", operators=later[0].operator + term.operator)
+        if term.fault():
+            return Answer(term.fault())
+        values = [each.value() for each in later[:count]]
+        if (product(values) if term.operator == "*" else sum(values)) >= LIMIT:
+            return Answer("overflow")
+    return Answer("overflow") if value_of(terms) >= LIMIT else None
+
+
+def first_term_fault(front):
+    """The fault of the first term, where that stands: with its unit, or before an operator, or before the end."""
+    kinds = front.kinds()
+    if kinds[:2] in (("number", "unit"), ("number", "operator")) or kinds == ("number",) and front.next is None:
+        fault = terms_of(front.tokens)[0].fault()
+        return Answer(fault, place=0) if fault else None
+    return None
+
+
+def standing_fault(front):
+    """Under `no_calc`: the first fault of the terms that stand: with their unit, or, the last one, before the end."""
+    kinds = front.kinds()
+    terms = terms_of(front.tokens)
+    if kinds[-1:] == ("number",) and front.next is not None:
+        terms.pop()
+    for count, term in enumerate(terms, 1):
+        fault = term.fault()
+        if fault is None and sum(each.value() for each in terms[:count]) >= LIMIT:
+            fault = "overflow"
+        if fault:
+            return Answer(fault, place=0 if count == 1 else None)
+    return None
+
+
+# ---- What a text is read as, and what is told of it
+
+def answer_of(text, options):
+    """What the text is read as under these options, or the refusal that comes first.
+
+    Folding does nothing where no capital is, and the Chinese names have Chinese letters alone, so that the answer for a
+    text is computed once for all the choices that it can't tell apart.
+    """
+    folds = options.lowercase and text != text.translate(FOLDED)
+    knows = options.cn_unit and any(character in CHINESE for character in text)
+    return computed_answer(text, Options(options.no_calc, folds, knows))
+
+
+@functools.lru_cache(1 << 16)
+def computed_answer(text, options):
+    if not text:
+        return Answer("empty")
+    front = front_of(text, options)
+    spelled = sentences(text, options)
+    assert len(spelled) <= 1, text
+    fault = syntax_fault(text, front, options)
+    assert (fault is None) == bool(spelled), text
+    early = standing_fault(front) if options.no_calc else first_term_fault(front)
+    if early or fault:
+        return early or fault
+    assert spelled[0] == front.tokens, text
+    terms = terms_of(spelled[0])
+    return (None if options.no_calc else evaluation_fault(terms)) or Answer("read", value=value_of(terms))
+
+
+def prepare(text):
+    """Computes the answers for bytes under all choices, which are kept for a while: together that takes less time."""
+    try:
+        text = text.decode()
+    except UnicodeDecodeError:
+        return
+    for options in CHOICES:
+        answer_of(text, options)
+
+
+def printed(nanos):
+    """The breakdown with the greatest first count, then the greatest second one, and so on; counts of 0 are left out."""
+    parts = []
+    for unit in UNITS:
+        count, nanos = divmod(nanos, unit.length)
+        if count:
+            parts.append(f"{count}{unit.printed}")
+    return " ".join(parts) or "0s"
+
+
+def line_of(answer):
+    """The line that says what is wrong."""
+    match answer.cause:
+        case "syntax" if "unit" in answer.expected:
+            return UNIT_LINE
+        case "syntax" if "operator" in answer.expected:
+            return "expected ['+', '*']"
+        case "syntax":
+            return "expected number"
+        case "mixed":
+            return "not support '{}' with '{}' calculate".format(*answer.operators)
+    return LINES[answer.cause]
+
+
+def fault_text(text, answer):
+    """What is told of a refused text."""
+    line = line_of(answer)
+    if answer.place is None:
+        return line
+    if "\n" in text:
+        return f"byte {len(text[:answer.place].encode())}: {line}"
+    return f"{text}\n{' ' * answer.place}^\n{line}"
+
+
+def output_of(line, options):
+    """What the program writes for a line of bytes, without the line feed at its end, and whether the line is accepted."""
+    try:
+        text = line.decode()
+    except UnicodeDecodeError:
+        return b"not UTF-8", False
+    answer = answer_of(text, options)
+    if answer.cause != "read":
+        return fault_text(text, answer).encode(), False
+    human = printed(answer.value)
+    assert len(human.encode()) <= LONGEST_PRINTED
+    return f"{answer.value} {human}".encode(), True
