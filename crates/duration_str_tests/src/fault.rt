@@ -3,7 +3,7 @@ use crate::refusal::refusal;
 use crate::vectors::{
     AFTER_NUMBER, CN_UNIT, LOWERCASE, NO_CALC, NUMBER, OFF, OPERATORS, UNITS, syntax,
 };
-use duration_str::{Options, parse_with};
+use duration_str::{DError, Options, parse_with};
 use std::test::Fail;
 
 const TOO_LARGE: &str = "number too large to fit in target type";
@@ -67,6 +67,7 @@ fn shows_the_line_alone(rt: HostRuntime) -> Result<(), Fail> {
         ("1s + 99999999999999999999", TOO_LARGE),
         ("1m 2s*3", "not support '+' with '*' calculate"),
         ("1m*2*3+4", "not support '*' with '+' calculate"),
+        ("1m*2s 3", "not support '*' with '+' calculate"),
     ] {
         let got = refusal(&rt, text, OFF).to_string(rt.alloc())?;
         assert_eq!(rt; got.as_str(), line);
@@ -154,4 +155,12 @@ fn finds_no_piece_under_other_options(rt: HostRuntime) {
         Err(fault) => fault.found(CN_UNIT),
     };
     assert_eq!(rt; found, None);
+}
+
+// It takes no memory: `rt try --test --fail-alloc 0` refuses each growth.
+#[test]
+fn becomes_an_overflow_error(rt: HostRuntime) -> Result<(), Fail> {
+    let error = refusal(&rt, "580y*2", OFF).to_derror(rt.alloc())?;
+    assert_eq!(rt; error, DError::OverflowError);
+    Ok(())
 }

@@ -6,6 +6,8 @@
 #[cfg(test)]
 mod config;
 #[cfg(test)]
+mod debug;
+#[cfg(test)]
 mod ext;
 #[cfg(test)]
 mod fault;

@@ -226,6 +226,26 @@ fn reads_as_much_as_is_allowed(rt: HostRuntime) -> Result<(), Fail> {
 }
 
 #[test]
+fn makes_as_many_reads_as_bytes_and_one(rt: HostRuntime) -> Result<(), Fail> {
+    let blanks = vec![in rt.alloc(); b' '; 1_048_577]?;
+    for (count, wanted) in [
+        (0, Ok(true)),
+        (1_048_576, Err(RunFault::Write)),
+        (1_048_577, Err(RunFault::TooLong)),
+    ] {
+        let mut source = Source {
+            step: 1,
+            ..Source::new(blanks.get(..count).unwrap_or_default())
+        };
+        let mut sink = Sink::taking(usize::MAX, 1);
+        let answer = run(rt.alloc(), &mut source, &mut sink, Options::off());
+        assert_eq!(rt; answer, wanted);
+        assert_eq!(rt; usize::MAX - source.calls, (count + 1).min(1_048_577));
+    }
+    Ok(())
+}
+
+#[test]
 fn stops_at_each_refused_request(rt: HostRuntime) -> Result<(), Fail> {
     for granted in 0..100u64 {
         let memory = Refusing::new(rt.alloc(), granted);
