@@ -226,21 +226,22 @@ fn reads_as_much_as_is_allowed(rt: HostRuntime) -> Result<(), Fail> {
 }
 
 #[test]
-fn makes_as_many_reads_as_bytes_and_one(rt: HostRuntime) -> Result<(), Fail> {
+fn makes_a_read_for_each_byte_and_one_more(rt: HostRuntime) -> Result<(), Fail> {
     let blanks = vec![in rt.alloc(); b' '; 1_048_577]?;
-    for (count, wanted) in [
-        (0, Ok(true)),
-        (1_048_576, Err(RunFault::Write)),
-        (1_048_577, Err(RunFault::TooLong)),
+    let most = blanks.get(1..).unwrap_or_default();
+    for (bytes, calls, fault) in [
+        (most, 1_048_577, RunFault::Write),
+        (most, 1_048_576, RunFault::Read),
+        (blanks.as_slice(), 1_048_577, RunFault::TooLong),
     ] {
-        let mut source = Source {
+        let source = Source {
+            bytes,
             step: 1,
-            ..Source::new(blanks.get(..count).unwrap_or_default())
+            calls,
         };
-        let mut sink = Sink::taking(usize::MAX, 1);
-        let answer = run(rt.alloc(), &mut source, &mut sink, Options::off());
-        assert_eq!(rt; answer, wanted);
-        assert_eq!(rt; usize::MAX - source.calls, (count + 1).min(1_048_577));
+        let (answer, sink) = ran(&rt, source, Sink::taking(0, 1));
+        assert_eq!(rt; answer, Err(fault));
+        assert_eq!(rt; sink.len, 0);
     }
     Ok(())
 }
