@@ -16,9 +16,10 @@ size_t LLVMFuzzerMutate(uint8_t *data, size_t size, size_t most);
 
 static const char *const blanks[] = {" ", "  ", "\t", "\r", "\n", " \r\n\t"};
 static const char *const signs[] = {"+", "*", " + ", "*"};
-static const char *const strays[] = {"-",    "x",        ".",        "(",    "_",        "\342\204\252", "\316\274",
-                                     "\302", "\303\251", "\302\240", "\377", "\345\210", "\355\240\200", "\360\237\230\200",
-                                     "1",    "m",        "\302\265", "\xc0\x80"};
+static const char *const strays[] = {
+    "-", "x", ".", "(", "_", "1", "m", "\302\265", "\316\274", "\303\251", "\302\240", "\342\204\252", "\360\237\230\200",
+    "\302", "\377", "\345\210", "\300\200", "\355\240\200",
+};
 
 static uint64_t state;
 

@@ -19,7 +19,7 @@
 #define CANARIES 32u
 #define CHOICES 8u
 #define SECOND 1000000000u
-#define MOST_OPTIONS (DURATION_STR_NO_CALC | DURATION_STR_LOWERCASE | DURATION_STR_CN_UNIT)
+#define ALL_OPTIONS (DURATION_STR_NO_CALC | DURATION_STR_LOWERCASE | DURATION_STR_CN_UNIT)
 
 /* ---- Failing */
 
@@ -523,12 +523,12 @@ static void check_plain(struct text text, struct duration_str_answer answer)
 static void check_idle_options(struct text text, const struct duration_str_answer *answers)
 {
     bool has_capital = false, has_chinese = false, has_operator = false;
-    uint32_t character;
-    for (size_t at = 0; at < text.length; at += character_at(text.bytes + at, text.length - at, &character)) {
-        has_capital |= text.bytes[at] >= 'A' && text.bytes[at] <= 'Z';
-        has_operator |= text.bytes[at] == '+' || text.bytes[at] == '*';
-        character_at(text.bytes + at, text.length - at, &character);
+    for (size_t at = 0; at < text.length;) {
+        uint32_t character;
+        at += character_at(text.bytes + at, text.length - at, &character);
+        has_capital |= character >= 'A' && character <= 'Z';
         has_chinese |= is_chinese(character);
+        has_operator |= class_of(character, 0) == OPERATOR;
     }
     for (uint32_t options = 0; options < CHOICES; options++) {
         HOLDS(has_capital || are_equal(answers[options], answers[options ^ DURATION_STR_LOWERCASE]));
@@ -575,7 +575,7 @@ static void check(struct text text)
         struct duration_str_answer answer = answers[options] = read_with(text, options);
         count(options, answer, text);
         check_fields(text, options, answer);
-        HOLDS(are_equal(answer, read_with(text, options | ((uint32_t)any() & ~(uint32_t)MOST_OPTIONS))));
+        HOLDS(are_equal(answer, read_with(text, options | ((uint32_t)any() & ~(uint32_t)ALL_OPTIONS))));
         if (answer.cause == DURATION_STR_SYNTAX)
             check_syntax(text, options, answer);
         if (answer.cause == DURATION_STR_READ && (options == 0 || answer.nanos != answers[0].nanos))
