@@ -7,7 +7,9 @@ use duration_str::Fault;
 /// one.
 fn fills<const N: usize>(fault: Fault<'_>, message: &[u8; N]) -> bool {
     let mut buffer = [b'#'; N];
-    let shorter = &mut buffer[..N - 1];
+    let Some(shorter) = buffer.get_mut(1..) else {
+        return false;
+    };
     fault.message_len() == N
         && fault.write_message(shorter).is_none()
         && buffer == [b'#'; N]
