@@ -61,11 +61,15 @@ abbrev pub IsAhead : Tokens → Option Sort → Type 0
 IsAhead s None = s.head ≡ None
 IsAhead s (Some sort) = (c : ℕ) × (s.head ≡ Some c) × (is_blank c ≡ false) × (sort ≡ sort_at (options_of s) c)
 
+-- The text that is cut and the options stay the same.
+pub record KeepsInput (old new : Tokens) : Type 0 where
+  pub text : source new ≡ source old
+  pub options : options_of new ≡ options_of old
+
 -- Blanks are skipped, so the same tokens are left, and the character ahead starts a token of this sort; `None` at the
 -- end.
 pub record LooksAhead (old new : Tokens) (sort : Option Sort) : Type 0 where
-  pub same_source : source new ≡ source old
-  pub same_options : options_of new ≡ options_of old
+  pub kept : KeepsInput old new
   pub same_left : left new ≡ left old
   pub ahead : IsAhead new sort
 
@@ -83,8 +87,7 @@ IsSign _ = Unit {0}
 -- The first token that is left is taken; it starts at the place and stands for this terminal.
 pub record TakesToken (old new : Tokens) (terminal : Terminal) : Type 0 where
   pub characters : List ℕ
-  pub same_source : source new ≡ source old
-  pub same_options : options_of new ≡ options_of old
+  pub kept : KeepsInput old new
   pub first : left old ≡ record { start = place_of old; characters = characters } ∷ left new
   pub between : Between (source old) (place_of old) (place_of new) characters
   pub is_terminal : terminal ≡ terminal_of (options_of old) characters

@@ -1,5 +1,5 @@
 //! The tokens of a text: numbers, words, operators, and other single characters.
-ghost use Rattle.std.specs.Prelude.{◌≡◌, ◌+◌, ◌%◌, ◌^◌, ◌≤◌, [], ◌&&◌, ◌||◌, ◌==◌, length, take, is_some, Option, IsSome, if◌then◌else◌, false, Some, IsUtf8};
+ghost use Rattle.std.specs.Prelude.{◌≡◌, ◌+◌, ◌%◌, ◌^◌, ◌≤◌, [], ◌&&◌, ◌||◌, ◌==◌, not, length, take, is_some, Option, IsSome, if◌then◌else◌, false, Some, IsUtf8};
 ghost use Rattle.std.specs.Option.{ForSome, ForNone};
 ghost use Rattle.std.specs.Char.{is_ascii_alphabetic};
 ghost use Rattle.std.specs.Str.{chars};
@@ -78,6 +78,23 @@ impl<'a> Number<'a> {
     }
 }
 
+/// ASCII letters: their packed number modulo 2^64, and whether one of them is a capital.
+#[derive(Clone, Copy)]
+struct Letters {
+    packed: u64,
+    has_capital: bool,
+}
+
+impl Letters {
+    /// Whether the packed number, which ignores case, is enough to find the unit.
+    #[inline(always)]
+    fn ignore_case(self, lowercase: bool) -> bool
+        ensures { result ≡ not (lowercase && self.has_capital) }
+    {
+        !(lowercase && self.has_capital)
+    }
+}
+
 /// The tokens of a text, in order. Each character is looked at once, when it is reached.
 #[derive(Drop)]
 pub struct Tokens<'a> {
@@ -93,7 +110,7 @@ pub struct Tokens<'a> {
 
 impl<'a> Tokens<'a> {
     ghost use Rattle.duration_str.specs.Grammar.{Terminal, word};
-    ghost use Rattle.duration_str.specs.Tokenizer.{source, options_of, place_of, looks_of, left, what_of, IsAhead, LooksAhead, is_number, IsSign, u64_of, TakesNumber, TakesToken, TakesSign};
+    ghost use Rattle.duration_str.specs.Tokenizer.{source, options_of, place_of, looks_of, left, what_of, IsAhead, KeepsInput, LooksAhead, is_number, IsSign, u64_of, TakesNumber, TakesToken, TakesSign};
 
     /// The tokens of a text, cut under these options.
     #[inline(always)]
@@ -133,8 +150,7 @@ impl<'a> Tokens<'a> {
     #[inline(always)]
     fn advance(&mut self)
         requires { IsSome self.old.head }
-        ensures source { source self.new ≡ source self.old }
-        ensures options { options_of self.new ≡ options_of self.old }
+        ensures kept { KeepsInput self.old self.new }
         ensures past { ForSome self.old.head
             (StandsAt (source self.old) (place_of self.old) (place_of self.new)) }
     {
@@ -145,8 +161,7 @@ impl<'a> Tokens<'a> {
     /// Moves past the blanks.
     #[inline(always)]
     fn skip_blanks(&mut self)
-        ensures source { source self.new ≡ source self.old }
-        ensures options { options_of self.new ≡ options_of self.old }
+        ensures kept { KeepsInput self.old self.new }
         ensures blanks { Passes is_blank (source self.old) (place_of self.old) (place_of self.new) }
         ensures stops { ForSome self.new.head (λ c. is_blank c ≡ false) }
     {
@@ -160,8 +175,7 @@ impl<'a> Tokens<'a> {
     /// Moves past the digits, and returns their number modulo 2^64.
     #[inline(always)]
     fn take_digits(&mut self) -> u64
-        ensures source { source self.new ≡ source self.old }
-        ensures options { options_of self.new ≡ options_of self.old }
+        ensures kept { KeepsInput self.old self.new }
         ensures digits { TakesDigits
             (source self.old) (place_of self.old) (place_of self.new) result }
         ensures stops { Stops is_digit (ahead (source self.new) (place_of self.new)) }
@@ -190,38 +204,42 @@ impl<'a> Tokens<'a> {
         }
     }
 
-    /// Moves past the ASCII letters at the start of the word ahead, and returns their packed number modulo 2^64. The
-    /// word's first character is a unit letter, so testing it for ASCII is enough.
+    /// Moves past the ASCII letters at the start of the word ahead, and returns them packed. The word's first character
+    /// is a unit letter, so testing it for ASCII is enough.
     #[inline(always)]
-    fn take_ascii_letters(&mut self) -> u64
+    fn take_ascii_letters(&mut self) -> Letters
         requires { IsAhead self.old (Some a_word) }
-        ensures source { source self.new ≡ source self.old }
-        ensures options { options_of self.new ≡ options_of self.old }
-        ensures letters { TakesLetters
-            (source self.old) (place_of self.old) (place_of self.new) result }
+        ensures kept { KeepsInput self.old self.new }
+        ensures letters { TakesLetters (source self.old) (place_of self.old) (place_of self.new)
+            result.packed result.has_capital }
         ensures stops { ForSome self.new.head (λ c. is_ascii_alphabetic c ≡ false) }
     {
         let mut packed = 0u64;
+        let mut has_capital = false;
         if let Some(first) = self.head
             && first.is_ascii()
         {
             packed = u64::from(first as u32 % 32);
+            has_capital = first.is_ascii_uppercase();
             self.advance();
             while let Some(c) = self.head
                 && c.is_ascii_alphabetic()
             {
                 packed = ((packed as u128 * 32 + (c as u32 % 32) as u128) % MODULUS) as u64;
+                has_capital |= c.is_ascii_uppercase();
                 self.advance();
             }
         }
-        packed
+        Letters {
+            packed,
+            has_capital,
+        }
     }
 
     /// Moves past the unit letters.
     #[inline(always)]
     fn skip_letters(&mut self)
-        ensures source { source self.new ≡ source self.old }
-        ensures options { options_of self.new ≡ options_of self.old }
+        ensures kept { KeepsInput self.old self.new }
         ensures letters { Passes (is_unit_letter (options_of self.old))
             (source self.old) (place_of self.old) (place_of self.new) }
         ensures stops { Stops (is_unit_letter (options_of self.old))
@@ -241,14 +259,17 @@ impl<'a> Tokens<'a> {
         ensures { TakesToken self.old self.new (word result) }
     {
         let start = self.eye.place();
-        let packed = self.take_ascii_letters();
+        let letters = self.take_ascii_letters();
         // No letter beyond ASCII follows.
         let ended = match self.head {
             Some(c) => c.is_ascii(),
             None => true,
         };
-        if ended && !self.options.lowercase && self.eye.place() - start <= MOST_LETTERS {
-            unit_of_packed(packed)
+        if ended
+            && letters.ignore_case(self.options.lowercase)
+            && self.eye.place() - start <= MOST_LETTERS
+        {
+            unit_of_packed(letters.packed)
         } else {
             self.skip_letters();
             // Each flag by itself: with the address of `self.options`, the compiler would keep all of `self` in memory.
@@ -267,7 +288,7 @@ impl<'a> Tokens<'a> {
     #[inline(always)]
     pub(crate) fn take_sign(&mut self)
         requires { (sort : Sort) × IsSign sort × IsAhead self.old (Some sort) }
-        ensures source { source self.new ≡ source self.old }
+        ensures kept { KeepsInput self.old self.new }
         ensures sign { TakesSign self.old self.new }
     {
         self.advance();
@@ -378,8 +399,8 @@ fn sort_at(first: char, o: Options) -> Sort
     }
 }
 
-/// The unit that a word names. For words with many letters or with letters beyond ASCII, and for all words under
-/// `lowercase`.
+/// The unit that a word names. For words with many letters or with letters beyond ASCII, and for words with a capital
+/// under `lowercase`.
 #[cold]
 #[inline(never)]
 fn unit_by_name(word: &str, no_calc: bool, lowercase: bool, cn_unit: bool) -> Option<TimeUnit>

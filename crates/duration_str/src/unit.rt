@@ -145,9 +145,15 @@ impl TimeUnit {
     /// The unit that a word names under these options, if any.
     ///
     /// `from_word("Minutes", Options::off())` is `Some(TimeUnit::Minute)`.
+    #[tactic(auto, using(crate::proofs::Characters::UnitLemmas::named_unit))]
     pub fn from_word(word: &str, o: Options) -> Option<TimeUnit>
         ensures { result ≡ unit_of_word o (chars word.now) }
     {
+        if let Some(unit) = likely_unit(word)
+            && unit.is_named(word, o)
+        {
+            return Some(unit);
+        }
         UNITS.iter().copied().find(|unit| unit.is_named(word, o))
     }
 
@@ -225,6 +231,24 @@ static UNITS: [TimeUnit; 11] = [
     TimeUnit::MicroSecond,
     TimeUnit::NanoSecond,
 ];
+
+/// The unit that a word most likely names if it starts with a letter beyond ASCII. It is tried first, so whatever this
+/// returns changes no answer, only how soon it is found.
+fn likely_unit(word: &str) -> Option<TimeUnit> {
+    match word.chars().next()? {
+        '年' => Some(TimeUnit::Year),
+        '月' => Some(TimeUnit::Month),
+        '周' => Some(TimeUnit::Week),
+        '日' | '天' => Some(TimeUnit::Day),
+        '时' => Some(TimeUnit::Hour),
+        '分' => Some(TimeUnit::Minute),
+        '秒' => Some(TimeUnit::Second),
+        '毫' => Some(TimeUnit::MilliSecond),
+        'µ' | '微' => Some(TimeUnit::MicroSecond),
+        '纳' => Some(TimeUnit::NanoSecond),
+        _ => None,
+    }
+}
 
 /// Whether a word is one of these names.
 fn is_any(names: &[&str], word: &str, o: Options) -> bool

@@ -1,14 +1,14 @@
 -- Packed names and their slots.
 use Rattle.std.proofs.Common.{◌≡◌, ℕ, zero, suc, ◌+◌, ◌*◌, ◌/◌, ◌%◌, ◌^◌, ◌<◌, ◌≤◌, Bool, true, false, leb, eqb, ◌&&◌, ◌||◌, List, [], ◌∷◌, map, length, get_or, Option, Some, None, refl, ap, sym, ◌∙◌, arith, ⊎_elim, inl, inr, ◌⊎◌, lit<, add-zero, zero-add}
 use Rattle.std.proofs.Math.Nat.{pow-succ', mul-le-mul_right, mod-lt, pow-le-pow_right}
-use Rattle.std.proofs.lemmas.Bool.{cases_lt, eq-eqb, eqb-true, and_parts, and_from, true≢false, false_from_ne_true}
+use Rattle.std.proofs.lemmas.Bool.{cases_lt, eq-eqb, eqb-true, and_parts, or_parts, and_from, true≢false, false_from_ne_true}
 use Rattle.std.proofs.lemmas.Bool.Decides.{nat_tests}
 use Rattle.std.proofs.lemmas.Slice.Eq.{bytes_eq-Decides}
 use Rattle.std.proofs.lemmas.List.{get_or-map}
 use Rattle.std.specs.Prelude.{if◌then◌else◌}
 use Rattle.std.specs.List.{list_all, list_any, find}
 use Rattle.std.specs.Str.{bytes_eq}
-use Rattle.std.specs.Char.{to_ascii_lowercase, is_ascii_alphabetic}
+use Rattle.std.specs.Char.{to_ascii_lowercase, is_ascii_alphabetic, is_ascii_uppercase}
 use Rattle.duration_str.specs.declared.options.Options.{Options}
 use Rattle.duration_str.specs.declared.unit.TimeUnit.{TimeUnit}
 use Rattle.duration_str.specs.declared.packed.TheConstants.{SPREAD}
@@ -125,23 +125,32 @@ ascii_alone true cn ch e = refl
 ascii_alone false true ch e = e
 ascii_alone false false ch e = refl
 
-form_lower : (o : Options) (w : List ℕ) → o.lowercase ≡ false → comparison_form o w ≡ map to_ascii_lowercase w
-form_lower o w off = ap (λ b. if b then w else map to_ascii_lowercase w) off
+-- only capitals are changed
+small_same : (c : ℕ) → is_ascii_uppercase c ≡ false → to_ascii_lowercase c ≡ c
+small_same c e = grind (arith, nat_tests)
 
-named_by_number : (o : Options) (w : List ℕ) (u : TimeUnit) → o.lowercase ≡ false → list_all is_ascii_alphabetic w ≡ true
+no_capital : (w : List ℕ) → list_any is_ascii_uppercase w ≡ false → map to_ascii_lowercase w ≡ w
+no_capital [] e = refl
+no_capital (c ∷ w) e = let parts = or_parts (is_ascii_uppercase c) (list_any is_ascii_uppercase w) e in λ i. small_same c parts.0 i ∷ no_capital w parts.1 i
+
+form_lower : (o : Options) (w : List ℕ) → (o.lowercase && list_any is_ascii_uppercase w) ≡ false → comparison_form o w ≡ map to_ascii_lowercase w
+form_lower o w = elim o.lowercase as (λ b. (b && list_any is_ascii_uppercase w) ≡ false → (if b then w else map to_ascii_lowercase w) ≡ map to_ascii_lowercase w)
+    [ true ↦ (λ e. sym (no_capital w e)) | false ↦ (λ e. refl) ]
+
+named_by_number : (o : Options) (w : List ℕ) (u : TimeUnit) → (o.lowercase && list_any is_ascii_uppercase w) ≡ false → list_all is_ascii_alphabetic w ≡ true
     → is_named o w u ≡ list_any (packs_to (packed w)) (row_of u).names
-named_by_number o w u off letters =
+named_by_number o w u folded letters =
     let v = map to_ascii_lowercase w in
     let small = lower_small w letters in
-    ap (λ x. list_any (bytes_eq x) (row_of u).names || (o.cn_unit && list_any (bytes_eq x) (row_of u).chinese)) (form_lower o w off)
+    ap (λ x. list_any (bytes_eq x) (row_of u).names || (o.cn_unit && list_any (bytes_eq x) (row_of u).chinese)) (form_lower o w folded)
     ∙ ascii_alone (list_any (bytes_eq v) (row_of u).names) o.cn_unit (list_any (bytes_eq v) (row_of u).chinese)
     (names_test v (row_of u).chinese small ∙ no_chinese (packed v) u)
     ∙ names_test v (row_of u).names small ∙ ap (λ n. list_any (packs_to n) (row_of u).names) (lower_packed 0 w letters)
 
--- the unit that a word of ASCII letters names
-pub unit_by_number : (o : Options) (w : List ℕ) → o.lowercase ≡ false → list_all is_ascii_alphabetic w ≡ true → unit_of_word o w ≡ unit_of_packed (packed w)
+-- the unit that a word of ASCII letters names, without capitals under `lowercase`
+pub unit_by_number : (o : Options) (w : List ℕ) → (o.lowercase && list_any is_ascii_uppercase w) ≡ false → list_all is_ascii_alphabetic w ≡ true → unit_of_word o w ≡ unit_of_packed (packed w)
 unfolding unit_of_packed
-unit_by_number o w off letters = (λ i. find (λ u. named_by_number o w u off letters i) units)
+unit_by_number o w folded letters = (λ i. find (λ u. named_by_number o w u folded letters i) units)
 
 -- ---- slots
 

@@ -1,5 +1,5 @@
 -- Words and names, as bytes and as characters, and their ASCII capitals.
-use Rattle.std.proofs.Common.{◌≡◌, ℕ, ◌+◌, ◌/◌, ◌%◌, ◌<◌, ◌≤◌, Bool, true, false, cond, ltb, eqb, not, ◌||◌, ◌&&◌, Option, Some, None, List, [], ◌∷◌, ◌++◌, map, IsUtf8, refl, ap, sym, ◌∙◌, arith, ⊎_elim}
+use Rattle.std.proofs.Common.{◌≡◌, ℕ, ◌+◌, ◌/◌, ◌%◌, ◌<◌, ◌≤◌, Bool, true, false, cond, ltb, eqb, not, ◌||◌, ◌&&◌, Some, List, [], ◌∷◌, ◌++◌, map, IsUtf8, refl, ap, sym, ◌∙◌, arith, ⊎_elim}
 use Rattle.std.specs.Prelude.{if◌then◌else◌}
 use Rattle.std.specs.List.{list_any, list_all, find}
 use Rattle.std.specs.Str.{bytes_eq, chars}
@@ -192,6 +192,10 @@ found_only o w (v ∷ us) u h there = go (is_named o w v) refl (found_only o w u
         (λ (same : eqb (nanos_of v) (nanos_of u) ≡ true). absurd (true≢false (sym h ∙ ap (is_named o w) (sym (same_length v u (eqb-true (nanos_of v) (nanos_of u) same))) ∙ e)))
         later (or_cases (eqb (nanos_of v) (nanos_of u)) (list_any (λ v. eqb (nanos_of v) (nanos_of u)) us) there)
 
+-- the unit that a word names
+pub named_unit : (o : Options) (w : List ℕ) (u : TimeUnit) → is_named o w u ≡ true → unit_of_word o w ≡ Some u
+named_unit o w u h = found_only o w units u h (all_units (λ u. list_any (λ v. eqb (nanos_of v) (nanos_of u)) units) refl u)
+
 -- A unit found among some units is found among all.
 pub found_among_all : (o : Options) (w : List ℕ) (us : List TimeUnit) (u : TimeUnit) → unit_among us o w ≡ Some u → unit_of_word o w ≡ Some u
-found_among_all o w us u h = found_only o w units u (found_named o w us u h) (all_units (λ u. list_any (λ v. eqb (nanos_of v) (nanos_of u)) units) refl u)
+found_among_all o w us u h = named_unit o w u (found_named o w us u h)

@@ -1,14 +1,15 @@
 -- The steps of cutting, in terms of a text, the byte up to which it is cut, and the looks.
 use Rattle.std.proofs.Common.{◌≡◌, ℕ, ◌+◌, ◌-◌, ◌*◌, ◌%◌, ◌<◌, ◌≤◌, ◌^◌, Bool, true, false, List, [], ◌∷◌, ◌++◌, length, take, drop, Option, Some, None, IsUtf8, refl, ap, sym, ◌∙◌, subst, arith, lit<}
-use Rattle.std.specs.Prelude.{is_some, IsSome, IfSome, IsTrue, slice_range, if◌then◌else◌}
-use Rattle.std.specs.List.{list_all}
-use Rattle.std.specs.Char.{is_ascii_alphabetic}
+use Rattle.std.specs.Prelude.{◌&&◌, ◌||◌, is_some, IsSome, IfSome, IsTrue, slice_range, if◌then◌else◌}
+use Rattle.std.specs.List.{list_any, list_all}
+use Rattle.std.specs.Char.{is_ascii_alphabetic, is_ascii_uppercase}
 use Rattle.std.proofs.lemmas.Bool.{and_from, and_parts}
-use Rattle.std.proofs.lemmas.List.Folds.{list_all-append}
+use Rattle.std.proofs.lemmas.List.Folds.{list_any-append, list_all-append}
 use Rattle.std.specs.Option.{ForSome}
 use Rattle.std.specs.Str.{IsCharBoundary, chars}
 use Rattle.std.proofs.lemmas.Str.{length-le-encodes, encodes-chars, chars-append, IsUtf8-take, IsUtf8-drop}
 use Rattle.std.proofs.lemmas.List.{take-append-drop, drop-drop, append_cancel_right}
+use Rattle.std.proofs.Math.Bool.{or-false}
 use Rattle.std.proofs.Math.Nat.{pow-le-pow_right}
 use Rattle.std.proofs.Common.{add_assoc, add-zero, length-append, append_assoc, length-drop}
 use lib.Utf8.{encodes}
@@ -148,19 +149,24 @@ digits_head text left place at next head c value value' same taken is stands e m
       number = omega (arith, more, push, before);
     }
 
-pub letters_none : (text : List ℕ) (place : ℕ) → TakesLetters text place place 0
+pub letters_none : (text : List ℕ) (place : ℕ) → TakesLetters text place place 0 false
 unfolding passes_none
-letters_none text place = record { run = passes_none is_ascii_alphabetic text place; number = refl }
+letters_none text place = record { run = passes_none is_ascii_alphabetic text place; number = refl; capital = refl }
 
-pub letters_head : (text left : List ℕ) (place at next : ℕ) (head : Option ℕ) (c value value' : ℕ) → left ≡ text → TakesLetters text place at value → head ≡ Some c
-    → ForSome head (StandsAt left at next) → is_ascii_alphabetic c ≡ true → value' ≡ (value * 32 + c % 32) % 2 ^ 64 → TakesLetters text place next value'
+any-push : (test : ℕ → Bool) (cs : List ℕ) (c : ℕ) → list_any test (cs ++ c ∷ []) ≡ (list_any test cs || test c)
+any-push test cs c = list_any-append test cs (c ∷ []) ∙ ap (λ b. list_any test cs || b) (or-false (test c))
+
+pub letters_head : (text left : List ℕ) (place at next : ℕ) (head : Option ℕ) (c value value' : ℕ) (capital capital' : Bool) → left ≡ text
+    → TakesLetters text place at value capital → head ≡ Some c → ForSome head (StandsAt left at next) → is_ascii_alphabetic c ≡ true
+    → value' ≡ (value * 32 + c % 32) % 2 ^ 64 → capital' ≡ (capital || is_ascii_uppercase c) → TakesLetters text place next value' capital'
 unfolding passes_head passes_more
-letters_head text left place at next head c value value' same taken is stands e more =
+letters_head text left place at next head c value value' capital capital' same taken is stands e more or =
     let push = packed_after-push 0 taken.run.characters c in
     let before = taken.number in
     record {
       run = passes_head is_ascii_alphabetic text left place at next head c same taken.run is stands e;
       number = omega (arith, more, push, before);
+      capital = or ∙ ap (λ b. b || is_ascii_uppercase c) taken.capital ∙ sym (any-push is_ascii_uppercase taken.run.characters c);
     }
 
 -- ---- the characters between two places
@@ -196,22 +202,22 @@ short_number digits low utf8 number same short =
     let whole : low ≡ number_of cs = omega (arith, same, small) in
     ap Some whole ∙ sym (u64_some (number_of cs) small)
 
--- a word of at most 12 ASCII letters, identified by its packed number
-pub short_word : (o : Options) (text : List ℕ) (place next value : ℕ) (unit : Option TimeUnit) → TakesLetters text place next value → o.lowercase ≡ false → next - place ≤ 12
-    → unit ≡ unit_of_packed value → TakesWord o text place next unit
+-- a word of at most 12 ASCII letters, without capitals under `lowercase`, identified by its packed number
+pub short_word : (o : Options) (text : List ℕ) (place next value : ℕ) (capital : Bool) (unit : Option TimeUnit) → TakesLetters text place next value capital
+    → (o.lowercase && capital) ≡ false → next - place ≤ 12 → unit ≡ unit_of_packed value → TakesWord o text place next unit
 unfolding passes_weaker
-short_word o text place next value unit taken off short found =
+short_word o text place next value capital unit taken folded short found =
     let cs = taken.run.characters in
     let few : length cs ≤ 12 = between_count text place next 12 cs taken.run.between short in
     record {
       run = passes_weaker is_ascii_alphabetic (is_unit_letter o) text place next (letter_of_ascii o) taken.run;
-      named = found ∙ ap unit_of_packed (exact cs value few taken.number) ∙ sym (unit_by_number o cs off taken.run.all);
+      named = found ∙ ap unit_of_packed (exact cs value few taken.number) ∙ sym (unit_by_number o cs (ap (λ b. o.lowercase && b) (sym taken.capital) ∙ folded) taken.run.all);
     }
 
 -- a word by its slice: ASCII letters, then any unit letters
-pub long_word : (o : Options) (text : List ℕ) (place at next value : ℕ) (slice : List ℕ) (unit : Option TimeUnit) → TakesLetters text place at value
+pub long_word : (o : Options) (text : List ℕ) (place at next value : ℕ) (capital : Bool) (slice : List ℕ) (unit : Option TimeUnit) → TakesLetters text place at value capital
     → Passes (is_unit_letter o) text at next → slice ≡ slice_range text place next → IsUtf8 slice → unit ≡ unit_of_word o (chars slice) → TakesWord o text place next unit
-long_word o text place at next value slice unit taken passed is utf8 found =
+long_word o text place at next value capital slice unit taken passed is utf8 found =
     let run = passes_on (is_unit_letter o) text place at next (passes_weaker is_ascii_alphabetic (is_unit_letter o) text place at (letter_of_ascii o) taken.run) passed in
     record { run = run; named = found ∙ ap (unit_of_word o) (chars_between text place next run.characters slice run.between is utf8) }
 

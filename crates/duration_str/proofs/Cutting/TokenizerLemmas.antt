@@ -1,5 +1,5 @@
 -- The steps of `Tokens`: what is ahead, and the next token.
-use Rattle.std.proofs.Common.{◌≡◌, ℕ, ◌-◌, ◌%◌, ◌^◌, ◌≤◌, drop, length-drop, arith, true, List, [], ◌∷◌, length, Option, Some, None, IsUtf8, refl, sym, ap, subst, ◌∙◌}
+use Rattle.std.proofs.Common.{Bool, ◌≡◌, ℕ, ◌-◌, ◌%◌, ◌^◌, ◌≤◌, drop, length-drop, arith, true, List, [], ◌∷◌, length, Option, Some, None, IsUtf8, refl, sym, ap, subst, ◌∙◌}
 use Rattle.std.specs.Prelude.{slice_range}
 use Rattle.std.specs.Str.{IsCharBoundary, chars}
 use Rattle.std.proofs.lemmas.List.{length-take-le}
@@ -18,22 +18,27 @@ use Rattle.duration_str.specs.Tokens.{Token, tokens_from}
 use Rattle.duration_str.specs.Internal.Cutting.{ahead, StandsAt, Passes, Stops, TakesDigits, TakesLetters, TakesWord}
 use Rattle.duration_str.specs.Internal.Sorts.{sort_at, sort_of, StandsToken}
 use Rattle.duration_str.specs.Value.{u64_from}
-use Rattle.duration_str.specs.Tokenizer.{source, options_of, place_of, left, what_of, IsAhead, LooksAhead, IsSign, TakesToken, TakesNumber, YieldsNextToken}
+use Rattle.duration_str.specs.Tokenizer.{source, options_of, place_of, left, what_of, IsAhead, KeepsInput, LooksAhead, IsSign, TakesToken, TakesNumber, YieldsNextToken}
 use Rattle.duration_str.proofs.Cutting.CuttingLemmas.{chars_between, long_word, same_slice, blanks_passed, token_taken, place_at_end}
 use Rattle.duration_str.proofs.Cutting.SortLemmas.{number_stands, word_stands, sign_stands, digit_of_sort, letter_of_sort, sign_of_sort, sign_sorts, first_token}
 
+pub keeps_all : (s : Tokens) → KeepsInput s s
+keeps_all s = record { text = refl; options = refl }
+
+pub keeps_on : (s m t : Tokens) → KeepsInput s m → KeepsInput m t → KeepsInput s t
+keeps_on s m t kept later = record { text = later.text ∙ kept.text; options = later.options ∙ kept.options }
+
 -- the tokens that are left after a step, in terms of the source and the options before it
-left_same : (s t : Tokens) → source t ≡ source s → options_of t ≡ options_of s → left t ≡ tokens_from (options_of s) (place_of t) (ahead (source s) (place_of t))
-left_same s t text o = (λ i. tokens_from (o i) (place_of t) (ahead (text i) (place_of t)))
+left_same : (s t : Tokens) → KeepsInput s t → left t ≡ tokens_from (options_of s) (place_of t) (ahead (source s) (place_of t))
+left_same s t kept = (λ i. tokens_from (kept.options i) (place_of t) (ahead (kept.text i) (place_of t)))
 
 -- ---- what is ahead
 
 -- skipping the blanks from s to t
-pub looks_ahead : (s t : Tokens) (sort : Option Sort) → source t ≡ source s → options_of t ≡ options_of s → Passes is_blank (source s) (place_of s) (place_of t) → IsAhead t sort → LooksAhead s t sort
-looks_ahead s t sort text o blanks ahead = record {
-  same_source = text;
-  same_options = o;
-  same_left = left_same s t text o ∙ sym (blanks_passed (options_of s) (source s) (place_of s) (place_of t) blanks);
+pub looks_ahead : (s t : Tokens) (sort : Option Sort) → KeepsInput s t → Passes is_blank (source s) (place_of s) (place_of t) → IsAhead t sort → LooksAhead s t sort
+looks_ahead s t sort kept blanks ahead = record {
+  kept = kept;
+  same_left = left_same s t kept ∙ sym (blanks_passed (options_of s) (source s) (place_of s) (place_of t) blanks);
   ahead = ahead;
 }
 
@@ -65,56 +70,57 @@ letter_ahead s c h is =
 
 -- ---- the next token
 
-takes_token : (s t : Tokens) (terminal : Terminal) → source t ≡ source s → options_of t ≡ options_of s → StandsToken (options_of s) (source s) (place_of s) (place_of t) terminal → TakesToken s t terminal
-takes_token s t terminal text o token = record {
+takes_token : (s t : Tokens) (terminal : Terminal) → KeepsInput s t → StandsToken (options_of s) (source s) (place_of s) (place_of t) terminal → TakesToken s t terminal
+takes_token s t terminal kept token = record {
   characters = token.characters;
-  same_source = text;
-  same_options = o;
+  kept = kept;
   first = token_taken (options_of s) (source s) (place_of s) (place_of t) token.characters token.between token.is_lexeme token.ends
-      ∙ ap (λ ps. record { start = place_of s; characters = token.characters } ∷ ps) (sym (left_same s t text o));
+      ∙ ap (λ ps. record { start = place_of s; characters = token.characters } ∷ ps) (sym (left_same s t kept));
   between = token.between;
   is_terminal = token.is_terminal;
 }
 
 -- The slice from s to t is the number ahead, and `low` is its value modulo 2^64.
-pub takes_number : (s t : Tokens) (low start : ℕ) (slice : List ℕ) → IsAhead s (Some Number) → source t ≡ source s → options_of t ≡ options_of s
+pub takes_number : (s t : Tokens) (low start : ℕ) (slice : List ℕ) → IsAhead s (Some Number) → KeepsInput s t
     → TakesDigits (source s) (place_of s) (place_of t) low → Stops is_digit (ahead (source t) (place_of t)) → start ≡ place_of s → slice ≡ slice_range (source t) start (place_of t) → IsUtf8 slice
     → IsNumber (chars slice) × (low ≡ number_of (chars slice) % 2 ^ 64) × TakesNumber s t (u64_from (number_of (chars slice)))
-takes_number s t low start slice h text o taken stops there is utf8 =
-    let same = chars_between (source s) (place_of s) (place_of t) taken.run.characters slice taken.run.between (same_slice slice (source t) (source s) start (place_of s) (place_of t) is text there) utf8 in
-    let token = number_stands (options_of s) (source s) (place_of s) (place_of t) s.eye.next h.0 taken.run (subst (λ l. Stops is_digit (ahead l (place_of t))) text stops) (s.some h.0 h.1)
+takes_number s t low start slice h kept taken stops there is utf8 =
+    let same = chars_between (source s) (place_of s) (place_of t) taken.run.characters slice taken.run.between (same_slice slice (source t) (source s) start (place_of s) (place_of t) is kept.text there) utf8 in
+    let token = number_stands (options_of s) (source s) (place_of s) (place_of t) s.eye.next h.0 taken.run (subst (λ l. Stops is_digit (ahead l (place_of t))) kept.text stops) (s.some h.0 h.1)
     (digit_of_sort (options_of s) h.0 h.3) in (
       subst IsNumber (sym same) token.0,
       taken.number ∙ ap (λ l. number_of l % 2 ^ 64) (sym same),
-      (number_of taken.run.characters, takes_token s t _ text o token.1, ap (λ l. u64_from (number_of l)) same),
+      (number_of taken.run.characters, takes_token s t _ kept token.1, ap (λ l. u64_from (number_of l)) same),
     )
 
-pub takes_word : (s t : Tokens) (unit : Option TimeUnit) → IsAhead s (Some Word) → source t ≡ source s → options_of t ≡ options_of s
+pub takes_word : (s t : Tokens) (unit : Option TimeUnit) → IsAhead s (Some Word) → KeepsInput s t
     → TakesWord (options_of s) (source s) (place_of s) (place_of t) unit → Stops (is_unit_letter (options_of s)) (ahead (source t) (place_of t)) → TakesToken s t (word unit)
-takes_word s t unit h text o taken stops =
-    takes_token s t (word unit) text o
-    (word_stands (options_of s) (source s) (place_of s) (place_of t) s.eye.next h.0 unit taken (subst (λ l. Stops (is_unit_letter (options_of s)) (ahead l (place_of t))) text stops)
+takes_word s t unit h kept taken stops =
+    takes_token s t (word unit) kept
+    (word_stands (options_of s) (source s) (place_of s) (place_of t) s.eye.next h.0 unit taken (subst (λ l. Stops (is_unit_letter (options_of s)) (ahead l (place_of t))) kept.text stops)
     (s.some h.0 h.1) (letter_of_sort (options_of s) h.0 h.3))
 
 -- a word by its slice: ASCII letters from s to m, then any unit letters up to t
-pub takes_long_word : (s m t : Tokens) (value start : ℕ) (slice : List ℕ) (unit : Option TimeUnit) → IsAhead s (Some Word) → source m ≡ source s → options_of m ≡ options_of s
-    → TakesLetters (source s) (place_of s) (place_of m) value → source t ≡ source m → options_of t ≡ options_of m
+pub takes_long_word : (s m t : Tokens) (value start : ℕ) (capital : Bool) (slice : List ℕ) (unit : Option TimeUnit) → IsAhead s (Some Word) → KeepsInput s m
+    → TakesLetters (source s) (place_of s) (place_of m) value capital → KeepsInput m t
     → Passes (is_unit_letter (options_of m)) (source m) (place_of m) (place_of t) → Stops (is_unit_letter (options_of m)) (ahead (source t) (place_of t))
     → start ≡ place_of s → slice ≡ slice_range (source t) start (place_of t) → IsUtf8 slice → unit ≡ unit_of_word (options_of t) (chars slice) → TakesToken s t (word unit)
-takes_long_word s m t value start slice unit h text o letters later_text later_o passed stops there is utf8 found =
-    let run = subst (λ l. Passes (is_unit_letter (options_of s)) l (place_of m) (place_of t)) text (subst (λ o. Passes (is_unit_letter o) (source m) (place_of m) (place_of t)) o passed) in
-    takes_word s t unit h (later_text ∙ text) (later_o ∙ o)
-    (long_word (options_of s) (source s) (place_of s) (place_of m) (place_of t) value slice unit letters run
-    (same_slice slice (source t) (source s) start (place_of s) (place_of t) is (later_text ∙ text) there) utf8 (found ∙ ap (λ o. unit_of_word o (chars slice)) (later_o ∙ o)))
-    (subst (λ o. Stops (is_unit_letter o) (ahead (source t) (place_of t))) o stops)
+takes_long_word s m t value start capital slice unit h kept letters later passed stops there is utf8 found =
+    let run = subst (λ l. Passes (is_unit_letter (options_of s)) l (place_of m) (place_of t)) kept.text
+    (subst (λ o. Passes (is_unit_letter o) (source m) (place_of m) (place_of t)) kept.options passed) in
+    let all = keeps_on s m t kept later in
+    takes_word s t unit h all
+    (long_word (options_of s) (source s) (place_of s) (place_of m) (place_of t) value capital slice unit letters run
+    (same_slice slice (source t) (source s) start (place_of s) (place_of t) is all.text there) utf8 (found ∙ ap (λ o. unit_of_word o (chars slice)) all.options))
+    (subst (λ o. Stops (is_unit_letter o) (ahead (source t) (place_of t))) kept.options stops)
 
 -- taking the single character ahead
-pub takes_sign : (s t : Tokens) (sort : Sort) → IsSign sort → IsAhead s (Some sort) → source t ≡ source s → options_of t ≡ options_of s
+pub takes_sign : (s t : Tokens) (sort : Sort) → IsSign sort → IsAhead s (Some sort) → KeepsInput s t
     → ((c : ℕ) → s.head ≡ Some c → StandsAt (source s) (place_of s) (place_of t) c) → (terminal : Terminal) × TakesToken s t terminal × (sort ≡ sort_of terminal)
-takes_sign s t sort sign h text o past =
+takes_sign s t sort sign h kept past =
     let class = sign_of_sort (options_of s) h.0 sort sign h.3 in (
       operator_or_other (operator_of h.0),
-      takes_token s t _ text o (sign_stands (options_of s) (source s) (place_of s) (place_of t) h.0 (past h.0 h.1) h.2 class.0 class.1),
+      takes_token s t _ kept (sign_stands (options_of s) (source s) (place_of s) (place_of t) h.0 (past h.0 h.1) h.2 class.0 class.1),
       class.2 ∙ sign_sorts (operator_of h.0),
     )
 
@@ -132,18 +138,18 @@ other_what (operator next) e = absurd cc
 other_what other e = refl
 
 -- the token that was taken is the next one
-pub takes_terminal : (s m t : Tokens) (x : RustToken) (terminal : Terminal) → source m ≡ source s → options_of m ≡ options_of s → left m ≡ left s → TakesToken m t terminal
+pub takes_terminal : (s m t : Tokens) (x : RustToken) (terminal : Terminal) → KeepsInput s m → left m ≡ left s → TakesToken m t terminal
     → x.start ≡ place_of m → x.text.now ≡ slice_range (source t) x.start (place_of t) → IsUtf8 x.text.now → x.what ≡ what_of terminal → IsCharBoundary (source m) (place_of m)
     → IsCharBoundary (source t) (place_of t) → YieldsNextToken s (Some x) t
-takes_terminal s m t x terminal text o same taken there is utf8 sort before boundary =
-    let slice : x.text.now ≡ slice_range (source m) (place_of m) (place_of t) = is ∙ (λ i. slice_range (taken.same_source i) (there i) (place_of t)) in
+takes_terminal s m t x terminal kept same taken there is utf8 sort before boundary =
+    let slice : x.text.now ≡ slice_range (source m) (place_of m) (place_of t) = is ∙ (λ i. slice_range (taken.kept.text i) (there i) (place_of t)) in
     let cs : chars x.text.now ≡ taken.characters = chars_between (source m) (place_of m) (place_of t) taken.characters x.text.now taken.between slice utf8 in
     let order : x.start ≤ place_of t = omega (arith, taken.between.bytes, there) in
     let len : length x.text.now ≡ place_of t - x.start =
     ap length is ∙ length-take-le (place_of t - x.start) (drop x.start (source t)) (simp length-drop (omega (arith, boundary.0, order))) in (
       sym same ∙ taken.first ∙ (λ i. record { start = sym there i; characters = sym cs i } ∷ left t),
-      taken.same_source ∙ text,
-      taken.same_options ∙ o,
-      sort ∙ ap what_of taken.is_terminal ∙ (λ i. what_of (terminal_of (o i) (sym cs i))),
-      (omega (arith, len, order), is ∙ ap (λ l. slice_range l x.start (place_of t)) (taken.same_source ∙ text)),
+      taken.kept.text ∙ kept.text,
+      taken.kept.options ∙ kept.options,
+      sort ∙ ap what_of taken.is_terminal ∙ (λ i. what_of (terminal_of (kept.options i) (sym cs i))),
+      (omega (arith, len, order), is ∙ ap (λ l. slice_range l x.start (place_of t)) (taken.kept.text ∙ kept.text)),
     )

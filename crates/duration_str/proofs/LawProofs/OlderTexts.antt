@@ -1,11 +1,10 @@
 -- The law `older_texts`: a sentence over the units without the quarter is a sentence over all units.
-use Rattle.std.proofs.Common.{◌≡◌, ℕ, Bool, true, false, List, [], ◌∷◌, ◌++◌, map, length, Option, Some, None, IsTrue, if◌then◌else◌, refl, sym, ap, ap₂, subst, ◌∙◌, append-nil}
+use Rattle.std.proofs.Common.{◌≡◌, ℕ, Bool, true, false, List, [], ◌∷◌, map, Option, Some, None, IsTrue, if◌then◌else◌, refl, sym, ap, ap₂, subst, ◌∙◌}
 use Rattle.std.proofs.lemmas.Bool.{true≢false, and_parts}
-use Rattle.std.specs.List.{list_all, find}
 use Rattle.duration_str.specs.declared.options.Options.{Options}
 use Rattle.duration_str.specs.declared.unit.TimeUnit.{TimeUnit}
-use Rattle.duration_str.specs.Text.{is_digit, is_unit_letter, number_of}
-use Rattle.duration_str.specs.Units.{units, is_named, unit_among, unit_of_word}
+use Rattle.duration_str.specs.Text.{number_of}
+use Rattle.duration_str.specs.Units.{unit_among, unit_of_word}
 use Rattle.duration_str.specs.Grammar.{Terminal, number, word, sign_terminal, terminal_among, terminal_of, IsSentence, IsSentenceOf}
 use Rattle.duration_str.specs.Place.{kinds_after, allows}
 use Rattle.duration_str.specs.declared.fault.Cause.{Cause}

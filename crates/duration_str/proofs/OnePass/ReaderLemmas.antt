@@ -15,12 +15,12 @@ use Rattle.duration_str.specs.Place.{kinds_after}
 use Rattle.duration_str.specs.Internal.Sorts.{sort_of}
 use Rattle.duration_str.specs.Tokenizer.{source, options_of, place_of, left, IsAhead, LooksAhead, is_number, TakesToken, TakesSign}
 use Rattle.duration_str.specs.Internal.Rest.{Rest, terminal_at, end_at, rest_from, rest_of, lacks_number, fault_or, Read, leaving, unit_read, operator_read}
-use Rattle.duration_str.proofs.Cutting.TokenizerLemmas.{none_left, first_left}
+use Rattle.duration_str.proofs.Cutting.TokenizerLemmas.{keeps_all, none_left, first_left}
 
 -- ---- What comes next
 
 same_rest : (s m : Tokens) (sort : Option Sort) → LooksAhead s m sort → rest_of m ≡ rest_of s
-same_rest s m sort look = (λ i. rest_from (look.same_options i) (length (look.same_source i)) (look.same_left i))
+same_rest s m sort look = (λ i. rest_from (look.kept.options i) (length (look.kept.text i)) (look.same_left i))
 
 -- At the end the whole source is cut.
 pub at_end : (s m : Tokens) → LooksAhead s m None → (rest_of s ≡ end_at (place_of m)) × (place_of m ≡ length (source m))
@@ -50,7 +50,7 @@ starts s m ahead sort look is =
 
 -- With a number ahead, the rest starts with it.
 pub at_number : (s : Tokens) → IsAhead s (Some sorts.Number) → StartsWith sorts.Number (place_of s) (rest_of s)
-at_number s ahead = starts s s _ sorts.Number (record { same_source = refl; same_options = refl; same_left = refl; ahead = ahead }) refl
+at_number s ahead = starts s s _ sorts.Number (record { kept = keeps_all s; same_left = refl; ahead = ahead }) refl
 
 -- A terminal that the table does not allow is refused at its place.
 pub refused : {A : Type 0} (f : Rest → Result A Cause) (expected : Expected) (rest first : Rest) (at place : ℕ) → rest ≡ first
@@ -101,7 +101,7 @@ operator_terminal other op e = absurd cc
 pub after_token : (s t : Tokens) (terminal : Terminal) → TakesToken s t terminal → rest_of s ≡ terminal_at (place_of s) terminal (rest_of t)
 after_token s t terminal taken =
     ap (rest_from (options_of s) (length (source s))) taken.first
-    ∙ (λ i. terminal_at (place_of s) (sym taken.is_terminal i) (rest_from (sym taken.same_options i) (length (sym taken.same_source i)) (left t)))
+    ∙ (λ i. terminal_at (place_of s) (sym taken.is_terminal i) (rest_from (sym taken.kept.options i) (length (sym taken.kept.text i)) (left t)))
 
 pub operator_taken : (s m t : Tokens) (ahead : Option Sort) (op : CondUnit) → LooksAhead s m ahead → ahead ≡ Some (sorts.Operator op) → TakesSign m t
     → operator_read false (rest_of s) ≡ leaving (rest_of t) (fault_or (lacks_number (rest_of t)) (Ok (Some op)))

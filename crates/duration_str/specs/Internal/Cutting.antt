@@ -1,7 +1,7 @@
 -- How a text is cut: what is ahead of a byte, and what is between two bytes.
 use Rattle.std.specs.Prelude.{◌≡◌, ℕ, ◌+◌, ◌*◌, ◌%◌, ◌^◌, Bool, false, List, [], ◌∷◌, ◌++◌, drop, IsTrue, Option}
-use Rattle.std.specs.List.{list_all}
-use Rattle.std.specs.Char.{is_ascii_alphabetic}
+use Rattle.std.specs.List.{list_any, list_all}
+use Rattle.std.specs.Char.{is_ascii_alphabetic, is_ascii_uppercase}
 use Rattle.std.specs.Str.{chars}
 use Rattle.duration_str.specs.declared.options.Options.{Options}
 use Rattle.duration_str.specs.declared.unit.TimeUnit.{TimeUnit}
@@ -47,10 +47,12 @@ pub record TakesDigits (text : List ℕ) (place next value : ℕ) : Type 0 where
   pub run : Passes is_digit text place next
   pub number : value ≡ number_of run.characters % 2 ^ 64
 
--- The characters from `place` to `next` are ASCII letters, and `value` is their packed number modulo 2^64.
-pub record TakesLetters (text : List ℕ) (place next value : ℕ) : Type 0 where
+-- The characters from `place` to `next` are ASCII letters, `value` is their packed number modulo 2^64, and `has_capital`
+-- is whether one of them is a capital.
+pub record TakesLetters (text : List ℕ) (place next value : ℕ) (has_capital : Bool) : Type 0 where
   pub run : Passes is_ascii_alphabetic text place next
   pub number : value ≡ packed run.characters % 2 ^ 64
+  pub capital : has_capital ≡ list_any is_ascii_uppercase run.characters
 
 -- The characters from `place` to `next` are unit letters, and `unit` is the unit that they name.
 pub record TakesWord (o : Options) (text : List ℕ) (place next : ℕ) (unit : Option TimeUnit) : Type 0 where

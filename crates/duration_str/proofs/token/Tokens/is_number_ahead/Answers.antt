@@ -11,7 +11,7 @@ returns-in-Some c =
     let e = c.skip_blanks.ensures in
     let first = c.in-Some.c in (
       Some (sort_at (options_of m) first),
-      looks_ahead c.args.self.now m _ e.source e.options e.blanks (first, c.in-Some.is, e.stops first c.in-Some.is, refl),
+      looks_ahead c.args.self.now m _ e.kept e.blanks (first, c.in-Some.is, e.stops first c.in-Some.is, refl),
       c.is_ascii_digit.ensures.value ∙ digit_sort (options_of m) first,
     )
 
@@ -19,4 +19,4 @@ pub returns-in-None : goal.returns-in-None
 returns-in-None c =
     let m = c.skip_blanks.new.self in
     let e = c.skip_blanks.ensures in
-    (None, looks_ahead c.args.self.now m _ e.source e.options e.blanks c.in-None.is, refl)
+    (None, looks_ahead c.args.self.now m _ e.kept e.blanks c.in-None.is, refl)

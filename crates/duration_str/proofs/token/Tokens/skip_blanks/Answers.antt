@@ -1,13 +1,13 @@
-use Rattle.std.proofs.Common.{◌∙◌, refl, sym}
+use Rattle.std.proofs.Common.{◌∙◌, sym}
 use Rattle.duration_str.specs.Text.{is_blank}
 use Rattle.duration_str.specs.Tokenizer.{source, place_of}
 use Rattle.duration_str.proofs.Cutting.CuttingLemmas.{passes_none, passes_head, ahead_shorter}
+use Rattle.duration_str.proofs.Cutting.TokenizerLemmas.{keeps_all, keeps_on}
 use Rattle.duration_str.proofs.token.Tokens.skip_blanks.Goals as goal
 
 pub loop-self-init : goal.loop-self-init
 loop-self-init c = record {
-  same_source = refl;
-  same_options = refl;
+  kept = keeps_all c.args.self.now;
   blanks = passes_none is_blank (source c.args.self.now) (place_of c.args.self.now);
 }
 
@@ -17,13 +17,12 @@ loop-self-preserved c =
     let s = c.loop-self.self in
     let start = c.args.self.now in
     record {
-      same_source = c.advance.ensures.source ∙ inv.same_source;
-      same_options = c.advance.ensures.options ∙ inv.same_options;
-      blanks = passes_head is_blank (source start) (source s) (place_of start) (place_of s) (place_of c.advance.new.self) s.head c.in-Some.c inv.same_source inv.blanks c.in-Some.is
+      kept = keeps_on start s c.advance.new.self inv.kept c.advance.ensures.kept;
+      blanks = passes_head is_blank (source start) (source s) (place_of start) (place_of s) (place_of c.advance.new.self) s.head c.in-Some.c inv.kept.text inv.blanks c.in-Some.is
           c.advance.ensures.past (sym c.is_blank.ensures ∙ c.if-is_blank.true);
     }
 
 pub loop-self-smaller : goal.loop-self-smaller
 loop-self-smaller c =
     let s = c.loop-self.self in
-    ahead_shorter (source s) _ (place_of s) (place_of c.advance.new.self) c.in-Some.c c.advance.ensures.source (c.advance.ensures.past c.in-Some.c c.in-Some.is)
+    ahead_shorter (source s) _ (place_of s) (place_of c.advance.new.self) c.in-Some.c c.advance.ensures.kept.text (c.advance.ensures.past c.in-Some.c c.in-Some.is)

@@ -1,8 +1,9 @@
-use Rattle.std.proofs.Common.{◌≡◌, ℕ, Bool, ap, ◌∙◌, refl, sym}
+use Rattle.std.proofs.Common.{◌≡◌, ℕ, Bool, ap, ◌∙◌, sym}
 use Rattle.duration_str.specs.declared.options.Options.{Options}
 use Rattle.duration_str.specs.Text.{is_unit_letter}
 use Rattle.duration_str.specs.Tokenizer.{source, options_of, place_of}
 use Rattle.duration_str.proofs.Cutting.CuttingLemmas.{passes_none, passes_head, ahead_shorter, stops_at}
+use Rattle.duration_str.proofs.Cutting.TokenizerLemmas.{keeps_all, keeps_on}
 use Rattle.duration_str.proofs.token.Tokens.skip_letters.Goals as goal
 
 -- the options stay the same, so the test is the one from the start
@@ -11,8 +12,7 @@ letter_test o o' c r b same is e = ap (λ x. is_unit_letter x c) (sym same) ∙ 
 
 pub loop-self-init : goal.loop-self-init
 loop-self-init c = record {
-  same_source = refl;
-  same_options = refl;
+  kept = keeps_all c.args.self.now;
   letters = passes_none (is_unit_letter (options_of c.args.self.now)) (source c.args.self.now) (place_of c.args.self.now);
 }
 
@@ -22,18 +22,17 @@ loop-self-preserved c =
     let s = c.loop-self.self in
     let start = c.args.self.now in
     record {
-      same_source = c.advance.ensures.source ∙ inv.same_source;
-      same_options = c.advance.ensures.options ∙ inv.same_options;
-      letters = passes_head (is_unit_letter (options_of start)) (source start) (source s) (place_of start) (place_of s) (place_of c.advance.new.self) s.head c.in-Some.c inv.same_source inv.letters c.in-Some.is
-          c.advance.ensures.past (letter_test (options_of start) s.options c.in-Some.c c.is_unit_letter.result _ inv.same_options c.is_unit_letter.ensures c.if-is_unit_letter.true);
+      kept = keeps_on start s c.advance.new.self inv.kept c.advance.ensures.kept;
+      letters = passes_head (is_unit_letter (options_of start)) (source start) (source s) (place_of start) (place_of s) (place_of c.advance.new.self) s.head c.in-Some.c inv.kept.text inv.letters c.in-Some.is
+          c.advance.ensures.past (letter_test (options_of start) s.options c.in-Some.c c.is_unit_letter.result _ inv.kept.options c.is_unit_letter.ensures c.if-is_unit_letter.true);
     }
 
 pub loop-self-smaller : goal.loop-self-smaller
 loop-self-smaller c =
     let s = c.loop-self.self in
-    ahead_shorter (source s) _ (place_of s) (place_of c.advance.new.self) c.in-Some.c c.advance.ensures.source (c.advance.ensures.past c.in-Some.c c.in-Some.is)
+    ahead_shorter (source s) _ (place_of s) (place_of c.advance.new.self) c.in-Some.c c.advance.ensures.kept.text (c.advance.ensures.past c.in-Some.c c.in-Some.is)
 
 pub returns-else-is_unit_letter-clause-stops : goal.returns-else-is_unit_letter-clause-stops
 returns-else-is_unit_letter-clause-stops c =
     let s = c.loop-self.self in
-    stops_at (is_unit_letter (options_of c.args.self.now)) (source s) (place_of s) s.eye.next c.in-Some.c (s.some c.in-Some.c c.in-Some.is) (letter_test (options_of c.args.self.now) s.options c.in-Some.c c.is_unit_letter.result _ c.loop-self.invariant.same_options c.is_unit_letter.ensures c.if-is_unit_letter.false)
+    stops_at (is_unit_letter (options_of c.args.self.now)) (source s) (place_of s) s.eye.next c.in-Some.c (s.some c.in-Some.c c.in-Some.is) (letter_test (options_of c.args.self.now) s.options c.in-Some.c c.is_unit_letter.result _ c.loop-self.invariant.kept.options c.is_unit_letter.ensures c.if-is_unit_letter.false)

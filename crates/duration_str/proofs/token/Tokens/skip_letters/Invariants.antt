@@ -1,13 +1,12 @@
-use Rattle.std.proofs.Common.{◌≡◌, length}
+use Rattle.std.proofs.Common.{length}
 use Rattle.duration_str.specs.Text.{is_unit_letter}
 use Rattle.duration_str.specs.Internal.Cutting.{ahead, Passes}
-use Rattle.duration_str.specs.Tokenizer.{source, options_of, place_of}
+use Rattle.duration_str.specs.Tokenizer.{source, options_of, place_of, KeepsInput}
 use Rattle.duration_str.proofs.token.Tokens.skip_letters.Given as goal
 
 abbrev pub invariant-loop-self : goal.invariant-loop-self
 invariant-loop-self l = record {
-  same_source : source l.self ≡ source l.initial.self;
-  same_options : options_of l.self ≡ options_of l.initial.self;
+  kept : KeepsInput l.initial.self l.self;
   letters : Passes (is_unit_letter (options_of l.initial.self)) (source l.initial.self) (place_of l.initial.self) (place_of l.self);
 }
 

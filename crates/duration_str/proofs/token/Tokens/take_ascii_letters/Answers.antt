@@ -1,8 +1,8 @@
-use Rattle.std.proofs.Common.{◌∙◌, refl, sym, arith}
+use Rattle.std.proofs.Common.{◌∙◌, ◌||◌, false, ap, refl, sym, arith}
 use Rattle.duration_str.specs.Tokenizer.{source, options_of, place_of}
 use Rattle.duration_str.proofs.Characters.CharacterLemmas.{ascii_letter}
 use Rattle.duration_str.proofs.Cutting.CuttingLemmas.{letters_none, letters_head, ahead_shorter}
-use Rattle.duration_str.proofs.Cutting.TokenizerLemmas.{letter_ahead}
+use Rattle.duration_str.proofs.Cutting.TokenizerLemmas.{keeps_on, letter_ahead}
 use Rattle.duration_str.proofs.token.Tokens.take_ascii_letters.Goals as goal
 
 pub loop-self-init : goal.loop-self-init
@@ -11,10 +11,9 @@ loop-self-init c =
     let first = c.in-Some.first in
     let letter = ascii_letter (options_of s) first (letter_ahead s first c.requires c.in-Some.is) (sym c.is_ascii.ensures ∙ c.if-is_ascii.true) in
     record {
-      same_source = c.advance.ensures.source;
-      same_options = c.advance.ensures.options;
-      letters = letters_head (source s) (source s) (place_of s) (place_of s) (place_of c.advance.new.self) s.head first 0 _ refl (letters_none (source s) (place_of s)) c.in-Some.is c.advance.ensures.past letter
-          (let e = c.from-packed.ensures in omega (arith, e));
+      kept = c.advance.ensures.kept;
+      letters = letters_head (source s) (source s) (place_of s) (place_of s) (place_of c.advance.new.self) s.head first 0 _ false _ refl (letters_none (source s) (place_of s)) c.in-Some.is c.advance.ensures.past letter
+          (let e = c.from-packed.ensures in omega (arith, e)) c.is_ascii_uppercase-has_capital.ensures.value;
     }
 
 pub loop-self-preserved : goal.loop-self-preserved
@@ -25,17 +24,16 @@ loop-self-preserved c =
     let more = c.advance-in-loop-self in
     let letter = sym c.is_ascii_alphabetic.ensures.value ∙ c.if-is_ascii_alphabetic.true in
     record {
-      same_source = more.ensures.source ∙ inv.same_source;
-      same_options = more.ensures.options ∙ inv.same_options;
-      letters = letters_head (source start) (source s) (place_of start) (place_of s) (place_of more.new.self) s.head c.in-Some-head.c c.loop-self.packed _ inv.same_source inv.letters c.in-Some-head.is
-          more.ensures.past letter refl;
+      kept = keeps_on start s more.new.self inv.kept more.ensures.kept;
+      letters = letters_head (source start) (source s) (place_of start) (place_of s) (place_of more.new.self) s.head c.in-Some-head.c c.loop-self.packed _ c.loop-self.has_capital _ inv.kept.text inv.letters c.in-Some-head.is
+          more.ensures.past letter refl (ap (λ b. c.loop-self.has_capital || b) c.is_ascii_uppercase-has_capital-in-loop-self.ensures.value);
     }
 
 pub loop-self-smaller : goal.loop-self-smaller
 loop-self-smaller c =
     let s = c.loop-self.self in
     let more = c.advance-in-loop-self in
-    ahead_shorter (source s) _ (place_of s) (place_of more.new.self) c.in-Some-head.c more.ensures.source (more.ensures.past c.in-Some-head.c c.in-Some-head.is)
+    ahead_shorter (source s) _ (place_of s) (place_of more.new.self) c.in-Some-head.c more.ensures.kept.text (more.ensures.past c.in-Some-head.c c.in-Some-head.is)
 
 pub returns-in_default-clause-letters : goal.returns-in_default-clause-letters
 returns-in_default-clause-letters c = letters_none (source c.args.self.now) (place_of c.args.self.now)

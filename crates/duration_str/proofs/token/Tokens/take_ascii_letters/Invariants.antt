@@ -1,13 +1,12 @@
-use Rattle.std.proofs.Common.{◌≡◌, length}
+use Rattle.std.proofs.Common.{length}
 use Rattle.duration_str.specs.Internal.Cutting.{ahead, TakesLetters}
-use Rattle.duration_str.specs.Tokenizer.{source, options_of, place_of}
+use Rattle.duration_str.specs.Tokenizer.{source, place_of, KeepsInput}
 use Rattle.duration_str.proofs.token.Tokens.take_ascii_letters.Given as goal
 
 abbrev pub invariant-loop-self : goal.invariant-loop-self
 invariant-loop-self l = record {
-  same_source : source l.self ≡ source l.fn.self;
-  same_options : options_of l.self ≡ options_of l.fn.self;
-  letters : TakesLetters (source l.fn.self) (place_of l.fn.self) (place_of l.self) l.packed;
+  kept : KeepsInput l.fn.self l.self;
+  letters : TakesLetters (source l.fn.self) (place_of l.fn.self) (place_of l.self) l.packed l.has_capital;
 }
 
 abbrev pub decreases-loop-self : goal.decreases-loop-self

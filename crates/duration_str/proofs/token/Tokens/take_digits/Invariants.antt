@@ -1,12 +1,11 @@
-use Rattle.std.proofs.Common.{◌≡◌, length}
+use Rattle.std.proofs.Common.{length}
 use Rattle.duration_str.specs.Internal.Cutting.{ahead, TakesDigits}
-use Rattle.duration_str.specs.Tokenizer.{source, options_of, place_of}
+use Rattle.duration_str.specs.Tokenizer.{source, place_of, KeepsInput}
 use Rattle.duration_str.proofs.token.Tokens.take_digits.Given as goal
 
 abbrev pub invariant-loop-self : goal.invariant-loop-self
 invariant-loop-self l = record {
-  same_source : source l.self ≡ source l.initial.self;
-  same_options : options_of l.self ≡ options_of l.initial.self;
+  kept : KeepsInput l.initial.self l.self;
   digits : TakesDigits (source l.initial.self) (place_of l.initial.self) (place_of l.self) l.number;
 }
 

@@ -8,4 +8,4 @@ returns-clause-sign c sort h =
     let s = c.args.self.now in
     let e = c.advance.ensures in
     let sign = subst IsSign (one_sort s c.requires.0 sort c.requires.2 h) c.requires.1 in
-    takes_sign s c.advance.new.self sort sign h e.source e.options e.past
+    takes_sign s c.advance.new.self sort sign h e.kept e.past

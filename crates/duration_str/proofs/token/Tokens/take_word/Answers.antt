@@ -1,4 +1,5 @@
-use Rattle.std.proofs.Common.{◌∙◌, ap, sym, subst, arith}
+use Rattle.std.proofs.Common.{◌∙◌, ◌&&◌, ap, sym, subst, arith}
+use Rattle.std.proofs.lemmas.Bool.{not-true}
 use Rattle.duration_str.specs.Text.{is_unit_letter}
 use Rattle.duration_str.specs.Internal.Cutting.{ahead, Stops}
 use Rattle.duration_str.specs.Tokenizer.{source, options_of, place_of}
@@ -11,29 +12,31 @@ use Rattle.duration_str.proofs.token.Tokens.take_word.Goals as goal
 pub returns-then-place-start-le-MOST_LETTERS : goal.returns-then-place-start-le-MOST_LETTERS
 returns-then-place-start-le-MOST_LETTERS c =
     let s = c.args.self.now in
-    let t = c.take_ascii_letters-packed.new.self in
-    let e = c.take_ascii_letters-packed.ensures in
+    let t = c.take_ascii_letters-letters.new.self in
+    let letters = c.take_ascii_letters-letters.result in
+    let e = c.take_ascii_letters-letters.ensures in
     let o = options_of s in
     let stops : Stops (is_unit_letter o) (ahead (source t) (place_of t)) = elim c.match-self.branch [
       | in-Some w ↦ stops_at (is_unit_letter o) (source t) (place_of t) t.eye.next w.in-Some.c (t.some w.in-Some.c w.in-Some.is)
           (no_letter_of_ascii o w.in-Some.c (sym w.is_ascii-ended.ensures ∙ sym w.ended-is ∙ c.if-ended.true) (e.stops w.in-Some.c w.in-Some.is))
       | in-None w ↦ subst (Stops (is_unit_letter o)) (sym (t.none w.in-None.is)) tt
     ] in
-    takes_word s t c.unit_of_packed.result c.requires e.source e.options
-    (short_word o (source s) (place_of s) (place_of t) c.take_ascii_letters-packed.result c.unit_of_packed.result e.letters (ap (λ o. o.lowercase) (sym e.options) ∙ c.if-not-self.true)
+    takes_word s t c.unit_of_packed.result c.requires e.kept
+    (short_word o (source s) (place_of s) (place_of t) letters.packed letters.has_capital c.unit_of_packed.result e.letters
+    (ap (λ o. o.lowercase && letters.has_capital) (sym e.kept.options) ∙ not-true _ (sym c.ignore_case.ensures ∙ c.if-ignore_case.true))
     (let h = c.if-place-start-le-MOST_LETTERS.true in omega (arith, h, c.place.ensures, c.place-start.ensures)) c.unit_of_packed.ensures)
     stops
 
 pub returns-in_err-unit : goal.returns-in_err-unit
 returns-in_err-unit c =
-    let m = c.take_ascii_letters-packed in
+    let m = c.take_ascii_letters-letters in
     let t = c.skip_letters in
-    takes_long_word c.args.self.now m.new.self t.new.self m.result c.place-start.result c.since.result.now _ c.requires m.ensures.source m.ensures.options m.ensures.letters t.ensures.source t.ensures.options
+    takes_long_word c.args.self.now m.new.self t.new.self m.result.packed c.place-start.result m.result.has_capital c.since.result.now _ c.requires m.ensures.kept m.ensures.letters t.ensures.kept
     t.ensures.letters t.ensures.stops c.place-start.ensures c.since.ensures c.since.utf8 (c.from_residual.ensures ∙ sym (c.in_err-unit.was {u = tt}) ∙ c.unit_by_name.ensures)
 
 pub returns-in_ok-unit : goal.returns-in_ok-unit
 returns-in_ok-unit c =
-    let m = c.take_ascii_letters-packed in
+    let m = c.take_ascii_letters-letters in
     let t = c.skip_letters in
-    takes_long_word c.args.self.now m.new.self t.new.self m.result c.place-start.result c.since.result.now _ c.requires m.ensures.source m.ensures.options m.ensures.letters t.ensures.source t.ensures.options
+    takes_long_word c.args.self.now m.new.self t.new.self m.result.packed c.place-start.result m.result.has_capital c.since.result.now _ c.requires m.ensures.kept m.ensures.letters t.ensures.kept
     t.ensures.letters t.ensures.stops c.place-start.ensures c.since.ensures c.since.utf8 (sym (c.in_ok-unit.was {u = tt}) ∙ c.unit_by_name.ensures)

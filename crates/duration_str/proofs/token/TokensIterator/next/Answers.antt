@@ -8,7 +8,7 @@ pub returns-in_err-sort-clause-steps : goal.returns-in_err-sort-clause-steps
 returns-in_err-sort-clause-steps c =
     let e = c.sort_ahead.ensures in
     let end = none_left c.sort_ahead.new.self (c.in_err-sort.ensures {u = tt}).ahead in
-    rw (c.from_residual.ensures) ((sym e.same_left ∙ end.0, end.0), e.same_source, e.same_options, tt, end.1 ∙ ap length e.same_source)
+    rw (c.from_residual.ensures) ((sym e.same_left ∙ end.0, end.0), e.kept.text, e.kept.options, tt, end.1 ∙ ap length e.kept.text)
 
 pub since-text-requires-clause-order : goal.since-text-requires-clause-order
 since-text-requires-clause-order c =
@@ -19,7 +19,7 @@ pub since-text-requires-clause-boundary : goal.since-text-requires-clause-bounda
 since-text-requires-clause-boundary c =
     let m = c.sort_ahead.new.self in
     let taken = c.take_token-what.ensures.1 in
-    subst (λ text. IsCharBoundary text c.place-start.result) (sym taken.same_source) (subst (IsCharBoundary (source m)) (sym c.place-start.ensures) m.eye.at_place)
+    subst (λ text. IsCharBoundary text c.place-start.result) (sym taken.kept.text) (subst (IsCharBoundary (source m)) (sym c.place-start.ensures) m.eye.at_place)
 
 pub returns-clause-steps : goal.returns-clause-steps
 returns-clause-steps c =
@@ -27,7 +27,7 @@ returns-clause-steps c =
     let t = c.take_token-what.new.self in
     let e = c.sort_ahead.ensures in
     let taken = c.take_token-what.ensures in
-    takes_terminal c.args.self.now m t (record { start = c.place-start.result; text = c.since-text.result; what = c.take_token-what.result }) taken.0 e.same_source e.same_options e.same_left taken.1
+    takes_terminal c.args.self.now m t (record { start = c.place-start.result; text = c.since-text.result; what = c.take_token-what.result }) taken.0 e.kept e.same_left taken.1
     c.place-start.ensures c.since-text.ensures c.since-text.utf8 taken.2 m.eye.at_place t.eye.at_place
 
 pub returns-clause-goes : goal.returns-clause-goes
