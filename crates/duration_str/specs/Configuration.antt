@@ -1,5 +1,5 @@
 -- What a configuration value is read as.
-use Rattle.std.specs.Prelude.{◌≡◌, ℤ, [], ◌∷◌, Bool, true, false, Option, None, Result, Ok, Err}
+use Rattle.std.specs.Prelude.{◌≡◌, ℤ, [], ◌∷◌, Bool, true, false, Option, None, Result, Ok}
 use Rattle.serde_json.specs.Data.{Data, null, string}
 use Rattle.duration_str.specs.declared.fault.Cause.TheVariants.{NotText}
 use Rattle.duration_str.specs.declared.fault.Fault.{Fault}

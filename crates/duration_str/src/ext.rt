@@ -6,9 +6,9 @@ ghost use Rattle.std.specs.Prelude.{◌≡◌, ◌+◌, ◌*◌, ◌/◌, ◌%�
 ghost use Rattle.std.specs.Duration.{as_nanos};
 ghost use Rattle.duration_str.specs.declared.unit.TimeUnit.TheVariants.{Year};
 ghost use Rattle.duration_str.specs.Units.{nanos_of, unit_lengths};
-ghost use Rattle.duration_str.specs.Printing.{IsPrinted, printed_counts, counts_of, greatest_count, part_bytes, max_printed_len};
+ghost use Rattle.duration_str.specs.Printing.{IsPrinted, printed_counts, counts_of};
 ghost use Rattle.duration_str.specs.declared.ext.TheConstants.{MAX_PRINTED_LEN};
-ghost use Rattle.duration_str.specs.Internal.PrintedBytes.{with_space, with_part, with_parts, units_below_year, units_to_day, rest_after, most_bytes};
+ghost use Rattle.duration_str.specs.Internal.PrintedBytes.{with_space, with_part, with_parts, units_below_year, units_to_day, rest_after, most_bytes, greatest_count, part_bytes, max_printed_len};
 
 use crate::unit::TimeUnit;
 use std::alloc::{AllocError, Allocator};
