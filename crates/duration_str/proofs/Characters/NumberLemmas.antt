@@ -53,8 +53,8 @@ parsed {E} bs r utf8 number parses =
     let plain : without_leading_plus bs ≡ cs = ap without_leading_plus same ∙ no_plus cs number.1 in
     let value : digits_value_after 10 0 (without_leading_plus bs) ≡ number_of cs = ap (digits_value_after 10 0) plain ∙ number_same 0 cs number.1 in
     let fact : OkIff r (IsNumeral 10 cs × (number_of cs < 2 ^ 64)) (number_of cs) =
-        (let P : List ℕ → ℕ → Type 0 = λ ds v. OkIff r (IsNumeral 10 ds × (v < 2 ^ 64)) v in
-        subst (λ v. P cs v) value (subst (λ ds. P ds (digits_value_after 10 0 (without_leading_plus bs))) plain parses)) in
+    (let P : List ℕ → ℕ → Type 0 = λ ds v. OkIff r (IsNumeral 10 ds × (v < 2 ^ 64)) v in
+    subst (λ v. P cs v) value (subst (λ ds. P ds (digits_value_after 10 0 (without_leading_plus bs))) plain parses)) in
     weaker r (number_of cs) (number.0, numeral cs number.1) fact
   where
     weaker : (r : Result ℕ E) (v : ℕ) → IsNumeral 10 (chars bs) → OkIff r (IsNumeral 10 (chars bs) × (v < 2 ^ 64)) v → OkIff r (v < 2 ^ 64) v

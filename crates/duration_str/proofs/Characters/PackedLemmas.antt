@@ -163,7 +163,7 @@ found_at (e ∷ es) i zero d lt = ap (λ k. if eqb (slot e.0) k then unit_of_pac
 found_at (e ∷ es) i (suc j) d lt =
     found_at es (i + 1) j d (omega (arith, lt))
     ∙ ap (λ k. if eqb (slot (get_or es j d).0) k then unit_of_packed (get_or es j d).0 else Some (get_or es j d).1)
-        (let e' : i + 1 + j ≡ i + suc j = omega arith in e')
+    (let e' : i + 1 + j ≡ i + suc j = omega arith in e')
 
 -- if the number in the slot is the one searched for, its unit is found
 pub slot_found : (table : List (ℕ × TimeUnit)) (n : ℕ) (d : ℕ × TimeUnit) → length table ≡ 64 → found_from 0 table ≡ map (λ e. Some e.1) table → n < 2 ^ 64
@@ -173,7 +173,7 @@ slot_found table n d len right small key =
     let at = found_at table 0 (slot n) d within in
     let stands : eqb (slot (get_or table (slot n) d).0) (0 + slot n) ≡ true = eq-eqb _ _ (ap slot key ∙ sym (zero-add (slot n))) in
     let says : get_or (found_from 0 table) (slot n) None ≡ Some (get_or table (slot n) d).1 =
-        ap (λ l. get_or l (slot n) None) right ∙ get_or-map (λ (e : ℕ × TimeUnit). Some e.1) table (slot n) d None within in
+    ap (λ l. get_or l (slot n) None) right ∙ get_or-map (λ (e : ℕ × TimeUnit). Some e.1) table (slot n) d None within in
     sym says ∙ at ∙ ap (λ b. if b then unit_of_packed (get_or table (slot n) d).0 else Some (get_or table (slot n) d).1) stands ∙ ap unit_of_packed key
 
 -- whether a name, if it is all small letters, is in its slot

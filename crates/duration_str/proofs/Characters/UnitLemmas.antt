@@ -52,8 +52,8 @@ encode_big : (c : ℕ) → 128 ≤ c → AllBig (encode c)
 unfolding AllBig encode
 encode_big c h =
     rw (le-ltb c 128 h) (elim (ltb c 2048) as (λ b. AllBig (cond b ((192 + c / 64) ∷ (128 + c % 64) ∷ [])
-        (cond (ltb c 65536) ((224 + c / 4096) ∷ (128 + c / 64 % 64) ∷ (128 + c % 64) ∷ [])
-        ((240 + c / 262144) ∷ (128 + c / 4096 % 64) ∷ (128 + c / 64 % 64) ∷ (128 + c % 64) ∷ [])))) [
+    (cond (ltb c 65536) ((224 + c / 4096) ∷ (128 + c / 64 % 64) ∷ (128 + c % 64) ∷ [])
+    ((240 + c / 262144) ∷ (128 + c / 4096 % 64) ∷ (128 + c / 64 % 64) ∷ (128 + c % 64) ∷ [])))) [
       | true ↦ (omega arith, (omega arith, tt))
       | false ↦ elim (ltb c 65536) as (λ b. AllBig (cond b ((224 + c / 4096) ∷ (128 + c / 64 % 64) ∷ (128 + c % 64) ∷ [])
           ((240 + c / 262144) ∷ (128 + c / 4096 % 64) ∷ (128 + c / 64 % 64) ∷ (128 + c % 64) ∷ [])))
@@ -75,7 +75,7 @@ lower-encodes (c ∷ cs) = lower-append (encode c) (encodes cs) ∙ (λ i. lower
 comparison_form-encodes : (o : Options) (cs : List ℕ) → comparison_form o (encodes cs) ≡ encodes (comparison_form o cs)
 comparison_form-encodes o cs =
     elim o.lowercase as (λ b. (if b then encodes cs else map to_ascii_lowercase (encodes cs)) ≡ encodes (if b then cs else map to_ascii_lowercase cs))
-        [ true ↦ refl | false ↦ lower-encodes cs ]
+    [ true ↦ refl | false ↦ lower-encodes cs ]
 
 -- ---- names
 
@@ -92,19 +92,19 @@ small_form o name h =
 bytes_eq-encodes : (v w : List ℕ) → bytes_eq (encodes v) (encodes w) ≡ bytes_eq v w
 bytes_eq-encodes v w =
     same_tests (bytes_eq (encodes v) (encodes w)) (bytes_eq v w) _ _
-        (bytes_eq-Decides (encodes v) (encodes w)) (bytes_eq-Decides v w) (encodes_same v w) (ap encodes)
+    (bytes_eq-Decides (encodes v) (encodes w)) (bytes_eq-Decides v w) (encodes_same v w) (ap encodes)
 
 -- a word can be compared with a name by their bytes
 name_test : (o : Options) (word name : List ℕ) → IsUtf8 word → is_small name ≡ true
     → bytes_eq (comparison_form o word) (comparison_form o (encodes name)) ≡ bytes_eq (comparison_form o (chars word)) name
 name_test o word name utf8 small =
     (λ i. bytes_eq ((ap (comparison_form o) (sym (encodes-chars word utf8)) ∙ comparison_form-encodes o (chars word)) i)
-        ((comparison_form-encodes o name ∙ ap encodes (small_form o name small)) i))
+    ((comparison_form-encodes o name ∙ ap encodes (small_form o name small)) i))
     ∙ bytes_eq-encodes (comparison_form o (chars word)) name
 
 names_test : (o : Options) (word : List ℕ) (names : List (List ℕ)) → IsUtf8 word → list_all is_small names ≡ true
     → list_any (λ bytes. bytes_eq (comparison_form o word) (comparison_form o bytes)) (map encodes names)
-        ≡ list_any (bytes_eq (comparison_form o (chars word))) names
+    ≡ list_any (bytes_eq (comparison_form o (chars word))) names
 names_test o word [] utf8 small = refl
 names_test o word (name ∷ names) utf8 small =
     let parts = and_parts (is_small name) (list_all is_small names) small in
@@ -168,7 +168,7 @@ shared w (x ∷ xs) ys h k apart =
     let parts = and_parts (not (list_any (bytes_eq x) ys)) (list_all (λ x. not (list_any (bytes_eq x) ys)) xs) apart in
     ⊎_elim
     (λ (is : bytes_eq w x ≡ true). true≢false (sym parts.0
-        ∙ not_from_true (list_any (bytes_eq x) ys) (ap (λ v. list_any (bytes_eq v) ys) (sym ((bytes_eq-Decides w x).0 is)) ∙ k)))
+    ∙ not_from_true (list_any (bytes_eq x) ys) (ap (λ v. list_any (bytes_eq v) ys) (sym ((bytes_eq-Decides w x).0 is)) ∙ k)))
     (λ (later : list_any (bytes_eq w) xs ≡ true). shared w xs ys later k parts.1)
     (or_cases (bytes_eq w x) (list_any (bytes_eq w) xs) h)
 
@@ -207,7 +207,7 @@ found_only o w (v ∷ us) u h there = go (is_named o w v) refl (found_only o w u
     go true e later = ap Some (one_unit o w v u e h)
     go false e later = ⊎_elim
         (λ (same : eqb (nanos_of v) (nanos_of u) ≡ true).
-            absurd (true≢false (sym h ∙ ap (is_named o w) (sym (same_length v u (eqb-true (nanos_of v) (nanos_of u) same))) ∙ e)))
+        absurd (true≢false (sym h ∙ ap (is_named o w) (sym (same_length v u (eqb-true (nanos_of v) (nanos_of u) same))) ∙ e)))
         later (or_cases (eqb (nanos_of v) (nanos_of u)) (list_any (λ v. eqb (nanos_of v) (nanos_of u)) us) there)
 
 -- A unit found among some units is found among all.

@@ -46,7 +46,7 @@ same_terminals o last (w ∷ lexemes) a = ap₂ ◌∷◌ (same_terminal o last 
 older_same : (o : Options) (lexemes : List (List ℕ)) (text : List ℕ) → WasSentenceOf o lexemes text → older_terminals o lexemes ≡ map (terminal_of o) lexemes
 older_same o lexemes text was =
     same_terminals o None lexemes
-        (whole_allowed o.no_calc None (older_terminals o lexemes) (sentence_allowed o.no_calc (older_terminals o lexemes) was.sentence))
+    (whole_allowed o.no_calc None (older_terminals o lexemes) (sentence_allowed o.no_calc (older_terminals o lexemes) was.sentence))
 
 older_sentence : (o : Options) (lexemes : List (List ℕ)) (text : List ℕ) → WasSentenceOf o lexemes text → IsSentenceOf o lexemes text
 older_sentence o lexemes text was = (subst (IsSentence o.no_calc) (older_same o lexemes text was) was.sentence, was.spells)
@@ -64,7 +64,7 @@ older_cause : (o : Options) (text : List ℕ) (cause : Cause) → WasRefused o t
 older_cause o text cause was =
     sentence_refused o text was.lexemes cause (older_sentence o was.lexemes text was.spells)
     (λ place. subst (λ (terminals : List Terminal). IsRefusedAt o.no_calc place terminals [] cause)
-        (older_same o was.lexemes text was.spells) (was.refused place))
+    (older_same o was.lexemes text was.spells) (was.refused place))
 
 pub older_texts_hold : OlderTexts
 older_texts_hold = record { terminals = older_same; sentence = older_sentence; value = older_value; cause = older_cause }

@@ -216,7 +216,7 @@ fewer no_calc set next s a b d n u taken unit op ahead =
 
 whole_told : (whole : Bool) (cause : Cause) (late : Option Cause) (terminals : List Terminal)
     → fault_or (unless whole cause) (fault_or late (Ok (unwrap_or (value_of (terms_of terminals)) 0)))
-        ≡ (if whole then late_answer late terminals else Err cause)
+    ≡ (if whole then late_answer late terminals else Err cause)
 whole_told false cause late terminals = refl
 whole_told true cause None terminals = refl
 whole_told true cause (Some fault) terminals = refl

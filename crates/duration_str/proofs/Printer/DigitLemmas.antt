@@ -37,4 +37,4 @@ pub length_count : (u : TimeUnit) (count : ℕ) → count ≤ greatest_count u �
 length_count u count h =
     let fits = greatest_fits u in
     length-decimal-le (length (decimal (greatest_count u))) count (decimal_nonempty (greatest_count u) fits)
-        (omega (arith, below_power (greatest_count u) fits)) (omega (arith, fits))
+    (omega (arith, below_power (greatest_count u) fits)) (omega (arith, fits))

@@ -42,7 +42,7 @@ encode_part : (n : ℕ) (name rest : List ℕ) → n < 10 ^ 64
 encode_part n name rest h =
     encodes-append (decimal n ++ name) rest
     ∙ ap (λ bs. bs ++ encode_utf8_all rest) (encodes-append (decimal n) name
-        ∙ ap (λ bs. bs ++ encode_utf8_all name) (encodes-IsAscii (decimal n) (IsAscii-decimal_wide n h)))
+    ∙ ap (λ bs. bs ++ encode_utf8_all name) (encodes-IsAscii (decimal n) (IsAscii-decimal_wide n h)))
 
 smaller_div : (nanos l : ℕ) → nanos < 10 ^ 64 → nanos / l < 10 ^ 64
 smaller_div nanos l h = omega (arith, div-le_self nanos l)
@@ -95,7 +95,7 @@ ended_some (b ∷ bytes) h = refl
 some_decimal : (n : ℕ) → n < 10 ^ 64 → 0 < length (decimal n)
 some_decimal n h =
     decimal_by_steps_wide (λ n ds. 0 < length ds) (λ n small. lit< tt)
-        (λ n ds big some. omega (arith, length-append ds ((48 + n % 10) ∷ []))) n h
+    (λ n ds big some. omega (arith, length-append ds ((48 + n % 10) ∷ []))) n h
 
 pub ended_units : (us : List TimeUnit) (nanos : ℕ) → nanos < 10 ^ 64 → ended (with_parts [] us nanos) ≡ encode_utf8_all (spaced (parts_of us nanos))
 unfolding lib.Utf8.encode

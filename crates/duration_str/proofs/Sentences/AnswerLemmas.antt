@@ -62,7 +62,7 @@ evaluates_from : (no_calc : Bool) (terminals : List Terminal) → IsSentence no_
 evaluates_from false terminals s e l = evaluates_by_faults (terms_of terminals) (has_terms false terminals s) e l
 evaluates_from true terminals s e l =
     below_evaluate (terms_of terminals) (has_terms true terminals s)
-        (terms_added terminals (no_calc_plus terminals s)) (running_none_below (terms_of terminals) e)
+    (terms_added terminals (no_calc_plus terminals s)) (running_none_below (terms_of terminals) e)
 
 -- ---- The value of terms that evaluate
 
