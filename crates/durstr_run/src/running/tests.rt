@@ -1,7 +1,7 @@
 // Runs with readers, writers and an allocator in memory.
 ghost use Rattle.std.specs.Prelude.{◌≤◌};
 
-use super::{run, run_in};
+use super::run;
 use crate::fault::RunFault;
 use duration_str::Options;
 use refusing::Refusing;
@@ -256,7 +256,7 @@ fn stops_at_each_refused_request(rt: HostRuntime) -> Result<(), Fail> {
     for granted in 0..100u64 {
         let memory = Refusing::new(rt.alloc(), granted);
         let mut sink = Sink::new();
-        let answer = run_in(&memory, &mut Source::new(INPUT), &mut sink, Options::off());
+        let answer = run(&memory, &mut Source::new(INPUT), &mut sink, Options::off());
         if answer == Ok(false) {
             assert_eq!(rt; sink.written(), OUTPUT);
             assert!(rt; granted >= 2, "{granted}");
