@@ -12,7 +12,8 @@ use Rattle.duration_str.specs.declared.fault.Cause.TheVariants.{Empty, Syntax, N
 use Rattle.duration_str.specs.declared.fault.Expected.{Expected}
 use Rattle.duration_str.specs.Units.{off, row_of, units, unit_among, unit_of_word, unit_lengths}
 use Rattle.duration_str.specs.Older.{older_units}
-use Rattle.duration_str.specs.Printing.{printed_counts, counts_of, max_printed_len}
+use Rattle.duration_str.specs.Printing.{printed_counts, counts_of}
+use Rattle.duration_str.specs.Internal.PrintedBytes.{max_printed_len}
 use Rattle.duration_str.specs.Answer.{answer}
 use Rattle.duration_str.specs.FaultText.{fault_text}
 

@@ -1,14 +1,44 @@
 -- The answer to a text, computed by the table of what may follow.
-use Rattle.std.specs.Prelude.{ℕ, Bool, false, List, [], ◌∷◌, Option, Some, None, Result, Ok, Err, take, drop, if◌then◌else◌, unwrap_or}
+use Rattle.std.specs.Prelude.{ℕ, suc, Bool, true, false, ◌&&◌, not, List, [], ◌∷◌, Option, Some, None, is_some, Result, Ok, Err, take, drop, if◌then◌else◌, unwrap_or}
 use Rattle.duration_str.specs.declared.options.Options.{Options}
 use Rattle.duration_str.specs.declared.fault.Cause.{Cause}
 use Rattle.duration_str.specs.declared.fault.Cause.TheVariants.{Empty, Syntax}
+use Rattle.duration_str.specs.declared.fault.Expected.{Expected}
 use Rattle.duration_str.specs.Text.{byte_len}
-use Rattle.duration_str.specs.Grammar.{Terminal}
+use Rattle.duration_str.specs.Grammar.{Terminal, number, word, operator, other}
 use Rattle.duration_str.specs.Tokens.{tokens_of}
-use Rattle.duration_str.specs.Place.{kinds_after, last_of, front_of, start_after, terminals_of}
+use Rattle.duration_str.specs.Place.{start_after, terminals_of}
 use Rattle.duration_str.specs.Value.{terms_of, value_of}
 use Rattle.duration_str.specs.Reading.{early_fault, late_fault}
+
+-- The table: what may follow a terminal, or start a text.
+abbrev pub kinds_after : Bool → Option Terminal → Expected
+kinds_after no_calc None = record { number = true; unit_word = false; operator = false; text_end = false }
+kinds_after no_calc (Some (number n)) = record { number = false; unit_word = true; operator = not no_calc; text_end = true }
+kinds_after no_calc (Some (word u)) = record { number = true; unit_word = false; operator = not no_calc; text_end = true }
+kinds_after no_calc (Some (operator op)) = record { number = true; unit_word = false; operator = false; text_end = false }
+kinds_after no_calc (Some other) = record { number = false; unit_word = false; operator = false; text_end = false }
+
+-- whether the terminal is of an expected kind
+abbrev pub allows : Expected → Terminal → Bool
+allows expected (number n) = expected.number
+allows expected (word u) = expected.unit_word && is_some u
+allows expected (operator op) = expected.operator
+allows expected other = false
+
+-- the last of these terminals; `last` if there are none
+abbrev pub last_of : Option Terminal → List Terminal → Option Terminal
+last_of last [] = last
+last_of last (terminal ∷ terminals) = last_of (Some terminal) terminals
+
+-- how many terminals after `last` the table allows
+abbrev pub front_after : Bool → Option Terminal → List Terminal → ℕ
+front_after no_calc last [] = 0
+front_after no_calc last (terminal ∷ terminals) = if allows (kinds_after no_calc last) terminal then suc (front_after no_calc (Some terminal) terminals) else 0
+
+-- the length of the front, by the table
+abbrev pub front_of : Bool → List Terminal → ℕ
+front_of no_calc terminals = front_after no_calc None terminals
 
 -- whether the front is all the terminals, and a sentence
 abbrev pub is_whole : Bool → List Terminal → List Terminal → Bool

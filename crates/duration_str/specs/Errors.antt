@@ -12,11 +12,11 @@ IsOverflow (Overflow place) = ⊤
 IsOverflow _ = ⊥
 
 -- The error is `ParseError` with these characters.
-abbrev pub IsParseError : List ℕ → DError → Type 0
+abbrev pub IsParseError : {A : Type 0} → List ℕ → DError A → Type 0
 IsParseError line (ParseError text) = string_bytes text ≡ encode_utf8_all line
 IsParseError line OverflowError = ⊥
 
 -- The error is `OverflowError` for an overflow, otherwise `ParseError` with the line of the cause.
-abbrev pub IsErrorOf : Cause → DError → Type 0
+abbrev pub IsErrorOf : {A : Type 0} → Cause → DError A → Type 0
 IsErrorOf (Overflow place) error = error ≡ OverflowError
 IsErrorOf cause error = IsParseError (line_of cause) error

@@ -1,5 +1,5 @@
 -- The laws, each as one statement about the definitions.
-use Rattle.std.specs.Prelude.{◌≡◌, ℕ, ◌+◌, ◌*◌, ◌/◌, ◌^◌, ◌<◌, ◌≤◌, Bool, true, false, List, [], ◌∷◌, ◌++◌, Some, None, map, ◌↔◌, ◌≢◌, take, drop, codes, Ok, Err, ◌⊎◌, IsTrue, not, ◌==◌}
+use Rattle.std.specs.Prelude.{◌≡◌, ℕ, ◌+◌, ◌*◌, ◌/◌, ◌^◌, ◌<◌, ◌≤◌, Bool, true, false, if◌then◌else◌, List, [], ◌∷◌, ◌++◌, Some, None, is_some, map, ◌↔◌, ◌≢◌, take, drop, codes, Ok, Err, ◌⊎◌, IsTrue, not, ◌==◌}
 use Rattle.std.specs.Char.{is_ascii_uppercase}
 use Rattle.std.specs.List.{list_all}
 use Rattle.std.specs.Duration.{FitsDuration}
@@ -10,16 +10,20 @@ use Rattle.duration_str.specs.declared.unit.TimeUnit.TheVariants.{Year}
 use Rattle.duration_str.specs.declared.fault.Cause.{Cause}
 use Rattle.duration_str.specs.declared.fault.Cause.TheVariants.{Overflow}
 use Rattle.duration_str.specs.declared.fault.Expected.{Expected}
-use Rattle.duration_str.specs.Text.{is_operator, is_chinese}
+use Rattle.duration_str.specs.Text.{operator_of, is_chinese}
 use Rattle.duration_str.specs.Units.{unit_lengths, nanos_of}
 use Rattle.duration_str.specs.Grammar.{Terminal, operator, IsSentence, IsSentenceOf, Spells, terminal_of}
 use Rattle.duration_str.specs.Tokens.{Token, tokens_of, lexemes_of, AreTokens}
-use Rattle.duration_str.specs.Place.{BeginsSentence, CanFollow, IsFront, kinds_after, last_of, front_of}
-use Rattle.duration_str.specs.Value.{AllPlus, Term, value_of_term, terms_of, times_in, second}
+use Rattle.duration_str.specs.Place.{BeginsSentence, CanFollow, IsFront}
+use Rattle.duration_str.specs.Value.{AllPlus, Term, value_of_term, terms_of, second}
 use Rattle.duration_str.specs.Reading.{IsRead, IsRefused}
-use Rattle.duration_str.specs.Answer.{answer}
+use Rattle.duration_str.specs.Answer.{answer, kinds_after, last_of, front_of}
 use Rattle.duration_str.specs.Older.{older_terminals, WasSentenceOf, WasRead, WasRefused}
 use Rattle.duration_str.specs.Printing.{IsPrinted, IsGreatestBreakdown, counts_of}
+
+-- whether a character is `+` or `*`
+abbrev pub is_operator : ℕ → Bool
+is_operator c = is_some (operator_of c)
 
 -- The text has no `*`.
 abbrev pub HasNoStar : List ℕ → Type 0
@@ -101,6 +105,11 @@ pub record SumOfTexts : Type 0 where
       → m + n < 2 ^ 64 → IsRead o (a ++ codes "+" ++ b) (m + n)
   pub above : (o : Options) (a b : List ℕ) (m n : ℕ) → o.no_calc ≡ false → HasNoStar a → HasNoStar b → IsRead o a m → IsRead o b n
       → 2 ^ 64 ≤ m + n → IsRefused o (a ++ codes "+" ++ b) (Overflow None)
+
+-- how often a number is in a list
+abbrev pub times_in : ℕ → List ℕ → ℕ
+times_in n [] = 0
+times_in n (m ∷ ms) = (if m == n then 1 else 0) + times_in n ms
 
 -- Two sums with the same values of terms, each equally often, are accepted alike and have the same value.
 abbrev pub Reorder : Type 0

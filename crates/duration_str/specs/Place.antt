@@ -1,10 +1,10 @@
 -- Where a text stops being the beginning of a sentence, and what could stand there.
-use Rattle.std.specs.Prelude.{◌≡◌, ℕ, suc, ◌≤◌, Bool, true, false, List, [], ◌∷◌, ◌++◌, Option, Some, None, if◌then◌else◌, map, length, take, drop, IsTrue, ◌↔◌, ◌&&◌, not, is_some}
+use Rattle.std.specs.Prelude.{◌≡◌, ℕ, ◌≤◌, Bool, List, [], ◌∷◌, ◌++◌, Some, map, length, take, drop, IsTrue, ◌↔◌}
 use Rattle.duration_str.specs.declared.options.Options.{Options}
 use Rattle.duration_str.specs.declared.unit.TimeUnit.{TimeUnit}
 use Rattle.duration_str.specs.declared.operator.CondUnit.{CondUnit}
 use Rattle.duration_str.specs.declared.fault.Expected.{Expected}
-use Rattle.duration_str.specs.Grammar.{Terminal, terminal_of, IsSentence, number, word, operator, other}
+use Rattle.duration_str.specs.Grammar.{Terminal, terminal_of, IsSentence, number, word, operator}
 use Rattle.duration_str.specs.Tokens.{Token, tokens_of, lexemes_of}
 
 -- the terminals of a text: what its tokens stand for
@@ -28,35 +28,6 @@ pub record CanFollow (no_calc : Bool) (front : List Terminal) (expected : Expect
   pub unit_expected : IsTrue expected.unit_word ↔ ((u : TimeUnit) × BeginsSentence no_calc (front ++ word (Some u) ∷ []))
   pub operator_expected : IsTrue expected.operator ↔ ((op : CondUnit) × BeginsSentence no_calc (front ++ operator op ∷ []))
   pub end_expected : IsTrue expected.text_end ↔ IsSentence no_calc front
-
--- The table: what may follow a terminal, or start a text.
-abbrev pub kinds_after : Bool → Option Terminal → Expected
-kinds_after no_calc None = record { number = true; unit_word = false; operator = false; text_end = false }
-kinds_after no_calc (Some (number n)) = record { number = false; unit_word = true; operator = not no_calc; text_end = true }
-kinds_after no_calc (Some (word u)) = record { number = true; unit_word = false; operator = not no_calc; text_end = true }
-kinds_after no_calc (Some (operator op)) = record { number = true; unit_word = false; operator = false; text_end = false }
-kinds_after no_calc (Some other) = record { number = false; unit_word = false; operator = false; text_end = false }
-
--- whether the terminal is of an expected kind
-abbrev pub allows : Expected → Terminal → Bool
-allows expected (number n) = expected.number
-allows expected (word u) = expected.unit_word && is_some u
-allows expected (operator op) = expected.operator
-allows expected other = false
-
--- the last of these terminals; `last` if there are none
-abbrev pub last_of : Option Terminal → List Terminal → Option Terminal
-last_of last [] = last
-last_of last (terminal ∷ terminals) = last_of (Some terminal) terminals
-
--- how many terminals after `last` the table allows
-abbrev pub front_after : Bool → Option Terminal → List Terminal → ℕ
-front_after no_calc last [] = 0
-front_after no_calc last (terminal ∷ terminals) = if allows (kinds_after no_calc last) terminal then suc (front_after no_calc (Some terminal) terminals) else 0
-
--- the length of the front, by the table
-abbrev pub front_of : Bool → List Terminal → ℕ
-front_of no_calc terminals = front_after no_calc None terminals
 
 -- the byte at which the first token starts; `len` without one
 abbrev pub start_or : ℕ → List Token → ℕ

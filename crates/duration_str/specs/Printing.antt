@@ -1,10 +1,9 @@
 -- The breakdown of a duration, and its printed text.
-use Rattle.std.specs.Prelude.{◌≡◌, ℕ, ◌+◌, ◌-◌, ◌*◌, ◌/◌, ◌%◌, ◌^◌, ◌<◌, List, [], ◌∷◌, ◌++◌, if◌then◌else◌, length, map, ◌⊎◌, ◌==◌, codes}
-use Rattle.std.specs.List.{flat_map, sum}
+use Rattle.std.specs.Prelude.{◌≡◌, ℕ, ◌+◌, ◌*◌, ◌/◌, ◌%◌, ◌<◌, List, [], ◌∷◌, ◌++◌, if◌then◌else◌, length, ◌⊎◌, ◌==◌, codes}
+use Rattle.std.specs.List.{flat_map}
 use Rattle.std.specs.Fmt.{decimal}
 use Rattle.duration_str.specs.declared.unit.TimeUnit.{TimeUnit}
-use Rattle.duration_str.specs.Text.{byte_len}
-use Rattle.duration_str.specs.Units.{units, row_of, nanos_of, unit_lengths}
+use Rattle.duration_str.specs.Units.{units, row_of, unit_lengths}
 
 -- the sum of the counts, each times its length
 abbrev pub weighted_sum : List ℕ → List ℕ → ℕ
@@ -49,21 +48,3 @@ IsPrinted nanos text = (counts : List ℕ) × IsGreatestBreakdown unit_lengths n
 abbrev pub counts_of : List ℕ → ℕ → List ℕ
 counts_of [] nanos = []
 counts_of (l ∷ lengths) nanos = nanos / l ∷ counts_of lengths (nanos % l)
-
--- the length of the unit before this one in the list; `limit` for the first
-abbrev pub length_before : ℕ → List TimeUnit → TimeUnit → ℕ
-length_before limit [] u = limit
-length_before limit (v ∷ vs) u = if nanos_of v == nanos_of u then limit else length_before (nanos_of v) vs u
-
--- the greatest count of a unit: what the longer units leave is less than the shortest of them, and a whole duration is
--- below 2^64 seconds
-abbrev pub greatest_count : TimeUnit → ℕ
-greatest_count u = (length_before (2 ^ 64 * 10 ^ 9) units u - 1) / nanos_of u
-
--- the most bytes that a unit's part can have
-abbrev pub part_bytes : TimeUnit → ℕ
-part_bytes u = length (decimal (greatest_count u)) + byte_len (row_of u).printed
-
--- the most bytes that a printed text can have: a part for each unit, and a space between each two
-abbrev pub max_printed_len : ℕ
-max_printed_len = sum (map part_bytes units) + (length units - 1)

@@ -1,5 +1,5 @@
 -- Texts as lists of character codes, the classes of characters, and the numbers that digits write.
-use Rattle.std.specs.Prelude.{ℕ, ◌+◌, ◌*◌, ◌-◌, ◌<◌, Bool, ◌&&◌, ◌||◌, List, [], ◌∷◌, nat_le, ◌==◌, IsTrue, Option, Some, None, is_some, length, if◌then◌else◌}
+use Rattle.std.specs.Prelude.{ℕ, ◌+◌, ◌*◌, ◌-◌, ◌<◌, Bool, ◌&&◌, ◌||◌, List, [], ◌∷◌, nat_le, ◌==◌, IsTrue, Option, Some, None, length, if◌then◌else◌}
 use Rattle.std.specs.Char.{is_ascii_digit, is_ascii_alphabetic, len_utf8}
 use Rattle.std.specs.List.{list_any, list_all}
 use lib.Chars.{codes}
@@ -30,10 +30,6 @@ is_unit_letter o c = is_ascii_alphabetic c || c == 0xB5 || (o.cn_unit && is_chin
 -- the operator that a character stands for: 43 is `+`, 42 is `*`
 abbrev pub operator_of : ℕ → Option CondUnit
 operator_of c = if c == 43 then Some Plus else if c == 42 then Some Star else None
-
--- whether a character is `+` or `*`
-abbrev pub is_operator : ℕ → Bool
-is_operator c = is_some (operator_of c)
 
 -- Every character is a blank.
 abbrev pub IsBlank : List ℕ → Type 0

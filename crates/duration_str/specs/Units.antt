@@ -1,12 +1,10 @@
 -- The units: their lengths, the names that are printed, and the names that are read.
-use denote.Ref.{Bor}
-use Rattle.std.specs.Prelude.{◌≡◌, encode_utf8_all, ℕ, Bool, false, ◌&&◌, ◌||◌, List, [], ◌∷◌, Option, if◌then◌else◌, map}
+use Rattle.std.specs.Prelude.{ℕ, Bool, false, ◌&&◌, ◌||◌, List, [], ◌∷◌, Option, if◌then◌else◌, map}
 use Rattle.std.specs.Char.{to_ascii_lowercase}
 use Rattle.std.specs.List.{list_any, find}
 use Rattle.std.specs.Str.{bytes_eq}
 use lib.Chars.{codes}
 use Rattle.duration_str.specs.declared.options.Options.{Options}
-use Rattle.duration_str.specs.declared.unit.Row.{Row}
 use Rattle.duration_str.specs.declared.unit.TimeUnit.{TimeUnit}
 use Rattle.duration_str.specs.declared.unit.TimeUnit.TheVariants.{Year, Quarter, Month, Week, Day, Hour, Minute, Second, MilliSecond, MicroSecond, NanoSecond}
 
@@ -63,14 +61,3 @@ unit_among us o word = find (is_named o word) us
 -- the unit that a word names
 abbrev pub unit_of_word : Options → List ℕ → Option TimeUnit
 unit_of_word o word = unit_among units o word
-
--- The texts are the names in UTF-8.
-abbrev pub AreEncoded : List (Bor (List ℕ)) → List (List ℕ) → Type 0
-AreEncoded texts names = map (λ text. text.now) texts ≡ map encode_utf8_all names
-
--- The code's row has the contents of this row.
-pub record IsRow (row : Row) (r : UnitRow) : Type 0 where
-  pub nanos : row.nanos ≡ r.nanos
-  pub printed : row.printed.now ≡ encode_utf8_all r.printed
-  pub names : AreEncoded row.names.now r.names
-  pub chinese : AreEncoded row.chinese.now r.chinese

@@ -1,7 +1,6 @@
 -- The terms of a sentence, their value, and their faults.
-use Rattle.std.specs.Prelude.{◌≡◌, ℕ, ◌+◌, ◌*◌, ◌/◌, ◌^◌, Bool, true, false, List, [], ◌∷◌, ◌++◌, Option, Some, None, Result, Ok, Err, if◌then◌else◌, nat_lt, ◌==◌}
+use Rattle.std.specs.Prelude.{◌≡◌, ℕ, ◌+◌, ◌*◌, ◌/◌, ◌^◌, Bool, true, false, List, [], ◌∷◌, ◌++◌, Option, Some, None, if◌then◌else◌, nat_lt}
 use Rattle.std.specs.List.{list_all, fold}
-use Rattle.duration_str.specs.declared.unit.TimeUnit.{TimeUnit}
 use Rattle.duration_str.specs.declared.unit.TimeUnit.TheVariants.{Second}
 use Rattle.duration_str.specs.declared.operator.CondUnit.{CondUnit}
 use Rattle.duration_str.specs.declared.operator.CondUnit.TheVariants.{Plus, Star}
@@ -97,23 +96,6 @@ unless false cause = Some cause
 abbrev pub term_fault : Option ℕ → Term → Option Cause
 term_fault place t = or_else (unless (fits t.number) (NumberTooLarge place)) (unless (fits (value_of_term t)) (Overflow place))
 
--- the term of a number and a unit
-abbrev pub term_of : ℕ → TimeUnit → Term
-term_of n u = record { operator = Plus; number = n; length = nanos_of u }
-
--- the value of a term, or its fault
-abbrev pub term_answer : Option ℕ → Term → Result ℕ Cause
-term_answer place t = elim (term_fault place t) [ None ↦ Ok (value_of_term t) | Some cause ↦ Err cause ]
-
--- `Some` of a number below 2^64, else `None`
-abbrev pub u64_from : ℕ → Option ℕ
-u64_from n = if fits n then Some n else None
-
--- the value of a term, or its fault, given its unit's length and its number, which is `None` from 2^64 on
-abbrev pub term_value : Option ℕ → Option ℕ → ℕ → Result ℕ Cause
-term_value place None length = Err (NumberTooLarge place)
-term_value place (Some n) length = if fits (n * length) then Ok (n * length) else Err (Overflow place)
-
 -- the first fault of the later terms after those in `before`, which have none; `set` is the operator of the first later
 -- term
 abbrev pub later_fault : CondUnit → List Term → List Term → Option Cause
@@ -135,8 +117,3 @@ evaluation_fault _ = None
 abbrev pub Evaluates : List Term → Type 0
 Evaluates [] = ⊥
 Evaluates (t ∷ later) = (term_fault None t ≡ None) × (evaluation_fault (t ∷ later) ≡ None)
-
--- how often a number is in a list
-abbrev pub times_in : ℕ → List ℕ → ℕ
-times_in n [] = 0
-times_in n (m ∷ ms) = (if m == n then 1 else 0) + times_in n ms

@@ -6,12 +6,12 @@ ghost use Rattle.std.specs.Prelude.{◌≡◌, ◌+◌, ◌*◌, ◌/◌, ◌%�
 ghost use Rattle.std.specs.Duration.{as_nanos};
 ghost use Rattle.duration_str.specs.declared.unit.TimeUnit.TheVariants.{Year};
 ghost use Rattle.duration_str.specs.Units.{nanos_of, unit_lengths};
-ghost use Rattle.duration_str.specs.Printing.{IsPrinted, printed_counts, counts_of, greatest_count, part_bytes, max_printed_len};
+ghost use Rattle.duration_str.specs.Printing.{IsPrinted, printed_counts, counts_of};
 ghost use Rattle.duration_str.specs.declared.ext.TheConstants.{MAX_PRINTED_LEN};
-ghost use Rattle.duration_str.specs.Internal.PrintedBytes.{with_space, with_part, with_parts, units_below_year, units_to_day, rest_after, most_bytes};
+ghost use Rattle.duration_str.specs.Internal.PrintedBytes.{with_space, with_part, with_parts, units_below_year, units_to_day, rest_after, most_bytes, greatest_count, part_bytes, max_printed_len};
 
 use crate::unit::TimeUnit;
-use std::alloc::{AllocError, Allocator, Global};
+use std::alloc::{AllocError, Allocator};
 use std::time::Duration;
 
 /// The most bytes in a printed duration: `100000000000y 3q 2mon 3w 6d 23h 59min 59s 999ms 999µs 999ns`.
@@ -219,18 +219,10 @@ pub trait HumanFormat {
         ensures { IsTrue result ↔ (pos 0 ≤ℤ nanos self.now) };
 
     /// The printed text of a length that is not negative. Fails only if memory is refused.
-    fn human_format(&self, alloc: Global) -> Result<String, AllocError>
+    fn human_format<A: Allocator>(&self, alloc: A) -> Result<String<A>, AllocError>
         requires { pos 0 ≤ℤ nanos self.now }
         ensures { IfOk result (λ text.
             IsPrinted (unsigned_abs (nanos self.now)) (chars (string_bytes text))) };
-}
-
-/// The printed text, in a string that is allocated once.
-fn text_of<A: Allocator>(d: Duration, alloc: A) -> Result<String<A>, AllocError>
-    ensures { IfOk result (λ text. IsPrinted (as_nanos d) (chars (string_bytes text))) }
-{
-    let mut buffer = [0; 64];
-    String::from_str(alloc, write_human(&d, &mut buffer))
 }
 
 impl HumanFormat for Duration {
@@ -240,25 +232,8 @@ impl HumanFormat for Duration {
         true
     }
 
-    fn human_format(&self, alloc: Global) -> Result<String, AllocError> {
-        text_of(*self, alloc)
-    }
-}
-
-#[cfg(test)]
-mod tests {
-    use super::text_of;
-    use refusing::Refusing;
-    use std::alloc::AllocError;
-    use std::time::Duration;
-
-    #[test]
-    fn asks_for_memory_once(rt: HostRuntime) {
-        let length = Duration::new(193, 29_000_000);
-        let refused = text_of(length, &Refusing::new(rt.alloc(), 0)).err();
-        assert_eq!(rt; refused, Some(AllocError));
-        let memory = Refusing::new(rt.alloc(), 1);
-        let copied = text_of(length, &memory).ok();
-        assert!(rt; copied.is_some_and(|text| text.as_str() == "3min 13s 29ms"));
+    fn human_format<A: Allocator>(&self, alloc: A) -> Result<String<A>, AllocError> {
+        let mut buffer = [0; 64];
+        String::from_str(alloc, write_human(self, &mut buffer))
     }
 }

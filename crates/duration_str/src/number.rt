@@ -2,7 +2,7 @@
 ghost use Rattle.std.specs.Prelude.{◌≡◌};
 ghost use Rattle.std.specs.Str.{chars};
 ghost use Rattle.duration_str.specs.Text.{IsNumber, number_of};
-ghost use Rattle.duration_str.specs.Value.{u64_from};
+ghost use Rattle.duration_str.specs.Internal.Numbers.{u64_from};
 
 /// The number that digits write; `None` from 2^64 on.
 #[cold]

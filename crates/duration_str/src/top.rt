@@ -20,7 +20,7 @@ use crate::parser::parse;
 use jiff::civil::{Date, DateTime};
 use jiff::tz::Offset;
 use jiff::{SignedDuration, Timestamp};
-use std::alloc::{AllocError, Global};
+use std::alloc::{AllocError, Allocator};
 use std::time::Duration;
 
 /// A signed duration is printed as its length, unless it is negative.
@@ -31,7 +31,7 @@ impl HumanFormat for SignedDuration {
         !self.is_negative()
     }
 
-    fn human_format(&self, alloc: Global) -> Result<String, AllocError> {
+    fn human_format<A: Allocator>(&self, alloc: A) -> Result<String<A>, AllocError> {
         self.unsigned_abs().human_format(alloc)
     }
 }

@@ -3,8 +3,10 @@ ghost use Rattle.std.specs.Prelude.{◌≡◌, None, Some, encode_utf8_all};
 ghost use Rattle.std.specs.List.{list_any};
 ghost use Rattle.std.specs.Str.{bytes_eq, chars};
 ghost use Rattle.duration_str.specs.Text.{IsNumber, number_of};
-ghost use Rattle.duration_str.specs.Units.{nanos_of, row_of, comparison_form, is_named, unit_of_word, IsRow};
-ghost use Rattle.duration_str.specs.Value.{term_of, term_answer, term_value};
+ghost use Rattle.duration_str.specs.Units.{nanos_of, row_of, comparison_form, is_named, unit_of_word};
+ghost use Rattle.duration_str.specs.Internal.UnitTable.{IsRow};
+ghost use Rattle.duration_str.specs.Internal.Numbers.{term_value};
+ghost use Rattle.duration_str.specs.Terms.{term_of, term_answer};
 
 use crate::fault::Cause;
 use crate::number::number_of;

@@ -1,6 +1,7 @@
 // Printed texts.
 use duration_str::{HumanFormat, MAX_PRINTED_LEN, write_human};
-use std::alloc::{AllocError, Global};
+use refusing::Refusing;
+use std::alloc::{AllocError, Allocator};
 use std::test::Fail;
 use std::time::Duration;
 
@@ -14,7 +15,10 @@ fn longest() -> Duration {
 }
 
 /// The printed text of a value that is not negative.
-fn formatted<T: HumanFormat>(value: &T, alloc: Global) -> Result<Option<String>, AllocError> {
+fn formatted<T: HumanFormat, A: Allocator>(
+    value: &T,
+    alloc: A,
+) -> Result<Option<String<A>>, AllocError> {
     if value.is_printable() {
         Ok(Some(value.human_format(alloc)?))
     } else {
@@ -136,4 +140,14 @@ fn leaves_nothing_of_an_earlier_text(rt: HostRuntime) {
     );
     assert_eq!(rt; write_human(&longest(), &mut buffer), LONGEST_TEXT);
     assert_eq!(rt; write_human(&Duration::ZERO, &mut buffer), "0s");
+}
+
+#[test]
+fn asks_for_memory_once(rt: HostRuntime) -> Result<(), Fail> {
+    let length = Duration::new(193, 29_000_000);
+    assert!(rt; formatted(&length, &Refusing::new(rt.alloc(), 0)).is_err());
+    let memory = Refusing::new(rt.alloc(), 1);
+    let copied = formatted(&length, &memory)?.expect(&rt, "a printable duration");
+    assert_eq!(rt; copied.as_str(), "3min 13s 29ms");
+    Ok(())
 }

@@ -67,6 +67,7 @@ fn shows_the_line_alone(rt: HostRuntime) -> Result<(), Fail> {
         ("1s + 99999999999999999999", TOO_LARGE),
         ("1m 2s*3", "not support '+' with '*' calculate"),
         ("1m*2*3+4", "not support '*' with '+' calculate"),
+        ("1m*2s 3", "not support '*' with '+' calculate"),
     ] {
         let got = refusal(&rt, text, OFF).to_string(rt.alloc())?;
         assert_eq!(rt; got.as_str(), line);

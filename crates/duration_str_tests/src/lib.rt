@@ -1,10 +1,12 @@
 //! Tests of what the library's public functions return.
-//!
-//! Those that refuse memory are in the library, next to the private functions that take any allocator.
 #![tactic(auto)]
 
 #[cfg(test)]
 mod config;
+#[cfg(test)]
+mod debug;
+#[cfg(test)]
+mod error;
 #[cfg(test)]
 mod ext;
 #[cfg(test)]

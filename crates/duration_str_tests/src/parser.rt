@@ -3,7 +3,9 @@ use crate::vectors::{
     AFTER_NUMBER, AFTER_UNIT, ALONE_AFTER_NUMBER, ALONE_AFTER_UNIT, CN_UNIT, LOWERCASE, NO_CALC,
     START, VALUES, syntax,
 };
-use duration_str::{Cause, CondUnit, Options, parse, parse_looked, parse_std, parse_with};
+use duration_str::{
+    Cause, CondUnit, Options, parse, parse_looked, parse_std, parse_with, write_human,
+};
 use std::process::Abort;
 use std::test::Fail;
 use std::time::Duration;
@@ -96,6 +98,20 @@ fn reads_what_is_printed_below_the_limit(rt: HostRuntime) {
     assert_refused(&rt, next, off, OVERFLOW);
     let greatest = "584942417355y 3w 5d 7h 15s 999ms 999µs 999ns";
     assert_refused(&rt, greatest, off, FIRST_OVERFLOW);
+}
+
+#[test]
+fn refuses_what_is_printed_at_the_limit(rt: HostRuntime) {
+    let mut buffer = [0; 64];
+    let printed = write_human(&Duration::new(18_446_744_073, 709_551_616), &mut buffer);
+    for choice in 0..8u8 {
+        let options = Options {
+            no_calc: choice & 1 != 0,
+            lowercase: choice & 2 != 0,
+            cn_unit: choice & 4 != 0,
+        };
+        assert_refused(&rt, printed, options, OVERFLOW);
+    }
 }
 
 #[test]

@@ -29,7 +29,9 @@ lines_of-Some bytes i e =
     let split : slice_split is_line_feed bytes ≡ before_first is_line_feed bytes ∷ slice_split is_line_feed (after_first is_line_feed bytes) =
     slice_split_first is_line_feed bytes 0 (omega (arith, found.0, at)) in
     let known : slice_split is_line_feed bytes ≡ take i bytes ∷ slice_split is_line_feed (drop (i + 1) bytes) = rw at at split in
-    ap less_empty_last known ∙ less_empty_last-cons (take i bytes) (slice_split is_line_feed (drop (i + 1) bytes)) (omega (arith, length-slice_split is_line_feed (drop (i + 1) bytes)))
+    ap less_empty_last known
+    ∙ less_empty_last-cons (take i bytes) (slice_split is_line_feed (drop (i + 1) bytes))
+    (omega (arith, length-slice_split is_line_feed (drop (i + 1) bytes)))
 
 -- Without a line feed, all bytes are one line.
 pub lines_of-None : (bytes : List ℕ) → 0 < length bytes → All (λ b. is_line_feed b ≡ false) bytes → lines_of bytes ≡ bytes ∷ lines_of []

@@ -6,7 +6,7 @@ use crate::fault::RunFault;
 use crate::input::read_all;
 use crate::output::{output_of, write_all};
 use duration_str::Options;
-use std::alloc::{Allocator, Global};
+use std::alloc::Allocator;
 use std::io::{Read, Write};
 
 /// Reads the whole input, then writes the output for its lines.
@@ -18,8 +18,8 @@ use std::io::{Read, Write};
 /// `Ok(true)`: every line was accepted. `Ok(false)`: some line was not. In both cases everything was written and
 /// flushed. The input may have 1,048,576 bytes. After `Read`, `TooLong` and `Memory` nothing was written, after `Write`
 /// a beginning of the output.
-pub fn run<R: Read, W: Write>(
-    alloc: Global,
+pub fn run<A: Allocator, R: Read, W: Write>(
+    alloc: A,
     reader: &mut R,
     writer: &mut W,
     options: Options,
@@ -31,25 +31,8 @@ pub fn run<R: Read, W: Write>(
         (R.remaining reader.old) (R.remaining reader.new)
         (W.contents writer.old) (W.contents writer.new)) }
 {
-    run_in(&alloc, reader, writer, options)
-}
-
-/// `run` with any allocator.
-fn run_in<A: Allocator, R: Read, W: Write>(
-    alloc: &A,
-    reader: &mut R,
-    writer: &mut W,
-    options: Options,
-) -> Result<bool, RunFault>
-    ensures ok { IfOk result (λ accepted. WritesOutput options accepted
-        (R.remaining reader.old) (R.remaining reader.new)
-        (W.contents writer.old) (W.contents writer.new)) }
-    ensures err { IfErr result (λ fault. Leaves options fault
-        (R.remaining reader.old) (R.remaining reader.new)
-        (W.contents writer.old) (W.contents writer.new)) }
-{
-    let input = read_all(alloc, reader)?;
-    let (text, all_accepted) = output_of(alloc, &input, options)?;
+    let input = read_all(&alloc, reader)?;
+    let (text, all_accepted) = output_of(&alloc, &input, options)?;
     write_all(writer, text.as_bytes())?;
     Ok(all_accepted)
 }

@@ -1,5 +1,6 @@
-// What is granted and what is refused.
+// What is granted, what is refused, and what is given back.
 use super::Refusing;
+use linked_list_allocator::LocalHeap;
 use std::test::Fail;
 
 #[test]
@@ -26,5 +27,17 @@ fn keeps_what_was_granted(rt: HostRuntime) -> Result<(), Fail> {
     bytes.extend_from_slice(b"and a growth")?;
     assert!(rt; bytes.extend_from_slice(b"and one that is refused").is_err());
     assert_eq!(rt; bytes.as_slice(), b"fourand a growth".as_slice());
+    Ok(())
+}
+
+#[test]
+fn gives_back_what_is_dropped(rt: HostRuntime) -> Result<(), Fail> {
+    let heap = LocalHeap::new(rt.alloc(), 1024)?;
+    let memory = Refusing::new(&heap, 1);
+    let text = String::from_str(&memory, "text")?;
+    assert!(rt; heap.used() > 0);
+    drop(text);
+    assert_eq!(rt; heap.used(), 0);
+    assert!(rt; String::from_str(&memory, "refused").is_err());
     Ok(())
 }

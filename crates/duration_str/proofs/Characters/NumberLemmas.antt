@@ -13,7 +13,7 @@ use Rattle.std.proofs.lemmas.Str.{encode_ascii, encodes-chars, digit_value_digit
 use Rattle.std.proofs.Math.Nat.{pow-succ', mul-le-mul_right}
 use lib.Utf8.{encodes}
 use Rattle.duration_str.specs.Text.{is_digit, IsNumber, number_after, number_of}
-use Rattle.duration_str.specs.Value.{u64_from}
+use Rattle.duration_str.specs.Internal.Numbers.{u64_from}
 
 pub digit_range : (c : ℕ) → is_digit c ≡ true → IsInRange 48 57 c
 digit_range c e = grind (arith, nat_tests)
@@ -45,14 +45,16 @@ no_plus (c ∷ cs) all =
     let differs : eqb c 43 ≡ false = grind (arith, nat_tests) in ap (λ b. drop (cond b 1 0) (c ∷ cs)) differs
 
 -- `parse` gives the number of the digits exactly if it is below 2^64
-parsed : {E : Type 0} (bs : List ℕ) (r : Result ℕ E) → IsUtf8 bs → IsNumber (chars bs) → ParsesUnsigned 64 10 bs r → OkIff r (number_of (chars bs) < 2 ^ 64) (number_of (chars bs))
+parsed : {E : Type 0} (bs : List ℕ) (r : Result ℕ E) → IsUtf8 bs → IsNumber (chars bs) → ParsesUnsigned 64 10 bs r
+    → OkIff r (number_of (chars bs) < 2 ^ 64) (number_of (chars bs))
 parsed {E} bs r utf8 number parses =
     let cs = chars bs in
     let same : bs ≡ cs = sym (encodes-chars bs utf8) ∙ digit_bytes cs number.1 in
     let plain : without_leading_plus bs ≡ cs = ap without_leading_plus same ∙ no_plus cs number.1 in
     let value : digits_value_after 10 0 (without_leading_plus bs) ≡ number_of cs = ap (digits_value_after 10 0) plain ∙ number_same 0 cs number.1 in
     let fact : OkIff r (IsNumeral 10 cs × (number_of cs < 2 ^ 64)) (number_of cs) =
-    (let P : List ℕ → ℕ → Type 0 = λ ds v. OkIff r (IsNumeral 10 ds × (v < 2 ^ 64)) v in subst (λ v. P cs v) value (subst (λ ds. P ds (digits_value_after 10 0 (without_leading_plus bs))) plain parses)) in
+    (let P : List ℕ → ℕ → Type 0 = λ ds v. OkIff r (IsNumeral 10 ds × (v < 2 ^ 64)) v in
+    subst (λ v. P cs v) value (subst (λ ds. P ds (digits_value_after 10 0 (without_leading_plus bs))) plain parses)) in
     weaker r (number_of cs) (number.0, numeral cs number.1) fact
   where
     weaker : (r : Result ℕ E) (v : ℕ) → IsNumeral 10 (chars bs) → OkIff r (IsNumeral 10 (chars bs) × (v < 2 ^ 64)) v → OkIff r (v < 2 ^ 64) v
@@ -70,7 +72,8 @@ ok_u64 (Ok x) n h = ap Some h.1 ∙ sym (u64_some n h.0)
 ok_u64 (Err e) n h = sym (u64_none n (⊎_elim (λ lt. absurd (h lt)) (λ ge. ge) (cases_lt n (2 ^ 64))))
 
 -- the number that `parse` gives for digits
-pub parsed_u64 : {E : Type 0} (bs : List ℕ) (r : Result ℕ E) (number : Option ℕ) → IsUtf8 bs → IsNumber (chars bs) → ParsesUnsigned 64 10 bs r → number ≡ result_ok r
+pub parsed_u64 : {E : Type 0} (bs : List ℕ) (r : Result ℕ E) (number : Option ℕ) → IsUtf8 bs → IsNumber (chars bs)
+    → ParsesUnsigned 64 10 bs r → number ≡ result_ok r
     → number ≡ u64_from (number_of (chars bs))
 parsed_u64 bs r number utf8 digits parses is = is ∙ ok_u64 r (number_of (chars bs)) (parsed bs r utf8 digits parses)
 

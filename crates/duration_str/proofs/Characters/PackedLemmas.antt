@@ -64,7 +64,8 @@ shorter xs (c ∷ cs) e h =
     let one : 1 * 32 ^ length cs ≤ (0 * 32 + c % 32) * 32 ^ length cs = mul-le-mul_right (32 ^ length cs) lo in
     omega (arith, up, down, pow, one)
 
-same_letters : (m n : ℕ) (xs ys : List ℕ) → are_small xs ≡ true → are_small ys ≡ true → length xs ≡ length ys → packed_after m xs ≡ packed_after n ys → (m ≡ n) × (xs ≡ ys)
+same_letters : (m n : ℕ) (xs ys : List ℕ) → are_small xs ≡ true → are_small ys ≡ true → length xs ≡ length ys
+    → packed_after m xs ≡ packed_after n ys → (m ≡ n) × (xs ≡ ys)
 same_letters m n [] [] ex ey len e = (e, refl)
 same_letters m n [] (y ∷ ys) ex ey len e = absurd (omega (arith, len))
 same_letters m n (x ∷ xs) [] ex ey len e = absurd (omega (arith, len))
@@ -91,7 +92,9 @@ lower_letter c e = (grind (arith, nat_tests), grind (arith, nat_tests))
 
 lower_small : (w : List ℕ) → list_all is_ascii_alphabetic w ≡ true → are_small (map to_ascii_lowercase w) ≡ true
 lower_small [] e = refl
-lower_small (c ∷ cs) e = let b = and_parts (is_ascii_alphabetic c) (list_all is_ascii_alphabetic cs) e in and_from _ _ (lower_letter c b.0).0 (lower_small cs b.1)
+lower_small (c ∷ cs) e =
+    let b = and_parts (is_ascii_alphabetic c) (list_all is_ascii_alphabetic cs) e in
+    and_from _ _ (lower_letter c b.0).0 (lower_small cs b.1)
 
 lower_packed : (n : ℕ) (w : List ℕ) → list_all is_ascii_alphabetic w ≡ true → packed_after n (map to_ascii_lowercase w) ≡ packed_after n w
 lower_packed n [] e = refl
@@ -168,7 +171,8 @@ found_at [] i j d lt = absurd (omega (arith, lt))
 found_at (e ∷ es) i zero d lt = ap (λ k. if eqb (slot e.0) k then unit_of_packed e.0 else Some e.1) (sym (add-zero i))
 found_at (e ∷ es) i (suc j) d lt =
     found_at es (i + 1) j d (omega (arith, lt))
-    ∙ ap (λ k. if eqb (slot (get_or es j d).0) k then unit_of_packed (get_or es j d).0 else Some (get_or es j d).1) (let e' : i + 1 + j ≡ i + suc j = omega arith in e')
+    ∙ ap (λ k. if eqb (slot (get_or es j d).0) k then unit_of_packed (get_or es j d).0 else Some (get_or es j d).1)
+    (let e' : i + 1 + j ≡ i + suc j = omega arith in e')
 
 -- if the number in the slot is the one searched for, its unit is found
 pub slot_found : (table : List (ℕ × TimeUnit)) (n : ℕ) (d : ℕ × TimeUnit) → length table ≡ 64 → found_from 0 table ≡ map (λ e. Some e.1) table → n < 2 ^ 64
@@ -177,7 +181,8 @@ slot_found table n d len right small key =
     let within : slot n < length table = omega (arith, len) in
     let at = found_at table 0 (slot n) d within in
     let stands : eqb (slot (get_or table (slot n) d).0) (0 + slot n) ≡ true = eq-eqb _ _ (ap slot key ∙ sym (zero-add (slot n))) in
-    let says : get_or (found_from 0 table) (slot n) None ≡ Some (get_or table (slot n) d).1 = ap (λ l. get_or l (slot n) None) right ∙ get_or-map (λ (e : ℕ × TimeUnit). Some e.1) table (slot n) d None within in
+    let says : get_or (found_from 0 table) (slot n) None ≡ Some (get_or table (slot n) d).1 =
+    ap (λ l. get_or l (slot n) None) right ∙ get_or-map (λ (e : ℕ × TimeUnit). Some e.1) table (slot n) d None within in
     sym says ∙ at ∙ ap (λ b. if b then unit_of_packed (get_or table (slot n) d).0 else Some (get_or table (slot n) d).1) stands ∙ ap unit_of_packed key
 
 -- whether a name, if it is all small letters, is in its slot
@@ -187,24 +192,28 @@ is_kept table d name = if are_small name then eqb (get_or table (slot (packed na
 abbrev pub are_kept : List (ℕ × TimeUnit) → (ℕ × TimeUnit) → List TimeUnit → Bool
 are_kept table d us = list_all (λ u. list_all (is_kept table d) (row_of u).names) us
 
-not_it : (table : List (ℕ × TimeUnit)) (d : ℕ × TimeUnit) (name : List ℕ) (n : ℕ) → is_kept table d name ≡ true → ((get_or table (slot n) d).0 ≡ n → ⊥) → packs_to n name ≡ false
+not_it : (table : List (ℕ × TimeUnit)) (d : ℕ × TimeUnit) (name : List ℕ) (n : ℕ) → is_kept table d name ≡ true
+    → ((get_or table (slot n) d).0 ≡ n → ⊥) → packs_to n name ≡ false
 not_it table d name n kept differs = go (are_small name) kept (bool_cases (eqb (packed name) n))
   where
-    go : (s : Bool) → (if s then eqb (get_or table (slot (packed name)) d).0 (packed name) else true) ≡ true → (eqb (packed name) n ≡ true) ⊎ (eqb (packed name) n ≡ false) → (s && eqb (packed name) n) ≡ false
+    go : (s : Bool) → (if s then eqb (get_or table (slot (packed name)) d).0 (packed name) else true) ≡ true
+        → (eqb (packed name) n ≡ true) ⊎ (eqb (packed name) n ≡ false) → (s && eqb (packed name) n) ≡ false
     go false h c = refl
     go true h (inr f) = f
     go true h (inl t) =
         let is : packed name ≡ n = eqb-true (packed name) n t in
         absurd (differs (ap (λ k. (get_or table (slot k) d).0) (sym is) ∙ eqb-true _ _ h ∙ is))
 
-none_of_names : (table : List (ℕ × TimeUnit)) (d : ℕ × TimeUnit) (names : List (List ℕ)) (n : ℕ) → list_all (is_kept table d) names ≡ true → ((get_or table (slot n) d).0 ≡ n → ⊥)
+none_of_names : (table : List (ℕ × TimeUnit)) (d : ℕ × TimeUnit) (names : List (List ℕ)) (n : ℕ) → list_all (is_kept table d) names ≡ true
+    → ((get_or table (slot n) d).0 ≡ n → ⊥)
     → list_any (packs_to n) names ≡ false
 none_of_names table d [] n kept differs = refl
 none_of_names table d (name ∷ names) n kept differs =
     let b = and_parts (is_kept table d name) (list_all (is_kept table d) names) kept in
     rw (not_it table d name n b.0 differs) (none_of_names table d names n b.1 differs)
 
-none_of_units : (table : List (ℕ × TimeUnit)) (d : ℕ × TimeUnit) (us : List TimeUnit) (n : ℕ) → are_kept table d us ≡ true → ((get_or table (slot n) d).0 ≡ n → ⊥)
+none_of_units : (table : List (ℕ × TimeUnit)) (d : ℕ × TimeUnit) (us : List TimeUnit) (n : ℕ) → are_kept table d us ≡ true
+    → ((get_or table (slot n) d).0 ≡ n → ⊥)
     → None ≡ find (λ u. list_any (packs_to n) (row_of u).names) us
 none_of_units table d [] n kept differs = refl
 none_of_units table d (u ∷ us) n kept differs =
@@ -213,6 +222,7 @@ none_of_units table d (u ∷ us) n kept differs =
     ∙ sym (ap (λ t. if t then Some u else find (λ v. list_any (packs_to n) (row_of v).names) us) (none_of_names table d (row_of u).names n b.0 differs))
 
 -- if the number in the slot is another one, no name has the number searched for
-pub slot_empty : (table : List (ℕ × TimeUnit)) (n : ℕ) (d : ℕ × TimeUnit) → are_kept table d units ≡ true → ((get_or table (slot n) d).0 ≡ n → ⊥) → None ≡ unit_of_packed n
+pub slot_empty : (table : List (ℕ × TimeUnit)) (n : ℕ) (d : ℕ × TimeUnit) → are_kept table d units ≡ true
+    → ((get_or table (slot n) d).0 ≡ n → ⊥) → None ≡ unit_of_packed n
 unfolding unit_of_packed
 slot_empty table n d kept differs = none_of_units table d units n kept differs

@@ -20,7 +20,8 @@ pub width-scalar : (c : ℕ) → scalar c ≡ true → width c ≡ len_utf8 c
 width-scalar c e = ap (λ b. if b then 4 else len_utf8 c) (not_surrogate c (scalar_cases c e))
 
 -- the character whose UTF-8 is at a place
-pub stands_char : (text rest : List ℕ) (place c : ℕ) → IsUtf8 (drop place text) → drop place text ≡ encode_utf8 c ++ rest → StandsAt text place (place + len_utf8 c) c
+pub stands_char : (text rest : List ℕ) (place c : ℕ) → IsUtf8 (drop place text) → drop place text ≡ encode_utf8 c ++ rest
+    → StandsAt text place (place + len_utf8 c) c
 stands_char text rest place c utf8 begins =
     let all : ahead text place ≡ c ∷ chars rest = chars_past_char (drop place text) rest c utf8 begins in
     let is_char : scalar c ≡ true = (and_parts (scalar c) (scalars (chars rest)) (ap scalars (sym all) ∙ scalars-chars (drop place text) utf8)).0 in
@@ -30,7 +31,8 @@ stands_char text rest place c utf8 begins =
     }
 
 -- an ASCII byte at a place is the UTF-8 of its character
-ascii_begins : (text : List ℕ) (place b : ℕ) → place < length text → b ≡ get_or text place 0 → b < 128 → drop place text ≡ encode_utf8 b ++ drop (place + 1) text
+ascii_begins : (text : List ℕ) (place b : ℕ) → place < length text → b ≡ get_or text place 0 → b < 128
+    → drop place text ≡ encode_utf8 b ++ drop (place + 1) text
 ascii_begins text place b inside is small =
     drop_more text place 0 inside ∙ ap (λ x. x ∷ drop (place + 1) text) (sym is) ∙ ap (λ l. l ++ drop (place + 1) text) (sym (encode_ascii b small))
 

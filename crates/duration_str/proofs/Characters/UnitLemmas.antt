@@ -15,7 +15,8 @@ use denote.Ref.{Bor}
 use lib.Utf8.{encode, encodes}
 use Rattle.duration_str.specs.declared.options.Options.{Options}
 use Rattle.duration_str.specs.declared.unit.TimeUnit.{TimeUnit}
-use Rattle.duration_str.specs.Units.{units, row_of, nanos_of, comparison_form, is_named, unit_among, unit_of_word, AreEncoded}
+use Rattle.duration_str.specs.Units.{units, row_of, nanos_of, comparison_form, is_named, unit_among, unit_of_word}
+use Rattle.duration_str.specs.Internal.UnitTable.{AreEncoded}
 use Rattle.duration_str.proofs.Characters.EachUnit.{each_unit, all_units}
 
 -- two tests for equivalent conditions are equal
@@ -50,9 +51,12 @@ lower_all_big (b ∷ bs) h = λ i. lower_big b h.0 i ∷ lower_all_big bs h.1 i
 encode_big : (c : ℕ) → 128 ≤ c → AllBig (encode c)
 unfolding AllBig encode
 encode_big c h =
-    rw (le-ltb c 128 h) (elim (ltb c 2048) as (λ b. AllBig (cond b ((192 + c / 64) ∷ (128 + c % 64) ∷ []) (cond (ltb c 65536) ((224 + c / 4096) ∷ (128 + c / 64 % 64) ∷ (128 + c % 64) ∷ []) ((240 + c / 262144) ∷ (128 + c / 4096 % 64) ∷ (128 + c / 64 % 64) ∷ (128 + c % 64) ∷ [])))) [
+    rw (le-ltb c 128 h) (elim (ltb c 2048) as (λ b. AllBig (cond b ((192 + c / 64) ∷ (128 + c % 64) ∷ [])
+    (cond (ltb c 65536) ((224 + c / 4096) ∷ (128 + c / 64 % 64) ∷ (128 + c % 64) ∷ [])
+    ((240 + c / 262144) ∷ (128 + c / 4096 % 64) ∷ (128 + c / 64 % 64) ∷ (128 + c % 64) ∷ [])))) [
       | true ↦ (omega arith, (omega arith, tt))
-      | false ↦ elim (ltb c 65536) as (λ b. AllBig (cond b ((224 + c / 4096) ∷ (128 + c / 64 % 64) ∷ (128 + c % 64) ∷ []) ((240 + c / 262144) ∷ (128 + c / 4096 % 64) ∷ (128 + c / 64 % 64) ∷ (128 + c % 64) ∷ [])))
+      | false ↦ elim (ltb c 65536) as (λ b. AllBig (cond b ((224 + c / 4096) ∷ (128 + c / 64 % 64) ∷ (128 + c % 64) ∷ [])
+          ((240 + c / 262144) ∷ (128 + c / 4096 % 64) ∷ (128 + c / 64 % 64) ∷ (128 + c % 64) ∷ [])))
           [ true ↦ (omega arith, (omega arith, (omega arith, tt))) | false ↦ (omega arith, (omega arith, (omega arith, (omega arith, tt)))) ]
     ])
 
@@ -69,7 +73,9 @@ lower-encodes (c ∷ cs) = lower-append (encode c) (encodes cs) ∙ (λ i. lower
 
 -- the comparison form of a text's bytes
 comparison_form-encodes : (o : Options) (cs : List ℕ) → comparison_form o (encodes cs) ≡ encodes (comparison_form o cs)
-comparison_form-encodes o cs = elim o.lowercase as (λ b. (if b then encodes cs else map to_ascii_lowercase (encodes cs)) ≡ encodes (if b then cs else map to_ascii_lowercase cs)) [ true ↦ refl | false ↦ lower-encodes cs ]
+comparison_form-encodes o cs =
+    elim o.lowercase as (λ b. (if b then encodes cs else map to_ascii_lowercase (encodes cs)) ≡ encodes (if b then cs else map to_ascii_lowercase cs))
+    [ true ↦ refl | false ↦ lower-encodes cs ]
 
 -- ---- names
 
@@ -84,16 +90,21 @@ small_form o name h =
 
 -- texts are equal if their bytes are
 bytes_eq-encodes : (v w : List ℕ) → bytes_eq (encodes v) (encodes w) ≡ bytes_eq v w
-bytes_eq-encodes v w = same_tests (bytes_eq (encodes v) (encodes w)) (bytes_eq v w) _ _ (bytes_eq-Decides (encodes v) (encodes w)) (bytes_eq-Decides v w) (encodes_same v w) (ap encodes)
+bytes_eq-encodes v w =
+    same_tests (bytes_eq (encodes v) (encodes w)) (bytes_eq v w) _ _
+    (bytes_eq-Decides (encodes v) (encodes w)) (bytes_eq-Decides v w) (encodes_same v w) (ap encodes)
 
 -- a word can be compared with a name by their bytes
-name_test : (o : Options) (word name : List ℕ) → IsUtf8 word → is_small name ≡ true → bytes_eq (comparison_form o word) (comparison_form o (encodes name)) ≡ bytes_eq (comparison_form o (chars word)) name
+name_test : (o : Options) (word name : List ℕ) → IsUtf8 word → is_small name ≡ true
+    → bytes_eq (comparison_form o word) (comparison_form o (encodes name)) ≡ bytes_eq (comparison_form o (chars word)) name
 name_test o word name utf8 small =
-    (λ i. bytes_eq ((ap (comparison_form o) (sym (encodes-chars word utf8)) ∙ comparison_form-encodes o (chars word)) i) ((comparison_form-encodes o name ∙ ap encodes (small_form o name small)) i))
+    (λ i. bytes_eq ((ap (comparison_form o) (sym (encodes-chars word utf8)) ∙ comparison_form-encodes o (chars word)) i)
+    ((comparison_form-encodes o name ∙ ap encodes (small_form o name small)) i))
     ∙ bytes_eq-encodes (comparison_form o (chars word)) name
 
 names_test : (o : Options) (word : List ℕ) (names : List (List ℕ)) → IsUtf8 word → list_all is_small names ≡ true
-    → list_any (λ bytes. bytes_eq (comparison_form o word) (comparison_form o bytes)) (map encodes names) ≡ list_any (bytes_eq (comparison_form o (chars word))) names
+    → list_any (λ bytes. bytes_eq (comparison_form o word) (comparison_form o bytes)) (map encodes names)
+    ≡ list_any (bytes_eq (comparison_form o (chars word))) names
 names_test o word [] utf8 small = refl
 names_test o word (name ∷ names) utf8 small =
     let parts = and_parts (is_small name) (list_all is_small names) small in
@@ -104,10 +115,13 @@ any_now test [] = refl
 any_now test (text ∷ texts) = ap (λ b. test text.now || b) (any_now test texts)
 
 -- a word can be searched among names by their bytes
-any_name : (o : Options) (word : List ℕ) (texts : List (Bor (List ℕ))) (names : List (List ℕ)) → IsUtf8 word → AreEncoded texts names → list_all is_small names ≡ true
+any_name : (o : Options) (word : List ℕ) (texts : List (Bor (List ℕ))) (names : List (List ℕ)) → IsUtf8 word → AreEncoded texts names
+    → list_all is_small names ≡ true
     → list_any (λ text. bytes_eq (comparison_form o word) (comparison_form o text.now)) texts ≡ list_any (bytes_eq (comparison_form o (chars word))) names
 any_name o word texts names utf8 encoded small =
-    any_now (λ bytes. bytes_eq (comparison_form o word) (comparison_form o bytes)) texts ∙ ap (list_any (λ bytes. bytes_eq (comparison_form o word) (comparison_form o bytes))) encoded ∙ names_test o word names utf8 small
+    any_now (λ bytes. bytes_eq (comparison_form o word) (comparison_form o bytes)) texts
+    ∙ ap (list_any (λ bytes. bytes_eq (comparison_form o word) (comparison_form o bytes))) encoded
+    ∙ names_test o word names utf8 small
 
 -- the names in the table have no ASCII capitals
 names_small : (u : TimeUnit) → (list_all is_small (row_of u).names ≡ true) × (list_all is_small (row_of u).chinese ≡ true)
@@ -115,12 +129,14 @@ names_small = each_unit (λ u. (list_all is_small (row_of u).names ≡ true) × 
 
 -- the word is among the unit's names
 pub by_name : (o : Options) (word : List ℕ) (u : TimeUnit) (texts : List (Bor (List ℕ))) (r : Bool) → IsUtf8 word → AreEncoded texts (row_of u).names
-    → r ≡ list_any (λ text. bytes_eq (comparison_form o word) (comparison_form o text.now)) texts → r ≡ list_any (bytes_eq (comparison_form o (chars word))) (row_of u).names
+    → r ≡ list_any (λ text. bytes_eq (comparison_form o word) (comparison_form o text.now)) texts
+    → r ≡ list_any (bytes_eq (comparison_form o (chars word))) (row_of u).names
 by_name o word u texts r utf8 encoded is = is ∙ any_name o word texts (row_of u).names utf8 encoded (names_small u).0
 
 -- the word is among the names that `cn_unit` adds
 pub by_chinese : (o : Options) (word : List ℕ) (u : TimeUnit) (texts : List (Bor (List ℕ))) (r : Bool) → IsUtf8 word → AreEncoded texts (row_of u).chinese
-    → r ≡ list_any (λ text. bytes_eq (comparison_form o word) (comparison_form o text.now)) texts → r ≡ list_any (bytes_eq (comparison_form o (chars word))) (row_of u).chinese
+    → r ≡ list_any (λ text. bytes_eq (comparison_form o word) (comparison_form o text.now)) texts
+    → r ≡ list_any (bytes_eq (comparison_form o (chars word))) (row_of u).chinese
 by_chinese o word u texts r utf8 encoded is = is ∙ any_name o word texts (row_of u).chinese utf8 encoded (names_small u).1
 
 -- ---- a name belongs to one unit
@@ -151,7 +167,8 @@ shared w [] ys h k apart = absurd (true≢false (sym h))
 shared w (x ∷ xs) ys h k apart =
     let parts = and_parts (not (list_any (bytes_eq x) ys)) (list_all (λ x. not (list_any (bytes_eq x) ys)) xs) apart in
     ⊎_elim
-    (λ (is : bytes_eq w x ≡ true). true≢false (sym parts.0 ∙ not_from_true (list_any (bytes_eq x) ys) (ap (λ v. list_any (bytes_eq v) ys) (sym ((bytes_eq-Decides w x).0 is)) ∙ k)))
+    (λ (is : bytes_eq w x ≡ true). true≢false (sym parts.0
+    ∙ not_from_true (list_any (bytes_eq x) ys) (ap (λ v. list_any (bytes_eq v) ys) (sym ((bytes_eq-Decides w x).0 is)) ∙ k)))
     (λ (later : list_any (bytes_eq w) xs ≡ true). shared w xs ys later k parts.1)
     (or_cases (bytes_eq w x) (list_any (bytes_eq w) xs) h)
 
@@ -189,7 +206,8 @@ found_only o w (v ∷ us) u h there = go (is_named o w v) refl (found_only o w u
         → (if b then Some v else unit_among us o w) ≡ Some u
     go true e later = ap Some (one_unit o w v u e h)
     go false e later = ⊎_elim
-        (λ (same : eqb (nanos_of v) (nanos_of u) ≡ true). absurd (true≢false (sym h ∙ ap (is_named o w) (sym (same_length v u (eqb-true (nanos_of v) (nanos_of u) same))) ∙ e)))
+        (λ (same : eqb (nanos_of v) (nanos_of u) ≡ true).
+        absurd (true≢false (sym h ∙ ap (is_named o w) (sym (same_length v u (eqb-true (nanos_of v) (nanos_of u) same))) ∙ e)))
         later (or_cases (eqb (nanos_of v) (nanos_of u)) (list_any (λ v. eqb (nanos_of v) (nanos_of u)) us) there)
 
 -- the unit that a word names

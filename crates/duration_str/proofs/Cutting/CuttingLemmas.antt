@@ -19,7 +19,7 @@ use Rattle.duration_str.specs.Tokens.{tokens_from, IsLexeme, EndsRun}
 use Rattle.duration_str.proofs.Cutting.TokenLemmas.{tokens_step}
 use Rattle.duration_str.specs.Text.{width, byte_len, is_blank, IsBlank, is_digit, is_unit_letter, number_after, number_of, IsNumber}
 use Rattle.duration_str.specs.Units.{unit_of_word}
-use Rattle.duration_str.specs.Value.{u64_from}
+use Rattle.duration_str.specs.Internal.Numbers.{u64_from}
 use Rattle.duration_str.specs.Internal.Packed.{unit_of_packed}
 use Rattle.duration_str.specs.Internal.Cutting.{ahead, StandsAt, Between, Passes, Stops, TakesDigits, TakesLetters, TakesWord, packed_after}
 use Rattle.duration_str.proofs.Characters.CharacterLemmas.{letter_of_ascii}

@@ -14,7 +14,7 @@ use Rattle.duration_str.specs.Grammar.{number, word, operator_or_other, sign_ter
 use Rattle.duration_str.specs.Tokens.{Token, are_of_one_run, goes_on, IsLexeme, AreTokens, tokens_from}
 use Rattle.duration_str.specs.Internal.Cutting.{ahead, StandsAt, Between, Passes, Stops, TakesWord}
 use Rattle.duration_str.specs.Internal.Sorts.{sign_sort, sort_at, sort_of, StandsToken}
-use Rattle.duration_str.specs.Tokenizer.{is_number, IsSign}
+use Rattle.duration_str.specs.Internal.Tokenizer.{is_number, IsSign}
 use Rattle.duration_str.proofs.Characters.CharacterLemmas.{digit-not_letter, letter-not_digit}
 use Rattle.duration_str.proofs.Cutting.TokenLemmas.{tokens_are}
 use Rattle.duration_str.proofs.Sentences.SpellingLemmas.{all_weaker, digits_are_lexeme, letters_are_lexeme}

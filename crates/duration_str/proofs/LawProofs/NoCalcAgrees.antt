@@ -2,9 +2,8 @@
 use Rattle.std.proofs.Common.{ℕ, true, false, not, List, [], ◌∷◌, map, Some, is_some, sym, ap, ◌∙◌}
 use Rattle.std.proofs.lemmas.Bool.{true≢false, and_parts}
 use Rattle.duration_str.specs.declared.options.Options.{Options}
-use Rattle.duration_str.specs.Text.{is_operator}
 use Rattle.duration_str.specs.Grammar.{Terminal, number, word, operator, terminal_of, IsSentence}
-use Rattle.duration_str.specs.Laws.{NoCalcAgrees, HasNoOperator}
+use Rattle.duration_str.specs.Laws.{NoCalcAgrees, HasNoOperator, is_operator}
 use Rattle.duration_str.proofs.Cutting.TerminalLemmas.{terminal_cases}
 use Rattle.duration_str.proofs.Sentences.SpellingLemmas.{EachPasses, lexemes_pass}
 
@@ -29,7 +28,8 @@ default_sentence (number n ∷ word (Some u) ∷ operator op ∷ more) s = absur
 default_sentence (number n ∷ word (Some u) ∷ number m ∷ more) s = default_sentence (number m ∷ more) s
 default_sentence _ s = absurd s
 
-no_operator_terminal : (o : Options) (terminals : List Terminal) → HaveNoOperator terminals → (w : List ℕ) → HasNoOperator w → HaveNoOperator (terminal_of o w ∷ terminals)
+no_operator_terminal : (o : Options) (terminals : List Terminal) → HaveNoOperator terminals → (w : List ℕ) → HasNoOperator w
+    → HaveNoOperator (terminal_of o w ∷ terminals)
 no_operator_terminal o terminals h = terminal_cases o (λ w t. HasNoOperator w → HaveNoOperator (t ∷ terminals))
     (λ plain. h) (λ c cs digits plain. h) (λ c cs letters plain. h)
     (λ c op _ _ sign plain. true≢false (sym (and_parts (not (is_operator c)) _ plain).0 ∙ ap (λ found. not (is_some found)) sign))

@@ -6,7 +6,7 @@ use Rattle.duration_str.specs.declared.unit.TimeUnit.{TimeUnit}
 use Rattle.duration_str.specs.Text.{number_of}
 use Rattle.duration_str.specs.Units.{unit_among, unit_of_word}
 use Rattle.duration_str.specs.Grammar.{Terminal, number, word, sign_terminal, terminal_among, terminal_of, IsSentence, IsSentenceOf}
-use Rattle.duration_str.specs.Place.{kinds_after, allows}
+use Rattle.duration_str.specs.Answer.{kinds_after, allows}
 use Rattle.duration_str.specs.declared.fault.Cause.{Cause}
 use Rattle.duration_str.specs.Value.{Evaluates, terms_of, value_of}
 use Rattle.duration_str.specs.Reading.{IsRead, IsRefusedAt, IsRefused}
@@ -44,7 +44,9 @@ same_terminals o last [] a = refl
 same_terminals o last (w ∷ lexemes) a = ap₂ ◌∷◌ (same_terminal o last w a.0) (same_terminals o (Some (terminal_among older_units o w)) lexemes a.1)
 
 older_same : (o : Options) (lexemes : List (List ℕ)) (text : List ℕ) → WasSentenceOf o lexemes text → older_terminals o lexemes ≡ map (terminal_of o) lexemes
-older_same o lexemes text was = same_terminals o None lexemes (whole_allowed o.no_calc None (older_terminals o lexemes) (sentence_allowed o.no_calc (older_terminals o lexemes) was.sentence))
+older_same o lexemes text was =
+    same_terminals o None lexemes
+    (whole_allowed o.no_calc None (older_terminals o lexemes) (sentence_allowed o.no_calc (older_terminals o lexemes) was.sentence))
 
 older_sentence : (o : Options) (lexemes : List (List ℕ)) (text : List ℕ) → WasSentenceOf o lexemes text → IsSentenceOf o lexemes text
 older_sentence o lexemes text was = (subst (IsSentence o.no_calc) (older_same o lexemes text was) was.sentence, was.spells)
@@ -61,7 +63,8 @@ older_value o text nanos was =
 older_cause : (o : Options) (text : List ℕ) (cause : Cause) → WasRefused o text cause → IsRefused o text cause
 older_cause o text cause was =
     sentence_refused o text was.lexemes cause (older_sentence o was.lexemes text was.spells)
-    (λ place. subst (λ (terminals : List Terminal). IsRefusedAt o.no_calc place terminals [] cause) (older_same o was.lexemes text was.spells) (was.refused place))
+    (λ place. subst (λ (terminals : List Terminal). IsRefusedAt o.no_calc place terminals [] cause)
+    (older_same o was.lexemes text was.spells) (was.refused place))
 
 pub older_texts_hold : OlderTexts
 older_texts_hold = record { terminals = older_same; sentence = older_sentence; value = older_value; cause = older_cause }

@@ -3,7 +3,7 @@ use Rattle.std.proofs.Common.{◌≡◌, Bool, true, ◌≢◌, List, [], ◌∷
 use Rattle.std.proofs.lemmas.Bool.{true≢false}
 use Rattle.duration_str.specs.declared.operator.CondUnit.{CondUnit}
 use Rattle.duration_str.specs.Grammar.{Terminal, operator}
-use Rattle.duration_str.specs.Place.{kinds_after, allows, last_of}
+use Rattle.duration_str.specs.Answer.{kinds_after, allows, last_of}
 use Rattle.duration_str.specs.Laws.{PlaceAndKinds}
 use Rattle.duration_str.proofs.Sentences.FrontLemmas.{AreAllowed, begins_allowed, kinds_by_table, no_operators, table_front, one_front}
 

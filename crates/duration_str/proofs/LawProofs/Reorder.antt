@@ -1,8 +1,8 @@
 -- Sums with the same values of terms, each equally often, are equal.
 use Rattle.std.proofs.Common.{◌≡◌, ℕ, ◌+◌, ◌≤◌, Bool, true, false, ◌==◌, List, [], ◌∷◌, map, if◌then◌else◌, arith, refl, sym, ap, ◌∙◌}
 use Rattle.std.proofs.lemmas.Bool.{eqb-true, eq-eqb, cond-true}
-use Rattle.duration_str.specs.Value.{Term, value_of_term, sum_of, times_in}
-use Rattle.duration_str.specs.Laws.{Reorder}
+use Rattle.duration_str.specs.Value.{Term, value_of_term, sum_of}
+use Rattle.duration_str.specs.Laws.{Reorder, times_in}
 use Rattle.duration_str.proofs.Sentences.AnswerLemmas.{read_below}
 use Rattle.duration_str.proofs.Sentences.SumReadings.{terms_of_lexemes, sum_read, read_sum}
 

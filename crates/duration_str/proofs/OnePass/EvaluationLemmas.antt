@@ -8,7 +8,8 @@ use Rattle.duration_str.specs.declared.operator.CondUnit.{CondUnit}
 use Rattle.duration_str.specs.declared.operator.CondUnit.TheVariants.{Plus, Star}
 use Rattle.duration_str.specs.declared.fault.Cause.{Cause}
 use Rattle.duration_str.specs.declared.fault.Cause.TheVariants.{NumberTooLarge, Overflow, Mixed}
-use Rattle.duration_str.specs.Value.{Term, second, u64_from, value_of_term, sum_of, later_total, combination, value_of, fits, or_else, unless, term_fault, term_value, later_fault, evaluation_fault, is_same_operator}
+use Rattle.duration_str.specs.Value.{Term, second, value_of_term, sum_of, later_total, combination, value_of, fits, or_else, unless, term_fault, later_fault, evaluation_fault, is_same_operator}
+use Rattle.duration_str.specs.Internal.Numbers.{u64_from, term_value}
 use Rattle.duration_str.specs.Reading.{first_fault, running_fault, place_after}
 use Rattle.duration_str.specs.Internal.Rest.{fault_or, join, nothing_of, before_operator, at_once}
 use Rattle.duration_str.proofs.Sentences.FaultLemmas.{no_faults, term_no_fault_below}

@@ -14,10 +14,10 @@ use Rattle.duration_str.specs.declared.fault.Cause.TheVariants.{Syntax, NumberTo
 use Rattle.duration_str.specs.Text.{byte_len}
 use Rattle.duration_str.specs.Grammar.{Terminal}
 use Rattle.duration_str.specs.Tokens.{Token, AreTokens, tokens_of}
-use Rattle.duration_str.specs.Place.{kinds_after, last_of, front_of, start_after, terminals_of}
+use Rattle.duration_str.specs.Place.{start_after, terminals_of}
 use Rattle.duration_str.specs.Value.{Term, value_of_term, sum_of, later_total, total_of, fits, or_else, unless, terms_of, term_fault, later_fault, evaluation_fault, is_same_operator}
 use Rattle.duration_str.specs.Reading.{complete_terms, place_after, first_fault, running_fault, early_fault, late_fault}
-use Rattle.duration_str.specs.Answer.{is_whole, late_answer, answer_after, answer}
+use Rattle.duration_str.specs.Answer.{is_whole, late_answer, answer_after, answer, kinds_after, last_of, front_of}
 use Rattle.duration_str.specs.Faults.{place_of}
 use Rattle.duration_str.proofs.Characters.TextLemmas.{width-scalar, byte_len-append}
 use Rattle.duration_str.proofs.Cutting.TokenLemmas.{tokens_are}

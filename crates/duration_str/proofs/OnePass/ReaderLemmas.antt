@@ -11,9 +11,10 @@ use Rattle.duration_str.specs.declared.token.Sort.{Sort}
 use Rattle.duration_str.specs.declared.token.Sort.TheVariants as sorts
 use Rattle.duration_str.specs.declared.token.Tokens.{Tokens}
 use Rattle.duration_str.specs.Grammar.{Terminal, number, word, operator, other, terminal_of}
-use Rattle.duration_str.specs.Place.{kinds_after}
+use Rattle.duration_str.specs.Answer.{kinds_after}
 use Rattle.duration_str.specs.Internal.Sorts.{sort_of}
-use Rattle.duration_str.specs.Tokenizer.{source, options_of, place_of, left, IsAhead, LooksAhead, is_number, TakesToken, TakesSign}
+use Rattle.duration_str.specs.Tokenizer.{source, options_of, place_of, left}
+use Rattle.duration_str.specs.Internal.Tokenizer.{IsAhead, LooksAhead, is_number, TakesToken, TakesSign}
 use Rattle.duration_str.specs.Internal.Rest.{Rest, terminal_at, end_at, rest_from, rest_of, lacks_number, fault_or, Read, leaving, unit_read, operator_read}
 use Rattle.duration_str.proofs.Cutting.TokenizerLemmas.{keeps_all, none_left, first_left}
 

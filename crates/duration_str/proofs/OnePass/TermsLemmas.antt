@@ -12,11 +12,13 @@ use Rattle.duration_str.specs.declared.token.Sort.TheVariants.{Number}
 use Rattle.duration_str.specs.declared.token.Tokens.{Tokens}
 use Rattle.duration_str.specs.Units.{nanos_of}
 use Rattle.duration_str.specs.Grammar.{Terminal, number, word, operator, other}
-use Rattle.duration_str.specs.Place.{kinds_after, last_of, front_of}
-use Rattle.duration_str.specs.Value.{AllPlus, Term, term_of, second, value_of_term, u64_from, term_fault, term_value, terms_of, terms_after, unless, value_of}
+use Rattle.duration_str.specs.Value.{AllPlus, Term, second, value_of_term, term_fault, terms_of, terms_after, unless, value_of}
+use Rattle.duration_str.specs.Internal.Numbers.{u64_from, term_value}
+use Rattle.duration_str.specs.Terms.{term_of}
 use Rattle.duration_str.specs.Reading.{without_last_number, complete, late_fault}
-use Rattle.duration_str.specs.Answer.{late_answer, answer_after, answer_at}
-use Rattle.duration_str.specs.Tokenizer.{place_of, IsAhead, TakesNumber}
+use Rattle.duration_str.specs.Answer.{late_answer, answer_after, answer_at, kinds_after, last_of, front_of}
+use Rattle.duration_str.specs.Tokenizer.{place_of}
+use Rattle.duration_str.specs.Internal.Tokenizer.{IsAhead, TakesNumber}
 use Rattle.duration_str.specs.Internal.Rest.{Rest, terminal_at, end_at, rest_of, start_left, terminals_in, Read, leaving, unit_read, operator_read, answer_left, first_term, fault_or, join, nothing_of, before_operator, at_once}
 use Rattle.duration_str.proofs.Sentences.FaultLemmas.{term_below_no_fault}
 use Rattle.duration_str.proofs.Sentences.FrontLemmas.{begins_allowed, table_front}
@@ -46,7 +48,8 @@ after_in no_calc rest = drop (front_of no_calc (terminals_in rest)) (terminals_i
 abbrev pub left_after : Bool → CondUnit → Rest → Ended
 left_after no_calc op rest = record {
   terms = terms_after op (complete (front_in no_calc rest) (after_in no_calc rest));
-  fault = fault_at (start_left (front_of no_calc (terminals_in rest)) rest) (kinds_after no_calc (last_of None (front_in no_calc rest))) (after_in no_calc rest);
+  fault = fault_at (start_left (front_of no_calc (terminals_in rest)) rest)
+      (kinds_after no_calc (last_of None (front_in no_calc rest))) (after_in no_calc rest);
 }
 
 -- the terms after an operator, or none at the end
@@ -212,7 +215,8 @@ fewer no_calc set next s a b d n u taken unit op ahead =
 -- ---- The answer in order: the early fault, the syntax fault, the late fault, and the value
 
 whole_told : (whole : Bool) (cause : Cause) (late : Option Cause) (terminals : List Terminal)
-    → fault_or (unless whole cause) (fault_or late (Ok (unwrap_or (value_of (terms_of terminals)) 0))) ≡ (if whole then late_answer late terminals else Err cause)
+    → fault_or (unless whole cause) (fault_or late (Ok (unwrap_or (value_of (terms_of terminals)) 0)))
+    ≡ (if whole then late_answer late terminals else Err cause)
 whole_told false cause late terminals = refl
 whole_told true cause None terminals = refl
 whole_told true cause (Some fault) terminals = refl
@@ -266,7 +270,8 @@ first_told no_calc place f left = by (term_fault place f) ∙ ap (λ r. by_first
     by None = refl
     by (Some cause) = refl
 
-from_start : (no_calc : Bool) (rest : Rest) (left : Ended) → left_after no_calc Plus rest ≡ left → answer_of no_calc left.terms left.fault ≡ answer_left no_calc [] rest
+from_start : (no_calc : Bool) (rest : Rest) (left : Ended) → left_after no_calc Plus rest ≡ left
+    → answer_of no_calc left.terms left.fault ≡ answer_left no_calc [] rest
 from_start no_calc rest left is =
     let terminals = terminals_in rest in
     let n = front_of no_calc terminals in

@@ -9,8 +9,8 @@ use Rattle.duration_str.specs.declared.token.Tokens.{Tokens}
 use Rattle.duration_str.specs.Text.{byte_len}
 use Rattle.duration_str.specs.Grammar.{terminal_of}
 use Rattle.duration_str.specs.Tokens.{Token, tokens_of, lexemes_of}
-use Rattle.duration_str.specs.Place.{front_of, start_after, terminals_of}
-use Rattle.duration_str.specs.Answer.{answer_at, answer}
+use Rattle.duration_str.specs.Place.{start_after, terminals_of}
+use Rattle.duration_str.specs.Answer.{answer_at, answer, front_of}
 use Rattle.duration_str.specs.Internal.Rest.{rest_from, rest_of, start_left, terminals_in, answer_left}
 use Rattle.duration_str.specs.Tokenizer.{source, options_of, left}
 use Rattle.duration_str.proofs.OnePass.PlaceLemmas.{byte_count}

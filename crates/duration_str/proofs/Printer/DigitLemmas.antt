@@ -5,7 +5,7 @@ use Rattle.std.proofs.lemmas.Fmt.{decimal_digit, decimal_step, decimal_by_steps,
 use Rattle.std.proofs.lemmas.List.{take_more_set}
 use Rattle.std.proofs.Math.Nat.{pow-succ'}
 use Rattle.duration_str.specs.declared.unit.TimeUnit.{TimeUnit}
-use Rattle.duration_str.specs.Printing.{greatest_count}
+use Rattle.duration_str.specs.Internal.PrintedBytes.{greatest_count}
 use Rattle.duration_str.proofs.Characters.EachUnit.{all_units}
 
 pub length_one : (n : ℕ) → n < 10 → length (decimal n) ≡ 1
@@ -36,4 +36,5 @@ greatest_fits u = ltb-true (greatest_count u) (2 ^ 64) (all_units (λ v. ltb (gr
 pub length_count : (u : TimeUnit) (count : ℕ) → count ≤ greatest_count u → length (decimal count) ≤ length (decimal (greatest_count u))
 length_count u count h =
     let fits = greatest_fits u in
-    length-decimal-le (length (decimal (greatest_count u))) count (decimal_nonempty (greatest_count u) fits) (omega (arith, below_power (greatest_count u) fits)) (omega (arith, fits))
+    length-decimal-le (length (decimal (greatest_count u))) count (decimal_nonempty (greatest_count u) fits)
+    (omega (arith, below_power (greatest_count u) fits)) (omega (arith, fits))

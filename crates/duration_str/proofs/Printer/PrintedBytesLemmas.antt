@@ -18,7 +18,8 @@ use Rattle.duration_str.proofs.Characters.NameLemmas.{scalar_name}
 with_part_none : (bytes : List ℕ) (u : TimeUnit) (count : ℕ) → count ≡ 0 → with_part bytes u count ≡ bytes
 with_part_none bytes u count h = rw h
 
-with_part_more : (bytes : List ℕ) (u : TimeUnit) (count : ℕ) → 0 < count → with_part bytes u count ≡ with_space bytes ++ (decimal count ++ encode_utf8_all (row_of u).printed)
+with_part_more : (bytes : List ℕ) (u : TimeUnit) (count : ℕ) → 0 < count
+    → with_part bytes u count ≡ with_space bytes ++ (decimal count ++ encode_utf8_all (row_of u).printed)
 with_part_more bytes u count h = grind (arith, nat_tests)
 
 -- the printed parts for this many nanoseconds in these units
@@ -33,14 +34,15 @@ parts_more : (u : TimeUnit) (us : List TimeUnit) (nanos : ℕ) → 0 < nanos / n
 parts_more u us nanos h = let e : (nanos / nanos_of u == 0) ≡ false = grind (arith, nat_tests) in rw e
 
 -- the parts with a space before each
-abbrev behind : List (List ℕ) → List ℕ
-behind parts = flat_map (λ p. codes " " ++ p) parts
+abbrev spaced_parts : List (List ℕ) → List ℕ
+spaced_parts parts = flat_map (λ p. codes " " ++ p) parts
 
 encode_part : (n : ℕ) (name rest : List ℕ) → n < 10 ^ 64
     → encode_utf8_all ((decimal n ++ name) ++ rest) ≡ (decimal n ++ encode_utf8_all name) ++ encode_utf8_all rest
 encode_part n name rest h =
     encodes-append (decimal n ++ name) rest
-    ∙ ap (λ bs. bs ++ encode_utf8_all rest) (encodes-append (decimal n) name ∙ ap (λ bs. bs ++ encode_utf8_all name) (encodes-IsAscii (decimal n) (IsAscii-decimal_wide n h)))
+    ∙ ap (λ bs. bs ++ encode_utf8_all rest) (encodes-append (decimal n) name
+    ∙ ap (λ bs. bs ++ encode_utf8_all name) (encodes-IsAscii (decimal n) (IsAscii-decimal_wide n h)))
 
 smaller_div : (nanos l : ℕ) → nanos < 10 ^ 64 → nanos / l < 10 ^ 64
 smaller_div nanos l h = omega (arith, div-le_self nanos l)
@@ -52,7 +54,8 @@ smaller_mod nanos l h = omega (arith, mod-le nanos l)
 more_after : (bytes : List ℕ) (n : ℕ) (name rest : List ℕ) → n < 10 ^ 64
     → (with_space bytes ++ (decimal n ++ encode_utf8_all name)) ++ encode_utf8_all rest ≡ with_space bytes ++ encode_utf8_all ((decimal n ++ name) ++ rest)
 more_after bytes n name rest h =
-    append_assoc (with_space bytes) (decimal n ++ encode_utf8_all name) (encode_utf8_all rest) ∙ ap (λ bs. with_space bytes ++ bs) (sym (encode_part n name rest h))
+    append_assoc (with_space bytes) (decimal n ++ encode_utf8_all name) (encode_utf8_all rest)
+    ∙ ap (λ bs. with_space bytes ++ bs) (sym (encode_part n name rest h))
 
 space_some : (bytes : List ℕ) → 0 < length bytes → with_space bytes ≡ bytes ++ 32 ∷ []
 space_some [] h = absurd (omega arith)
@@ -60,7 +63,7 @@ space_some (b ∷ bytes) h = refl
 
 -- after some bytes, each part follows a space
 grown_after : (us : List TimeUnit) (bytes : List ℕ) (nanos : ℕ) → nanos < 10 ^ 64 → 0 < length bytes
-    → with_parts bytes us nanos ≡ bytes ++ encode_utf8_all (behind (parts_of us nanos))
+    → with_parts bytes us nanos ≡ bytes ++ encode_utf8_all (spaced_parts (parts_of us nanos))
 unfolding lib.Utf8.encode
 grown_after [] bytes nanos h some = sym (append-nil bytes)
 grown_after (u ∷ us) bytes nanos h some =
@@ -74,10 +77,10 @@ grown_after (u ∷ us) bytes nanos h some =
           let longer : 0 < length next = rw (space_some bytes some) (omega (arith, length-append {A = ℕ})) in
           ap (λ bs. with_parts bs us rest) (with_part_more bytes u n more)
           ∙ grown_after us next rest (smaller_mod nanos (nanos_of u) h) longer
-          ∙ more_after bytes n name (behind (parts_of us rest)) (smaller_div nanos (nanos_of u) h)
-          ∙ ap (λ bs. bs ++ encode_utf8_all ((decimal n ++ name) ++ behind (parts_of us rest))) (space_some bytes some)
-          ∙ append_assoc bytes (32 ∷ []) (encode_utf8_all ((decimal n ++ name) ++ behind (parts_of us rest)))
-          ∙ ap (λ ps. bytes ++ encode_utf8_all (behind ps)) (sym (parts_more u us nanos more))
+          ∙ more_after bytes n name (spaced_parts (parts_of us rest)) (smaller_div nanos (nanos_of u) h)
+          ∙ ap (λ bs. bs ++ encode_utf8_all ((decimal n ++ name) ++ spaced_parts (parts_of us rest))) (space_some bytes some)
+          ∙ append_assoc bytes (32 ∷ []) (encode_utf8_all ((decimal n ++ name) ++ spaced_parts (parts_of us rest)))
+          ∙ ap (λ ps. bytes ++ encode_utf8_all (spaced_parts ps)) (sym (parts_more u us nanos more))
     ]
 
 -- the bytes, or `0s` if there are none
@@ -90,7 +93,9 @@ ended_some [] h = absurd (omega arith)
 ended_some (b ∷ bytes) h = refl
 
 some_decimal : (n : ℕ) → n < 10 ^ 64 → 0 < length (decimal n)
-some_decimal n h = decimal_by_steps_wide (λ n ds. 0 < length ds) (λ n small. lit< tt) (λ n ds big some. omega (arith, length-append ds ((48 + n % 10) ∷ []))) n h
+some_decimal n h =
+    decimal_by_steps_wide (λ n ds. 0 < length ds) (λ n small. lit< tt)
+    (λ n ds big some. omega (arith, length-append ds ((48 + n % 10) ∷ []))) n h
 
 pub ended_units : (us : List TimeUnit) (nanos : ℕ) → nanos < 10 ^ 64 → ended (with_parts [] us nanos) ≡ encode_utf8_all (spaced (parts_of us nanos))
 unfolding lib.Utf8.encode
@@ -107,8 +112,8 @@ ended_units (u ∷ us) nanos h =
           let some : 0 < length first = omega (arith, length-append (decimal n) (encode_utf8_all name), some_decimal n small) in
           let grown = ap (λ bs. with_parts bs us rest) (with_part_more [] u n more) ∙ grown_after us first rest (smaller_mod nanos (nanos_of u) h) some in
           ap ended grown
-          ∙ ended_some _ (omega (arith, length-append first (encode_utf8_all (behind (parts_of us rest))), some))
-          ∙ more_after [] n name (behind (parts_of us rest)) small
+          ∙ ended_some _ (omega (arith, length-append first (encode_utf8_all (spaced_parts (parts_of us rest))), some))
+          ∙ more_after [] n name (spaced_parts (parts_of us rest)) small
           ∙ ap (λ ps. encode_utf8_all (spaced ps)) (sym (parts_more u us nanos more))
     ]
 

@@ -10,10 +10,10 @@ use Rattle.duration_str.specs.declared.fault.Cause.TheVariants.{Syntax, Overflow
 use Rattle.duration_str.specs.Text.{byte_len}
 use Rattle.duration_str.specs.Grammar.{Terminal, number, word, operator, other, terminal_of, IsSentence, IsSentenceOf}
 use Rattle.duration_str.specs.Tokens.{tokens_of, lexemes_of}
-use Rattle.duration_str.specs.Place.{IsFront, kinds_after, last_of, front_of, start_after, terminals_of}
+use Rattle.duration_str.specs.Place.{IsFront, start_after, terminals_of}
 use Rattle.duration_str.specs.Value.{AllPlus, Term, value_of_term, later_total, total_of, value_of, terms_of, fits, unless, term_fault, later_fault, evaluation_fault, is_same_operator, Evaluates}
 use Rattle.duration_str.specs.Reading.{first_fault, early_fault, late_fault, IsRead, IsRefusedAt, early, syntax_fault, late, IsRefused}
-use Rattle.duration_str.specs.Answer.{is_whole, late_answer, answer_after, answer_at, answer}
+use Rattle.duration_str.specs.Answer.{is_whole, late_answer, answer_after, answer_at, answer, kinds_after, last_of, front_of}
 use Rattle.duration_str.specs.Laws.{OneAnswer, IsAnswer}
 use Rattle.duration_str.proofs.Sentences.FrontLemmas.{AreAllowed, sentence_allowed, whole_allowed, no_operators, one_front, one_expected, table_front, front_within, ends_by_table, kinds_by_table}
 use Rattle.duration_str.proofs.Sentences.SpellingLemmas.{sentence_terminals, tokens_spell, empty_no_sentence}
@@ -46,7 +46,8 @@ evaluates_by_faults [] l f e = absurd (omega arith)
 evaluates_by_faults (t ∷ terms) l f e = (fault_moves (Some 0) None t f, e)
 
 -- A sentence evaluates exactly if it has neither an early nor a late fault.
-early_none : (no_calc : Bool) (terminals : List Terminal) → IsSentence no_calc terminals → Evaluates (terms_of terminals) → early_fault no_calc terminals [] ≡ None
+early_none : (no_calc : Bool) (terminals : List Terminal) → IsSentence no_calc terminals → Evaluates (terms_of terminals)
+    → early_fault no_calc terminals [] ≡ None
 early_none false terminals s e = first_none (terms_of terminals) e
 early_none true terminals s e =
     let added = terms_added terminals (no_calc_plus terminals s) in
@@ -60,7 +61,8 @@ evaluates_from : (no_calc : Bool) (terminals : List Terminal) → IsSentence no_
     → late_fault no_calc terminals ≡ None → Evaluates (terms_of terminals)
 evaluates_from false terminals s e l = evaluates_by_faults (terms_of terminals) (has_terms false terminals s) e l
 evaluates_from true terminals s e l =
-    below_evaluate (terms_of terminals) (has_terms true terminals s) (terms_added terminals (no_calc_plus terminals s)) (running_none_below (terms_of terminals) e)
+    below_evaluate (terms_of terminals) (has_terms true terminals s)
+    (terms_added terminals (no_calc_plus terminals s)) (running_none_below (terms_of terminals) e)
 
 -- ---- The value of terms that evaluate
 

@@ -24,6 +24,7 @@ module _ (o : Options) (bytes : List ℕ) where
   answered_refused (Ok d) h = tt
   answered_refused (Err f) h = (h.0, (is_answer_holds.refused o (chars bytes) f.cause).0 h.1)
 
-  pub parses_text : (r : Result Duration Fault) → IsAnswered as_nanos (answer o (chars bytes)) bytes r → IfOk r (λ d. as_nanos d < 2 ^ 64) → ParsesText o bytes r
+  pub parses_text : (r : Result Duration Fault) → IsAnswered as_nanos (answer o (chars bytes)) bytes r → IfOk r (λ d. as_nanos d < 2 ^ 64)
+      → ParsesText o bytes r
   parses_text r h fits =
       record { read = answered_read r h; accepts = answered_accepts r h; refused = answered_refused r h; answer = h; fits = fits }

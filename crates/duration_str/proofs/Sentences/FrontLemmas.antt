@@ -7,7 +7,8 @@ use Rattle.duration_str.specs.declared.operator.CondUnit.{CondUnit}
 use Rattle.duration_str.specs.declared.operator.CondUnit.TheVariants.{Plus}
 use Rattle.duration_str.specs.declared.fault.Expected.{Expected}
 use Rattle.duration_str.specs.Grammar.{Terminal, number, word, operator, other, IsSentence}
-use Rattle.duration_str.specs.Place.{BeginsSentence, CanFollow, IsFront, kinds_after, allows, last_of, front_after, front_of}
+use Rattle.duration_str.specs.Place.{BeginsSentence, CanFollow, IsFront}
+use Rattle.duration_str.specs.Answer.{kinds_after, allows, last_of, front_after, front_of}
 
 -- The table allows each terminal after the one before it, and the first one after `last`.
 abbrev pub AreAllowed : Bool → Option Terminal → List Terminal → Type 0

@@ -8,7 +8,8 @@ use Rattle.duration_str.specs.declared.fault.Expected.{Expected}
 use Rattle.duration_str.specs.Text.{is_blank, is_digit, is_unit_letter, IsBlank, byte_len}
 use Rattle.duration_str.specs.Grammar.{Terminal, number, word, other, terminal_of, IsSentence, IsSentenceOf, Spells}
 use Rattle.duration_str.specs.Tokens.{Token, are_of_one_run, goes_on, IsLexeme, EndsRun, AreTokens, tokens_of, lexemes_of}
-use Rattle.duration_str.specs.Place.{kinds_after, allows, terminals_of}
+use Rattle.duration_str.specs.Place.{terminals_of}
+use Rattle.duration_str.specs.Answer.{kinds_after, allows}
 use Rattle.duration_str.proofs.Characters.CharacterLemmas.{digit-not_blank, letter-not_blank, operator-not_blank, digit-not_letter, letter-not_digit, run-not_blank}
 use Rattle.duration_str.proofs.Cutting.TokenLemmas.{tokens_once, tokens_are}
 use Rattle.duration_str.proofs.Cutting.TerminalLemmas.{terminal_cases}
@@ -147,7 +148,8 @@ sentence_tokens o text lexemes s =
     let found = spelled_tokens o 0 None lexemes text (sentence_allowed o.no_calc (map (terminal_of o) lexemes) s.0) s.1 in
     sym found.2 ∙ ap lexemes_of (tokens_once o 0 text found.0 (tokens_of o text) found.1 (tokens_are o 0 text))
 
-pub sentence_terminals : (o : Options) (text : List ℕ) (lexemes : List (List ℕ)) → IsSentenceOf o lexemes text → map (terminal_of o) lexemes ≡ terminals_of o text
+pub sentence_terminals : (o : Options) (text : List ℕ) (lexemes : List (List ℕ)) → IsSentenceOf o lexemes text
+    → map (terminal_of o) lexemes ≡ terminals_of o text
 sentence_terminals o text lexemes s = ap (map (terminal_of o)) (sentence_tokens o text lexemes s)
 
 pub empty_no_sentence : (o : Options) (lexemes : List (List ℕ)) → IsSentenceOf o lexemes [] → ⊥

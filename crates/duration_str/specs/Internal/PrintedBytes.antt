@@ -1,10 +1,29 @@
--- The printed bytes, built unit by unit.
-use Rattle.std.specs.Prelude.{ℕ, ◌+◌, ◌/◌, ◌%◌, List, [], ◌∷◌, ◌++◌, drop, if◌then◌else◌, ◌==◌, decimal, encode_utf8_all}
+-- The printed bytes, built unit by unit, and how many there can be.
+use Rattle.std.specs.Prelude.{ℕ, ◌+◌, ◌-◌, ◌*◌, ◌/◌, ◌%◌, ◌^◌, List, [], ◌∷◌, ◌++◌, drop, length, map, if◌then◌else◌, ◌==◌, decimal, encode_utf8_all}
+use Rattle.std.specs.List.{sum}
 unfoldable pub use Rattle.std.specs.Fmt.{digits}
 use Rattle.duration_str.specs.declared.unit.TimeUnit.{TimeUnit}
 use Rattle.duration_str.specs.declared.unit.TimeUnit.TheVariants.{Quarter, Month, Week, Day}
+use Rattle.duration_str.specs.Text.{byte_len}
 use Rattle.duration_str.specs.Units.{units, row_of, nanos_of}
-use Rattle.duration_str.specs.Printing.{part_bytes}
+
+-- the length of the unit before this one in the list; `limit` for the first
+abbrev pub length_before : ℕ → List TimeUnit → TimeUnit → ℕ
+length_before limit [] u = limit
+length_before limit (v ∷ vs) u = if nanos_of v == nanos_of u then limit else length_before (nanos_of v) vs u
+
+-- the greatest count of a unit: what the longer units leave is less than the shortest of them, and a whole duration is
+-- below 2^64 seconds
+abbrev pub greatest_count : TimeUnit → ℕ
+greatest_count u = (length_before (2 ^ 64 * 10 ^ 9) units u - 1) / nanos_of u
+
+-- the most bytes that a unit's part can have
+abbrev pub part_bytes : TimeUnit → ℕ
+part_bytes u = length (decimal (greatest_count u)) + byte_len (row_of u).printed
+
+-- the most bytes that a printed text can have: a part for each unit, and a space between each two
+abbrev pub max_printed_len : ℕ
+max_printed_len = sum (map part_bytes units) + (length units - 1)
 
 -- the bytes followed by a space, unless they are empty
 abbrev pub with_space : List ℕ → List ℕ

@@ -12,11 +12,12 @@ use Rattle.duration_str.specs.declared.fault.Cause.TheVariants.{Syntax, Overflow
 use Rattle.duration_str.specs.declared.token.Tokens.{Tokens}
 use Rattle.duration_str.specs.Grammar.{Terminal, number, word, operator, terminal_of}
 use Rattle.duration_str.specs.Tokens.{Token}
-use Rattle.duration_str.specs.Place.{kinds_after, front_of}
-use Rattle.duration_str.specs.Value.{second, u64_from, combination, is_same_operator, term_value}
-use Rattle.duration_str.specs.Answer.{answer_at}
+use Rattle.duration_str.specs.Value.{second, combination, is_same_operator}
+use Rattle.duration_str.specs.Internal.Numbers.{u64_from, term_value}
+use Rattle.duration_str.specs.Answer.{answer_at, kinds_after, front_of}
 use Rattle.duration_str.specs.Faults.{place_of as fault_place}
-use Rattle.duration_str.specs.Tokenizer.{source, options_of, place_of, left, IsAhead}
+use Rattle.duration_str.specs.Tokenizer.{source, options_of, place_of, left}
+use Rattle.duration_str.specs.Internal.Tokenizer.{IsAhead}
 use Rattle.duration_str.specs.Units.{nanos_of}
 use Rattle.duration_str.specs.declared.token.Sort.TheVariants.{Number}
 

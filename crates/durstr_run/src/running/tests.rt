@@ -1,7 +1,7 @@
 // Runs with readers, writers and an allocator in memory.
 ghost use Rattle.std.specs.Prelude.{◌≤◌};
 
-use super::{run, run_in};
+use super::run;
 use crate::fault::RunFault;
 use duration_str::Options;
 use refusing::Refusing;
@@ -231,11 +231,32 @@ fn reads_as_much_as_is_allowed(rt: HostRuntime) -> Result<(), Fail> {
 }
 
 #[test]
+fn makes_a_read_for_each_byte_and_one_more(rt: HostRuntime) -> Result<(), Fail> {
+    let blanks = vec![in rt.alloc(); b' '; 1_048_577]?;
+    let most = blanks.get(1..).unwrap_or_default();
+    for (bytes, calls, fault) in [
+        (most, 1_048_577, RunFault::Write),
+        (most, 1_048_576, RunFault::Read),
+        (blanks.as_slice(), 1_048_577, RunFault::TooLong),
+    ] {
+        let source = Source {
+            bytes,
+            step: 1,
+            calls,
+        };
+        let (answer, sink) = ran(&rt, source, Sink::taking(0, 1));
+        assert_eq!(rt; answer, Err(fault));
+        assert_eq!(rt; sink.len, 0);
+    }
+    Ok(())
+}
+
+#[test]
 fn stops_at_each_refused_request(rt: HostRuntime) -> Result<(), Fail> {
     for granted in 0..100u64 {
         let memory = Refusing::new(rt.alloc(), granted);
         let mut sink = Sink::new();
-        let answer = run_in(&memory, &mut Source::new(INPUT), &mut sink, Options::off());
+        let answer = run(&memory, &mut Source::new(INPUT), &mut sink, Options::off());
         if answer == Ok(false) {
             assert_eq!(rt; sink.written(), OUTPUT);
             assert!(rt; granted >= 2, "{granted}");

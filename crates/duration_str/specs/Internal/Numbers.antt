@@ -1,0 +1,14 @@
+-- Numbers and values below 2^64, as the code passes them on.
+use Rattle.std.specs.Prelude.{ℕ, ◌*◌, Option, Some, None, Result, Ok, Err, if◌then◌else◌}
+use Rattle.duration_str.specs.declared.fault.Cause.{Cause}
+use Rattle.duration_str.specs.declared.fault.Cause.TheVariants.{NumberTooLarge, Overflow}
+use Rattle.duration_str.specs.Value.{fits}
+
+-- `Some` of a number below 2^64, else `None`
+abbrev pub u64_from : ℕ → Option ℕ
+u64_from n = if fits n then Some n else None
+
+-- the value of a term, or its fault, given its unit's length and its number, which is `None` from 2^64 on
+abbrev pub term_value : Option ℕ → Option ℕ → ℕ → Result ℕ Cause
+term_value place None length = Err (NumberTooLarge place)
+term_value place (Some n) length = if fits (n * length) then Ok (n * length) else Err (Overflow place)

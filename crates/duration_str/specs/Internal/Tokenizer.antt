@@ -1,0 +1,61 @@
+-- What the private calls of `Tokens` do: they look ahead, and take the token ahead.
+use Rattle.std.specs.Prelude.{◌≡◌, ℕ, Bool, true, false, List, ◌∷◌, Option, Some, None}
+use Rattle.std.specs.Str.{chars}
+use Rattle.duration_str.specs.declared.token.Sort.{Sort}
+use Rattle.duration_str.specs.declared.token.Sort.TheVariants as sorts
+use Rattle.duration_str.specs.declared.token.Number.{Number}
+use Rattle.duration_str.specs.declared.token.Tokens.{Tokens}
+use Rattle.duration_str.specs.Text.{is_blank, number_of}
+use Rattle.duration_str.specs.Grammar.{Terminal, number, terminal_of}
+use Rattle.duration_str.specs.Tokenizer.{source, options_of, place_of, left}
+use Rattle.duration_str.specs.Internal.Numbers.{u64_from}
+use Rattle.duration_str.specs.Internal.Cutting.{Between}
+use Rattle.duration_str.specs.Internal.Sorts.{sort_at, sort_of}
+
+-- The character ahead starts a token of this sort; `None` at the end.
+abbrev pub IsAhead : Tokens → Option Sort → Type 0
+IsAhead s None = s.head ≡ None
+IsAhead s (Some sort) = (c : ℕ) × (s.head ≡ Some c) × (is_blank c ≡ false) × (sort ≡ sort_at (options_of s) c)
+
+-- The text that is cut and the options stay the same.
+pub record KeepsInput (old new : Tokens) : Type 0 where
+  pub text : source new ≡ source old
+  pub options : options_of new ≡ options_of old
+
+-- Blanks are skipped, so the same tokens are left, and the character ahead starts a token of this sort; `None` at the
+-- end.
+pub record LooksAhead (old new : Tokens) (sort : Option Sort) : Type 0 where
+  pub kept : KeepsInput old new
+  pub same_left : left new ≡ left old
+  pub ahead : IsAhead new sort
+
+-- whether a number is ahead
+abbrev pub is_number : Option Sort → Bool
+is_number (Some sorts.Number) = true
+is_number _ = false
+
+-- The sort is of a single character, neither a digit nor a unit letter.
+abbrev pub IsSign : Sort → Type 0
+IsSign sorts.Number = ⊥
+IsSign sorts.Word = ⊥
+IsSign _ = Unit {0}
+
+-- The first token that is left is taken; it starts at the place and stands for this terminal.
+pub record TakesToken (old new : Tokens) (terminal : Terminal) : Type 0 where
+  pub characters : List ℕ
+  pub kept : KeepsInput old new
+  pub first : left old ≡ record { start = place_of old; characters = characters } ∷ left new
+  pub between : Between (source old) (place_of old) (place_of new) characters
+  pub is_terminal : terminal ≡ terminal_of (options_of old) characters
+
+-- the number, or `None` from 2^64 on
+abbrev pub u64_of : Number → Option ℕ
+u64_of n = u64_from (number_of (chars n.digits.now))
+
+-- The first token that is left is taken; it is a number, and `value` is `None` from 2^64 on.
+abbrev pub TakesNumber : Tokens → Tokens → Option ℕ → Type 0
+TakesNumber old new value = (n : ℕ) × TakesToken old new (number n) × (value ≡ u64_from n)
+
+-- The first token that is left is taken; it stands for a terminal of the sort ahead.
+abbrev pub TakesSign : Tokens → Tokens → Type 0
+TakesSign old new = (sort : Sort) → IsAhead old (Some sort) → (terminal : Terminal) × TakesToken old new terminal × (sort ≡ sort_of terminal)

@@ -1,0 +1,16 @@
+-- The code's table of units.
+use denote.Ref.{Bor}
+use Rattle.std.specs.Prelude.{◌≡◌, encode_utf8_all, ℕ, List, map}
+use Rattle.duration_str.specs.declared.unit.Row.{Row}
+use Rattle.duration_str.specs.Units.{UnitRow}
+
+-- The texts are the names in UTF-8.
+abbrev pub AreEncoded : List (Bor (List ℕ)) → List (List ℕ) → Type 0
+AreEncoded texts names = map (λ text. text.now) texts ≡ map encode_utf8_all names
+
+-- The code's row has the contents of this row.
+pub record IsRow (row : Row) (r : UnitRow) : Type 0 where
+  pub nanos : row.nanos ≡ r.nanos
+  pub printed : row.printed.now ≡ encode_utf8_all r.printed
+  pub names : AreEncoded row.names.now r.names
+  pub chinese : AreEncoded row.chinese.now r.chinese

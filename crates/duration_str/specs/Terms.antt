@@ -1,0 +1,15 @@
+-- One term by itself: its value or its fault.
+use Rattle.std.specs.Prelude.{ℕ, Option, Some, None, Result, Ok, Err}
+use Rattle.duration_str.specs.declared.unit.TimeUnit.{TimeUnit}
+use Rattle.duration_str.specs.declared.operator.CondUnit.TheVariants.{Plus}
+use Rattle.duration_str.specs.declared.fault.Cause.{Cause}
+use Rattle.duration_str.specs.Units.{nanos_of}
+use Rattle.duration_str.specs.Value.{Term, value_of_term, term_fault}
+
+-- the term of a number and a unit
+abbrev pub term_of : ℕ → TimeUnit → Term
+term_of n u = record { operator = Plus; number = n; length = nanos_of u }
+
+-- the value of a term, or its fault
+abbrev pub term_answer : Option ℕ → Term → Result ℕ Cause
+term_answer place t = elim (term_fault place t) [ None ↦ Ok (value_of_term t) | Some cause ↦ Err cause ]
