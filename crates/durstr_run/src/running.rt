@@ -15,6 +15,10 @@ use std::io::{Read, Write};
 /// a space and the printed duration, for a refused one its fault text, and for one that is not UTF-8 a text that says
 /// so.
 ///
+/// The clauses speak of the bytes that the reader tells it has left (`R.remaining`) and the writer tells it holds
+/// (`W.contents`). For a caller with a `&[u8]` and a `Vec<u8>` they say exactly which bytes were read and added.
+/// Standard input and output, files and sockets tell nothing, and of these the clauses say nothing.
+///
 /// `Ok(true)`: every line was accepted. `Ok(false)`: some line was not. In both cases everything was written and
 /// flushed. The input may have 1,048,576 bytes. After `Read`, `TooLong` and `Memory` nothing was written, after `Write`
 /// a beginning of the output.
