@@ -218,11 +218,13 @@ pub trait HumanFormat {
     fn is_printable(&self) -> bool
         ensures { IsTrue result ↔ (pos 0 ≤ℤ nanos self.now) };
 
-    /// The printed text of a length that is not negative. Fails only if memory is refused.
+    /// The printed text of a length that is not negative, at most `MAX_PRINTED_LEN` bytes. Fails only if memory is
+    /// refused.
     fn human_format<A: Allocator>(&self, alloc: A) -> Result<String<A>, AllocError>
         requires { pos 0 ≤ℤ nanos self.now }
-        ensures { IfOk result (λ text.
-            IsPrinted (unsigned_abs (nanos self.now)) (chars (string_bytes text))) };
+        ensures text { IfOk result (λ text.
+            IsPrinted (unsigned_abs (nanos self.now)) (chars (string_bytes text))) }
+        ensures short { IfOk result (λ text. length (string_bytes text) ≤ MAX_PRINTED_LEN) };
 }
 
 impl HumanFormat for Duration {

@@ -60,8 +60,8 @@ pub fn parse_with(input: &str, o: Options) -> Result<Duration, Fault<'_>>
 
 /// What `parse_with` returns, and how many times a character of the text was looked at.
 ///
-/// No character is looked at twice. All characters of an accepted text are looked at, and at least those before the
-/// place of a syntax fault.
+/// There are at most as many looks as characters; reading again what was cut off is no look. All characters of an
+/// accepted text are looked at, and at least those before the place of a syntax fault.
 pub fn parse_looked(input: &str, o: Options) -> (Result<Duration, Fault<'_>>, u64)
     ensures parsed { ParsesText o input.now result.0 }
     ensures once { result.1 ≤ length (chars input.now) }
@@ -99,8 +99,9 @@ fn read_text(input: &str, o: Options) -> (Result<Duration, Fault<'_>>, u64)
 impl<'a> Fault<'a> {
     /// The token that starts at the place of a syntax fault, as a slice of the text.
     ///
-    /// The text is cut under these options. `None` if no token starts at the place, which with the options of the
-    /// reading is the end of the text, and for every other cause.
+    /// The text is cut under these options. `None` if no token starts at the place, and for every other cause. With the
+    /// options of the reading that is only at the end of the text, since a syntax fault is placed at the start of a
+    /// token if one is left.
     ///
     /// ```text
     /// parse("3ms-2ms").unwrap_err().found(Options::off()) // Some("-")

@@ -1,8 +1,9 @@
 //! The units of time and their names, with the options and operators that are used with them.
-ghost use Rattle.std.specs.Prelude.{◌≡◌, None, Some, encode_utf8_all};
+ghost use Rattle.std.specs.Prelude.{◌≡◌, None, Some, true, encode_utf8_all};
 ghost use Rattle.std.specs.List.{list_any};
 ghost use Rattle.std.specs.Str.{bytes_eq, chars};
 ghost use Rattle.duration_str.specs.Text.{IsNumber, number_of};
+ghost use Rattle.duration_str.specs.declared.unit.TimeUnit.{TimeUnit};
 ghost use Rattle.duration_str.specs.Units.{nanos_of, row_of, comparison_form, is_named, unit_of_word};
 ghost use Rattle.duration_str.specs.Internal.UnitTable.{IsRow};
 ghost use Rattle.duration_str.specs.Internal.Numbers.{term_value};
@@ -144,12 +145,14 @@ impl TimeUnit {
         }
     }
 
-    /// The unit that a word names under these options, if any.
+    /// The unit that a word names under these options, if any. No word names two units.
     ///
     /// `from_word("Minutes", Options::off())` is `Some(TimeUnit::Minute)`.
     #[tactic(auto, using(crate::proofs::Characters::UnitLemmas::named_unit))]
     pub fn from_word(word: &str, o: Options) -> Option<TimeUnit>
-        ensures { result ≡ unit_of_word o (chars word.now) }
+        ensures unit { result ≡ unit_of_word o (chars word.now) }
+        ensures only { (unit : TimeUnit) → is_named o (chars word.now) unit ≡ true
+            → unit_of_word o (chars word.now) ≡ Some unit }
     {
         if let Some(unit) = likely_unit(word)
             && unit.is_named(word, o)
