@@ -1,36 +1,39 @@
 // Durations in configuration values.
-use crate::vectors::{AFTER_NUMBER, START};
+ghost use Rattle.std.specs.Option.{ForSome};
+ghost use Rattle.std.specs.Str.{IsCharBoundary};
+ghost use Rattle.duration_str.specs.Faults.{place_of};
+
+use crate::vectors::{AFTER_NUMBER, START, syntax};
 use duration_str::{
-    Cause, Expected, Fault, Options, deserialize_duration, deserialize_duration_chrono,
-    deserialize_duration_time, deserialize_option_duration, deserialize_option_duration_chrono,
-    deserialize_option_duration_time, parse,
+    Cause, Fault, deserialize_duration, deserialize_duration_chrono, deserialize_duration_time,
+    deserialize_option_duration, deserialize_option_duration_chrono,
+    deserialize_option_duration_time,
 };
 use jiff::SignedDuration;
 use serde_json::{Value, json};
-use std::process::Abort;
+use std::alloc::{AllocError, Global};
 use std::test::Fail;
 use std::time::Duration;
 
-/// Each call reads the required value as this many seconds.
-fn assert_required_is(rt: &impl Abort, value: &Value, secs: u32) {
-    let plain = Duration::from_secs(u64::from(secs));
-    assert_eq!(rt; deserialize_duration::<Duration>(value), Ok(plain));
-    let signed = SignedDuration::from_secs(i64::from(secs));
-    assert_eq!(rt; deserialize_duration::<SignedDuration>(value), Ok(signed));
-    assert_eq!(rt; deserialize_duration_chrono(value), Ok(signed));
-    assert_eq!(rt; deserialize_duration_time(value), Ok(signed));
+/// Whether each call reads the required value as this many seconds.
+fn is_required(value: &Value, secs: u32) -> bool {
+    let signed = Ok(SignedDuration::from_secs(i64::from(secs)));
+    deserialize_duration::<Duration>(value) == Ok(Duration::from_secs(u64::from(secs)))
+        && deserialize_duration::<SignedDuration>(value) == signed
+        && deserialize_duration_chrono(value) == signed
+        && deserialize_duration_time(value) == signed
 }
 
-/// Each call refuses the required value with this fault.
-fn assert_required_fails(rt: &impl Abort, value: &Value, fault: Fault<'_>) {
-    assert_eq!(rt; deserialize_duration::<Duration>(value), Err(fault));
-    assert_eq!(rt; deserialize_duration::<SignedDuration>(value), Err(fault));
-    assert_eq!(rt; deserialize_duration_chrono(value), Err(fault));
-    assert_eq!(rt; deserialize_duration_time(value), Err(fault));
+/// Whether each call refuses the required value with this fault.
+fn is_refused(value: &Value, fault: Fault<'_>) -> bool {
+    deserialize_duration::<Duration>(value) == Err(fault)
+        && deserialize_duration::<SignedDuration>(value) == Err(fault)
+        && deserialize_duration_chrono(value) == Err(fault)
+        && deserialize_duration_time(value) == Err(fault)
 }
 
-/// Each call reads the optional value as this many seconds, or as `None`.
-fn assert_optional_is(rt: &impl Abort, value: &Value, secs: Option<u32>) {
+/// Whether each call reads the optional value as this many seconds, or as `None`.
+fn is_optional(value: &Value, secs: Option<u32>) -> bool {
     let (plain, signed) = match secs {
         Some(secs) => (
             Some(Duration::from_secs(u64::from(secs))),
@@ -38,26 +41,20 @@ fn assert_optional_is(rt: &impl Abort, value: &Value, secs: Option<u32>) {
         ),
         None => (None, None),
     };
-    assert_eq!(rt; deserialize_duration::<Option<Duration>>(value), Ok(plain));
-    assert_eq!(rt; deserialize_option_duration(value), Ok(plain));
-    assert_eq!(rt;
-        deserialize_duration::<Option<SignedDuration>>(value),
-        Ok(signed)
-    );
-    assert_eq!(rt; deserialize_option_duration_chrono(value), Ok(signed));
-    assert_eq!(rt; deserialize_option_duration_time(value), Ok(signed));
+    deserialize_duration::<Option<Duration>>(value) == Ok(plain)
+        && deserialize_option_duration(value) == Ok(plain)
+        && deserialize_duration::<Option<SignedDuration>>(value) == Ok(signed)
+        && deserialize_option_duration_chrono(value) == Ok(signed)
+        && deserialize_option_duration_time(value) == Ok(signed)
 }
 
-/// Each call refuses the optional value with this fault.
-fn assert_optional_fails(rt: &impl Abort, value: &Value, fault: Fault<'_>) {
-    assert_eq!(rt; deserialize_duration::<Option<Duration>>(value), Err(fault));
-    assert_eq!(rt; deserialize_option_duration(value), Err(fault));
-    assert_eq!(rt;
-        deserialize_duration::<Option<SignedDuration>>(value),
-        Err(fault)
-    );
-    assert_eq!(rt; deserialize_option_duration_chrono(value), Err(fault));
-    assert_eq!(rt; deserialize_option_duration_time(value), Err(fault));
+/// Whether each call refuses the optional value with this fault.
+fn is_refused_if_there(value: &Value, fault: Fault<'_>) -> bool {
+    deserialize_duration::<Option<Duration>>(value) == Err(fault)
+        && deserialize_option_duration(value) == Err(fault)
+        && deserialize_duration::<Option<SignedDuration>>(value) == Err(fault)
+        && deserialize_option_duration_chrono(value) == Err(fault)
+        && deserialize_option_duration_time(value) == Err(fault)
 }
 
 /// The fault of a value that is not a text.
@@ -79,8 +76,10 @@ fn reads_texts(rt: HostRuntime) -> Result<(), Fail> {
     ];
     for (text, secs) in rows {
         let value = json!(in rt.alloc(); text)?;
-        assert_required_is(&rt, &value, secs);
-        assert_optional_is(&rt, &value, Some(secs));
+        assert!(rt;
+            is_required(&value, secs) && is_optional(&value, Some(secs)),
+            "{text}"
+        );
     }
     Ok(())
 }
@@ -88,13 +87,13 @@ fn reads_texts(rt: HostRuntime) -> Result<(), Fail> {
 #[test]
 fn takes_null_and_the_empty_text_for_none(rt: HostRuntime) -> Result<(), Fail> {
     let empty = json!(in rt.alloc(); "")?;
-    assert_optional_is(&rt, &empty, None);
-    assert_optional_is(&rt, &Value::Null, None);
+    assert!(rt; is_optional(&empty, None));
+    assert!(rt; is_optional(&Value::Null, None));
     let fault = Fault {
         text: "",
         cause: Cause::Empty,
     };
-    assert_required_fails(&rt, &empty, fault);
+    assert!(rt; is_refused(&empty, fault));
     let config = json!(in rt.alloc(); {"timeout": "30s"})?;
     let missing = match config.get("interval") {
         Some(value) => deserialize_option_duration(value),
@@ -104,43 +103,28 @@ fn takes_null_and_the_empty_text_for_none(rt: HostRuntime) -> Result<(), Fail> {
     Ok(())
 }
 
+/// Whether each call refuses the text, as a required and as an optional value, for this cause.
+fn is_refused_text(alloc: Global, text: &str, cause: Cause) -> Result<bool, AllocError>
+    requires { ForSome (place_of cause) (IsCharBoundary text.now) }
+{
+    let value = json!(in alloc; text)?;
+    let fault = Fault { text, cause };
+    Ok(is_refused(&value, fault) && is_refused_if_there(&value, fault))
+}
+
 #[test]
 fn hands_on_the_fault_of_a_text(rt: HostRuntime) -> Result<(), Fail> {
-    let unknown = json!(in rt.alloc(); "0mxyz")?;
-    let fault = Fault {
-        text: "0mxyz",
-        cause: Cause::Syntax {
-            place: 1,
-            expected: AFTER_NUMBER,
-        },
-    };
-    assert_required_fails(&rt, &unknown, fault);
-    assert_optional_fails(&rt, &unknown, fault);
-    assert_eq!(rt; fault.found(Options::off()), Some("mxyz"));
-    let blank = json!(in rt.alloc(); " ")?;
-    let fault = Fault {
-        text: " ",
-        cause: Cause::Syntax {
-            place: 1,
-            expected: START,
-        },
-    };
-    assert_required_fails(&rt, &blank, fault);
-    assert_optional_fails(&rt, &blank, fault);
-    let product = json!(in rt.alloc(); "580y*2")?;
-    let fault = Fault {
-        text: "580y*2",
-        cause: Cause::Overflow { place: None },
-    };
-    assert_required_fails(&rt, &product, fault);
-    assert_optional_fails(&rt, &product, fault);
+    let alloc = rt.alloc();
+    assert!(rt; is_refused_text(alloc, "0mxyz", syntax(1, AFTER_NUMBER))?);
+    assert!(rt; is_refused_text(alloc, " ", syntax(1, START))?);
+    assert!(rt; is_refused_text(alloc, "580y*2", Cause::Overflow { place: None })?);
     Ok(())
 }
 
 #[test]
 fn refuses_what_is_no_text(rt: HostRuntime) -> Result<(), Fail> {
     let alloc = rt.alloc();
-    assert_required_fails(&rt, &Value::Null, no_text(false));
+    assert!(rt; is_refused(&Value::Null, no_text(false)));
     let values = [
         json!(in alloc; 5)?,
         json!(in alloc; -1)?,
@@ -151,16 +135,11 @@ fn refuses_what_is_no_text(rt: HostRuntime) -> Result<(), Fail> {
         json!(in alloc; {"secs": 1})?,
     ];
     for value in &values {
-        assert_required_fails(&rt, value, no_text(false));
-        assert_optional_fails(&rt, value, no_text(true));
+        assert!(rt; is_refused(value, no_text(false)) && is_refused_if_there(value, no_text(true)));
     }
-    assert_eq!(rt;
-        no_text(false).to_string(alloc)?.as_str(),
-        "expect duration string, e.g: '1min+30'"
-    );
-    assert_eq!(rt;
-        no_text(true).to_string(alloc)?.as_str(),
-        "expect duration string, null, or missing field"
-    );
+    let required = no_text(false).to_string(alloc)?;
+    assert!(rt; required.as_str() == "expect duration string, e.g: '1min+30'");
+    let optional = no_text(true).to_string(alloc)?;
+    assert!(rt; optional.as_str() == "expect duration string, null, or missing field");
     Ok(())
 }

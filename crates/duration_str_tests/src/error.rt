@@ -1,6 +1,6 @@
 // Faults as errors that own their line, with as much memory as they need and with none.
 use crate::refusal::refusal;
-use crate::vectors::OFF;
+use crate::vectors::{OFF, TOO_LARGE};
 use duration_str::{
     DError, Fault, after_naive_date, deserialize_duration, deserialize_option_duration,
 };
@@ -11,15 +11,17 @@ use std::alloc::{AllocError, Global};
 use std::test::Fail;
 use std::time::Duration;
 
-/// Whether the fault becomes `ParseError` with this line by one request for memory, and an error of memory without it.
+/// Whether the fault becomes `ParseError` with this line by one request for memory, and is refused without one.
 fn holds(alloc: Global, fault: Fault<'_>, line: &str) -> Result<bool, AllocError> {
     let memory = Refusing::new(alloc, 1);
     let error = fault.to_derror(&memory)?;
-    Ok(
-        error.to_string(alloc)?.as_str() == line
-            && matches!(error, DError::ParseError(text) if text.as_str() == line)
-            && fault.to_derror(&Refusing::new(alloc, 0)).is_err(),
-    )
+    let printed = error.to_string(alloc)?;
+    let is_held = match error {
+        DError::ParseError(text) => text.as_str() == line,
+        DError::OverflowError => false,
+    };
+    let is_refused = fault.to_derror(&Refusing::new(alloc, 0)).is_err();
+    Ok(is_held && is_refused && printed.as_str() == line)
 }
 
 #[test]
@@ -27,30 +29,34 @@ fn holds_the_line(rt: HostRuntime) -> Result<(), Fail> {
     for (text, line) in [
         ("", "Empty input"),
         ("1m+", "expected number"),
-        (
-            "18446744073709551616",
-            "number too large to fit in target type",
-        ),
+        ("18446744073709551616", TOO_LARGE),
         ("1m 2s*3", "not support '+' with '*' calculate"),
     ] {
         assert!(rt; holds(rt.alloc(), refusal(&rt, text, OFF), line)?, "{line}");
     }
-    let out = after_naive_date(Timestamp::MAX, "1ns").err();
     let number = json!(in rt.alloc(); 5)?;
-    for (fault, line) in [
-        (out, "date out of range"),
-        (
-            deserialize_duration::<Duration>(&Value::Null).err(),
-            "expect duration string, e.g: '1min+30'",
-        ),
-        (
-            deserialize_option_duration(&number).err(),
-            "expect duration string, null, or missing field",
-        ),
-    ] {
-        let fault = fault.expect(&rt, "a refusal");
-        assert!(rt; holds(rt.alloc(), fault, line)?, "{line}");
-    }
+    let Err(out) = after_naive_date(Timestamp::MAX, "1ns") else {
+        assert!(rt; false, "a date after the last one");
+        return Ok(());
+    };
+    assert!(rt; holds(rt.alloc(), out, "date out of range")?);
+    let Err(required) = deserialize_duration::<Duration>(&Value::Null) else {
+        assert!(rt; false, "null is read");
+        return Ok(());
+    };
+    assert!(rt;
+        holds(
+            rt.alloc(),
+            required,
+            "expect duration string, e.g: '1min+30'"
+        )?
+    );
+    let Err(optional) = deserialize_option_duration(&number) else {
+        assert!(rt; false, "a number is read");
+        return Ok(());
+    };
+    let line = "expect duration string, null, or missing field";
+    assert!(rt; holds(rt.alloc(), optional, line)?);
     Ok(())
 }
 

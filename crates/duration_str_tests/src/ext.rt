@@ -1,7 +1,7 @@
 // Printed texts.
 use duration_str::{HumanFormat, MAX_PRINTED_LEN, write_human};
 use refusing::Refusing;
-use std::alloc::{AllocError, Allocator};
+use std::alloc::{AllocError, Allocator, Global};
 use std::test::Fail;
 use std::time::Duration;
 
@@ -26,9 +26,27 @@ fn formatted<T: HumanFormat, A: Allocator>(
     }
 }
 
+/// Whether the duration prints as this text, into a buffer and into a string.
+fn prints(alloc: Global, d: Duration, text: &str) -> Result<bool, AllocError> {
+    match formatted(&d, alloc)? {
+        Some(copied) => Ok(write_human(&d, &mut [0xff; 64]) == text && copied.as_str() == text),
+        None => Ok(false),
+    }
+}
+
+/// The first of these texts that its duration does not print as.
+fn first_misprinted<'a>(rows: &[(Duration, &'a str)]) -> Option<&'a str> {
+    let mut buffer = [0; 64];
+    for (d, text) in rows.iter().copied() {
+        if write_human(&d, &mut buffer) != text {
+            return Some(text);
+        }
+    }
+    None
+}
+
 #[test]
 fn prints_the_greatest_counts(rt: HostRuntime) -> Result<(), Fail> {
-    let mut buffer = [0xff; 64];
     for (d, text) in [
         (Duration::new(193, 29_000_000), "3min 13s 29ms"),
         (Duration::new(93_784, 0), "1d 2h 3min 4s"),
@@ -55,9 +73,7 @@ fn prints_the_greatest_counts(rt: HostRuntime) -> Result<(), Fail> {
         ),
         (longest(), LONGEST_TEXT),
     ] {
-        assert_eq!(rt; write_human(&d, &mut buffer), text);
-        let copied = formatted(&d, rt.alloc())?.expect(&rt, "a printable duration");
-        assert_eq!(rt; copied.as_str(), text);
+        assert!(rt; prints(rt.alloc(), d, text)?, "{text}");
     }
     assert_eq!(rt; LONGEST_TEXT.len(), MAX_PRINTED_LEN);
     Ok(())
@@ -65,22 +81,20 @@ fn prints_the_greatest_counts(rt: HostRuntime) -> Result<(), Fail> {
 
 #[test]
 fn prints_each_unit_alone(rt: HostRuntime) {
-    let mut buffer = [0; 64];
-    for (secs, nanos, text) in [
-        (365 * DAY, 0, "1y"),
-        (91 * DAY, 0, "1q"),
-        (30 * DAY, 0, "1mon"),
-        (7 * DAY, 0, "1w"),
-        (DAY, 0, "1d"),
-        (3_600, 0, "1h"),
-        (60, 0, "1min"),
-        (1, 0, "1s"),
-        (0, 1_000_000, "1ms"),
-        (0, 1_000, "1µs"),
-        (0, 1, "1ns"),
-    ] {
-        assert_eq!(rt; write_human(&Duration::new(secs, nanos), &mut buffer), text);
-    }
+    let rows = [
+        (Duration::from_secs(365 * DAY), "1y"),
+        (Duration::from_secs(91 * DAY), "1q"),
+        (Duration::from_secs(30 * DAY), "1mon"),
+        (Duration::from_secs(7 * DAY), "1w"),
+        (Duration::from_secs(DAY), "1d"),
+        (Duration::from_secs(3_600), "1h"),
+        (Duration::from_secs(60), "1min"),
+        (Duration::from_secs(1), "1s"),
+        (Duration::from_nanos(1_000_000), "1ms"),
+        (Duration::from_nanos(1_000), "1µs"),
+        (Duration::from_nanos(1), "1ns"),
+    ];
+    assert_eq!(rt; first_misprinted(&rows), None);
 }
 
 /// Years of every length, printed.
@@ -110,36 +124,44 @@ const YEARS: [(u64, &str); 23] = [
     (584_942_417_355, "584942417355y"),
 ];
 
+/// The first of these texts that does not print its years.
+fn first_misprinted_years<'a>(rows: &[(u64, &'a str)]) -> Option<&'a str> {
+    for (years, text) in rows.iter().copied() {
+        let Some(secs) = years.checked_mul(365 * DAY) else {
+            return Some(text);
+        };
+        if write_human(&Duration::from_secs(secs), &mut [0; 64]) != text {
+            return Some(text);
+        }
+    }
+    None
+}
+
 #[test]
 fn prints_counts_of_every_length(rt: HostRuntime) {
-    let mut buffer = [0; 64];
-    for (nanos, text) in [
-        (9, "9ns"),
-        (10, "10ns"),
-        (99, "99ns"),
-        (100, "100ns"),
-        (999, "999ns"),
-    ] {
-        assert_eq!(rt; write_human(&Duration::new(0, nanos), &mut buffer), text);
-    }
-    for (years, text) in YEARS {
-        let secs = years
-            .checked_mul(365 * DAY)
-            .expect(&rt, "below 2^64 seconds");
-        assert_eq!(rt; write_human(&Duration::new(secs, 0), &mut buffer), text);
-    }
+    let nanos = [
+        (Duration::from_nanos(9), "9ns"),
+        (Duration::from_nanos(10), "10ns"),
+        (Duration::from_nanos(99), "99ns"),
+        (Duration::from_nanos(100), "100ns"),
+        (Duration::from_nanos(999), "999ns"),
+    ];
+    assert_eq!(rt; first_misprinted(&nanos), None);
+    assert_eq!(rt; first_misprinted_years(&YEARS), None);
 }
 
 #[test]
 fn leaves_nothing_of_an_earlier_text(rt: HostRuntime) {
-    let mut buffer = [0xff; 64];
-    assert_eq!(rt; write_human(&Duration::ZERO, &mut buffer), "0s");
-    assert_eq!(rt;
-        write_human(&Duration::MAX, &mut buffer),
-        "584942417355y 3w 5d 7h 15s 999ms 999µs 999ns"
-    );
-    assert_eq!(rt; write_human(&longest(), &mut buffer), LONGEST_TEXT);
-    assert_eq!(rt; write_human(&Duration::ZERO, &mut buffer), "0s");
+    let rows = [
+        (Duration::ZERO, "0s"),
+        (
+            Duration::MAX,
+            "584942417355y 3w 5d 7h 15s 999ms 999µs 999ns",
+        ),
+        (longest(), LONGEST_TEXT),
+        (Duration::ZERO, "0s"),
+    ];
+    assert_eq!(rt; first_misprinted(&rows), None);
 }
 
 #[test]

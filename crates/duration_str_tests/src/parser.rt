@@ -1,12 +1,11 @@
 // What texts are read as, and why they are refused.
 use crate::vectors::{
     AFTER_NUMBER, AFTER_UNIT, ALONE_AFTER_NUMBER, ALONE_AFTER_UNIT, CN_UNIT, LOWERCASE, NO_CALC,
-    START, VALUES, syntax,
+    OFF, START, VALUES, syntax,
 };
 use duration_str::{
-    Cause, CondUnit, Options, parse, parse_looked, parse_std, parse_with, write_human,
+    Cause, CondUnit, Expected, Options, parse, parse_looked, parse_std, parse_with, write_human,
 };
-use std::process::Abort;
 use std::test::Fail;
 use std::time::Duration;
 
@@ -28,39 +27,77 @@ const STAR_THEN_PLUS: Cause = Cause::Mixed {
     later: CondUnit::Plus,
 };
 
-/// The text is read as this many nanoseconds.
-fn assert_read(rt: &impl Abort, text: &str, o: Options, nanos: u64) {
+/// Whether both calls read the text as this many nanoseconds.
+fn is_read(text: &str, o: Options, nanos: u64) -> bool {
     let wanted = Ok(Duration::from_nanos(nanos));
-    assert_eq!(rt; parse_with(text, o), wanted, "{text}");
-    assert_eq!(rt; parse_looked(text, o).0, wanted, "{text}");
+    parse_with(text, o) == wanted && parse_looked(text, o).0 == wanted
 }
 
-/// The text is refused for this cause, in a fault that holds it.
-fn assert_refused(rt: &impl Abort, text: &str, o: Options, cause: Cause) {
-    for answer in [parse_with(text, o), parse_looked(text, o).0] {
-        match answer {
-            Ok(_) => assert!(rt; false, "{text} is read"),
-            Err(fault) => {
-                assert_eq!(rt; fault.cause(), cause, "{text}");
-                assert_eq!(rt; fault.text(), text);
-            }
+/// Whether both calls refuse the text for this cause, in a fault that holds it.
+fn is_refused(text: &str, o: Options, cause: Cause) -> bool {
+    match parse_with(text, o) {
+        Ok(_) => false,
+        Err(fault) => {
+            fault.cause() == cause && fault.text() == text && parse_looked(text, o).0 == Err(fault)
         }
     }
 }
 
+/// The first of these texts that is not read as its nanoseconds.
+fn first_misread<'a>(rows: &[(&'a str, u64)], o: Options) -> Option<&'a str> {
+    for (text, nanos) in rows.iter().copied() {
+        if !is_read(text, o, nanos) {
+            return Some(text);
+        }
+    }
+    None
+}
+
+/// The first of these texts that is not refused for its cause.
+fn first_misjudged<'a>(rows: &[(&'a str, Cause)], o: Options) -> Option<&'a str> {
+    for (text, cause) in rows.iter().copied() {
+        if !is_refused(text, o, cause) {
+            return Some(text);
+        }
+    }
+    None
+}
+
+/// The first of these texts that is not refused at its place, where this could stand.
+fn first_misplaced<'a>(
+    rows: &[(&'a str, usize)],
+    o: Options,
+    expected: Expected,
+) -> Option<&'a str> {
+    for (text, place) in rows.iter().copied() {
+        if !is_refused(text, o, syntax(place, expected)) {
+            return Some(text);
+        }
+    }
+    None
+}
+
+/// Whether the reading makes at least and at most this many looks.
+fn is_looked(text: &str, least: u64, most: u64) -> bool {
+    let (_, looked) = parse_looked(text, OFF);
+    least <= looked && looked <= most
+}
+
 #[test]
 fn reads_values(rt: HostRuntime) {
+    assert_eq!(rt; first_misread(&VALUES, OFF), None);
     for (text, nanos) in VALUES {
         let wanted = Ok(Duration::from_nanos(nanos));
-        assert_eq!(rt; parse(text), wanted, "{text}");
-        assert_eq!(rt; parse_std(text), wanted, "{text}");
-        assert_read(&rt, text, Options::off(), nanos);
+        assert!(rt;
+            parse(text) == wanted && parse_std(text) == wanted,
+            "{text}"
+        );
     }
 }
 
 #[test]
 fn reads_numbers_blanks_and_capitals(rt: HostRuntime) {
-    for (text, nanos) in [
+    let rows = [
         ("\t1m\r\n", 60_000_000_000),
         ("1m 2", 62_000_000_000),
         ("00000000000000000000000001", 1_000_000_000),
@@ -71,33 +108,36 @@ fn reads_numbers_blanks_and_capitals(rt: HostRuntime) {
         ("1q", 7_862_400_000_000_000),
         ("2 Quarters", 15_724_800_000_000_000),
         ("1\u{b5}S", 1_000),
-    ] {
-        assert_read(&rt, text, Options::off(), nanos);
-    }
+    ];
+    assert_eq!(rt; first_misread(&rows, OFF), None);
 }
 
 #[test]
 fn multiplies_step_by_step(rt: HostRuntime) {
-    let off = Options::off();
-    assert_read(&rt, "2*3", off, 6_000_000_000);
-    assert_read(&rt, "580y*2*0", off, 0);
-    assert_refused(&rt, "0*580y*2", off, OVERFLOW);
-    assert_read(&rt, "1ns*1ns*1000000000", off, 1);
-    assert_read(&rt, "1000000000*1ns*1ns", off, 0);
-    // The last factor makes 2^48 nanoseconds into 2^64, or into 2^48 less.
-    assert_refused(&rt, "0*281474976710656ns*65536", off, OVERFLOW);
-    assert_read(&rt, "0*281474976710656ns*65535", off, 0);
+    let read = [
+        ("2*3", 6_000_000_000),
+        ("580y*2*0", 0),
+        ("1ns*1ns*1000000000", 1),
+        ("1000000000*1ns*1ns", 0),
+        // The last factor would make 2^48 nanoseconds into 2^64 with one more.
+        ("0*281474976710656ns*65535", 0),
+    ];
+    assert_eq!(rt; first_misread(&read, OFF), None);
+    let refused = [
+        ("0*580y*2", OVERFLOW),
+        ("0*281474976710656ns*65536", OVERFLOW),
+    ];
+    assert_eq!(rt; first_misjudged(&refused, OFF), None);
 }
 
 #[test]
 fn reads_what_is_printed_below_the_limit(rt: HostRuntime) {
-    let off = Options::off();
     let last = "584y 3q 2mon 1w 3d 23h 34min 33s 709ms 551µs 615ns";
-    assert_read(&rt, last, off, 18_446_744_073_709_551_615);
+    assert!(rt; is_read(last, OFF, 18_446_744_073_709_551_615));
     let next = "584y 3q 2mon 1w 3d 23h 34min 33s 709ms 551µs 616ns";
-    assert_refused(&rt, next, off, OVERFLOW);
+    assert!(rt; is_refused(next, OFF, OVERFLOW));
     let greatest = "584942417355y 3w 5d 7h 15s 999ms 999µs 999ns";
-    assert_refused(&rt, greatest, off, FIRST_OVERFLOW);
+    assert!(rt; is_refused(greatest, OFF, FIRST_OVERFLOW));
 }
 
 #[test]
@@ -110,46 +150,47 @@ fn refuses_what_is_printed_at_the_limit(rt: HostRuntime) {
             lowercase: choice & 2 != 0,
             cn_unit: choice & 4 != 0,
         };
-        assert_refused(&rt, printed, options, OVERFLOW);
+        assert!(rt; is_refused(printed, options, OVERFLOW), "{options:?}");
     }
 }
 
 #[test]
 fn says_what_can_stand_at_the_place(rt: HostRuntime) {
-    for (text, place, expected) in [
-        ("   ", 3, START),
-        ("+1m", 0, START),
-        ("1m+", 3, START),
-        ("1m++2", 3, START),
-        ("1m\n+\nx", 5, START),
-        ("1m*", 3, START),
-        ("580y*2*x", 7, START),
-        ("1 2", 2, AFTER_NUMBER),
-        ("1\n2", 2, AFTER_NUMBER),
-        ("1分", 1, AFTER_NUMBER),
-        ("0mxyz", 1, AFTER_NUMBER),
-        ("1mx", 1, AFTER_NUMBER),
-        ("1qs", 1, AFTER_NUMBER),
-        ("0m+3-5", 4, AFTER_NUMBER),
-        ("1m 3-5", 4, AFTER_NUMBER),
-        ("1m*2 3", 5, AFTER_NUMBER),
-        ("99999999999999999999 2", 21, AFTER_NUMBER),
-        ("1\u{3bc}s", 1, AFTER_NUMBER),
-        ("1\u{b5} s", 1, AFTER_NUMBER),
-        (" 1分+   31秒 + 2毫秒+  3纳秒  ", 2, AFTER_NUMBER),
-        ("3ms-2ms", 3, AFTER_UNIT),
-        ("1\u{b5}s 分", 5, AFTER_UNIT),
-    ] {
-        assert_refused(&rt, text, Options::off(), syntax(place, expected));
-    }
-    for text in ["1M", "1Q"] {
-        assert_refused(&rt, text, LOWERCASE, syntax(1, AFTER_NUMBER));
-    }
+    let start = [
+        ("   ", 3),
+        ("+1m", 0),
+        ("1m+", 3),
+        ("1m++2", 3),
+        ("1m\n+\nx", 5),
+        ("1m*", 3),
+        ("580y*2*x", 7),
+    ];
+    assert_eq!(rt; first_misplaced(&start, OFF, START), None);
+    let after_number = [
+        ("1 2", 2),
+        ("1\n2", 2),
+        ("1分", 1),
+        ("0mxyz", 1),
+        ("1mx", 1),
+        ("1qs", 1),
+        ("0m+3-5", 4),
+        ("1m 3-5", 4),
+        ("1m*2 3", 5),
+        ("99999999999999999999 2", 21),
+        ("1\u{3bc}s", 1),
+        ("1\u{b5} s", 1),
+        (" 1分+   31秒 + 2毫秒+  3纳秒  ", 2),
+    ];
+    assert_eq!(rt; first_misplaced(&after_number, OFF, AFTER_NUMBER), None);
+    let after_unit = [("3ms-2ms", 3), ("1\u{b5}s 分", 5)];
+    assert_eq!(rt; first_misplaced(&after_unit, OFF, AFTER_UNIT), None);
+    let capitals = [("1M", 1), ("1Q", 1)];
+    assert_eq!(rt; first_misplaced(&capitals, LOWERCASE, AFTER_NUMBER), None);
 }
 
 #[test]
 fn refuses_the_first_term_first_and_then_the_syntax(rt: HostRuntime) {
-    for (text, cause) in [
+    let rows = [
         ("", Cause::Empty),
         ("99999999999999999999y-", FIRST_NUMBER_TOO_LARGE),
         ("99999999999999999999*2", FIRST_NUMBER_TOO_LARGE),
@@ -165,27 +206,25 @@ fn refuses_the_first_term_first_and_then_the_syntax(rt: HostRuntime) {
         ("1s + 99999999999999999999", NUMBER_TOO_LARGE),
         ("580y 580y 99999999999999999999", NUMBER_TOO_LARGE),
         ("1s 580y 580y 99999999999999999999", OVERFLOW),
-    ] {
-        assert_refused(&rt, text, Options::off(), cause);
-    }
+    ];
+    assert_eq!(rt; first_misjudged(&rows, OFF), None);
 }
 
 #[test]
 fn refuses_mixed_operators(rt: HostRuntime) {
-    for (text, cause) in [
+    let rows = [
         ("1m 2s*3", PLUS_THEN_STAR),
         ("1m*2s 3", STAR_THEN_PLUS),
         ("1m*2*3+4", STAR_THEN_PLUS),
         ("1m+99999999999999999999*2", NUMBER_TOO_LARGE),
         ("1m+2*99999999999999999999", PLUS_THEN_STAR),
-    ] {
-        assert_refused(&rt, text, Options::off(), cause);
-    }
+    ];
+    assert_eq!(rt; first_misjudged(&rows, OFF), None);
 }
 
 #[test]
 fn sums_without_operators(rt: HostRuntime) {
-    for (text, nanos) in [
+    let rows = [
         ("3m 13s 29ms", 193_029_000_000),
         ("1m31", 91_000_000_000),
         ("1m31s", 91_000_000_000),
@@ -199,14 +238,13 @@ fn sums_without_operators(rt: HostRuntime) {
         ("1m84s ", 144_000_000_000),
         ("1m84 ", 144_000_000_000),
         ("2h 37m", 9_420_000_000_000),
-    ] {
-        assert_read(&rt, text, NO_CALC, nanos);
-    }
+    ];
+    assert_eq!(rt; first_misread(&rows, NO_CALC), None);
 }
 
 #[test]
 fn refuses_what_stands_first_without_operators(rt: HostRuntime) {
-    for (text, cause) in [
+    let rows = [
         ("", Cause::Empty),
         ("   ", syntax(3, START)),
         ("1 2", syntax(2, ALONE_AFTER_NUMBER)),
@@ -226,9 +264,8 @@ fn refuses_what_stands_first_without_operators(rt: HostRuntime) {
         ("580y 580y-", OVERFLOW),
         ("580y 580y x", OVERFLOW),
         ("580y 580y 1 2", OVERFLOW),
-    ] {
-        assert_refused(&rt, text, NO_CALC, cause);
-    }
+    ];
+    assert_eq!(rt; first_misjudged(&rows, NO_CALC), None);
 }
 
 #[test]
@@ -237,7 +274,7 @@ fn reads_chinese_units(rt: HostRuntime) {
         no_calc: true,
         ..CN_UNIT
     };
-    for (text, nanos) in [
+    let units = [
         ("1年", 31_536_000_000_000_000),
         ("1月", 2_592_000_000_000_000),
         ("1周", 604_800_000_000_000),
@@ -251,24 +288,22 @@ fn reads_chinese_units(rt: HostRuntime) {
         ("1纳秒", 1),
         ("1年 2日", 31_708_800_000_000_000),
         ("1分31秒", 91_000_000_000),
-    ] {
-        assert_read(&rt, text, CN_UNIT, nanos);
-        assert_read(&rt, text, both, nanos);
-    }
-    for (text, nanos) in [
+    ];
+    assert_eq!(rt; first_misread(&units, CN_UNIT), None);
+    assert_eq!(rt; first_misread(&units, both), None);
+    let sums = [
         ("1分+31秒", 91_000_000_000),
         ("1分+31秒+2毫秒+3纳秒", 91_002_000_003),
         (" 1分+   31秒 + 2毫秒+  3纳秒  ", 91_002_000_003),
-    ] {
-        assert_read(&rt, text, CN_UNIT, nanos);
-    }
-    assert_refused(&rt, "1分s", CN_UNIT, syntax(1, AFTER_NUMBER));
+    ];
+    assert_eq!(rt; first_misread(&sums, CN_UNIT), None);
+    assert!(rt; is_refused("1分s", CN_UNIT, syntax(1, AFTER_NUMBER)));
 }
 
 #[test]
 fn refuses_many_blanks(rt: HostRuntime) -> Result<(), Fail> {
     let blanks = " ".repeat(rt.alloc(), 1_048_576)?;
-    assert_refused(&rt, &blanks, Options::off(), syntax(1_048_576, START));
+    assert!(rt; is_refused(&blanks, OFF, syntax(1_048_576, START)));
     Ok(())
 }
 
@@ -286,24 +321,21 @@ fn counts_looks(rt: HostRuntime) {
         ("99999999999999999999y-", 0, 22),
         ("1m 2s*3", 0, 7),
     ] {
-        let (_, looked) = parse_looked(text, Options::off());
-        assert!(rt; least <= looked, "{looked} looks at {text}");
-        assert!(rt; looked <= most, "{looked} looks at {text}");
+        assert!(rt; is_looked(text, least, most), "{text}");
     }
 }
 
 #[test]
 fn keeps_the_laws(rt: HostRuntime) {
-    for (one, other, nanos) in [
-        ("1ns+30s", "30s+1ns", 30_000_000_001),
-        ("1m*10ms", "10ms*1m", 600_000_000),
-        ("3 m31 s0 ns", "3m31s0ns", 211_000_000_000),
-    ] {
-        let wanted = Ok(Duration::from_nanos(nanos));
-        assert_eq!(rt; parse(one), wanted, "{one}");
-        assert_eq!(rt; parse(other), wanted, "{other}");
-    }
-    let wanted = Ok(Duration::from_secs(9_420));
-    assert_eq!(rt; parse("2h 37m"), wanted);
-    assert_eq!(rt; parse_with("2h 37m", NO_CALC), wanted);
+    let rows = [
+        ("1ns+30s", 30_000_000_001),
+        ("30s+1ns", 30_000_000_001),
+        ("1m*10ms", 600_000_000),
+        ("10ms*1m", 600_000_000),
+        ("3 m31 s0 ns", 211_000_000_000),
+        ("3m31s0ns", 211_000_000_000),
+        ("2h 37m", 9_420_000_000_000),
+    ];
+    assert_eq!(rt; first_misread(&rows, OFF), None);
+    assert!(rt; is_read("2h 37m", NO_CALC, 9_420_000_000_000));
 }

@@ -6,6 +6,7 @@ ghost use Rattle.duration_str.specs.Text.{is_digit};
 
 use crate::vectors::{CN_UNIT, LOWERCASE, NO_CALC};
 use duration_str::{Cause, CondUnit, Options, TimeUnit};
+use std::alloc::{AllocError, Global};
 use std::test::Fail;
 
 /// Each unit with its length in nanoseconds, its printed name, its names, and those that `cn_unit` adds.
@@ -93,52 +94,67 @@ fn turns_options_off(rt: HostRuntime) {
     assert_eq!(rt; Options::off(), off);
 }
 
+/// The first of these words that is not read as the unit under these options.
+fn first_misread<'a>(words: &'a str, unit: Option<TimeUnit>, o: Options) -> Option<&'a str> {
+    for word in words.split_whitespace() {
+        if TimeUnit::from_word(word, o) != unit {
+            return Some(word);
+        }
+    }
+    None
+}
+
+/// The first name that is not its unit's under these options, or that is without `cn_unit` and should not be.
+fn first_misnamed(o: Options) -> Option<&'static str> {
+    for (unit, _, _, names, chinese) in TABLE {
+        let with_option = if o.cn_unit { Some(unit) } else { None };
+        if let Some(name) = first_misread(names, Some(unit), o) {
+            return Some(name);
+        }
+        if let Some(name) = first_misread(chinese, with_option, o) {
+            return Some(name);
+        }
+    }
+    None
+}
+
+/// Whether the unit has this length in nanoseconds, and prints as this name.
+fn is_unit(alloc: Global, unit: TimeUnit, nanos: u64, name: &str) -> Result<bool, AllocError> {
+    Ok(unit.nanos() == nanos && unit.to_string(alloc)?.as_str() == name)
+}
+
 #[test]
 fn measures_and_prints_units(rt: HostRuntime) -> Result<(), Fail> {
-    for (unit, nanos, printed, _, _) in TABLE {
-        assert_eq!(rt; unit.nanos(), nanos, "{printed}");
-        assert_eq!(rt; unit.to_string(rt.alloc())?.as_str(), printed);
+    for (unit, nanos, name, _, _) in TABLE {
+        assert!(rt; is_unit(rt.alloc(), unit, nanos, name)?, "{name}");
     }
-    assert_eq!(rt; TimeUnit::default(), TimeUnit::Second);
+    assert!(rt; TimeUnit::default() == TimeUnit::Second);
     Ok(())
 }
 
 #[test]
 fn knows_the_names(rt: HostRuntime) {
-    for (unit, _, _, names, chinese) in TABLE {
-        for name in names.split(' ') {
-            for o in [Options::off(), NO_CALC, LOWERCASE, CN_UNIT] {
-                assert_eq!(rt; TimeUnit::from_word(name, o), Some(unit), "{name}");
-            }
-        }
-        for name in chinese.split_whitespace() {
-            assert_eq!(rt; TimeUnit::from_word(name, CN_UNIT), Some(unit), "{name}");
-            assert_eq!(rt; TimeUnit::from_word(name, Options::off()), None, "{name}");
-        }
-    }
+    assert_eq!(rt; first_misnamed(Options::off()), None);
+    assert_eq!(rt; first_misnamed(NO_CALC), None);
+    assert_eq!(rt; first_misnamed(LOWERCASE), None);
+    assert_eq!(rt; first_misnamed(CN_UNIT), None);
 }
 
 #[test]
 fn folds_ascii_capitals_alone(rt: HostRuntime) {
-    for (word, unit) in [
-        ("M", TimeUnit::Minute),
+    for (words, unit) in [
+        ("M mINUTES", TimeUnit::Minute),
         ("MS", TimeUnit::MilliSecond),
         ("Hours", TimeUnit::Hour),
-        ("mINUTES", TimeUnit::Minute),
         ("\u{b5}S", TimeUnit::MicroSecond),
-        ("Q", TimeUnit::Quarter),
-        ("Quarters", TimeUnit::Quarter),
+        ("Q Quarters", TimeUnit::Quarter),
     ] {
-        assert_eq!(rt;
-            TimeUnit::from_word(word, Options::off()),
-            Some(unit),
-            "{word}"
-        );
-        assert_eq!(rt; TimeUnit::from_word(word, LOWERCASE), None, "{word}");
+        let folded = first_misread(words, Some(unit), Options::off());
+        let unfolded = first_misread(words, None, LOWERCASE);
+        assert!(rt; folded.is_none() && unfolded.is_none(), "{words}");
     }
-    for word in ["wee\u{212a}", "\u{17f}", "\u{39c}s", "\u{3bc}s"] {
-        assert_eq!(rt; TimeUnit::from_word(word, Options::off()), None, "{word}");
-    }
+    let others = "wee\u{212a} \u{17f} \u{39c}s \u{3bc}s";
+    assert_eq!(rt; first_misread(others, None, Options::off()), None);
 }
 
 #[test]
@@ -146,9 +162,10 @@ fn knows_no_other_word(rt: HostRuntime) {
     for word in [
         "nys", "qs", "", "mxyz", "\u{b5}", " m", "m ", "分s", "秒秒", "毫", "1m",
     ] {
-        for o in [Options::off(), CN_UNIT] {
-            assert_eq!(rt; TimeUnit::from_word(word, o), None, "{word}");
-        }
+        let (off, chinese) = (Options::off(), CN_UNIT);
+        let is_known = TimeUnit::from_word(word, off).is_some()
+            || TimeUnit::from_word(word, chinese).is_some();
+        assert!(rt; !is_known, "{word}");
     }
 }
 
@@ -220,14 +237,14 @@ const LAST_VALUES: [(TimeUnit, &str, u64, &str); 10] = [
 
 #[test]
 fn values_digits_up_to_the_limit(rt: HostRuntime) {
-    for (unit, nanos, printed, _, _) in TABLE {
-        assert_eq!(rt; value_of(unit, "0"), Some(Ok(0)), "{printed}");
-        assert_eq!(rt; value_of(unit, "1"), Some(Ok(nanos)), "{printed}");
+    for (unit, nanos, name, _, _) in TABLE {
+        let (zero, one) = (value_of(unit, "0"), value_of(unit, "1"));
+        assert!(rt; zero == Some(Ok(0)) && one == Some(Ok(nanos)), "{name}");
     }
     let overflow = Some(Err(Cause::Overflow { place: None }));
     for (unit, last, value, next) in LAST_VALUES {
-        assert_eq!(rt; value_of(unit, last), Some(Ok(value)), "{last}");
-        assert_eq!(rt; value_of(unit, next), overflow, "{next}");
+        let is_last = value_of(unit, last) == Some(Ok(value));
+        assert!(rt; is_last && value_of(unit, next) == overflow, "{last}");
     }
 }
 
@@ -259,18 +276,21 @@ fn values_numbers_of_any_length(rt: HostRuntime) {
         ),
         (TimeUnit::NanoSecond, "00018446744073709551616", too_large),
     ] {
-        assert_eq!(rt; value_of(unit, number), Some(value), "{number}");
+        assert!(rt; value_of(unit, number) == Some(value), "{number}");
     }
 }
 
 #[test]
 fn knows_and_prints_operators(rt: HostRuntime) -> Result<(), Fail> {
-    for (c, operator, printed) in [('+', CondUnit::Plus, "+"), ('*', CondUnit::Star, "*")] {
-        assert_eq!(rt; CondUnit::from_char(c), Some(operator));
-        assert_eq!(rt; operator.to_string(rt.alloc())?.as_str(), printed);
+    for (c, operator, sign) in [('+', CondUnit::Plus, "+"), ('*', CondUnit::Star, "*")] {
+        let printed = operator.to_string(rt.alloc())?;
+        assert!(rt;
+            CondUnit::from_char(c) == Some(operator) && printed.as_str() == sign,
+            "{sign}"
+        );
     }
     for c in ['-', '/', '1', 'm', ' ', '\u{ff0b}'] {
-        assert_eq!(rt; CondUnit::from_char(c), None, "{c}");
+        assert!(rt; CondUnit::from_char(c).is_none(), "{c}");
     }
     Ok(())
 }

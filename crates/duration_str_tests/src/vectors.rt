@@ -89,6 +89,9 @@ pub const OPERATORS: &str = "expected ['+', '*']";
 /// The line where only a number could stand.
 pub const NUMBER: &str = "expected number";
 
+/// The line of a number from 2^64 on.
+pub const TOO_LARGE: &str = "number too large to fit in target type";
+
 /// Texts and the nanoseconds that they are read as with all options off.
 pub const VALUES: [(&str, u64); 65] = [
     ("0", 0),

@@ -5,7 +5,7 @@ use duration_str::{
     write_human,
 };
 use duration_str_tests::vectors::{
-    AFTER_NUMBER, AFTER_UNIT, CN_UNIT, NUMBER, OFF, OPERATORS, START, UNITS, syntax,
+    AFTER_NUMBER, AFTER_UNIT, CN_UNIT, NUMBER, OFF, OPERATORS, START, TOO_LARGE, UNITS, syntax,
 };
 use durstr_run::run;
 use jiff::Timestamp;
@@ -88,8 +88,7 @@ fn refuses_long_texts(rt: HostRuntime) -> Result<(), Fail> {
     }
     let number = "9".repeat(rt.alloc(), 100_000)?;
     let too_large = Cause::NumberTooLarge { place: Some(0) };
-    let line = "number too large to fit in target type";
-    assert_refused(&rt, rt.alloc(), &number, OFF, too_large, line)?;
+    assert_refused(&rt, rt.alloc(), &number, OFF, too_large, TOO_LARGE)?;
     Ok(())
 }
 
