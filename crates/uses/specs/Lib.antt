@@ -1,3 +1,6 @@
 pub mod Accepted
-pub mod Table
+pub mod Cache
+pub mod Portable
+pub mod Product
 pub mod Settings
+pub mod Table

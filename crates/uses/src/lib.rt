@@ -2,15 +2,23 @@
 #![tactic(auto)]
 
 pub mod accepted;
+pub mod cache;
+pub mod portable;
+pub mod product;
 pub mod retention;
 pub mod scheduler;
 pub mod settings;
+pub mod stored;
 pub mod table;
 
 pub use accepted::Accepted;
+pub use cache::{canonical, read_back, share_entry};
+pub use portable::is_portable;
+pub use product::{Part, scaled};
 pub use retention::Period;
 pub use scheduler::{is_outdated, remaining, show};
 pub use settings::{Settings, SettingsFault};
+pub use stored::{Stored, stored_duration};
 pub use table::{Key, Table};
 
 #[cfg(test)]

@@ -1,6 +1,6 @@
 // Texts that are read once, added and looked up.
 use super::*;
-use duration_str::{Cause, parse};
+use duration_str::{Cause, Options, TimeUnit, parse};
 use std::process::Abort;
 use std::time::Duration;
 
@@ -54,4 +54,94 @@ fn looks_up_without_reading(rt: HostRuntime) {
         let fault = Table::read(connect, idle, session).err();
         assert_eq!(rt; fault.map(|fault| fault.text()), Some(refused));
     }
+}
+
+#[test]
+fn has_one_key_for_each_value(rt: HostRuntime) {
+    let mut buffer = [0u8; 64];
+    for text in ["30 + 1m", "45s*2", "1Min 30", "90000ms"] {
+        assert_eq!(rt; canonical(text, &mut buffer).ok(), Some("1min 30s"));
+        assert_eq!(rt; share_entry(text, "90s").ok(), Some(true));
+    }
+    assert_eq!(rt; share_entry("90s", "91s").ok(), Some(false));
+    let refused = share_entry("90s", "90x").err().map(|fault| fault.text());
+    assert_eq!(rt; refused, Some("90x"));
+    let refused = canonical("580y*2", &mut buffer).err();
+    assert!(rt; refused.is_some_and(|fault| fault.cause() == Cause::Overflow { place: None }));
+}
+
+#[test]
+fn knows_what_is_read_back(rt: HostRuntime) {
+    let last = Duration::new(18_446_744_073, 709_551_615);
+    let year = 31_536_000;
+    for (length, answer) in [
+        (last, Ok(last)),
+        (
+            Duration::new(18_446_744_073, 709_551_616),
+            Err(Cause::Overflow { place: None }),
+        ),
+        (
+            Duration::new(585 * year - 1, 999_999_999),
+            Err(Cause::Overflow { place: None }),
+        ),
+        (
+            Duration::from_secs(585 * year),
+            Err(Cause::Overflow { place: Some(0) }),
+        ),
+    ] {
+        let mut buffer = [0u8; 64];
+        let printed = duration_str::write_human(&length, &mut buffer);
+        assert_eq!(rt; read_back(length), answer);
+        assert_eq!(rt; parse(printed).map_err(|fault| fault.cause()), answer);
+    }
+}
+
+#[test]
+fn scales_in_either_order(rt: HostRuntime) {
+    let part = |number, unit| Part { number, unit };
+    let product = Some(Duration::from_millis(600));
+    let rate = part(10, TimeUnit::MilliSecond);
+    let length = part(1, TimeUnit::Minute);
+    assert_eq!(rt; scaled(rate, length), product);
+    assert_eq!(rt; scaled(length, rate), product);
+    assert_eq!(rt; parse("10ms*1m").ok(), product);
+    assert_eq!(rt; parse("1m * 10 ms").ok(), product);
+    let twice = part(2, TimeUnit::Second);
+    assert_eq!(rt;
+        scaled(part(292, TimeUnit::Year), twice),
+        Some(Duration::from_secs(584 * 31_536_000))
+    );
+    assert_eq!(rt; scaled(part(293, TimeUnit::Year), twice), None);
+    assert_eq!(rt;
+        scaled(part(585, TimeUnit::Year), part(0, TimeUnit::Second)),
+        None
+    );
+}
+
+#[test]
+fn knows_what_is_portable(rt: HostRuntime) {
+    for (text, portable) in [
+        ("2h 37m", true),
+        ("1µs 3", true),
+        ("2h + 37m", false),
+        ("2h*3", false),
+        ("2H 37m", false),
+        ("2天", false),
+    ] {
+        assert_eq!(rt; is_portable(text), portable);
+    }
+}
+
+#[test]
+fn keeps_what_was_stored(rt: HostRuntime) {
+    let stored = Stored::read("30", "1y 2mon", Options::off());
+    assert_eq!(rt;
+        stored.ok(),
+        Some(Stored {
+            timeout: Duration::from_secs(30),
+            retention: Duration::from_secs(425 * 86_400)
+        })
+    );
+    let refused = Stored::read("1s", "580y*2", Options::off()).err();
+    assert!(rt; refused.is_some_and(|fault| fault.cause() == Cause::Overflow { place: None }));
 }
