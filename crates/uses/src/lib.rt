@@ -2,6 +2,7 @@
 #![tactic(auto)]
 
 pub mod accepted;
+pub mod blanks;
 pub mod cache;
 pub mod portable;
 pub mod product;
@@ -9,9 +10,11 @@ pub mod retention;
 pub mod scheduler;
 pub mod settings;
 pub mod stored;
+pub mod sum;
 pub mod table;
 
 pub use accepted::Accepted;
+pub use blanks::compact;
 pub use cache::{canonical, read_back, share_entry};
 pub use portable::is_portable;
 pub use product::{Part, scaled};
@@ -19,6 +22,7 @@ pub use retention::Period;
 pub use scheduler::{is_outdated, remaining, show};
 pub use settings::{Settings, SettingsFault};
 pub use stored::{Stored, stored_duration};
+pub use sum::longest_first;
 pub use table::{Key, Table};
 
 #[cfg(test)]

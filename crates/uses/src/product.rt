@@ -29,6 +29,13 @@ impl Part {
     {
         self.number.checked_mul(self.unit.nanos())
     }
+
+    /// The length in nanoseconds, whatever it is.
+    pub(crate) fn wide_nanos(self) -> u128
+        ensures { result ≡ nanos_in self }
+    {
+        self.number as u128 * self.unit.nanos() as u128
+    }
 }
 
 ghost use Rattle.uses.specs.Product.{MultipliesInEitherOrder};

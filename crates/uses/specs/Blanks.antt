@@ -1,0 +1,8 @@
+-- Texts without blanks.
+use Rattle.std.specs.Prelude.{ℕ, List, not}
+use Rattle.std.specs.List.{filter}
+use Rattle.duration_str.specs.Text.{is_blank}
+
+-- the bytes, or the characters, that are no blanks
+abbrev pub without_blanks : List ℕ → List ℕ
+without_blanks text = filter (λ c. not (is_blank c)) text
