@@ -1,6 +1,6 @@
 -- Sentences whose blanks are left out.
-use Rattle.std.proofs.Common.{◌≡◌, ℕ, suc, ◌+◌, ◌<◌, ◌≤◌, ◌⊎◌, inl, inr, Bool, true, false, not, ◌&&◌, ◌==◌, List, [], ◌∷◌, ◌++◌, length, get_or, take, drop, cond, length-append, IsTrue, IsUtf8, if◌then◌else◌, arith, refl, sym, ap, ap₂, subst, ◌∙◌, append-nil}
-use Rattle.std.proofs.lemmas.Bool.{true≢false, and_from, and_parts, cases_lt, not_from_false}
+use Rattle.std.proofs.Common.{◌≡◌, ℕ, suc, ◌+◌, ◌<◌, ◌≤◌, ◌⊎◌, inl, inr, Bool, true, false, not, List, [], ◌∷◌, ◌++◌, length, get_or, take, drop, cond, length-append, IsTrue, IsUtf8, if◌then◌else◌, arith, refl, sym, ap, ap₂, subst, ◌∙◌, append-nil}
+use Rattle.std.proofs.lemmas.Bool.{and_from, and_parts, cases_lt, not_from_false}
 use Rattle.std.proofs.lemmas.Bool.Decides.{nat_tests}
 use Rattle.std.proofs.lemmas.List.Elements.{filter-append, filter_more}
 use Rattle.std.proofs.lemmas.List.{take-append-drop}
@@ -57,7 +57,7 @@ tokens_no_blanks o at (c ∷ text) = step (is_blank c) (goes_on o c text) refl (
   where
     step : (blank more : Bool) → is_blank c ≡ blank → HaveNoBlanks (tokens_from o (at + width c) text)
         → HaveNoBlanks (if blank then tokens_from o (at + width c) text else if more then join at c (tokens_from o (at + width c) text)
-            else record { start = at; characters = c ∷ [] } ∷ tokens_from o (at + width c) text)
+        else record { start = at; characters = c ∷ [] } ∷ tokens_from o (at + width c) text)
     step true more e h = h
     step false true e h = joined_no_blanks at c _ e h
     step false false e h = ((and_from _ true (not_from_false _ e) refl), h)

@@ -1,6 +1,7 @@
 pub mod Accepted
 pub mod Blanks
 pub mod Cache
+pub mod Completion
 pub mod Portable
 pub mod Product
 pub mod Settings

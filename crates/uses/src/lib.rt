@@ -4,6 +4,7 @@
 pub mod accepted;
 pub mod blanks;
 pub mod cache;
+pub mod completion;
 pub mod portable;
 pub mod product;
 pub mod retention;
@@ -16,6 +17,7 @@ pub mod table;
 pub use accepted::Accepted;
 pub use blanks::compact;
 pub use cache::{canonical, read_back, share_entry};
+pub use completion::{Completion, complete, is_offered};
 pub use portable::is_portable;
 pub use product::{Part, scaled};
 pub use retention::Period;

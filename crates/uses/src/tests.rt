@@ -145,3 +145,60 @@ fn keeps_what_was_stored(rt: HostRuntime) {
     let refused = Stored::read("1s", "580y*2", Options::off()).err();
     assert!(rt; refused.is_some_and(|fault| fault.cause() == Cause::Overflow { place: None }));
 }
+
+#[test]
+fn leaves_the_blanks_out(rt: HostRuntime) {
+    for (text, short) in [
+        ("3 m + 31 s", "3m+31s"),
+        (" 1\t\r\n2µs ", "12µs"),
+        ("3m", "3m"),
+        (" ", ""),
+    ] {
+        let mut buffer = [0u8; 8];
+        let end = compact(text, &mut buffer).expect(&rt, "enough room");
+        assert_eq!(rt; &buffer[..end], short.as_bytes());
+        assert_eq!(rt; compact("1 2 3", &mut buffer[..2]), None);
+    }
+    assert_eq!(rt; parse("3 m + 31 s").ok(), parse("3m+31s").ok());
+}
+
+#[test]
+fn sorts_the_longest_first(rt: HostRuntime) {
+    let part = |number, unit| Part { number, unit };
+    let mut parts = [
+        part(29, TimeUnit::MilliSecond),
+        part(3, TimeUnit::Minute),
+        part(13, TimeUnit::Second),
+    ];
+    longest_first(&mut parts);
+    assert_eq!(rt; parts[0], part(3, TimeUnit::Minute));
+    assert_eq!(rt; parts[1], part(13, TimeUnit::Second));
+    assert_eq!(rt; parts[2], part(29, TimeUnit::MilliSecond));
+}
+
+#[test]
+fn offers_what_can_follow(rt: HostRuntime) {
+    let off = Options::off();
+    for (text, place, offered) in [
+        ("1m 3-5", 4, [false, true, true, true]),
+        ("1m+", 3, [true, false, false, false]),
+        ("1m x", 3, [true, false, true, true]),
+    ] {
+        let completion = complete(text, off).expect(&rt, "a syntax fault");
+        let expected = completion.expected;
+        assert_eq!(rt; completion.place, place);
+        for (word, is) in [
+            ("7", offered[0]),
+            ("Minutes", offered[1]),
+            ("*", offered[2]),
+            ("x", false),
+            ("-", false),
+        ] {
+            assert_eq!(rt; is_offered(expected, word, off), is);
+        }
+        assert_eq!(rt; expected.text_end, offered[3]);
+    }
+    for text in ["1m", "580y*2", ""] {
+        assert!(rt; complete(text, off).is_none());
+    }
+}
