@@ -14,13 +14,17 @@ use Rattle.duration_str.specs.Printing.{IsGreatestBreakdown, counts_of, printed_
 abbrev pub canonical_text : ℕ → List ℕ
 canonical_text nanos = printed_counts (counts_of unit_lengths nanos)
 
--- The key is the one text of the value that the text is read as, and is read as this value under every choice of
--- options. No other breakdown of the value begins with larger counts.
+-- The key prints how often each unit goes into what the longer units leave, and no other breakdown of the value begins
+-- with larger counts.
+pub record IsKey (nanos : ℕ) (key : List ℕ) : Type 0 where
+  pub one : key ≡ canonical_text nanos
+  pub greatest : IsGreatestBreakdown unit_lengths nanos (counts_of unit_lengths nanos)
+
+-- The text is read as a value, whose key this is; the key is read as the same value under every choice of options.
 pub record IsCanonical (text key : List ℕ) : Type 0 where
   pub nanos : ℕ
   pub read : IsRead off text nanos
-  pub one : key ≡ canonical_text nanos
-  pub greatest : IsGreatestBreakdown unit_lengths nanos (counts_of unit_lengths nanos)
+  pub is_key : IsKey nanos key
   pub read_back : (o : Options) → IsRead o key nanos
 
 -- The fault is the refusal of this text.

@@ -6,7 +6,7 @@ ghost use Rattle.duration_str.specs.declared.options.Options.{Options as Choice}
 ghost use Rattle.duration_str.specs.Reading.{IsRead, IsRefused};
 ghost use Rattle.duration_str.specs.Printing.{IsPrinted};
 ghost use Rattle.duration_str.specs.Units.{off};
-ghost use Rattle.uses.specs.Cache.{IsCanonical, IsAnswerTo, Refuses};
+ghost use Rattle.uses.specs.Cache.{IsKey, IsCanonical, IsAnswerTo, Refuses};
 
 use duration_str::laws::{equal_texts, greatest_breakdown, one_sentence, reads_back};
 use duration_str::{Cause, Fault, TimeUnit, parse, write_human};
@@ -15,8 +15,18 @@ use std::time::Duration;
 /// The first number of nanoseconds that is not read.
 const LIMIT: u128 = 1 << 64;
 
-/// The canonical text of an expression, in the caller's buffer: that which its value prints as. A cache may use it as
-/// its key.
+/// The key of a duration, in the caller's buffer: its printed text. It is the only text of this duration, and no other
+/// breakdown into units begins with larger counts of the longer ones.
+pub fn key<'b>(length: Duration, buffer: &'b mut [u8; 64]) -> &'b str
+    ensures { IsKey (as_nanos length) (chars result.now) }
+{
+    equal_texts();
+    greatest_breakdown();
+    write_human(&length, buffer)
+}
+
+/// The canonical text of an expression, in the caller's buffer: the key of its value. It is read back as this value
+/// under every choice of options.
 ///
 /// ```text
 /// canonical("30 + 1m", &mut buffer) // Ok("1min 30s")
@@ -26,16 +36,14 @@ pub fn canonical<'a, 'b>(text: &'a str, buffer: &'b mut [u8; 64]) -> Result<&'b 
     ensures key { IfOk result (λ key. IsCanonical (chars text.now) (chars key.now)) }
     ensures fault { IfErr result (Refuses text.now) }
 {
-    equal_texts();
-    greatest_breakdown();
     reads_back();
     match parse(text) {
-        Ok(length) => Ok(write_human(&length, buffer)),
+        Ok(length) => Ok(key(length, buffer)),
         Err(fault) => Err(fault),
     }
 }
 
-/// Whether two expressions share an entry of the cache, since they have one value. Their canonical texts are compared.
+/// Whether two expressions share an entry of the cache, since they have one value. Their keys are compared.
 pub fn share_entry<'a>(text: &'a str, other: &'a str) -> Result<bool, Fault<'a>>
     ensures same { IfOk result (λ same. (m n : ℕ) → IsRead off (chars text.now) m
         → IsRead off (chars other.now) n → (IsTrue same ↔ (m ≡ n))) }
@@ -53,7 +61,7 @@ pub fn share_entry<'a>(text: &'a str, other: &'a str) -> Result<bool, Fault<'a>>
     };
     let mut buffer = [0u8; 64];
     let mut other_buffer = [0u8; 64];
-    Ok(write_human(&length, &mut buffer) == write_human(&other_length, &mut other_buffer))
+    Ok(key(length, &mut buffer) == key(other_length, &mut other_buffer))
 }
 
 /// What reading the printed text of a duration answers under every choice of options. The text is neither made nor
@@ -65,7 +73,8 @@ pub fn share_entry<'a>(text: &'a str, other: &'a str) -> Result<bool, Fault<'a>>
 /// read_back(Duration::MAX)                              // Err, Overflow at 0
 /// ```
 pub fn read_back(d: Duration) -> Result<Duration, Cause>
-    ensures { (o : Choice) (text : List ℕ) → IsPrinted (as_nanos d) text → IsAnswerTo o text result }
+    ensures { (o : Choice) (text : List ℕ) → IsPrinted (as_nanos d) text
+        → IsAnswerTo o text result }
 {
     reads_back();
     let nanos = d.as_nanos();

@@ -16,7 +16,7 @@ pub mod table;
 
 pub use accepted::Accepted;
 pub use blanks::compact;
-pub use cache::{canonical, read_back, share_entry};
+pub use cache::{canonical, key, read_back, share_entry};
 pub use completion::{Completion, complete, is_offered};
 pub use portable::is_portable;
 pub use product::{Part, scaled};

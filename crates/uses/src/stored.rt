@@ -27,7 +27,8 @@ impl Stored {
     /// Stored::read("30", "1y 2mon", Options::off()) // 30 s and 425 days, as before
     /// ```
     pub fn read<'a>(timeout: &'a str, retention: &'a str, o: Options) -> Result<Stored, Fault<'a>>
-        ensures kept { (m n : ℕ) → WasRead o (chars timeout.now) m → WasRead o (chars retention.now) n
+        ensures kept { (m n : ℕ) → WasRead o (chars timeout.now) m
+            → WasRead o (chars retention.now) n
             → IsOkAnd result (λ s. (as_nanos s.timeout ≡ m) × (as_nanos s.retention ≡ n)) }
         ensures refused { (cause : AnyCause) → WasRefused o (chars timeout.now) cause
             → IsErrAnd result (λ f. f.cause ≡ cause) }
