@@ -1,10 +1,11 @@
 -- Sentences whose blanks are left out.
-use Rattle.std.proofs.Common.{◌≡◌, ℕ, suc, ◌+◌, ◌<◌, ◌≤◌, ◌⊎◌, inl, inr, Bool, true, false, not, List, [], ◌∷◌, ◌++◌, length, get_or, take, drop, cond, length-append, IsTrue, IsUtf8, if◌then◌else◌, arith, refl, sym, ap, ap₂, subst, ◌∙◌, append-nil}
+use Rattle.std.proofs.Common.{◌≡◌, ℕ, suc, ◌+◌, ◌<◌, ◌≤◌, ◌⊎◌, inl, inr, Bool, true, false, not, List, [], ◌∷◌, ◌++◌, length, get_or, take, drop, cond, length-append, IsTrue, IsUtf8, if◌then◌else◌, arith, refl, sym, ap, ap₂, subst, ◌∙◌, append-nil, append_assoc}
 use Rattle.std.proofs.lemmas.Bool.{and_from, and_parts, cases_lt, not_from_false}
 use Rattle.std.proofs.lemmas.Bool.Decides.{nat_tests}
 use Rattle.std.proofs.lemmas.List.Elements.{filter-append, filter_more}
 use Rattle.std.proofs.lemmas.List.{take-append-drop}
-use Rattle.std.proofs.lemmas.Str.{encodes-chars, chars-encodes, scalars-chars, encode_ascii, NoCharPasses-byte}
+use Rattle.std.proofs.lemmas.List.Folds.{list_all-append}
+use Rattle.std.proofs.lemmas.Str.{chars-append, encodes-chars, chars-encodes, scalars-chars, encode_ascii, NoCharPasses-byte}
 use lib.Utf8.{encodes, encode, scalars}
 use Rattle.std.specs.List.{list_all, filter}
 use Rattle.std.specs.Str.{chars}
@@ -15,7 +16,7 @@ use Rattle.duration_str.specs.Grammar.{Spells, IsSentenceOf}
 use Rattle.duration_str.specs.Tokens.{Token, goes_on, join, tokens_from, tokens_of, lexemes_of}
 use Rattle.duration_str.specs.Reading.{IsRead, IsRefused}
 use Rattle.duration_str.specs.Laws.{OneSentence, BlanksFree}
-use Rattle.uses.specs.Blanks.{without_blanks}
+use Rattle.uses.specs.Blanks.{without_blanks, line_of}
 
 -- ---- Filters
 
@@ -149,3 +150,25 @@ room_missing bytes i l e =
     let parts : without_blanks bytes ≡ without_blanks (take (i + 1) bytes) ++ without_blanks (drop (i + 1) bytes) =
     ap without_blanks (sym (take-append-drop (i + 1) bytes)) ∙ filter-append keep (take (i + 1) bytes) (drop (i + 1) bytes) in
     omega (arith, ap length more, ap length parts, length-append {A = ℕ})
+
+-- ---- A line feed after a text
+
+spells_line : (lexemes : List (List ℕ)) (text : List ℕ) → Spells lexemes text → Spells lexemes (line_of text)
+spells_line [] text s = list_all-append is_blank text (10 ∷ []) ∙ and_from _ _ s refl
+spells_line (w ∷ lexemes) text s =
+    (s.0, line_of s.1, s.2, ap line_of s.3 ∙ simp append_assoc, spells_line lexemes s.1 s.4)
+
+chars_line : (bytes : List ℕ) → IsUtf8 bytes → chars (line_of bytes) ≡ line_of (chars bytes)
+unfolding chars
+chars_line bytes u = chars-append bytes (10 ∷ []) u
+
+pub value_of_line : BlanksFree → (o : Options) (bytes : List ℕ) (nanos : ℕ) → IsUtf8 bytes → IsRead o (chars bytes) nanos → IsRead o (chars (line_of bytes)) nanos
+value_of_line free o bytes nanos u read =
+    subst (λ (text : List ℕ). IsRead o text nanos) (sym (chars_line bytes u))
+    (free.value o (chars bytes) (line_of (chars bytes)) read.lexemes nanos read.spells (spells_line read.lexemes (chars bytes) read.spells.1) read)
+
+pub cause_of_line : BlanksFree → (o : Options) (bytes : List ℕ) (lexemes : List (List ℕ)) (cause : Cause) → IsUtf8 bytes
+    → IsSentenceOf o lexemes (chars bytes) → IsRefused o (chars bytes) cause → IsRefused o (chars (line_of bytes)) cause
+cause_of_line free o bytes lexemes cause u s refused =
+    subst (λ (text : List ℕ). IsRefused o text cause) (sym (chars_line bytes u))
+    (free.cause o (chars bytes) (line_of (chars bytes)) lexemes cause s (spells_line lexemes (chars bytes) s.1) refused)

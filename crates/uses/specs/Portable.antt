@@ -14,6 +14,10 @@ is_plain c = not (is_operator c) && not (is_ascii_uppercase c) && not (is_chines
 abbrev pub MeansTheSame : List ℕ → Type 0
 MeansTheSame text = (o p : Options) (nanos : ℕ) → IsRead o text nanos → IsRead p text nanos
 
+-- The text has this value under every choice of options.
+abbrev pub IsReadAlways : List ℕ → ℕ → Type 0
+IsReadAlways text nanos = (o : Options) → IsRead o text nanos
+
 -- A cause for which the text is refused under some choice of options is that under every other with the same
 -- `no_calc`.
 abbrev pub IsRefusedTheSame : List ℕ → Type 0

@@ -7,7 +7,7 @@ ghost use Rattle.duration_str.specs.Text.{is_blank};
 ghost use Rattle.duration_str.specs.Grammar.{IsSentenceOf};
 ghost use Rattle.duration_str.specs.Reading.{IsRead, IsRefused};
 ghost use Rattle.duration_str.specs.Buffers.{IsInFront};
-ghost use Rattle.uses.specs.Blanks.{without_blanks};
+ghost use Rattle.uses.specs.Blanks.{without_blanks, line_of};
 
 use duration_str::laws::{blanks_free, one_sentence};
 
@@ -29,6 +29,30 @@ pub fn compact(text: &str, buffer: &mut [u8]) -> Option<usize>
     blanks_free();
     one_sentence();
     copy_without_blanks(text.as_bytes(), buffer)
+}
+
+/// Writes an expression and a line feed to the start of a buffer, and returns their length; `None` if the buffer is too
+/// short. The line is read as the expression, so what reads it need not trim it.
+///
+/// ```text
+/// write_line("1m 30s", &mut buffer) // Some(7): "1m 30s\n"
+/// ```
+pub fn write_line(text: &str, buffer: &mut [u8]) -> Option<usize>
+    ensures bytes { IsInFront (line_of text.now) result buffer.new }
+    ensures value { (o : Choice) (nanos : ℕ) → IsRead o (chars text.now) nanos
+        → IsRead o (chars (line_of text.now)) nanos }
+    ensures cause { (o : Choice) (lexemes : List (List ℕ)) (cause : AnyCause)
+        → IsSentenceOf o lexemes (chars text.now) → IsRefused o (chars text.now) cause
+        → IsRefused o (chars (line_of text.now)) cause }
+{
+    blanks_free();
+    let end = text.len();
+    if end >= buffer.len() {
+        return None;
+    }
+    buffer[..end].copy_from_slice(text.as_bytes());
+    buffer[end] = b'\n';
+    Some(end + 1)
 }
 
 /// Copies the bytes that are no blanks.

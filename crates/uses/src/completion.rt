@@ -1,5 +1,5 @@
 //! What a person may type next.
-ghost use Rattle.std.specs.Prelude.{◌≡◌, ℕ, ◌↔◌, IsTrue, IfSome, IfNone};
+ghost use Rattle.std.specs.Prelude.{◌≡◌, ℕ, IfSome, IfNone};
 ghost use Rattle.std.specs.Str.{chars};
 ghost use Rattle.duration_str.specs.declared.fault.Cause.TheVariants.{Syntax};
 ghost use Rattle.duration_str.specs.declared.fault.Expected.{Expected as Kinds};

@@ -15,12 +15,12 @@ pub mod sum;
 pub mod table;
 
 pub use accepted::Accepted;
-pub use blanks::compact;
+pub use blanks::{compact, write_line};
 pub use cache::{canonical, key, read_back, share_entry};
 pub use completion::{Completion, complete, is_offered};
 pub use portable::is_portable;
 pub use product::{Part, scaled};
-pub use retention::Period;
+pub use retention::{Period, total_of};
 pub use scheduler::{is_outdated, remaining, show};
 pub use settings::{Settings, SettingsFault};
 pub use stored::{Stored, stored_duration};

@@ -1,11 +1,9 @@
 //! Expressions that mean the same under all options.
-ghost use Rattle.std.specs.Prelude.{◌≡◌, ℕ, ◌↔◌, IsTrue};
+ghost use Rattle.std.specs.Prelude.{◌≡◌, ℕ, IsTrue};
 ghost use Rattle.std.specs.List.{list_all};
 ghost use Rattle.std.specs.Str.{chars};
-ghost use Rattle.duration_str.specs.declared.options.Options.{Options as Choice};
 ghost use Rattle.duration_str.specs.Text.{is_chinese};
-ghost use Rattle.duration_str.specs.Reading.{IsRead};
-ghost use Rattle.uses.specs.Portable.{is_plain, MeansTheSame, IsRefusedTheSame};
+ghost use Rattle.uses.specs.Portable.{is_plain, MeansTheSame, IsReadAlways, IsRefusedTheSame};
 
 use duration_str::CondUnit;
 use duration_str::laws::{no_calc_agrees, options_idle};
@@ -21,6 +19,7 @@ use duration_str::laws::{no_calc_agrees, options_idle};
 /// ```
 pub fn is_portable(text: &str) -> bool
     ensures value { IsTrue result → MeansTheSame (chars text.now) }
+    ensures only { (nanos : ℕ) → IsReadAlways (chars text.now) nanos → IsTrue result }
     ensures cause { IsTrue result → IsRefusedTheSame (chars text.now) }
 {
     no_calc_agrees();

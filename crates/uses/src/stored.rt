@@ -1,8 +1,7 @@
 //! Durations that an older version of a program stored as texts.
-ghost use Rattle.std.specs.Prelude.{◌≡◌, ℕ, IsOkAnd, IsErrAnd, IfOk, IfErr};
+ghost use Rattle.std.specs.Prelude.{◌≡◌, ℕ, IsOkAnd, IsErrAnd};
 ghost use Rattle.std.specs.Duration.{as_nanos};
 ghost use Rattle.std.specs.Str.{chars};
-ghost use Rattle.duration_str.specs.Reading.{IsRead};
 ghost use Rattle.duration_str.specs.Older.{WasRead, WasRefused};
 ghost use Rattle.duration_str.specs.declared.fault.Cause.{Cause as AnyCause};
 
