@@ -5,5 +5,6 @@ pub mod Completion
 pub mod Portable
 pub mod Product
 pub mod Settings
+pub mod Stored
 pub mod Sum
 pub mod Table

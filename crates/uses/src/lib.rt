@@ -23,7 +23,7 @@ pub use product::{Part, scaled};
 pub use retention::{Period, total_of};
 pub use scheduler::{is_outdated, remaining, show};
 pub use settings::{Settings, SettingsFault};
-pub use stored::{Stored, stored_duration};
+pub use stored::{Stored, first_unit, stored_duration};
 pub use sum::longest_first;
 pub use table::{Key, Table};
 

@@ -1,12 +1,15 @@
 //! Durations that an older version of a program stored as texts.
-ghost use Rattle.std.specs.Prelude.{◌≡◌, ℕ, IsOkAnd, IsErrAnd};
+ghost use Rattle.std.specs.Prelude.{◌≡◌, ℕ, List, IsOkAnd, IsErrAnd};
 ghost use Rattle.std.specs.Duration.{as_nanos};
 ghost use Rattle.std.specs.Str.{chars};
-ghost use Rattle.duration_str.specs.Older.{WasRead, WasRefused};
+ghost use Rattle.duration_str.specs.Grammar.{Terminal};
+ghost use Rattle.duration_str.specs.Tokenizer.{what_of};
+ghost use Rattle.duration_str.specs.Older.{older_terminals, WasSentenceOf, WasRead, WasRefused};
+ghost use Rattle.uses.specs.Stored.{unit_named, unit_of_first};
 ghost use Rattle.duration_str.specs.declared.fault.Cause.{Cause as AnyCause};
 
 use duration_str::laws::{older_texts, one_sentence};
-use duration_str::{Fault, Options, parse_with};
+use duration_str::{Fault, Options, TimeUnit, Tokens, What, parse_with};
 use std::time::Duration;
 
 /// A configuration that was stored before the quarter was a unit.
@@ -54,4 +57,36 @@ pub fn stored_duration(text: &str, o: Options) -> Result<Duration, Fault<'_>>
     older_texts();
     one_sentence();
     parse_with(text, o)
+}
+
+/// The unit in which the first number of a stored text is written, to show the duration as its author did; `None` if it
+/// is left out. It is the unit that an older version found there.
+///
+/// ```text
+/// first_unit("90 min + 1h", Options::off()) // Some(TimeUnit::Minute)
+/// ```
+pub fn first_unit(text: &str, o: Options) -> Option<TimeUnit>
+    ensures { (lexemes : List (List ℕ)) → WasSentenceOf o lexemes (chars text.now)
+        → result ≡ unit_of_first (older_terminals o lexemes) }
+{
+    older_texts();
+    one_sentence();
+    let mut tokens = Tokens::new(text, o);
+    match tokens.next() {
+        Some(_) => match tokens.next() {
+            Some(token) => unit_named(token.what),
+            None => None,
+        },
+        None => None,
+    }
+}
+
+/// The unit that a token names.
+fn unit_named(what: What) -> Option<TimeUnit>
+    ensures { (terminal : Terminal) → what ≡ what_of terminal → result ≡ unit_named terminal }
+{
+    match what {
+        What::Word(unit) => unit,
+        What::Number | What::Operator(_) | What::Other => None,
+    }
 }

@@ -28,6 +28,20 @@ fn totals_as_the_joined_text_is_read(rt: HostRuntime) {
         Some(seconds)
     );
     assert_eq!(rt; parse("1m 2s+3"), Ok(seconds));
+    let off = Options::off();
+    assert_eq!(rt; total_of("1M 2s", "3", off), Some(seconds));
+    assert_eq!(rt;
+        total_of(
+            "1M 2s",
+            "3",
+            Options {
+                lowercase: true,
+                ..off
+            }
+        ),
+        None
+    );
+    assert_eq!(rt; total_of("1m*2", "3", off), None);
     let long = period(&rt, "580y");
     assert_eq!(rt; long.total(&long), None);
     let refused = parse("580y+580y").err().map(|fault| fault.cause());
@@ -160,6 +174,10 @@ fn leaves_the_blanks_out(rt: HostRuntime) {
         assert_eq!(rt; compact("1 2 3", &mut buffer[..2]), None);
     }
     assert_eq!(rt; parse("3 m + 31 s").ok(), parse("3m+31s").ok());
+    let mut buffer = [0u8; 4];
+    assert_eq!(rt; write_line("90s", &mut buffer), Some(4));
+    assert_eq!(rt; &buffer, b"90s\n");
+    assert_eq!(rt; write_line("900s", &mut buffer), None);
 }
 
 #[test]
@@ -200,5 +218,17 @@ fn offers_what_can_follow(rt: HostRuntime) {
     }
     for text in ["1m", "580y*2", ""] {
         assert!(rt; complete(text, off).is_none());
+    }
+}
+
+#[test]
+fn knows_the_unit_of_a_stored_text(rt: HostRuntime) {
+    for (text, unit) in [
+        ("90 min + 1h", Some(TimeUnit::Minute)),
+        ("2Months", Some(TimeUnit::Month)),
+        ("90 + 1h", None),
+        ("90", None),
+    ] {
+        assert_eq!(rt; first_unit(text, Options::off()), unit);
     }
 }
