@@ -1,2 +1,12 @@
 pub mod AcceptedLemmas
+pub mod BlankLemmas
+pub mod CacheLemmas
+pub mod CompletionLemmas
+pub mod CutLemmas
+pub mod FollowLemmas
+pub mod PortableLemmas
+pub mod ProductLemmas
+pub mod StoredLemmas
+pub mod SumLemmas
+pub mod SyntaxLemmas
 pub mod TextLemmas

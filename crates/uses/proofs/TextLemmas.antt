@@ -18,3 +18,10 @@ differ_by false differ P Q decides is to from = (λ h q. true≢false (sym (deci
 pub differ_by_chars : {m n : ℕ} (a b : List ℕ) (differ : Bool) → IsUtf8 a → IsUtf8 b → differ ≡ not (bytes_eq a b) → (chars a ≡ chars b ↔ m ≡ n) → (IsTrue differ ↔ (m ≢ n))
 differ_by_chars {m} {n} a b differ ua ub is same =
     differ_by (bytes_eq a b) differ (a ≡ b) (m ≡ n) (bytes_eq-Decides a b) is (λ e. same.0 (ap chars e)) (λ e. chars_tell a b ua ub (same.1 e))
+
+-- If the characters of two texts are equal exactly when two numbers are, so are their bytes.
+pub equal_by_chars : {m n : ℕ} (a b : List ℕ) (equal : Bool) → IsUtf8 a → IsUtf8 b → equal ≡ bytes_eq a b → (chars a ≡ chars b ↔ m ≡ n) → (IsTrue equal ↔ m ≡ n)
+equal_by_chars a b equal ua ub is same = (
+  λ h. same.0 (ap chars ((bytes_eq-Decides a b).0 (sym is ∙ h))),
+  λ e. is ∙ (bytes_eq-Decides a b).1 (chars_tell a b ua ub (same.1 e)),
+)

@@ -1,3 +1,10 @@
 pub mod Accepted
-pub mod Table
+pub mod Blanks
+pub mod Cache
+pub mod Completion
+pub mod Portable
+pub mod Product
 pub mod Settings
+pub mod Stored
+pub mod Sum
+pub mod Table

@@ -2,15 +2,29 @@
 #![tactic(auto)]
 
 pub mod accepted;
+pub mod blanks;
+pub mod cache;
+pub mod completion;
+pub mod portable;
+pub mod product;
 pub mod retention;
 pub mod scheduler;
 pub mod settings;
+pub mod stored;
+pub mod sum;
 pub mod table;
 
 pub use accepted::Accepted;
-pub use retention::Period;
+pub use blanks::{compact, write_line};
+pub use cache::{canonical, key, read_back, share_entry};
+pub use completion::{Completion, complete, is_offered};
+pub use portable::is_portable;
+pub use product::{Part, scaled};
+pub use retention::{Period, total_of};
 pub use scheduler::{is_outdated, remaining, show};
 pub use settings::{Settings, SettingsFault};
+pub use stored::{Stored, first_unit, stored_duration};
+pub use sum::longest_first;
 pub use table::{Key, Table};
 
 #[cfg(test)]

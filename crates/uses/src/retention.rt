@@ -1,5 +1,5 @@
 //! How long to keep something for two periods together.
-ghost use Rattle.std.specs.Prelude.{◌≡◌, ◌==◌, ◌++◌, None, not, codes, IfSome, IfNone};
+ghost use Rattle.std.specs.Prelude.{◌≡◌, ℕ, false, ◌==◌, ◌++◌, None, not, codes, IfSome, IfNone};
 ghost use Rattle.std.specs.Duration.{as_nanos};
 ghost use Rattle.std.specs.List.{list_all};
 ghost use Rattle.std.specs.Str.{chars};
@@ -9,7 +9,8 @@ ghost use Rattle.duration_str.specs.Units.{off};
 ghost use Rattle.duration_str.specs.declared.fault.Cause.TheVariants.{Overflow};
 
 use crate::accepted::Accepted;
-use duration_str::laws::sum_of_texts;
+use duration_str::laws::{one_sentence, sum_of_texts};
+use duration_str::{Options, parse_with};
 use std::time::Duration;
 
 /// An accepted text without `*`, to which another one can be added.
@@ -49,6 +50,37 @@ impl<'a> Period<'a> {
             Ok(nanos) => Some(Duration::from_nanos(nanos)),
             Err(_) => None,
         }
+    }
+}
+
+/// The duration that two texts, joined by a plus, are read as under these options; `None` if one of them is refused or
+/// has a `*`, if operators are not read, or if the joined text is refused because the sum is 2^64 nanoseconds or more.
+///
+/// ```text
+/// total_of("1m 2s", "3", Options::off()) // Some(Duration::from_secs(65))
+/// ```
+pub fn total_of(text: &str, other: &str, o: Options) -> Option<Duration>
+    ensures read { IfSome result (λ d. IsRead o
+        (chars text.now ++ codes "+" ++ chars other.now) (as_nanos d)) }
+    ensures refused { IfNone result ((m n : ℕ) → o.no_calc ≡ false
+        → HasNoStar (chars text.now) → HasNoStar (chars other.now)
+        → IsRead o (chars text.now) m → IsRead o (chars other.now) n
+        → IsRefused o (chars text.now ++ codes "+" ++ chars other.now) (Overflow None)) }
+{
+    sum_of_texts();
+    one_sentence();
+    if o.no_calc || !has_no_star(text) || !has_no_star(other) {
+        return None;
+    }
+    let Ok(length) = parse_with(text, o) else {
+        return None;
+    };
+    let Ok(other_length) = parse_with(other, o) else {
+        return None;
+    };
+    match u64::try_from(length.as_nanos() + other_length.as_nanos()) {
+        Ok(nanos) => Some(Duration::from_nanos(nanos)),
+        Err(_) => None,
     }
 }
 

@@ -1,0 +1,19 @@
+use Rattle.std.proofs.Common.{◌≡◌, ℕ, List, [], ◌∷◌, ap, ap₂, sym, ◌∙◌}
+use Rattle.std.specs.Str.{chars}
+use Rattle.duration_str.specs.declared.options.Options.{Options}
+use Rattle.duration_str.specs.Tokens.{Token}
+use Rattle.duration_str.specs.Grammar.{terminal_of}
+use Rattle.duration_str.specs.Tokenizer.{left, token_of, what_of}
+use Rattle.uses.proofs.CompletionLemmas.{tokens_of_lexeme}
+use Rattle.uses.proofs.completion.is_offered.Goals as goal
+
+pub returns-in-Some : goal.returns-in-Some
+returns-in-Some c h =
+    let w : List ℕ = chars c.args.word.now in
+    let only : Token = record { start = 0; characters = w } in
+    let cut = tokens_of_lexeme c.one_sentence.ensures.tokens c.args.o w h in
+    let steps = c.in-Some.ensures.steps in
+    let first : token_of c.in-Some.token ∷ left c.next.new.self ≡ only ∷ [] = sym steps.0 ∙ c.new.ensures.left ∙ cut in
+    let same : token_of c.in-Some.token ≡ only = cc in
+    c.allows.ensures (terminal_of c.args.o w)
+    (steps.3 ∙ ap₂ (λ (o : Options) (cs : List ℕ). what_of (terminal_of o cs)) c.new.ensures.options (ap (λ (token : Token). token.characters) same))

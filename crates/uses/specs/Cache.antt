@@ -1,0 +1,37 @@
+-- The one text of a value, and what printed texts are read as.
+use Rattle.std.specs.Prelude.{◌≡◌, ℕ, List, Result, Ok, Err}
+use Rattle.std.specs.declared.time.Duration.{Duration}
+use Rattle.std.specs.Duration.{as_nanos}
+use Rattle.std.specs.Str.{chars}
+use Rattle.duration_str.specs.declared.options.Options.{Options}
+use Rattle.duration_str.specs.declared.fault.Cause.{Cause}
+use Rattle.duration_str.specs.declared.fault.Fault.{Fault}
+use Rattle.duration_str.specs.Units.{off, unit_lengths}
+use Rattle.duration_str.specs.Reading.{IsRead, IsRefused}
+use Rattle.duration_str.specs.Printing.{IsGreatestBreakdown, counts_of, printed_counts}
+
+-- the text that prints how often each unit goes into what the longer units leave
+abbrev pub canonical_text : ℕ → List ℕ
+canonical_text nanos = printed_counts (counts_of unit_lengths nanos)
+
+-- The key prints how often each unit goes into what the longer units leave, and no other breakdown of the value begins
+-- with larger counts.
+pub record IsKey (nanos : ℕ) (key : List ℕ) : Type 0 where
+  pub one : key ≡ canonical_text nanos
+  pub greatest : IsGreatestBreakdown unit_lengths nanos (counts_of unit_lengths nanos)
+
+-- The text is read as a value, whose key this is; the key is read as the same value under every choice of options.
+pub record IsCanonical (text key : List ℕ) : Type 0 where
+  pub nanos : ℕ
+  pub read : IsRead off text nanos
+  pub is_key : IsKey nanos key
+  pub read_back : (o : Options) → IsRead o key nanos
+
+-- The fault is the refusal of this text.
+abbrev pub Refuses : List ℕ → Fault → Type 0
+Refuses text fault = (fault.text.now ≡ text) × IsRefused off (chars text) fault.cause
+
+-- The text is read as the value in `Ok`, or refused for the cause in `Err`.
+abbrev pub IsAnswerTo : Options → List ℕ → Result Duration Cause → Type 0
+IsAnswerTo o text (Ok d) = IsRead o text (as_nanos d)
+IsAnswerTo o text (Err cause) = IsRefused o text cause

@@ -1,0 +1,27 @@
+-- What can be typed at a place of a text.
+use Rattle.std.specs.Prelude.{◌≡◌, ℕ, List, ◌++◌, ◌↔◌, IsTrue, codes}
+use Rattle.duration_str.specs.declared.options.Options.{Options}
+use Rattle.duration_str.specs.declared.fault.Expected.{Expected}
+use Rattle.duration_str.specs.Text.{byte_len}
+use Rattle.duration_str.specs.Grammar.{IsSentenceOf, terminal_of}
+use Rattle.duration_str.specs.Tokens.{IsLexeme}
+use Rattle.duration_str.specs.Place.{allows}
+
+-- The text is an expression, whatever its value.
+abbrev pub IsExpression : Options → List ℕ → Type 0
+IsExpression o text = (lexemes : List (List ℕ)) × IsSentenceOf o lexemes text
+
+-- Some text after a blank makes an expression of it.
+abbrev pub BeginsExpression : Options → List ℕ → Type 0
+BeginsExpression o text = (more : List ℕ) × IsExpression o (text ++ (codes " " ++ more))
+
+-- `front` is the text up to the place. A number, a word or a sign can be typed there, after a blank, exactly if it is of
+-- an expected kind; and nothing need be typed there exactly if the end is expected.
+pub record IsCompletion (o : Options) (text : List ℕ) (place : ℕ) (expected : Expected) : Type 0 where
+  pub front : List ℕ
+  pub rest : List ℕ
+  pub parts : text ≡ front ++ rest
+  pub ends_at_place : byte_len front ≡ place
+  pub typed : (w : List ℕ) → IsLexeme o w
+      → (BeginsExpression o (front ++ (codes " " ++ w)) ↔ IsTrue (allows expected (terminal_of o w)))
+  pub nothing_more : IsExpression o front ↔ IsTrue expected.text_end

@@ -1,0 +1,27 @@
+-- A number of units, and the texts that multiply two of them.
+use Rattle.std.specs.Prelude.{◌≡◌, ℕ, ◌*◌, List, [], ◌∷◌, map, ◌⊎◌}
+use Rattle.duration_str.specs.declared.options.Options.{Options}
+use Rattle.duration_str.specs.declared.operator.CondUnit.{CondUnit}
+use Rattle.duration_str.specs.declared.operator.CondUnit.TheVariants.{Plus, Star}
+use Rattle.duration_str.specs.Units.{nanos_of}
+use Rattle.duration_str.specs.Grammar.{terminal_of, IsSentenceOf}
+use Rattle.duration_str.specs.Value.{Term, terms_of}
+use Rattle.uses.specs.declared.product.Part.{Part}
+
+-- the length in nanoseconds
+abbrev pub nanos_in : Part → ℕ
+nanos_in part = part.number * nanos_of part.unit
+
+-- the term of a part, after this operator
+abbrev pub term_of_part : CondUnit → Part → Term
+term_of_part op part = record { operator = op; number = part.number; length = nanos_of part.unit }
+
+-- The text is an expression whose terms are these two, joined by `*`.
+pub record Multiplies (o : Options) (first later : Part) (text : List ℕ) : Type 0 where
+  pub lexemes : List (List ℕ)
+  pub spells : IsSentenceOf o lexemes text
+  pub terms : terms_of (map (terminal_of o) lexemes) ≡ term_of_part Plus first ∷ term_of_part Star later ∷ []
+
+-- The same in one order or the other.
+abbrev pub MultipliesInEitherOrder : Options → Part → Part → List ℕ → Type 0
+MultipliesInEitherOrder o rate length text = Multiplies o rate length text ⊎ Multiplies o length rate text

@@ -1,0 +1,15 @@
+-- Texts that add parts.
+use Rattle.std.specs.Prelude.{◌≡◌, ℕ, List, map}
+use Rattle.duration_str.specs.declared.options.Options.{Options}
+use Rattle.duration_str.specs.declared.operator.CondUnit.TheVariants.{Plus}
+use Rattle.duration_str.specs.Grammar.{terminal_of, IsSentenceOf}
+use Rattle.duration_str.specs.Value.{AllPlus, terms_of}
+use Rattle.uses.specs.declared.product.Part.{Part}
+use Rattle.uses.specs.Product.{term_of_part}
+
+-- The text is an expression without `*`, and its terms are these parts, in this order.
+pub record Adds (o : Options) (parts : List Part) (text : List ℕ) : Type 0 where
+  pub lexemes : List (List ℕ)
+  pub spells : IsSentenceOf o lexemes text
+  pub plus : AllPlus (map (terminal_of o) lexemes)
+  pub terms : terms_of (map (terminal_of o) lexemes) ≡ map (term_of_part Plus) parts

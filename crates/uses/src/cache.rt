@@ -1,0 +1,88 @@
+//! The key of a cache: one text for each value.
+ghost use Rattle.std.specs.Prelude.{◌≡◌, ℕ, List, ◌↔◌, IsTrue, IfOk, IfErr, ◌⊎◌};
+ghost use Rattle.std.specs.Duration.{as_nanos};
+ghost use Rattle.std.specs.Str.{chars};
+ghost use Rattle.duration_str.specs.declared.options.Options.{Options as Choice};
+ghost use Rattle.duration_str.specs.Reading.{IsRead};
+ghost use Rattle.duration_str.specs.Printing.{IsPrinted};
+ghost use Rattle.duration_str.specs.Units.{off};
+ghost use Rattle.uses.specs.Cache.{IsKey, IsCanonical, IsAnswerTo, Refuses};
+
+use duration_str::laws::{equal_texts, greatest_breakdown, one_sentence, reads_back};
+use duration_str::{Cause, Fault, TimeUnit, parse, write_human};
+use std::time::Duration;
+
+/// The first number of nanoseconds that is not read.
+const LIMIT: u128 = 1 << 64;
+
+/// The key of a duration, in the caller's buffer: its printed text. It is the only text of this duration, and no other
+/// breakdown into units begins with larger counts of the longer ones.
+pub fn key<'b>(length: Duration, buffer: &'b mut [u8; 64]) -> &'b str
+    ensures { IsKey (as_nanos length) (chars result.now) }
+{
+    equal_texts();
+    greatest_breakdown();
+    write_human(&length, buffer)
+}
+
+/// The canonical text of an expression, in the caller's buffer: the key of its value. It is read back as this value
+/// under every choice of options.
+///
+/// ```text
+/// canonical("30 + 1m", &mut buffer) // Ok("1min 30s")
+/// canonical("45s*2", &mut buffer)   // Ok("1min 30s")
+/// ```
+pub fn canonical<'a, 'b>(text: &'a str, buffer: &'b mut [u8; 64]) -> Result<&'b str, Fault<'a>>
+    ensures key { IfOk result (λ key. IsCanonical (chars text.now) (chars key.now)) }
+    ensures fault { IfErr result (Refuses text.now) }
+{
+    reads_back();
+    match parse(text) {
+        Ok(length) => Ok(key(length, buffer)),
+        Err(fault) => Err(fault),
+    }
+}
+
+/// Whether two expressions share an entry of the cache, since they have one value. Their keys are compared.
+pub fn share_entry<'a>(text: &'a str, other: &'a str) -> Result<bool, Fault<'a>>
+    ensures same { IfOk result (λ same. (m n : ℕ) → IsRead off (chars text.now) m
+        → IsRead off (chars other.now) n → (IsTrue same ↔ (m ≡ n))) }
+    ensures fault { IfErr result (λ f. Refuses text.now f ⊎ Refuses other.now f) }
+{
+    equal_texts();
+    one_sentence();
+    let length = match parse(text) {
+        Ok(length) => length,
+        Err(fault) => return Err(fault),
+    };
+    let other_length = match parse(other) {
+        Ok(length) => length,
+        Err(fault) => return Err(fault),
+    };
+    let mut buffer = [0u8; 64];
+    let mut other_buffer = [0u8; 64];
+    Ok(key(length, &mut buffer) == key(other_length, &mut other_buffer))
+}
+
+/// What reading the printed text of a duration answers under every choice of options. The text is neither made nor
+/// read, so a program can ask before it stores a duration as its text.
+///
+/// ```text
+/// read_back(Duration::new(18_446_744_073, 709_551_615)) // Ok, the same duration
+/// read_back(Duration::new(18_446_744_073, 709_551_616)) // Err, Overflow without a place
+/// read_back(Duration::MAX)                              // Err, Overflow at 0
+/// ```
+pub fn read_back(d: Duration) -> Result<Duration, Cause>
+    ensures { (o : Choice) (text : List ℕ) → IsPrinted (as_nanos d) text
+        → IsAnswerTo o text result }
+{
+    reads_back();
+    let nanos = d.as_nanos();
+    if nanos < LIMIT {
+        return Ok(d);
+    }
+    if nanos < 585 * u128::from(TimeUnit::Year.nanos()) {
+        return Err(Cause::Overflow { place: None });
+    }
+    Err(Cause::Overflow { place: Some(0) })
+}

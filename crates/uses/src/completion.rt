@@ -1,0 +1,78 @@
+//! What a person may type next.
+ghost use Rattle.std.specs.Prelude.{◌≡◌, ℕ, IfSome, IfNone};
+ghost use Rattle.std.specs.Str.{chars};
+ghost use Rattle.duration_str.specs.declared.fault.Cause.TheVariants.{Syntax};
+ghost use Rattle.duration_str.specs.declared.fault.Expected.{Expected as Kinds};
+ghost use Rattle.duration_str.specs.Reading.{IsRefused};
+ghost use Rattle.duration_str.specs.Grammar.{Terminal, terminal_of};
+ghost use Rattle.duration_str.specs.Tokens.{IsLexeme};
+ghost use Rattle.duration_str.specs.Tokenizer.{what_of};
+ghost use Rattle.duration_str.specs.Place.{allows};
+ghost use Rattle.uses.specs.Completion.{IsCompletion};
+
+use duration_str::laws::{one_sentence, place_and_kinds};
+use duration_str::{Cause, Expected, Options, Tokens, What, parse_with};
+
+/// Where a text stops being the beginning of an expression, and what may be typed there.
+#[derive(Clone, Copy, Debug, PartialEq, Eq)]
+pub struct Completion {
+    /// The byte up to which the text is kept.
+    pub place: usize,
+    /// What may be typed after it.
+    pub expected: Expected,
+}
+
+/// What a person may type at the place of a syntax fault; `None` for a text without one. With a number, a unit's name or
+/// an operator of the expected kinds put there, the text up to it begins an expression, and with nothing else; and if
+/// the end is expected, the text up to the place is an expression already.
+///
+/// ```text
+/// complete("1m 3-5", Options::off()) // after `1m 3`: a unit, an operator or nothing more
+/// complete("1m+", Options::off())    // after `1m+`: a number
+/// ```
+pub fn complete(text: &str, o: Options) -> Option<Completion>
+    ensures some { IfSome result (λ c. IsCompletion o (chars text.now) c.place c.expected) }
+    ensures none { IfNone result ((place : ℕ) (expected : Kinds)
+        → IsRefused o (chars text.now) (Syntax place expected) → ⊥) }
+{
+    one_sentence();
+    place_and_kinds();
+    match parse_with(text, o) {
+        Ok(_) => None,
+        Err(fault) => match fault.cause() {
+            Cause::Syntax { place, expected } => Some(Completion { place, expected }),
+            _ => None,
+        },
+    }
+}
+
+/// Whether a number, a word or a sign is of an expected kind, so that an editor may offer it. A word is if it names a
+/// unit under these options.
+///
+/// ```text
+/// // after `1m 3`, in `1m 3-5`
+/// is_offered(expected, "min", Options::off()) // true
+/// is_offered(expected, "7", Options::off())   // false
+/// ```
+pub fn is_offered(expected: Expected, word: &str, o: Options) -> bool
+    ensures { IsLexeme o (chars word.now)
+        → (result ≡ allows expected (terminal_of o (chars word.now))) }
+{
+    one_sentence();
+    match Tokens::new(word, o).next() {
+        Some(token) => allows(expected, token.what),
+        None => false,
+    }
+}
+
+/// Whether a token of this sort is of an expected kind.
+fn allows(expected: Expected, what: What) -> bool
+    ensures { (terminal : Terminal) → what ≡ what_of terminal → result ≡ allows expected terminal }
+{
+    match what {
+        What::Number => expected.number,
+        What::Word(unit) => expected.unit_word && unit.is_some(),
+        What::Operator(_) => expected.operator,
+        What::Other => false,
+    }
+}

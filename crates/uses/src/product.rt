@@ -1,0 +1,68 @@
+//! A rate times a length.
+ghost use Rattle.std.specs.Prelude.{◌≡◌, ℕ, ◌^◌, ◌≤◌, List, IfSome, IfNone};
+ghost use Rattle.std.specs.Duration.{as_nanos};
+ghost use Rattle.duration_str.specs.declared.options.Options.{Options as Choice};
+ghost use Rattle.duration_str.specs.Reading.{IsRead};
+
+use duration_str::TimeUnit;
+use duration_str::laws::two_factors;
+use std::time::Duration;
+
+const NANOS_PER_SECOND: u128 = 1_000_000_000;
+
+/// A number of units, as in `10ms`.
+#[derive(Clone, Copy, Debug, PartialEq, Eq)]
+pub struct Part {
+    /// How many units.
+    pub number: u64,
+    /// The unit.
+    pub unit: TimeUnit,
+}
+
+impl Part {
+    ghost use Rattle.uses.specs.Product.{nanos_in};
+
+    /// The length in nanoseconds; `None` from 2^64 on.
+    pub fn nanos(self) -> Option<u64>
+        ensures some { IfSome result (λ nanos. nanos ≡ nanos_in self) }
+        ensures none { IfNone result (2 ^ 64 ≤ nanos_in self) }
+    {
+        self.number.checked_mul(self.unit.nanos())
+    }
+
+    /// The length in nanoseconds, whatever it is.
+    pub(crate) fn wide_nanos(self) -> u128
+        ensures { result ≡ nanos_in self }
+    {
+        self.number as u128 * self.unit.nanos() as u128
+    }
+}
+
+ghost use Rattle.uses.specs.Product.{MultipliesInEitherOrder};
+
+/// The duration that the product of the two is read as, written in either order and under every choice of options;
+/// `None` if no such text is accepted. So a program can test for an overflow before it makes the text.
+///
+/// ```text
+/// let rate = Part { number: 10, unit: TimeUnit::MilliSecond };
+/// let length = Part { number: 1, unit: TimeUnit::Minute };
+/// scaled(rate, length) // Some(Duration::from_millis(600)), as are `10ms*1m` and `1m * 10 ms`
+/// ```
+pub fn scaled(rate: Part, length: Part) -> Option<Duration>
+    ensures read { IfSome result (λ d. (o : Choice) (text : List ℕ)
+        → MultipliesInEitherOrder o rate length text → IsRead o text (as_nanos d)) }
+    ensures refused { IfNone result ((o : Choice) (text : List ℕ) (nanos : ℕ)
+        → MultipliesInEitherOrder o rate length text → IsRead o text nanos → ⊥) }
+{
+    two_factors();
+    let Some(nanos) = rate.nanos() else {
+        return None;
+    };
+    let Some(other_nanos) = length.nanos() else {
+        return None;
+    };
+    match u64::try_from(nanos as u128 * other_nanos as u128 / NANOS_PER_SECOND) {
+        Ok(product) => Some(Duration::from_nanos(product)),
+        Err(_) => None,
+    }
+}
