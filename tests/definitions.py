@@ -1,4 +1,4 @@
-"""What a text means, as README.md says it, computed the naive way.
+"""What a text means, as docs/GRAMMAR.md and the table of README.md say it, computed the naive way.
 
 This is a second reader, against which `compare` holds the program. It was written from the documents, not from the
 Rattle code, and works in another manner: it tries all the ways to split a text into tokens, and keeps those that are

@@ -1,8 +1,8 @@
 //! Durations as people write them: `3m 13s 29ms` is read as a duration, or refused with a fault that points at its place,
 //! and a duration is printed as `3min 13s 29ms`.
 //!
-//! This crate has the public interface of `duration-str` 0.19.0 from crates.io, over a library whose every answer is proved.
-//! What it adds: [`parse_with`], whose options are chosen at each call and whose [`Fault`] says why and where;
+//! This crate has the public interface of `duration-str` 0.19.0 from crates.io, over a proved library; the crate itself,
+//! which calls it, is tested. What it adds: [`parse_with`], whose options are chosen at each call and whose [`Fault`] says why and where;
 //! [`write_human`], which takes no memory; and `moment_after` and `moment_before` for any moment. Faults' texts are
 //! the proved library's, whose caret stands at the first piece with which no expression goes on.
 //!
