@@ -1,5 +1,5 @@
 -- What callers see of `Tokens`.
-use Rattle.std.specs.Prelude.{◌≡◌, ℕ, ◌+◌, List, length, Option, MatchOption, IfSome, slice_range}
+use Rattle.std.specs.Prelude.{◌≡◌, ℕ, ◌+◌, List, length, Option, IfSome, IfNone, slice_range}
 use Rattle.std.specs.Str.{chars}
 use Rattle.std.specs.Iterator.{YieldsFirstBy}
 use Rattle.duration_str.specs.declared.options.Options.{Options}
@@ -42,10 +42,20 @@ left s = tokens_from s.options s.eye.place (ahead s.eye.text.now s.eye.place)
 abbrev pub token_of : RustToken → Token
 token_of t = record { start = t.start; characters = chars t.text.now }
 
--- The first token that is left is returned, with its sort; it is the text from its start to the new place. If none is
--- left, the whole text is cut. The source and the options stay the same.
-abbrev pub YieldsNextToken : Tokens → Option RustToken → Tokens → Type 0
-YieldsNextToken s r t =
-    YieldsFirstBy token_of left s r t × (source t ≡ source s) × (options_of t ≡ options_of s)
-    × IfSome r (λ x. x.what ≡ what_of (terminal_of (options_of s) (chars x.text.now)))
-    × MatchOption r (place_of t ≡ length (source s)) (λ x. (place_of t ≡ x.start + length x.text.now) × (x.text.now ≡ slice_range (source s) x.start (place_of t)))
+-- The text that is cut and the options stay the same.
+pub record KeepsInput (old new : Tokens) : Type 0 where
+  pub text : source new ≡ source old
+  pub options : options_of new ≡ options_of old
+
+-- The token is the text from its start to the place, with its sort.
+pub record IsCutAt (o : Options) (text : List ℕ) (place : ℕ) (token : RustToken) : Type 0 where
+  pub end : place ≡ token.start + length token.text.now
+  pub slice : token.text.now ≡ slice_range text token.start place
+  pub sort : token.what ≡ what_of (terminal_of o (chars token.text.now))
+
+-- The first token that is left is returned; if none is left, the whole text is cut.
+pub record YieldsNextToken (old : Tokens) (result : Option RustToken) (new : Tokens) : Type 0 where
+  pub first : YieldsFirstBy token_of left old result new
+  pub kept : KeepsInput old new
+  pub token : IfSome result (IsCutAt (options_of old) (source old) (place_of new))
+  pub end : IfNone result (place_of new ≡ length (source old))

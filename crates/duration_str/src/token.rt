@@ -110,8 +110,8 @@ pub struct Tokens<'a> {
 
 impl<'a> Tokens<'a> {
     ghost use Rattle.duration_str.specs.Grammar.{Terminal, word};
-    ghost use Rattle.duration_str.specs.Tokenizer.{source, options_of, place_of, looks_of, left, what_of};
-    ghost use Rattle.duration_str.specs.Internal.Tokenizer.{IsAhead, KeepsInput, LooksAhead, is_number, IsSign, u64_of, TakesNumber, TakesToken, TakesSign};
+    ghost use Rattle.duration_str.specs.Tokenizer.{source, options_of, place_of, looks_of, left, what_of, KeepsInput};
+    ghost use Rattle.duration_str.specs.Internal.Tokenizer.{IsAhead, LooksAhead, is_number, IsSign, u64_of, TakesNumber, TakesToken, TakesSign};
 
     /// The tokens of a text, cut under these options.
     #[inline(always)]

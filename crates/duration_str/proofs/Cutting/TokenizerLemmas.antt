@@ -18,8 +18,8 @@ use Rattle.duration_str.specs.Tokens.{Token, tokens_from}
 use Rattle.duration_str.specs.Internal.Cutting.{ahead, StandsAt, Passes, Stops, TakesDigits, TakesLetters, TakesWord}
 use Rattle.duration_str.specs.Internal.Sorts.{sort_at, sort_of, StandsToken}
 use Rattle.duration_str.specs.Internal.Numbers.{u64_from}
-use Rattle.duration_str.specs.Tokenizer.{source, options_of, place_of, left, what_of, YieldsNextToken}
-use Rattle.duration_str.specs.Internal.Tokenizer.{IsAhead, KeepsInput, LooksAhead, IsSign, TakesToken, TakesNumber}
+use Rattle.duration_str.specs.Tokenizer.{source, options_of, place_of, left, what_of, KeepsInput, YieldsNextToken}
+use Rattle.duration_str.specs.Internal.Tokenizer.{IsAhead, LooksAhead, IsSign, TakesToken, TakesNumber}
 use Rattle.duration_str.proofs.Cutting.CuttingLemmas.{chars_between, long_word, same_slice, blanks_passed, token_taken, place_at_end}
 use Rattle.duration_str.proofs.Cutting.SortLemmas.{number_stands, word_stands, sign_stands, digit_of_sort, letter_of_sort, sign_of_sort, sign_sorts, first_token}
 
@@ -91,7 +91,7 @@ takes_number s t low start slice h kept taken stops there is utf8 =
     (digit_of_sort (options_of s) h.0 h.3) in (
       subst IsNumber (sym same) token.0,
       taken.number ∙ ap (λ l. number_of l % 2 ^ 64) (sym same),
-      (number_of taken.run.characters, takes_token s t _ kept token.1, ap (λ l. u64_from (number_of l)) same),
+      record { n = number_of taken.run.characters; token = takes_token s t _ kept token.1; is_value = ap (λ l. u64_from (number_of l)) same },
     )
 
 pub takes_word : (s t : Tokens) (unit : Option TimeUnit) → IsAhead s (Some Word) → KeepsInput s t
@@ -147,10 +147,15 @@ takes_terminal s m t x terminal kept same taken there is utf8 sort before bounda
     let cs : chars x.text.now ≡ taken.characters = chars_between (source m) (place_of m) (place_of t) taken.characters x.text.now taken.between slice utf8 in
     let order : x.start ≤ place_of t = omega (arith, taken.between.bytes, there) in
     let len : length x.text.now ≡ place_of t - x.start =
-    ap length is ∙ length-take-le (place_of t - x.start) (drop x.start (source t)) (simp length-drop (omega (arith, boundary.0, order))) in (
-      sym same ∙ taken.first ∙ (λ i. record { start = sym there i; characters = sym cs i } ∷ left t),
-      taken.kept.text ∙ kept.text,
-      taken.kept.options ∙ kept.options,
-      sort ∙ ap what_of taken.is_terminal ∙ (λ i. what_of (terminal_of (kept.options i) (sym cs i))),
-      (omega (arith, len, order), is ∙ ap (λ l. slice_range l x.start (place_of t)) (taken.kept.text ∙ kept.text)),
-    )
+    ap length is ∙ length-take-le (place_of t - x.start) (drop x.start (source t)) (simp length-drop (omega (arith, boundary.0, order))) in
+    let all = keeps_on s m t kept taken.kept in
+    record {
+      first = sym same ∙ taken.first ∙ (λ i. record { start = sym there i; characters = sym cs i } ∷ left t);
+      kept = all;
+      token = record {
+        end = omega (arith, len, order);
+        slice = is ∙ ap (λ l. slice_range l x.start (place_of t)) all.text;
+        sort = sort ∙ ap what_of taken.is_terminal ∙ (λ i. what_of (terminal_of (kept.options i) (sym cs i)));
+      };
+      end = tt;
+    }

@@ -125,10 +125,10 @@ terms_read false op at n (terminal_at p (operator next) (terminal_at q other res
 -- A number is taken, and r is the result of reading the unit after it.
 pub number_taken : (no_calc : Bool) (op : CondUnit) (s a : Tokens) (n : Option ℕ) (taken : TakesNumber s a n)
     (r : Result (Read TimeUnit) Cause) → r ≡ unit_read no_calc (rest_of a)
-    → left_after no_calc op (rest_of s) ≡ after_number no_calc op taken.0 r
+    → left_after no_calc op (rest_of s) ≡ after_number no_calc op taken.n r
 number_taken no_calc op s a n taken r is =
-    ap (left_after no_calc op) (after_token s a _ taken.1) ∙ terms_read no_calc op (place_of s) taken.0 (rest_of a)
-    ∙ ap (after_number no_calc op taken.0) (sym is)
+    ap (left_after no_calc op) (after_token s a _ taken.token) ∙ terms_read no_calc op (place_of s) taken.n (rest_of a)
+    ∙ ap (after_number no_calc op taken.n) (sym is)
 
 -- ---- Steps of the answer
 
@@ -191,7 +191,7 @@ pub later_read : (no_calc : Bool) (first : ℕ) (set : CondUnit) (later next all
     → fault_or fault (with_left no_calc first set next (after_unit no_calc r)) ≡ all
 later_read no_calc first set later next all fault s a b n u r same taken unit is stops op =
     let after = after_unit no_calc (operator_read no_calc (rest_of b)) in
-    let added = is ∙ (λ i. join set (sym (same_operator set later) i) (term_value None (taken.2 i) (nanos_of u))) in
+    let added = is ∙ (λ i. join set (sym (same_operator set later) i) (term_value None (taken.is_value i) (nanos_of u))) in
     (λ i. fault_or (stops i) (with_left no_calc first set next (after_unit no_calc (op i))))
     ∙ ap (λ x. fault_or (at_once no_calc (join set (Ok first) x)) (with_left no_calc first set x after)) added
     ∙ sym (ap (with_left no_calc first set later) (number_taken no_calc set s a n taken _ unit)) ∙ same
@@ -294,10 +294,10 @@ pub first_read : (no_calc : Bool) (s m a b : Tokens) (n : Option ℕ) (u : TimeU
     → first ≡ term_value (Some 0) n (nanos_of u) → r ≡ operator_read no_calc (rest_of b)
     → by_first no_calc first (after_unit no_calc r) ≡ answer_left no_calc [] (rest_of s)
 first_read no_calc s m a b n u first r same taken unit is op =
-    let t = term_of taken.0 u in
+    let t = term_of taken.n u in
     let more = after_unit no_calc (operator_read no_calc (rest_of b)) in
     let read = number_taken no_calc Plus m a n taken _ unit in
-    (λ i. by_first no_calc ((is ∙ ap (λ k. term_value (Some 0) k (nanos_of u)) taken.2) i) (after_unit no_calc (op i)))
+    (λ i. by_first no_calc ((is ∙ ap (λ k. term_value (Some 0) k (nanos_of u)) taken.is_value) i) (after_unit no_calc (op i)))
     ∙ sym (one_by_one no_calc t more.terms more.fault
     (λ h. subst (λ (l : Ended). AreAdded l.terms) read (left_added no_calc Plus (rest_of m) refl h)) ∙ first_told no_calc (Some 0) t more)
     ∙ from_start no_calc (rest_of m) _ read ∙ ap (answer_left no_calc []) same

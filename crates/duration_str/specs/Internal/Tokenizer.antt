@@ -7,7 +7,7 @@ use Rattle.duration_str.specs.declared.token.Number.{Number}
 use Rattle.duration_str.specs.declared.token.Tokens.{Tokens}
 use Rattle.duration_str.specs.Text.{is_blank, number_of}
 use Rattle.duration_str.specs.Grammar.{Terminal, number, terminal_of}
-use Rattle.duration_str.specs.Tokenizer.{source, options_of, place_of, left}
+use Rattle.duration_str.specs.Tokenizer.{source, options_of, place_of, left, KeepsInput}
 use Rattle.duration_str.specs.Internal.Numbers.{u64_from}
 use Rattle.duration_str.specs.Internal.Cutting.{Between}
 use Rattle.duration_str.specs.Internal.Sorts.{sort_at, sort_of}
@@ -16,11 +16,6 @@ use Rattle.duration_str.specs.Internal.Sorts.{sort_at, sort_of}
 abbrev pub IsAhead : Tokens → Option Sort → Type 0
 IsAhead s None = s.head ≡ None
 IsAhead s (Some sort) = (c : ℕ) × (s.head ≡ Some c) × (is_blank c ≡ false) × (sort ≡ sort_at (options_of s) c)
-
--- The text that is cut and the options stay the same.
-pub record KeepsInput (old new : Tokens) : Type 0 where
-  pub text : source new ≡ source old
-  pub options : options_of new ≡ options_of old
 
 -- Blanks are skipped, so the same tokens are left, and the character ahead starts a token of this sort; `None` at the
 -- end.
@@ -53,8 +48,10 @@ abbrev pub u64_of : Number → Option ℕ
 u64_of n = u64_from (number_of (chars n.digits.now))
 
 -- The first token that is left is taken; it is a number, and `value` is `None` from 2^64 on.
-abbrev pub TakesNumber : Tokens → Tokens → Option ℕ → Type 0
-TakesNumber old new value = (n : ℕ) × TakesToken old new (number n) × (value ≡ u64_from n)
+pub record TakesNumber (old new : Tokens) (value : Option ℕ) : Type 0 where
+  pub n : ℕ
+  pub token : TakesToken old new (number n)
+  pub is_value : value ≡ u64_from n
 
 -- The first token that is left is taken; it stands for a terminal of the sort ahead.
 abbrev pub TakesSign : Tokens → Tokens → Type 0
