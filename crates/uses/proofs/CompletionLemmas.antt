@@ -10,7 +10,8 @@ use Rattle.duration_str.specs.declared.fault.Cause.TheVariants.{Syntax}
 use Rattle.duration_str.specs.Text.{is_blank, byte_len}
 use Rattle.duration_str.specs.Grammar.{Terminal, number, word, operator, other, terminal_of, IsSentence, Spells}
 use Rattle.duration_str.specs.Tokens.{Token, IsLexeme, AreTokens, tokens_of, lexemes_of}
-use Rattle.duration_str.specs.Place.{BeginsSentence, kinds_after, allows, last_of, start_after, terminals_of}
+use Rattle.duration_str.specs.Place.{BeginsSentence, start_after, terminals_of}
+use Rattle.duration_str.specs.Answer.{kinds_after, allows, last_of}
 use Rattle.duration_str.specs.Reading.{IsRefused}
 use Rattle.duration_str.specs.Laws.{OneSentence, OneCut, PlaceAndKinds}
 use Rattle.uses.specs.Completion.{BeginsExpression, IsCompletion}

@@ -4,7 +4,8 @@ use Rattle.std.proofs.lemmas.List.{take_all}
 use Rattle.duration_str.specs.declared.operator.CondUnit.{CondUnit}
 use Rattle.duration_str.specs.declared.unit.TimeUnit.{TimeUnit}
 use Rattle.duration_str.specs.Grammar.{Terminal, number, word, operator, IsSentence}
-use Rattle.duration_str.specs.Place.{BeginsSentence, kinds_after, allows, last_of, front_after, front_of}
+use Rattle.duration_str.specs.Place.{BeginsSentence}
+use Rattle.duration_str.specs.Answer.{kinds_after, allows, last_of, front_after, front_of}
 use Rattle.duration_str.specs.Laws.{PlaceAndKinds}
 
 -- The front of the beginning of a sentence is all of it.

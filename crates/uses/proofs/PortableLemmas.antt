@@ -11,7 +11,8 @@ use Rattle.duration_str.specs.declared.unit.TimeUnit.{TimeUnit}
 use Rattle.duration_str.specs.declared.unit.TimeUnit.TheVariants.{Year}
 use Rattle.duration_str.specs.declared.operator.CondUnit.{CondUnit}
 use Rattle.duration_str.specs.declared.options.Options.{Options}
-use Rattle.duration_str.specs.Text.{is_operator, is_chinese, is_blank, is_digit, is_unit_letter, operator_of, number_of}
+use Rattle.duration_str.specs.Laws.{is_operator}
+use Rattle.duration_str.specs.Text.{is_chinese, is_blank, is_digit, is_unit_letter, operator_of, number_of}
 use Rattle.duration_str.specs.Units.{units, row_of, is_named, unit_among}
 use Rattle.duration_str.specs.Grammar.{Terminal, number, word, operator, operator_or_other, sign_terminal, terminal_of, IsSentence, Spells}
 use Rattle.duration_str.specs.Reading.{IsRead, IsRefused}

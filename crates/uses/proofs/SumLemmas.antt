@@ -6,7 +6,8 @@ use Rattle.std.proofs.lemmas.List.Sums.{sum_by-cons}
 use Rattle.std.proofs.lemmas.List.Sorted.{sum_by-IsPermutation}
 use Rattle.duration_str.specs.declared.options.Options.{Options}
 use Rattle.duration_str.specs.declared.operator.CondUnit.TheVariants.{Plus}
-use Rattle.duration_str.specs.Value.{Term, value_of_term, times_in}
+use Rattle.duration_str.specs.Value.{Term, value_of_term}
+use Rattle.duration_str.specs.Laws.{times_in}
 use Rattle.duration_str.specs.Reading.{IsRead}
 use Rattle.duration_str.specs.Laws.{Reorder}
 use Rattle.uses.specs.declared.product.Part.{Part}

@@ -5,7 +5,7 @@ use Rattle.duration_str.specs.declared.fault.Expected.{Expected}
 use Rattle.duration_str.specs.Text.{byte_len}
 use Rattle.duration_str.specs.Grammar.{IsSentenceOf, terminal_of}
 use Rattle.duration_str.specs.Tokens.{IsLexeme}
-use Rattle.duration_str.specs.Place.{allows}
+use Rattle.duration_str.specs.Answer.{allows}
 
 -- The text is an expression, whatever its value.
 abbrev pub IsExpression : Options → List ℕ → Type 0

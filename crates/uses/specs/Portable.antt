@@ -3,7 +3,8 @@ use Rattle.std.specs.Prelude.{◌≡◌, ℕ, Bool, not, ◌&&◌, List}
 use Rattle.std.specs.Char.{is_ascii_uppercase}
 use Rattle.duration_str.specs.declared.options.Options.{Options}
 use Rattle.duration_str.specs.declared.fault.Cause.{Cause}
-use Rattle.duration_str.specs.Text.{is_operator, is_chinese}
+use Rattle.duration_str.specs.Laws.{is_operator}
+use Rattle.duration_str.specs.Text.{is_chinese}
 use Rattle.duration_str.specs.Reading.{IsRead, IsRefused}
 
 -- whether the character is neither an operator nor an ASCII capital nor one of the Chinese characters of the units

@@ -7,7 +7,7 @@ ghost use Rattle.duration_str.specs.Reading.{IsRefused};
 ghost use Rattle.duration_str.specs.Grammar.{Terminal, terminal_of};
 ghost use Rattle.duration_str.specs.Tokens.{IsLexeme};
 ghost use Rattle.duration_str.specs.Tokenizer.{what_of};
-ghost use Rattle.duration_str.specs.Place.{allows};
+ghost use Rattle.duration_str.specs.Answer.{allows};
 ghost use Rattle.uses.specs.Completion.{IsCompletion};
 
 use duration_str::laws::{one_sentence, place_and_kinds};
