@@ -10,7 +10,7 @@ use duration_str::{
     deserialize_option_duration_time,
 };
 use jiff::SignedDuration;
-use serde_json::{Value, json};
+use serde_json::{Error, Value, json};
 use std::alloc::{AllocError, Global};
 use std::test::Fail;
 use std::time::Duration;
@@ -121,25 +121,30 @@ fn hands_on_the_fault_of_a_text(rt: HostRuntime) -> Result<(), Fail> {
     Ok(())
 }
 
+/// The first of these JSON texts whose value is not refused because it is no text.
+fn first_taken<'a>(alloc: Global, rows: &[&'a str]) -> Result<Option<&'a str>, Error> {
+    for json in rows.iter().copied() {
+        let value = Value::from_str(alloc, json)?;
+        if !is_refused(&value, no_text(false)) || !is_refused_if_there(&value, no_text(true)) {
+            return Ok(Some(json));
+        }
+    }
+    Ok(None)
+}
+
 #[test]
 fn refuses_what_is_no_text(rt: HostRuntime) -> Result<(), Fail> {
-    let alloc = rt.alloc();
+    let rows = ["5", "-1", "1.5", "true", "[]", "[\"1m\"]", "{\"secs\": 1}"];
+    assert_eq!(rt; first_taken(rt.alloc(), &rows)?, None);
     assert!(rt; is_refused(&Value::Null, no_text(false)));
-    let values = [
-        json!(in alloc; 5)?,
-        json!(in alloc; -1)?,
-        json!(in alloc; 1.5)?,
-        json!(in alloc; true)?,
-        json!(in alloc; [])?,
-        json!(in alloc; ["1m"])?,
-        json!(in alloc; {"secs": 1})?,
-    ];
-    for value in &values {
-        assert!(rt; is_refused(value, no_text(false)) && is_refused_if_there(value, no_text(true)));
-    }
-    let required = no_text(false).to_string(alloc)?;
+    Ok(())
+}
+
+#[test]
+fn says_what_is_no_text(rt: HostRuntime) -> Result<(), Fail> {
+    let required = no_text(false).to_string(rt.alloc())?;
     assert!(rt; required.as_str() == "expect duration string, e.g: '1min+30'");
-    let optional = no_text(true).to_string(alloc)?;
+    let optional = no_text(true).to_string(rt.alloc())?;
     assert!(rt; optional.as_str() == "expect duration string, null, or missing field");
     Ok(())
 }

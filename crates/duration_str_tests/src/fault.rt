@@ -83,9 +83,22 @@ fn points_at_the_place(rt: HostRuntime) -> Result<(), Fail> {
     Ok(())
 }
 
+/// The first of these texts whose fault does not print as the line alone.
+fn first_misshown<'a>(
+    alloc: Global,
+    rows: &[(&'a str, &str)],
+) -> Result<Option<&'a str>, AllocError> {
+    for (text, line) in rows.iter().copied() {
+        if !prints(alloc, text, OFF, line)? {
+            return Ok(Some(text));
+        }
+    }
+    Ok(None)
+}
+
 #[test]
 fn shows_the_line_alone(rt: HostRuntime) -> Result<(), Fail> {
-    for (text, line) in [
+    let rows = [
         ("", "Empty input"),
         ("580y*2", OVERFLOW),
         ("580y 580y", OVERFLOW),
@@ -93,9 +106,8 @@ fn shows_the_line_alone(rt: HostRuntime) -> Result<(), Fail> {
         ("1m 2s*3", "not support '+' with '*' calculate"),
         ("1m*2*3+4", "not support '*' with '+' calculate"),
         ("1m*2s 3", "not support '*' with '+' calculate"),
-    ] {
-        assert!(rt; prints(rt.alloc(), text, OFF, line)?, "{text}");
-    }
+    ];
+    assert_eq!(rt; first_misshown(rt.alloc(), &rows)?, None);
     Ok(())
 }
 

@@ -27,10 +27,12 @@ const STAR_THEN_PLUS: Cause = Cause::Mixed {
     later: CondUnit::Plus,
 };
 
-/// Whether both calls read the text as this many nanoseconds.
+/// Whether each call that reads under these options reads the text as this many nanoseconds.
 fn is_read(text: &str, o: Options, nanos: u64) -> bool {
     let wanted = Ok(Duration::from_nanos(nanos));
-    parse_with(text, o) == wanted && parse_looked(text, o).0 == wanted
+    parse_with(text, o) == wanted
+        && parse_looked(text, o).0 == wanted
+        && (o != OFF || parse(text) == wanted && parse_std(text) == wanted)
 }
 
 /// Whether both calls refuse the text for this cause, in a fault that holds it.
@@ -86,13 +88,6 @@ fn is_looked(text: &str, least: u64, most: u64) -> bool {
 #[test]
 fn reads_values(rt: HostRuntime) {
     assert_eq!(rt; first_misread(&VALUES, OFF), None);
-    for (text, nanos) in VALUES {
-        let wanted = Ok(Duration::from_nanos(nanos));
-        assert!(rt;
-            parse(text) == wanted && parse_std(text) == wanted,
-            "{text}"
-        );
-    }
 }
 
 #[test]
@@ -122,22 +117,24 @@ fn multiplies_step_by_step(rt: HostRuntime) {
         // The last factor would make 2^48 nanoseconds into 2^64 with one more.
         ("0*281474976710656ns*65535", 0),
     ];
-    assert_eq!(rt; first_misread(&read, OFF), None);
     let refused = [
         ("0*580y*2", OVERFLOW),
         ("0*281474976710656ns*65536", OVERFLOW),
     ];
-    assert_eq!(rt; first_misjudged(&refused, OFF), None);
+    let wrong = first_misread(&read, OFF).or(first_misjudged(&refused, OFF));
+    assert_eq!(rt; wrong, None);
 }
 
 #[test]
 fn reads_what_is_printed_below_the_limit(rt: HostRuntime) {
     let last = "584y 3q 2mon 1w 3d 23h 34min 33s 709ms 551µs 615ns";
-    assert!(rt; is_read(last, OFF, 18_446_744_073_709_551_615));
     let next = "584y 3q 2mon 1w 3d 23h 34min 33s 709ms 551µs 616ns";
-    assert!(rt; is_refused(next, OFF, OVERFLOW));
     let greatest = "584942417355y 3w 5d 7h 15s 999ms 999µs 999ns";
-    assert!(rt; is_refused(greatest, OFF, FIRST_OVERFLOW));
+    let wrong = first_misread(&[(last, 18_446_744_073_709_551_615)], OFF).or(first_misjudged(
+        &[(next, OVERFLOW), (greatest, FIRST_OVERFLOW)],
+        OFF,
+    ));
+    assert_eq!(rt; wrong, None);
 }
 
 #[test]
@@ -165,7 +162,6 @@ fn says_what_can_stand_at_the_place(rt: HostRuntime) {
         ("1m*", 3),
         ("580y*2*x", 7),
     ];
-    assert_eq!(rt; first_misplaced(&start, OFF, START), None);
     let after_number = [
         ("1 2", 2),
         ("1\n2", 2),
@@ -181,11 +177,13 @@ fn says_what_can_stand_at_the_place(rt: HostRuntime) {
         ("1\u{b5} s", 1),
         (" 1分+   31秒 + 2毫秒+  3纳秒  ", 2),
     ];
-    assert_eq!(rt; first_misplaced(&after_number, OFF, AFTER_NUMBER), None);
     let after_unit = [("3ms-2ms", 3), ("1\u{b5}s 分", 5)];
-    assert_eq!(rt; first_misplaced(&after_unit, OFF, AFTER_UNIT), None);
     let capitals = [("1M", 1), ("1Q", 1)];
-    assert_eq!(rt; first_misplaced(&capitals, LOWERCASE, AFTER_NUMBER), None);
+    let wrong = first_misplaced(&start, OFF, START)
+        .or(first_misplaced(&after_number, OFF, AFTER_NUMBER))
+        .or(first_misplaced(&after_unit, OFF, AFTER_UNIT))
+        .or(first_misplaced(&capitals, LOWERCASE, AFTER_NUMBER));
+    assert_eq!(rt; wrong, None);
 }
 
 #[test]
@@ -289,15 +287,16 @@ fn reads_chinese_units(rt: HostRuntime) {
         ("1年 2日", 31_708_800_000_000_000),
         ("1分31秒", 91_000_000_000),
     ];
-    assert_eq!(rt; first_misread(&units, CN_UNIT), None);
-    assert_eq!(rt; first_misread(&units, both), None);
     let sums = [
         ("1分+31秒", 91_000_000_000),
         ("1分+31秒+2毫秒+3纳秒", 91_002_000_003),
         (" 1分+   31秒 + 2毫秒+  3纳秒  ", 91_002_000_003),
     ];
-    assert_eq!(rt; first_misread(&sums, CN_UNIT), None);
-    assert!(rt; is_refused("1分s", CN_UNIT, syntax(1, AFTER_NUMBER)));
+    let wrong = first_misread(&units, CN_UNIT)
+        .or(first_misread(&units, both))
+        .or(first_misread(&sums, CN_UNIT))
+        .or(first_misplaced(&[("1分s", 1)], CN_UNIT, AFTER_NUMBER));
+    assert_eq!(rt; wrong, None);
 }
 
 #[test]
@@ -336,6 +335,9 @@ fn keeps_the_laws(rt: HostRuntime) {
         ("3m31s0ns", 211_000_000_000),
         ("2h 37m", 9_420_000_000_000),
     ];
-    assert_eq!(rt; first_misread(&rows, OFF), None);
-    assert!(rt; is_read("2h 37m", NO_CALC, 9_420_000_000_000));
+    let wrong = first_misread(&rows, OFF).or(first_misread(
+        &[("2h 37m", 9_420_000_000_000)],
+        NO_CALC,
+    ));
+    assert_eq!(rt; wrong, None);
 }

@@ -110,15 +110,26 @@ fn reads_signed_durations(rt: HostRuntime) {
     assert!(rt; parse_chrono("580y*2") == overflow && parse_time("580y*2") == overflow);
 }
 
+/// The first of these texts that is not read as a duration that prints as its second text.
+fn first_misprinted<'a>(
+    alloc: Global,
+    rows: &[(&'a str, &str)],
+) -> Result<Option<&'a str>, AllocError> {
+    for (text, printed) in rows.iter().copied() {
+        if !prints(alloc, text, printed)? {
+            return Ok(Some(text));
+        }
+    }
+    Ok(None)
+}
+
 #[test]
 fn prints_signed_durations(rt: HostRuntime) -> Result<(), Fail> {
-    for (text, printed) in PRINTED {
-        assert!(rt; prints(rt.alloc(), text, printed)?, "{text}");
-    }
+    assert_eq!(rt; first_misprinted(rt.alloc(), &PRINTED)?, None);
     let longest = SignedDuration::MAX.human_format(rt.alloc())?;
     assert!(rt; longest.as_str() == "292471208677y 2q 1w 6d 15h 30min 7s 999ms 999µs 999ns");
-    assert!(rt; SignedDuration::ZERO.is_printable());
-    assert!(rt; !SignedDuration::from_nanos(-1).is_printable());
+    let negative = SignedDuration::from_nanos(-1);
+    assert!(rt; SignedDuration::ZERO.is_printable() && !negative.is_printable());
     assert!(rt; !SignedDuration::MIN.is_printable());
     Ok(())
 }
@@ -152,16 +163,18 @@ fn counts_nanoseconds_before_1970(rt: HostRuntime) -> Result<(), Fail> {
 #[test]
 fn ends_with_the_last_instant(rt: HostRuntime) -> Result<(), Fail> {
     let last = Date::new(9999, 12, 30)?.at(22, 0, 0, 999_999_999);
-    assert!(rt; leads_to(Timestamp::MAX, "0s", last));
     let next_to_last = Timestamp::MAX.checked_sub(Duration::from_nanos(1))?;
-    assert!(rt; leads_to(next_to_last, "1ns", last));
-    let out = fault("1ns", Cause::OutOfRange);
-    assert!(rt; leads_nowhere(Timestamp::MAX, out));
+    assert!(rt; leads_to(Timestamp::MAX, "0s", last) && leads_to(next_to_last, "1ns", last));
+    assert!(rt; leads_nowhere(Timestamp::MAX, fault("1ns", Cause::OutOfRange)));
+    Ok(())
+}
+
+#[test]
+fn begins_with_the_first_instant(rt: HostRuntime) -> Result<(), Fail> {
     let first = Date::new(-9999, 1, 2)?.at(1, 59, 59, 0);
-    assert!(rt; comes_from(Timestamp::MIN, "0s", first));
-    assert!(rt; comes_from_nowhere(Timestamp::MIN, out));
-    let line = out.to_string(rt.alloc())?;
-    assert!(rt; line.as_str() == "date out of range");
+    let out = fault("1ns", Cause::OutOfRange);
+    assert!(rt; comes_from(Timestamp::MIN, "0s", first) && comes_from_nowhere(Timestamp::MIN, out));
+    assert!(rt; out.to_string(rt.alloc())?.as_str() == "date out of range");
     Ok(())
 }
 

@@ -123,21 +123,30 @@ fn is_unit(alloc: Global, unit: TimeUnit, nanos: u64, name: &str) -> Result<bool
     Ok(unit.nanos() == nanos && unit.to_string(alloc)?.as_str() == name)
 }
 
+/// The first name whose unit is not so long, or does not print as it.
+fn first_mismeasured(alloc: Global) -> Result<Option<&'static str>, AllocError> {
+    for (unit, nanos, name, _, _) in TABLE {
+        if !is_unit(alloc, unit, nanos, name)? {
+            return Ok(Some(name));
+        }
+    }
+    Ok(None)
+}
+
 #[test]
 fn measures_and_prints_units(rt: HostRuntime) -> Result<(), Fail> {
-    for (unit, nanos, name, _, _) in TABLE {
-        assert!(rt; is_unit(rt.alloc(), unit, nanos, name)?, "{name}");
-    }
+    assert_eq!(rt; first_mismeasured(rt.alloc())?, None);
     assert!(rt; TimeUnit::default() == TimeUnit::Second);
     Ok(())
 }
 
 #[test]
 fn knows_the_names(rt: HostRuntime) {
-    assert_eq!(rt; first_misnamed(Options::off()), None);
-    assert_eq!(rt; first_misnamed(NO_CALC), None);
-    assert_eq!(rt; first_misnamed(LOWERCASE), None);
-    assert_eq!(rt; first_misnamed(CN_UNIT), None);
+    let wrong = first_misnamed(Options::off())
+        .or(first_misnamed(NO_CALC))
+        .or(first_misnamed(LOWERCASE))
+        .or(first_misnamed(CN_UNIT));
+    assert_eq!(rt; wrong, None);
 }
 
 #[test]
@@ -235,17 +244,25 @@ const LAST_VALUES: [(TimeUnit, &str, u64, &str); 10] = [
     ),
 ];
 
-#[test]
-fn values_digits_up_to_the_limit(rt: HostRuntime) {
+/// The first unit that does not value 0 and 1 by its length, or a last number before the limit that is not its unit's.
+fn first_misvalued() -> Option<&'static str> {
     for (unit, nanos, name, _, _) in TABLE {
-        let (zero, one) = (value_of(unit, "0"), value_of(unit, "1"));
-        assert!(rt; zero == Some(Ok(0)) && one == Some(Ok(nanos)), "{name}");
+        if value_of(unit, "0") != Some(Ok(0)) || value_of(unit, "1") != Some(Ok(nanos)) {
+            return Some(name);
+        }
     }
     let overflow = Some(Err(Cause::Overflow { place: None }));
     for (unit, last, value, next) in LAST_VALUES {
-        let is_last = value_of(unit, last) == Some(Ok(value));
-        assert!(rt; is_last && value_of(unit, next) == overflow, "{last}");
+        if value_of(unit, last) != Some(Ok(value)) || value_of(unit, next) != overflow {
+            return Some(last);
+        }
     }
+    None
+}
+
+#[test]
+fn values_digits_up_to_the_limit(rt: HostRuntime) {
+    assert_eq!(rt; first_misvalued(), None);
 }
 
 #[test]

@@ -39,7 +39,7 @@ mod tests {
             (RunFault::Memory, "Memory"),
         ] {
             let shown = format!(in rt.alloc(); "{fault:?}")?;
-            assert_eq!(rt; shown.as_str(), name);
+            assert!(rt; shown.as_str() == name, "{name}");
         }
         Ok(())
     }

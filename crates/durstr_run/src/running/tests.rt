@@ -5,6 +5,7 @@ use super::run;
 use crate::fault::RunFault;
 use duration_str::Options;
 use refusing::Refusing;
+use std::alloc::Global;
 use std::io;
 use std::io::{ErrorKind, Read, Write};
 use std::test::Fail;
@@ -107,19 +108,20 @@ impl Write for Sink {
     }
 }
 
-/// The result of a run with all options off, and what it wrote.
-fn ran<R: Read + Drop>(
-    rt: &HostRuntime,
+/// Whether a run with all options off ends with this answer, and has then written this.
+fn ends<R: Read + Drop>(
+    alloc: Global,
     mut reader: R,
     mut writer: Sink,
-) -> (Result<bool, RunFault>, Sink) {
-    let answer = run(rt.alloc(), &mut reader, &mut writer, Options::off());
-    (answer, writer)
+    answer: Result<bool, RunFault>,
+    written: &[u8],
+) -> bool {
+    run(alloc, &mut reader, &mut writer, Options::off()) == answer && writer.written() == written
 }
 
 #[test]
-fn answers_each_line(rt: HostRuntime) -> Result<(), Fail> {
-    assert_eq!(rt; OUTPUT.len(), 49);
+fn answers_each_line(rt: HostRuntime) {
+    assert!(rt; OUTPUT.len() == 49);
     let rows: [(&[u8], Result<bool, RunFault>, &[u8]); 6] = [
         (INPUT, Ok(false), OUTPUT),
         (b"", Ok(true), b""),
@@ -133,99 +135,95 @@ fn answers_each_line(rt: HostRuntime) -> Result<(), Fail> {
         ),
     ];
     for (input, wanted, output) in rows {
-        let (answer, sink) = ran(&rt, Source::new(input), Sink::new());
-        assert_eq!(rt; answer, wanted);
-        assert_eq!(rt; sink.written(), output);
+        assert!(rt; ends(rt.alloc(), Source::new(input), Sink::new(), wanted, output));
     }
-    Ok(())
 }
 
 #[test]
-fn reads_byte_by_byte(rt: HostRuntime) -> Result<(), Fail> {
+fn reads_byte_by_byte(rt: HostRuntime) {
     let source = Source {
         step: 1,
         ..Source::new(INPUT)
     };
-    let (answer, sink) = ran(&rt, source, Sink::new());
-    assert_eq!(rt; answer, Ok(false));
-    assert_eq!(rt; sink.written(), OUTPUT);
-    Ok(())
+    assert!(rt; ends(rt.alloc(), source, Sink::new(), Ok(false), OUTPUT));
 }
 
 #[test]
-fn hands_on_the_options(rt: HostRuntime) -> Result<(), Fail> {
+fn hands_on_the_options(rt: HostRuntime) {
     let options = Options {
         no_calc: true,
         ..Options::off()
     };
     let mut sink = Sink::new();
     let answer = run(rt.alloc(), &mut Source::new(b"1s+1s"), &mut sink, options);
-    assert_eq!(rt; answer, Ok(false));
-    assert_eq!(rt; sink.written(), b"1s+1s\n  ^\nexpected number\n".as_slice());
-    Ok(())
+    let output: &[u8] = b"1s+1s\n  ^\nexpected number\n";
+    assert!(rt; answer == Ok(false) && sink.written() == output);
 }
 
 #[test]
-fn stops_at_a_failing_writer(rt: HostRuntime) -> Result<(), Fail> {
+fn stops_at_a_failing_writer(rt: HostRuntime) {
+    let failed = Err(RunFault::Write);
     for calls in 0..OUTPUT.len() {
-        let (answer, sink) = ran(&rt, Source::new(INPUT), Sink::taking(1, calls));
-        assert_eq!(rt; answer, Err(RunFault::Write), "at {calls}");
-        assert_eq!(rt; sink.written(), &OUTPUT[..calls], "at {calls}");
+        let (source, sink) = (Source::new(INPUT), Sink::taking(1, calls));
+        assert!(rt;
+            ends(rt.alloc(), source, sink, failed, &OUTPUT[..calls]),
+            "at {calls}"
+        );
     }
-    let (answer, sink) = ran(&rt, Source::new(INPUT), Sink::taking(4, 1));
-    assert_eq!(rt; answer, Err(RunFault::Write));
-    assert_eq!(rt; sink.written(), b"2110".as_slice());
-    Ok(())
+    let (source, sink) = (Source::new(INPUT), Sink::taking(4, 1));
+    assert!(rt; ends(rt.alloc(), source, sink, failed, b"2110"));
 }
 
 #[test]
-fn stops_at_a_failing_flush_and_a_full_writer(rt: HostRuntime) -> Result<(), Fail> {
+fn stops_at_a_failing_flush_and_a_full_writer(rt: HostRuntime) {
+    let failed = Err(RunFault::Write);
     let mut unflushed = Sink::new();
     unflushed.flushes = false;
-    let (answer, sink) = ran(&rt, Source::new(INPUT), unflushed);
-    assert_eq!(rt; answer, Err(RunFault::Write));
-    assert_eq!(rt; sink.written(), OUTPUT);
-    let (answer, sink) = ran(&rt, Source::new(INPUT), Sink::taking(0, 1));
-    assert_eq!(rt; answer, Err(RunFault::Write));
-    assert_eq!(rt; sink.len, 0);
-    Ok(())
+    assert!(rt; ends(rt.alloc(), Source::new(INPUT), unflushed, failed, OUTPUT));
+    assert!(rt;
+        ends(
+            rt.alloc(),
+            Source::new(INPUT),
+            Sink::taking(0, 1),
+            failed,
+            b""
+        )
+    );
 }
 
 #[test]
-fn stops_at_a_failing_reader(rt: HostRuntime) -> Result<(), Fail> {
+fn stops_at_a_failing_reader(rt: HostRuntime) {
     for calls in 0..INPUT.len() + 1 {
         let source = Source {
             bytes: INPUT,
             step: 1,
             calls,
         };
-        let (answer, sink) = ran(&rt, source, Sink::new());
-        assert_eq!(rt; answer, Err(RunFault::Read), "at {calls}");
-        assert_eq!(rt; sink.len, 0, "at {calls}");
+        let failed = Err(RunFault::Read);
+        assert!(rt;
+            ends(rt.alloc(), source, Sink::new(), failed, b""),
+            "at {calls}"
+        );
     }
-    let (answer, sink) = ran(&rt, Blanks, Sink::new());
-    assert_eq!(rt; answer, Err(RunFault::TooLong));
-    assert_eq!(rt; sink.len, 0);
+    assert!(rt; ends(rt.alloc(), Blanks, Sink::new(), Err(RunFault::TooLong), b""));
+}
+
+#[test]
+fn reads_no_more_than_is_allowed(rt: HostRuntime) -> Result<(), Fail> {
+    let blanks = vec![in rt.alloc(); b' '; 1_048_577]?;
+    let source = Source::new(&blanks);
+    assert!(rt; ends(rt.alloc(), source, Sink::new(), Err(RunFault::TooLong), b""));
     Ok(())
 }
 
 #[test]
 fn reads_as_much_as_is_allowed(rt: HostRuntime) -> Result<(), Fail> {
-    let blanks = vec![in rt.alloc(); b' '; 1_048_577]?;
-    let (answer, sink) = ran(&rt, Source::new(&blanks), Sink::new());
-    assert_eq!(rt; answer, Err(RunFault::TooLong));
-    assert_eq!(rt; sink.len, 0);
-    let most = blanks.get(1..).unwrap_or_default();
+    let blanks = vec![in rt.alloc(); b' '; 1_048_576]?;
     let mut written = Vec::new(rt.alloc());
-    let answer = run(
-        rt.alloc(),
-        &mut Source::new(most),
-        &mut written,
-        Options::off(),
-    );
-    assert_eq!(rt; answer, Ok(false));
-    assert_eq!(rt; written.iter().filter(|b| **b == b'\n').count(), 3);
-    assert_eq!(rt; written.len(), 1_048_576 + 1 + 1_048_576 + 2 + 16);
+    let mut source = Source::new(&blanks);
+    let answer = run(rt.alloc(), &mut source, &mut written, Options::off());
+    assert!(rt; answer == Ok(false) && written.len() == 1_048_576 + 1 + 1_048_576 + 2 + 16);
+    assert!(rt; written.iter().filter(|b| **b == b'\n').count() == 3);
     assert!(rt; written.ends_with(b" ^\nexpected number\n"));
     Ok(())
 }
@@ -244,27 +242,26 @@ fn makes_a_read_for_each_byte_and_one_more(rt: HostRuntime) -> Result<(), Fail> 
             step: 1,
             calls,
         };
-        let (answer, sink) = ran(&rt, source, Sink::taking(0, 1));
-        assert_eq!(rt; answer, Err(fault));
-        assert_eq!(rt; sink.len, 0);
+        assert!(rt;
+            ends(rt.alloc(), source, Sink::taking(0, 1), Err(fault), b""),
+            "{fault:?}"
+        );
     }
     Ok(())
 }
 
 #[test]
-fn stops_at_each_refused_request(rt: HostRuntime) -> Result<(), Fail> {
+fn stops_at_each_refused_request(rt: HostRuntime) {
     for granted in 0..100u64 {
         let memory = Refusing::new(rt.alloc(), granted);
         let mut sink = Sink::new();
         let answer = run(&memory, &mut Source::new(INPUT), &mut sink, Options::off());
         if answer == Ok(false) {
-            assert_eq!(rt; sink.written(), OUTPUT);
-            assert!(rt; granted >= 2, "{granted}");
-            return Ok(());
+            assert!(rt; granted >= 2 && sink.written() == OUTPUT, "{granted}");
+            return;
         }
-        assert_eq!(rt; answer, Err(RunFault::Memory), "at {granted}");
-        assert!(rt; OUTPUT.starts_with(sink.written()), "at {granted}");
+        let is_refused = answer == Err(RunFault::Memory) && sink.written().is_empty();
+        assert!(rt; is_refused, "at {granted}");
     }
     assert!(rt; false, "always refused");
-    Ok(())
 }
