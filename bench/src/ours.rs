@@ -1,0 +1,75 @@
+//! The library's C calls that are measured.
+use std::hint::black_box;
+use std::time::Duration;
+
+/// `struct duration_str_answer`, of which nothing is read here.
+#[repr(C)]
+#[derive(Default)]
+struct Answer {
+    nanos: u64,
+    place: usize,
+    found_length: usize,
+    cause: u32,
+    expected: u32,
+    has_place: u8,
+    first_operator: u8,
+    later_operator: u8,
+}
+
+unsafe extern "C" {
+    fn duration_str_parse(text: *const u8, length: usize, nanos: *mut u64) -> bool;
+    fn duration_str_format(secs: u64, nanos: u32, buffer: *mut u8) -> usize;
+    fn duration_str_parse_with(text: *const u8, length: usize, options: u32, answer: *mut Answer) -> bool;
+    fn duration_str_message(
+        text: *const u8,
+        length: usize,
+        answer: *const Answer,
+        buffer: *mut u8,
+        room: usize,
+    ) -> usize;
+}
+
+/// More bytes than the message of any measured text has.
+pub const ROOM: usize = 512;
+
+#[inline]
+pub fn reading(text: &str) -> u64 {
+    let mut nanos = 0;
+    // SAFETY: the pointer and length are a slice's, and `nanos` is written alone.
+    let read = unsafe { duration_str_parse(text.as_ptr(), text.len(), &mut nanos) };
+    assert!(read, "refused: {text}");
+    nanos
+}
+
+#[inline]
+pub fn printing(length: Duration) -> [u8; 64] {
+    let mut buffer = [0; 64];
+    // SAFETY: the buffer has the 64 bytes that may be written.
+    let end = unsafe { duration_str_format(length.as_secs(), length.subsec_nanos(), buffer.as_mut_ptr()) };
+    black_box(end);
+    buffer
+}
+
+/// The value of a text under these options, which are the bits of the header.
+#[inline]
+pub fn reading_with(text: &str, options: u32) -> u64 {
+    let mut answer = Answer::default();
+    // SAFETY: the pointer and length are a slice's, and `answer` is laid out as the header's.
+    let read = unsafe { duration_str_parse_with(text.as_ptr(), text.len(), options, &mut answer) };
+    assert!(read, "refused: {text}");
+    answer.nanos
+}
+
+/// Writes the message of a refused text into the buffer, and returns its length.
+#[inline]
+pub fn refusing(text: &[u8], buffer: &mut [u8; ROOM]) -> usize {
+    let mut answer = Answer::default();
+    // SAFETY: the pointers and lengths are those of slices that lie apart, and `answer` is laid out as the header's.
+    let length = unsafe {
+        let read = duration_str_parse_with(text.as_ptr(), text.len(), 0, &mut answer);
+        assert!(!read, "read");
+        duration_str_message(text.as_ptr(), text.len(), &answer, buffer.as_mut_ptr(), ROOM)
+    };
+    assert!(0 < length && length <= ROOM);
+    length
+}
