@@ -221,13 +221,13 @@ impl<'a> Tokens<'a> {
             && first.is_ascii()
         {
             packed = u64::from(first as u32 % 32);
-            has_capital = first.is_ascii_uppercase();
+            has_capital = first < 'a';
             self.advance();
             while let Some(c) = self.head
                 && c.is_ascii_alphabetic()
             {
                 packed = ((packed as u128 * 32 + (c as u32 % 32) as u128) % MODULUS) as u64;
-                has_capital |= c.is_ascii_uppercase();
+                has_capital |= c < 'a';
                 self.advance();
             }
         }

@@ -65,7 +65,8 @@ tokens_no_blanks o at (c ∷ text) = step (is_blank c) (goes_on o c text) refl (
 
 -- ---- What the lexemes spell without blanks
 
-spelled_tokens : (tokens : List Token) (text : List ℕ) → HaveNoBlanks tokens → Spells (lexemes_of tokens) text → Spells (lexemes_of tokens) (without_blanks text)
+spelled_tokens : (tokens : List Token) (text : List ℕ) → HaveNoBlanks tokens → Spells (lexemes_of tokens) text
+    → Spells (lexemes_of tokens) (without_blanks text)
 spelled_tokens [] text h s = subst IsBlank (sym (kept_none is_blank text s)) refl
 spelled_tokens (token ∷ tokens) text h s =
     let keep : ℕ → Bool = λ c. not (is_blank c) in
@@ -130,7 +131,8 @@ pub value_without_blanks : OneSentence → BlanksFree → (o : Options) (bytes :
     → IsRead o (chars (without_blanks bytes)) nanos
 value_without_blanks one free o bytes nanos u read =
     subst (λ (text : List ℕ). IsRead o text nanos) (sym (chars_without bytes u))
-    (free.value o (chars bytes) (without_blanks (chars bytes)) read.lexemes nanos read.spells (sentence_spells one o read.lexemes (chars bytes) read.spells) read)
+    (free.value o (chars bytes) (without_blanks (chars bytes)) read.lexemes nanos read.spells (sentence_spells one o read.lexemes (chars bytes) read.spells)
+    read)
 
 pub cause_without_blanks : OneSentence → BlanksFree → (o : Options) (bytes : List ℕ) (lexemes : List (List ℕ)) (cause : Cause) → IsUtf8 bytes
     → IsSentenceOf o lexemes (chars bytes) → IsRefused o (chars bytes) cause → IsRefused o (chars (without_blanks bytes)) cause
@@ -162,7 +164,8 @@ chars_line : (bytes : List ℕ) → IsUtf8 bytes → chars (line_of bytes) ≡ l
 unfolding chars
 chars_line bytes u = chars-append bytes (10 ∷ []) u
 
-pub value_of_line : BlanksFree → (o : Options) (bytes : List ℕ) (nanos : ℕ) → IsUtf8 bytes → IsRead o (chars bytes) nanos → IsRead o (chars (line_of bytes)) nanos
+pub value_of_line : BlanksFree → (o : Options) (bytes : List ℕ) (nanos : ℕ) → IsUtf8 bytes → IsRead o (chars bytes) nanos
+    → IsRead o (chars (line_of bytes)) nanos
 value_of_line free o bytes nanos u read =
     subst (λ (text : List ℕ). IsRead o text nanos) (sym (chars_line bytes u))
     (free.value o (chars bytes) (line_of (chars bytes)) read.lexemes nanos read.spells (spells_line read.lexemes (chars bytes) read.spells.1) read)

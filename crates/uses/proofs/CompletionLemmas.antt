@@ -182,7 +182,8 @@ completion_of one cut law o text place expected s =
 
 pub refused_completion : OneSentence → OneCut → PlaceAndKinds → (o : Options) (text : List ℕ) (place : ℕ) (expected : Expected)
     → IsRefused o text (Syntax place expected) → IsCompletion o text place expected
-refused_completion one cut law o text place expected refused = completion_of one cut law o text place expected (syntax_fault_parts o text place expected refused)
+refused_completion one cut law o text place expected refused = completion_of one cut law o text place expected
+    (syntax_fault_parts o text place expected refused)
 
 -- ---- A word that is offered
 

@@ -32,8 +32,15 @@ product_read law o text a b nanos f e (inl m) =
     (law.product o text m.lexemes (term_of_part Plus a) (term_of_part Star b) nanos m.spells m.terms refl).1
     (number_below _ a.unit f.length, f.length, number_below _ b.unit f.other_length, f.other_length, subst (λ (n : ℕ). n < 2 ^ 64) (sym e) f.product, e)
 product_read law o text a b nanos f e (inr m) =
-    (law.product o text m.lexemes (term_of_part Plus b) (term_of_part Star a) nanos m.spells m.terms refl).1
-    (number_below _ b.unit f.other_length, f.other_length, number_below _ a.unit f.length, f.length, subst (λ (n : ℕ). n < 2 ^ 64) (sym e) f.product, e ∙ exchanged a b)
+    (law.product o text m.lexemes (term_of_part Plus b) (term_of_part Star a) nanos m.spells m.terms refl).1 (
+      number_below _ b.unit f.other_length,
+      f.other_length,
+      number_below _ a.unit f.length,
+      f.length,
+      subst (λ (n : ℕ). n < 2 ^ 64) (sym e) f.product,
+      e ∙
+          exchanged a b,
+    )
 
 -- If the product is read, all fit.
 pub read_product : TwoFactors → (o : Options) (text : List ℕ) (a b : Part) (nanos : ℕ) → MultipliesInEitherOrder o a b text → IsRead o text nanos → Fit a b

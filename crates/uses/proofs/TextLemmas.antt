@@ -15,7 +15,8 @@ differ_by false differ P Q decides is to from = (λ h q. true≢false (sym (deci
 
 -- If the characters of two texts are equal exactly when two numbers are, their bytes differ exactly when the numbers
 -- do.
-pub differ_by_chars : {m n : ℕ} (a b : List ℕ) (differ : Bool) → IsUtf8 a → IsUtf8 b → differ ≡ not (bytes_eq a b) → (chars a ≡ chars b ↔ m ≡ n) → (IsTrue differ ↔ (m ≢ n))
+pub differ_by_chars : {m n : ℕ} (a b : List ℕ) (differ : Bool) → IsUtf8 a → IsUtf8 b → differ ≡ not (bytes_eq a b) → (chars a ≡ chars b ↔ m ≡ n)
+    → (IsTrue differ ↔ (m ≢ n))
 differ_by_chars {m} {n} a b differ ua ub is same =
     differ_by (bytes_eq a b) differ (a ≡ b) (m ≡ n) (bytes_eq-Decides a b) is (λ e. same.0 (ap chars e)) (λ e. chars_tell a b ua ub (same.1 e))
 

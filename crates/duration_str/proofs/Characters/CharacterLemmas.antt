@@ -2,7 +2,8 @@
 use Rattle.std.proofs.Common.{◌≡◌, ℕ, ◌≤◌, Bool, true, false, ◌&&◌, ◌||◌, ◌⊎◌, inl, inr, ◌==◌, Some, None, if◌then◌else◌, arith, refl, sym, ◌∙◌}
 use Rattle.std.proofs.lemmas.Bool.{true≢false, false_from_ne_true, or_cases, and_parts, eqb-true}
 use Rattle.std.proofs.lemmas.Bool.Decides.{nat_tests}
-use Rattle.std.specs.Char.{is_ascii, is_ascii_alphabetic}
+use Rattle.std.specs.Prelude.{nat_lt}
+use Rattle.std.specs.Char.{is_ascii, is_ascii_alphabetic, is_ascii_uppercase}
 use Rattle.duration_str.specs.declared.options.Options.{Options}
 use Rattle.duration_str.specs.declared.operator.CondUnit.{CondUnit}
 use Rattle.duration_str.specs.declared.operator.CondUnit.TheVariants.{Plus, Star}
@@ -42,6 +43,10 @@ pub letter-not_digit : (o : Options) (c : ℕ) → is_unit_letter o c ≡ true �
 letter-not_digit o c e =
     let above : 65 ≤ c = letter_above o c e in
     false_from_ne_true _ (λ (t : is_digit c ≡ true). let below : c ≤ 57 = digit_below c t in omega arith)
+
+-- the letters before `a` are the capitals
+pub capital_below : (c : ℕ) → is_ascii_alphabetic c ≡ true → nat_lt c 97 ≡ is_ascii_uppercase c
+capital_below c e = grind (arith, nat_tests)
 
 pub letter_of_ascii : (o : Options) (c : ℕ) → is_ascii_alphabetic c ≡ true → is_unit_letter o c ≡ true
 letter_of_ascii o c e = rw e refl

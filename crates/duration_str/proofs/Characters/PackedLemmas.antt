@@ -137,7 +137,8 @@ no_capital [] e = refl
 no_capital (c ∷ w) e = let parts = or_parts (is_ascii_uppercase c) (list_any is_ascii_uppercase w) e in λ i. small_same c parts.0 i ∷ no_capital w parts.1 i
 
 form_lower : (o : Options) (w : List ℕ) → (o.lowercase && list_any is_ascii_uppercase w) ≡ false → comparison_form o w ≡ map to_ascii_lowercase w
-form_lower o w = elim o.lowercase as (λ b. (b && list_any is_ascii_uppercase w) ≡ false → (if b then w else map to_ascii_lowercase w) ≡ map to_ascii_lowercase w)
+form_lower o w = elim o.lowercase as (λ b. (b && list_any is_ascii_uppercase w) ≡ false
+    → (if b then w else map to_ascii_lowercase w) ≡ map to_ascii_lowercase w)
     [ true ↦ (λ e. sym (no_capital w e)) | false ↦ (λ e. refl) ]
 
 named_by_number : (o : Options) (w : List ℕ) (u : TimeUnit) → (o.lowercase && list_any is_ascii_uppercase w) ≡ false → list_all is_ascii_alphabetic w ≡ true
@@ -151,7 +152,8 @@ named_by_number o w u folded letters =
     ∙ names_test v (row_of u).names small ∙ ap (λ n. list_any (packs_to n) (row_of u).names) (lower_packed 0 w letters)
 
 -- the unit that a word of ASCII letters names, without capitals under `lowercase`
-pub unit_by_number : (o : Options) (w : List ℕ) → (o.lowercase && list_any is_ascii_uppercase w) ≡ false → list_all is_ascii_alphabetic w ≡ true → unit_of_word o w ≡ unit_of_packed (packed w)
+pub unit_by_number : (o : Options) (w : List ℕ) → (o.lowercase && list_any is_ascii_uppercase w) ≡ false → list_all is_ascii_alphabetic w ≡ true
+    → unit_of_word o w ≡ unit_of_packed (packed w)
 unfolding unit_of_packed
 unit_by_number o w folded letters = (λ i. find (λ u. named_by_number o w u folded letters i) units)
 

@@ -1,6 +1,6 @@
 -- The steps of cutting, in terms of a text, the byte up to which it is cut, and the looks.
 use Rattle.std.proofs.Common.{◌≡◌, ℕ, ◌+◌, ◌-◌, ◌*◌, ◌%◌, ◌<◌, ◌≤◌, ◌^◌, Bool, true, false, List, [], ◌∷◌, ◌++◌, length, take, drop, Option, Some, None, IsUtf8, refl, ap, sym, ◌∙◌, subst, arith, lit<}
-use Rattle.std.specs.Prelude.{◌&&◌, ◌||◌, is_some, IsSome, IfSome, IsTrue, slice_range, if◌then◌else◌}
+use Rattle.std.specs.Prelude.{nat_lt, ◌&&◌, ◌||◌, is_some, IsSome, IfSome, IsTrue, slice_range, if◌then◌else◌}
 use Rattle.std.specs.List.{list_any, list_all}
 use Rattle.std.specs.Char.{is_ascii_alphabetic, is_ascii_uppercase}
 use Rattle.std.proofs.lemmas.Bool.{and_from, and_parts}
@@ -22,7 +22,7 @@ use Rattle.duration_str.specs.Units.{unit_of_word}
 use Rattle.duration_str.specs.Internal.Numbers.{u64_from}
 use Rattle.duration_str.specs.Internal.Packed.{unit_of_packed}
 use Rattle.duration_str.specs.Internal.Cutting.{ahead, StandsAt, Between, Passes, Stops, TakesDigits, TakesLetters, TakesWord, packed_after}
-use Rattle.duration_str.proofs.Characters.CharacterLemmas.{letter_of_ascii}
+use Rattle.duration_str.proofs.Characters.CharacterLemmas.{letter_of_ascii, capital_below}
 use Rattle.duration_str.proofs.Sentences.SpellingLemmas.{all_weaker}
 use Rattle.duration_str.proofs.Characters.TextLemmas.{width_some, byte_len-append}
 use Rattle.duration_str.proofs.Characters.NumberLemmas.{u64_some, number_below}
@@ -39,22 +39,26 @@ chars_short : (text : List ℕ) → IsUtf8 text → length (chars text) ≤ leng
 chars_short text utf8 = let few = length-le-encodes (chars text) in let same = ap length (encodes-chars text utf8) in omega (arith, few, same)
 
 -- no character after the head was looked at
-pub counted_past : (text : List ℕ) (place next looks : ℕ) (head : Option ℕ) → IsSome head → ForSome head (StandsAt text place next) → IsCounted text place looks head
+pub counted_past : (text : List ℕ) (place next looks : ℕ) (head : Option ℕ) → IsSome head → ForSome head (StandsAt text place next)
+    → IsCounted text place looks head
     → looks + length (ahead text next) ≡ length (chars text)
 counted_past text place next looks None h stands counted = absurd cc
 counted_past text place next looks (Some c) h stands counted = let len = ap length (stands c refl).head in omega (arith, len, counted)
 
 -- one more look fits into 64 bits
-pub looks_fit : (text : List ℕ) (place looks : ℕ) → IsUtf8 text → length text < 2 ^ 63 → looks + length (ahead text place) ≡ length (chars text) → looks + 1 < 2 ^ 64
+pub looks_fit : (text : List ℕ) (place looks : ℕ) → IsUtf8 text → length text < 2 ^ 63 → looks + length (ahead text place) ≡ length (chars text)
+    → looks + 1 < 2 ^ 64
 looks_fit text place looks utf8 short counted = let few = chars_short text utf8 in omega (arith, few, short, counted)
 
 -- there are at most as many looks as characters
-pub looks_most : (text : List ℕ) (place next looks : ℕ) (head : Option ℕ) → ForSome head (StandsAt text place next) → IsCounted text place looks head → looks ≤ length (chars text)
+pub looks_most : (text : List ℕ) (place next looks : ℕ) (head : Option ℕ) → ForSome head (StandsAt text place next) → IsCounted text place looks head
+    → looks ≤ length (chars text)
 looks_most text place next looks None stands counted = omega (arith, counted)
 looks_most text place next looks (Some c) stands counted = let len = ap length (stands c refl).head in omega (arith, len, counted)
 
 -- the characters before and after a place are all the characters
-pub parts_count : (text : List ℕ) (place : ℕ) → IsUtf8 text → IsCharBoundary text place → length (chars text) ≡ length (chars (take place text)) + length (ahead text place)
+pub parts_count : (text : List ℕ) (place : ℕ) → IsUtf8 text → IsCharBoundary text place
+    → length (chars text) ≡ length (chars (take place text)) + length (ahead text place)
 parts_count text place utf8 boundary =
     ap length (sym (ap chars (take-append-drop place text)) ∙ chars-append (take place text) (drop place text) (IsUtf8-take text place utf8 boundary))
     ∙ length-append (chars (take place text)) (ahead text place)
@@ -80,7 +84,8 @@ passes_none test text place = record { characters = []; between = record { cut =
 list_all-push : (test : ℕ → Bool) (cs : List ℕ) (c : ℕ) → IsTrue (list_all test cs) → test c ≡ true → IsTrue (list_all test (cs ++ c ∷ []))
 list_all-push test cs c all e = list_all-append test cs (c ∷ []) ∙ and_from _ _ all (and_from _ _ e refl)
 
-pub passes_more : (test : ℕ → Bool) (text : List ℕ) (place at next c : ℕ) → Passes test text place at → StandsAt text at next c → test c ≡ true → Passes test text place next
+pub passes_more : (test : ℕ → Bool) (text : List ℕ) (place at next c : ℕ) → Passes test text place at → StandsAt text at next c → test c ≡ true
+    → Passes test text place next
 passes_more test text place at next c passed stands e =
     let len = byte_len-append passed.characters (c ∷ []) in
     record {
@@ -106,7 +111,8 @@ passes_on test text place at next passed more =
     }
 
 -- characters that pass a test also pass a weaker one
-pub passes_weaker : (test weaker : ℕ → Bool) (text : List ℕ) (place next : ℕ) → ((c : ℕ) → test c ≡ true → weaker c ≡ true) → Passes test text place next → Passes weaker text place next
+pub passes_weaker : (test weaker : ℕ → Bool) (text : List ℕ) (place next : ℕ) → ((c : ℕ) → test c ≡ true → weaker c ≡ true) → Passes test text place next
+    → Passes weaker text place next
 passes_weaker test weaker text place next follows passed =
     record { characters = passed.characters; between = passed.between; all = all_weaker test weaker passed.characters follows passed.all }
 
@@ -138,7 +144,8 @@ pub digits_none : (text : List ℕ) (place : ℕ) → TakesDigits text place pla
 unfolding passes_none
 digits_none text place = record { run = passes_none is_digit text place; number = refl }
 
-pub digits_head : (text left : List ℕ) (place at next : ℕ) (head : Option ℕ) (c value value' : ℕ) → left ≡ text → TakesDigits text place at value → head ≡ Some c
+pub digits_head : (text left : List ℕ) (place at next : ℕ) (head : Option ℕ) (c value value' : ℕ) → left ≡ text → TakesDigits text place at value
+    → head ≡ Some c
     → ForSome head (StandsAt left at next) → is_digit c ≡ true → value' ≡ (value * 10 + (c - 48)) % 2 ^ 64 → TakesDigits text place next value'
 unfolding passes_head passes_more
 digits_head text left place at next head c value value' same taken is stands e more =
@@ -158,7 +165,7 @@ any-push test cs c = list_any-append test cs (c ∷ []) ∙ ap (λ b. list_any t
 
 pub letters_head : (text left : List ℕ) (place at next : ℕ) (head : Option ℕ) (c value value' : ℕ) (capital capital' : Bool) → left ≡ text
     → TakesLetters text place at value capital → head ≡ Some c → ForSome head (StandsAt left at next) → is_ascii_alphabetic c ≡ true
-    → value' ≡ (value * 32 + c % 32) % 2 ^ 64 → capital' ≡ (capital || is_ascii_uppercase c) → TakesLetters text place next value' capital'
+    → value' ≡ (value * 32 + c % 32) % 2 ^ 64 → capital' ≡ (capital || nat_lt c 97) → TakesLetters text place next value' capital'
 unfolding passes_head passes_more
 letters_head text left place at next head c value value' capital capital' same taken is stands e more or =
     let push = packed_after-push 0 taken.run.characters c in
@@ -166,7 +173,7 @@ letters_head text left place at next head c value value' capital capital' same t
     record {
       run = passes_head is_ascii_alphabetic text left place at next head c same taken.run is stands e;
       number = omega (arith, more, push, before);
-      capital = or ∙ ap (λ b. b || is_ascii_uppercase c) taken.capital ∙ sym (any-push is_ascii_uppercase taken.run.characters c);
+      capital = or ∙ (λ i. taken.capital i || capital_below c e i) ∙ sym (any-push is_ascii_uppercase taken.run.characters c);
     }
 
 -- ---- the characters between two places
@@ -180,10 +187,12 @@ pub between_count : (text : List ℕ) (place next n : ℕ) (cs : List ℕ) → B
 between_count text place next n cs between few = let len = length-le-byte_len cs in let bytes = between.bytes in omega (arith, len, bytes, few)
 
 -- the slice between two places has these characters
-pub chars_between : (text : List ℕ) (place next : ℕ) (cs slice : List ℕ) → Between text place next cs → slice ≡ slice_range text place next → IsUtf8 slice → chars slice ≡ cs
+pub chars_between : (text : List ℕ) (place next : ℕ) (cs slice : List ℕ) → Between text place next cs → slice ≡ slice_range text place next → IsUtf8 slice
+    → chars slice ≡ cs
 chars_between text place next cs slice between is utf8 =
     let order : place ≤ next = omega (arith, between.bytes) in
-    let there : drop (next - place) (drop place text) ≡ drop next text = drop-drop (next - place) place text ∙ ap (λ n. drop n text) (let e : place + (next - place) ≡ next = omega (arith, order) in e) in
+    let there : drop (next - place) (drop place text) ≡ drop next text = drop-drop (next - place) place text ∙ ap (λ n. drop n text)
+    (let e : place + (next - place) ≡ next = omega (arith, order) in e) in
     let parts : slice ++ drop next text ≡ drop place text = (λ i. is i ++ sym there i) ∙ take-append-drop (next - place) (drop place text) in
     append_cancel_right (chars slice) cs (ahead text next) (sym (chars-append slice (drop next text) utf8) ∙ ap chars parts ∙ between.cut)
 
@@ -211,18 +220,23 @@ short_word o text place next value capital unit taken folded short found =
     let few : length cs ≤ 12 = between_count text place next 12 cs taken.run.between short in
     record {
       run = passes_weaker is_ascii_alphabetic (is_unit_letter o) text place next (letter_of_ascii o) taken.run;
-      named = found ∙ ap unit_of_packed (exact cs value few taken.number) ∙ sym (unit_by_number o cs (ap (λ b. o.lowercase && b) (sym taken.capital) ∙ folded) taken.run.all);
+      named = found ∙ ap unit_of_packed (exact cs value few taken.number) ∙ sym (unit_by_number o cs (ap (λ b. o.lowercase && b) (sym taken.capital) ∙ folded)
+          taken.run.all);
     }
 
 -- a word by its slice: ASCII letters, then any unit letters
-pub long_word : (o : Options) (text : List ℕ) (place at next value : ℕ) (capital : Bool) (slice : List ℕ) (unit : Option TimeUnit) → TakesLetters text place at value capital
-    → Passes (is_unit_letter o) text at next → slice ≡ slice_range text place next → IsUtf8 slice → unit ≡ unit_of_word o (chars slice) → TakesWord o text place next unit
+pub long_word : (o : Options) (text : List ℕ) (place at next value : ℕ) (capital : Bool) (slice : List ℕ) (unit : Option TimeUnit)
+    → TakesLetters text place at value capital
+    → Passes (is_unit_letter o) text at next → slice ≡ slice_range text place next → IsUtf8 slice → unit ≡ unit_of_word o (chars slice)
+    → TakesWord o text place next unit
 long_word o text place at next value capital slice unit taken passed is utf8 found =
-    let run = passes_on (is_unit_letter o) text place at next (passes_weaker is_ascii_alphabetic (is_unit_letter o) text place at (letter_of_ascii o) taken.run) passed in
+    let run = passes_on (is_unit_letter o) text place at next (passes_weaker is_ascii_alphabetic (is_unit_letter o) text place at (letter_of_ascii o)
+    taken.run) passed in
     record { run = run; named = found ∙ ap (unit_of_word o) (chars_between text place next run.characters slice run.between is utf8) }
 
 -- a slice of the same text from the same place
-pub same_slice : (slice text text' : List ℕ) (start place next : ℕ) → slice ≡ slice_range text start next → text ≡ text' → start ≡ place → slice ≡ slice_range text' place next
+pub same_slice : (slice text text' : List ℕ) (start place next : ℕ) → slice ≡ slice_range text start next → text ≡ text' → start ≡ place
+    → slice ≡ slice_range text' place next
 same_slice slice text text' start place next is same there = is ∙ (λ i. slice_range (same i) (there i) next)
 
 -- ---- the first token that is left
@@ -234,7 +248,8 @@ blanks_no_token o at (b ∷ blanks) rest h =
     rw (parts.0) (blanks_no_token o (at + width b) blanks rest parts.1) ∙ ap (λ n. tokens_from o n rest) (add_assoc at (width b) (byte_len blanks))
 
 -- skipping blanks leaves the same tokens
-pub blanks_passed : (o : Options) (text : List ℕ) (place next : ℕ) → Passes is_blank text place next → tokens_from o place (ahead text place) ≡ tokens_from o next (ahead text next)
+pub blanks_passed : (o : Options) (text : List ℕ) (place next : ℕ) → Passes is_blank text place next
+    → tokens_from o place (ahead text place) ≡ tokens_from o next (ahead text next)
 blanks_passed o text place next blanks =
     ap (tokens_from o place) blanks.between.cut ∙ blanks_no_token o place blanks.characters (ahead text next) blanks.all
     ∙ ap (λ n. tokens_from o n (ahead text next)) (sym blanks.between.bytes)

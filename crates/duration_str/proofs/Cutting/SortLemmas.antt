@@ -20,7 +20,8 @@ use Rattle.duration_str.proofs.Cutting.TokenLemmas.{tokens_are}
 use Rattle.duration_str.proofs.Sentences.SpellingLemmas.{all_weaker, digits_are_lexeme, letters_are_lexeme}
 
 -- if the character ahead passes the test, the run of characters that pass it is not empty
-some_passed : (test : ℕ → Bool) (text : List ℕ) (place next at c : ℕ) (cs : List ℕ) → Between text place next cs → Stops test (ahead text next) → StandsAt text place at c → test c ≡ true
+some_passed : (test : ℕ → Bool) (text : List ℕ) (place next at c : ℕ) (cs : List ℕ) → Between text place next cs → Stops test (ahead text next)
+    → StandsAt text place at c → test c ≡ true
     → cs ≡ [] → ⊥
 some_passed test text place next at c cs between stops stands e none =
     let same : ahead text next ≡ c ∷ ahead text at = sym (between.cut ∙ ap (λ l. l ++ ahead text next) none) ∙ stands.head in
@@ -37,14 +38,16 @@ letters_end o c [] e stops = refl
 letters_end o c (d ∷ rest) e stops = rw (letter-not_digit o c e, e, stops) refl
 
 digits_mean : (o : Options) (c : ℕ) (cs : List ℕ) → IsTrue (list_all is_digit (c ∷ cs)) → terminal_of o (c ∷ cs) ≡ number (number_of (c ∷ cs))
-digits_mean o c cs all = ap (λ b. if b then number (number_of (c ∷ cs)) else if list_all (is_unit_letter o) (c ∷ cs) then word (unit_of_word o (c ∷ cs)) else sign_terminal (c ∷ cs)) all
+digits_mean o c cs all = ap (λ b. if b then number (number_of (c ∷ cs)) else if list_all (is_unit_letter o) (c ∷ cs) then word (unit_of_word o (c ∷ cs)) else
+    sign_terminal (c ∷ cs)) all
 
 letters_mean : (o : Options) (c : ℕ) (cs : List ℕ) → IsTrue (list_all (is_unit_letter o) (c ∷ cs)) → terminal_of o (c ∷ cs) ≡ word (unit_of_word o (c ∷ cs))
 letters_mean o c cs all =
     let first : is_digit c ≡ false = letter-not_digit o c (and_parts (is_unit_letter o c) (list_all (is_unit_letter o) cs) all).0 in
     rw (first, all) refl
 
-pub number_stands : (o : Options) (text : List ℕ) (place next at c : ℕ) (run : Passes is_digit text place next) → Stops is_digit (ahead text next) → StandsAt text place at c → is_digit c ≡ true
+pub number_stands : (o : Options) (text : List ℕ) (place next at c : ℕ) (run : Passes is_digit text place next) → Stops is_digit (ahead text next)
+    → StandsAt text place at c → is_digit c ≡ true
     → IsNumber run.characters × StandsToken o text place next (number (number_of run.characters))
 number_stands o text place next at c run stops stands e = by_characters run.characters refl
   where
@@ -62,7 +65,8 @@ number_stands o text place next at c run stops stands e = by_characters run.char
           },
         )
 
-pub word_stands : (o : Options) (text : List ℕ) (place next at c : ℕ) (unit : Option TimeUnit) → TakesWord o text place next unit → Stops (is_unit_letter o) (ahead text next)
+pub word_stands : (o : Options) (text : List ℕ) (place next at c : ℕ) (unit : Option TimeUnit) → TakesWord o text place next unit
+    → Stops (is_unit_letter o) (ahead text next)
     → StandsAt text place at c → is_unit_letter o c ≡ true → StandsToken o text place next (word unit)
 word_stands o text place next at c unit taken stops stands e = by_characters taken.run.characters refl
   where
@@ -83,7 +87,8 @@ no_run o c [] e f = refl
 no_run o c (d ∷ rest) e f = rw (e, f) refl
 
 -- an operator, or a character of no other class
-pub sign_stands : (o : Options) (text : List ℕ) (place next c : ℕ) → StandsAt text place next c → is_blank c ≡ false → is_digit c ≡ false → is_unit_letter o c ≡ false
+pub sign_stands : (o : Options) (text : List ℕ) (place next c : ℕ) → StandsAt text place next c → is_blank c ≡ false → is_digit c ≡ false
+    → is_unit_letter o c ≡ false
     → StandsToken o text place next (operator_or_other (operator_of c))
 sign_stands o text place next c stands b e f = record {
   characters = c ∷ [];
@@ -127,7 +132,8 @@ pub sign_of_sort : (o : Options) (c : ℕ) (sort : Sort) → IsSign sort → sor
     → (is_digit c ≡ false) × (is_unit_letter o c ≡ false) × (sort ≡ sign_sort (operator_of c))
 sign_of_sort o c sort sign is = by_class (is_digit c) (is_unit_letter o c) (operator_of c) is
   where
-    by_class : (d l : Bool) (op : Option CondUnit) → sort ≡ (if d then Number else if l then Word else sign_sort op) → (d ≡ false) × (l ≡ false) × (sort ≡ sign_sort op)
+    by_class : (d l : Bool) (op : Option CondUnit) → sort ≡ (if d then Number else if l then Word else sign_sort op)
+        → (d ≡ false) × (l ≡ false) × (sort ≡ sign_sort op)
     by_class true l op h = absurd (subst IsSign h sign)
     by_class false true op h = absurd (subst IsSign h sign)
     by_class false false op h = (refl, refl, h)
@@ -154,22 +160,26 @@ right_false false false false q h e = absurd cc
 token_sort : (o : Options) (c : ℕ) (cs : List ℕ) → IsLexeme o (c ∷ cs) → sort_at o c ≡ sort_of (terminal_of o (c ∷ cs))
 token_sort o c cs p = by_class (is_digit c) (is_unit_letter o c) refl refl
   where
-    alone : (ds : List ℕ) → is_digit c ≡ false → is_unit_letter o c ≡ false → IsTrue (list_all (are_of_one_run o c) ds) → sort_at o c ≡ sort_of (terminal_of o (c ∷ ds))
+    alone : (ds : List ℕ) → is_digit c ≡ false → is_unit_letter o c ≡ false → IsTrue (list_all (are_of_one_run o c) ds)
+        → sort_at o c ≡ sort_of (terminal_of o (c ∷ ds))
     alone [] e f all = rw (e, f) (sign_sorts (operator_of c))
     alone (d ∷ ds) e f all = absurd (true≢false (sym (and_parts _ _ all).0 ∙ no_run o c (d ∷ ds) e f))
 
     by_class : (d l : Bool) → is_digit c ≡ d → is_unit_letter o c ≡ l → sort_at o c ≡ sort_of (terminal_of o (c ∷ cs))
     by_class true l e f =
-        let rest = all_weaker (are_of_one_run o c) is_digit cs (λ d h. right_false (is_digit c) (is_digit d) (is_unit_letter o c) (is_unit_letter o d) h (digit-not_letter o c e)) p.1 in
+        let rest = all_weaker (are_of_one_run o c) is_digit cs (λ d h. right_false (is_digit c) (is_digit d) (is_unit_letter o c) (is_unit_letter o d) h
+        (digit-not_letter o c e)) p.1 in
         rw (e, rest) refl
     by_class false true e f =
-        let rest = all_weaker (are_of_one_run o c) (is_unit_letter o) cs (λ d h. left_false (is_digit c) (is_digit d) (is_unit_letter o c) (is_unit_letter o d) h e) p.1 in
+        let rest = all_weaker (are_of_one_run o c) (is_unit_letter o) cs (λ d h. left_false (is_digit c) (is_digit d) (is_unit_letter o c)
+        (is_unit_letter o d) h e) p.1 in
         rw (e, f, rest) refl
     by_class false false e f = alone cs e f p.1
 
 -- A text that starts with a character other than a blank starts with a token of that character.
 pub first_token : (o : Options) (at c : ℕ) (text : List ℕ) → is_blank c ≡ false
-    → (cs : List ℕ) × (rest : List Token) × (tokens_from o at (c ∷ text) ≡ record { start = at; characters = cs } ∷ rest) × (sort_at o c ≡ sort_of (terminal_of o cs))
+    → (cs : List ℕ) × (rest : List Token) × (tokens_from o at (c ∷ text) ≡ record { start = at; characters = cs } ∷ rest) ×
+    (sort_at o c ≡ sort_of (terminal_of o cs))
 first_token o at c text e = of_tokens (tokens_from o at (c ∷ text)) refl (tokens_are o at (c ∷ text))
   where
     begins : (start : ℕ) (blanks cs rest : List ℕ) → IsBlank blanks → c ∷ text ≡ blanks ++ (cs ++ rest) → start ≡ at + byte_len blanks → IsLexeme o cs
@@ -182,7 +192,8 @@ first_token o at c text e = of_tokens (tokens_from o at (c ∷ text)) refl (toke
         let heads : c ≡ d = cc in (there ∙ add-zero at, ap (sort_at o) heads ∙ token_sort o d cs p)
 
     of_tokens : (ps : List Token) → tokens_from o at (c ∷ text) ≡ ps → AreTokens o at (c ∷ text) ps
-        → (cs : List ℕ) × (rest : List Token) × (tokens_from o at (c ∷ text) ≡ record { start = at; characters = cs } ∷ rest) × (sort_at o c ≡ sort_of (terminal_of o cs))
+        → (cs : List ℕ) × (rest : List Token) × (tokens_from o at (c ∷ text) ≡ record { start = at; characters = cs } ∷ rest) ×
+        (sort_at o c ≡ sort_of (terminal_of o cs))
     of_tokens [] is a = absurd (true≢false (sym (and_parts _ _ a).0 ∙ e))
     of_tokens (p ∷ ps) is a =
         let b = begins p.start a.1.blanks p.characters a.0 a.1.blank a.1.parts a.1.start a.1.is_lexeme in

@@ -36,7 +36,8 @@ left_same s t kept = (λ i. tokens_from (kept.options i) (place_of t) (ahead (ke
 -- ---- what is ahead
 
 -- skipping the blanks from s to t
-pub looks_ahead : (s t : Tokens) (sort : Option Sort) → KeepsInput s t → Passes is_blank (source s) (place_of s) (place_of t) → IsAhead t sort → LooksAhead s t sort
+pub looks_ahead : (s t : Tokens) (sort : Option Sort) → KeepsInput s t → Passes is_blank (source s) (place_of s) (place_of t) → IsAhead t sort
+    → LooksAhead s t sort
 looks_ahead s t sort kept blanks ahead = record {
   kept = kept;
   same_left = left_same s t kept ∙ sym (blanks_passed (options_of s) (source s) (place_of s) (place_of t) blanks);
@@ -71,7 +72,8 @@ letter_ahead s c h is =
 
 -- ---- the next token
 
-takes_token : (s t : Tokens) (terminal : Terminal) → KeepsInput s t → StandsToken (options_of s) (source s) (place_of s) (place_of t) terminal → TakesToken s t terminal
+takes_token : (s t : Tokens) (terminal : Terminal) → KeepsInput s t → StandsToken (options_of s) (source s) (place_of s) (place_of t) terminal
+    → TakesToken s t terminal
 takes_token s t terminal kept token = record {
   characters = token.characters;
   kept = kept;
@@ -83,11 +85,14 @@ takes_token s t terminal kept token = record {
 
 -- The slice from s to t is the number ahead, and `low` is its value modulo 2^64.
 pub takes_number : (s t : Tokens) (low start : ℕ) (slice : List ℕ) → IsAhead s (Some Number) → KeepsInput s t
-    → TakesDigits (source s) (place_of s) (place_of t) low → Stops is_digit (ahead (source t) (place_of t)) → start ≡ place_of s → slice ≡ slice_range (source t) start (place_of t) → IsUtf8 slice
+    → TakesDigits (source s) (place_of s) (place_of t) low → Stops is_digit (ahead (source t) (place_of t)) → start ≡ place_of s
+    → slice ≡ slice_range (source t) start (place_of t) → IsUtf8 slice
     → IsNumber (chars slice) × (low ≡ number_of (chars slice) % 2 ^ 64) × TakesNumber s t (u64_from (number_of (chars slice)))
 takes_number s t low start slice h kept taken stops there is utf8 =
-    let same = chars_between (source s) (place_of s) (place_of t) taken.run.characters slice taken.run.between (same_slice slice (source t) (source s) start (place_of s) (place_of t) is kept.text there) utf8 in
-    let token = number_stands (options_of s) (source s) (place_of s) (place_of t) s.eye.next h.0 taken.run (subst (λ l. Stops is_digit (ahead l (place_of t))) kept.text stops) (s.some h.0 h.1)
+    let same = chars_between (source s) (place_of s) (place_of t) taken.run.characters slice taken.run.between
+    (same_slice slice (source t) (source s) start (place_of s) (place_of t) is kept.text there) utf8 in
+    let token = number_stands (options_of s) (source s) (place_of s) (place_of t) s.eye.next h.0 taken.run
+    (subst (λ l. Stops is_digit (ahead l (place_of t))) kept.text stops) (s.some h.0 h.1)
     (digit_of_sort (options_of s) h.0 h.3) in (
       subst IsNumber (sym same) token.0,
       taken.number ∙ ap (λ l. number_of l % 2 ^ 64) (sym same),
@@ -95,29 +100,34 @@ takes_number s t low start slice h kept taken stops there is utf8 =
     )
 
 pub takes_word : (s t : Tokens) (unit : Option TimeUnit) → IsAhead s (Some Word) → KeepsInput s t
-    → TakesWord (options_of s) (source s) (place_of s) (place_of t) unit → Stops (is_unit_letter (options_of s)) (ahead (source t) (place_of t)) → TakesToken s t (word unit)
+    → TakesWord (options_of s) (source s) (place_of s) (place_of t) unit → Stops (is_unit_letter (options_of s)) (ahead (source t) (place_of t))
+    → TakesToken s t (word unit)
 takes_word s t unit h kept taken stops =
     takes_token s t (word unit) kept
-    (word_stands (options_of s) (source s) (place_of s) (place_of t) s.eye.next h.0 unit taken (subst (λ l. Stops (is_unit_letter (options_of s)) (ahead l (place_of t))) kept.text stops)
+    (word_stands (options_of s) (source s) (place_of s) (place_of t) s.eye.next h.0 unit taken
+    (subst (λ l. Stops (is_unit_letter (options_of s)) (ahead l (place_of t))) kept.text stops)
     (s.some h.0 h.1) (letter_of_sort (options_of s) h.0 h.3))
 
 -- a word by its slice: ASCII letters from s to m, then any unit letters up to t
 pub takes_long_word : (s m t : Tokens) (value start : ℕ) (capital : Bool) (slice : List ℕ) (unit : Option TimeUnit) → IsAhead s (Some Word) → KeepsInput s m
     → TakesLetters (source s) (place_of s) (place_of m) value capital → KeepsInput m t
     → Passes (is_unit_letter (options_of m)) (source m) (place_of m) (place_of t) → Stops (is_unit_letter (options_of m)) (ahead (source t) (place_of t))
-    → start ≡ place_of s → slice ≡ slice_range (source t) start (place_of t) → IsUtf8 slice → unit ≡ unit_of_word (options_of t) (chars slice) → TakesToken s t (word unit)
+    → start ≡ place_of s → slice ≡ slice_range (source t) start (place_of t) → IsUtf8 slice → unit ≡ unit_of_word (options_of t) (chars slice)
+    → TakesToken s t (word unit)
 takes_long_word s m t value start capital slice unit h kept letters later passed stops there is utf8 found =
     let run = subst (λ l. Passes (is_unit_letter (options_of s)) l (place_of m) (place_of t)) kept.text
     (subst (λ o. Passes (is_unit_letter o) (source m) (place_of m) (place_of t)) kept.options passed) in
     let all = keeps_on s m t kept later in
     takes_word s t unit h all
     (long_word (options_of s) (source s) (place_of s) (place_of m) (place_of t) value capital slice unit letters run
-    (same_slice slice (source t) (source s) start (place_of s) (place_of t) is all.text there) utf8 (found ∙ ap (λ o. unit_of_word o (chars slice)) all.options))
+    (same_slice slice (source t) (source s) start (place_of s) (place_of t) is all.text there) utf8
+    (found ∙ ap (λ o. unit_of_word o (chars slice)) all.options))
     (subst (λ o. Stops (is_unit_letter o) (ahead (source t) (place_of t))) kept.options stops)
 
 -- taking the single character ahead
 pub takes_sign : (s t : Tokens) (sort : Sort) → IsSign sort → IsAhead s (Some sort) → KeepsInput s t
-    → ((c : ℕ) → s.head ≡ Some c → StandsAt (source s) (place_of s) (place_of t) c) → (terminal : Terminal) × TakesToken s t terminal × (sort ≡ sort_of terminal)
+    → ((c : ℕ) → s.head ≡ Some c → StandsAt (source s) (place_of s) (place_of t) c)
+    → (terminal : Terminal) × TakesToken s t terminal × (sort ≡ sort_of terminal)
 takes_sign s t sort sign h kept past =
     let class = sign_of_sort (options_of s) h.0 sort sign h.3 in (
       operator_or_other (operator_of h.0),
@@ -140,7 +150,8 @@ other_what other e = refl
 
 -- the token that was taken is the next one
 pub takes_terminal : (s m t : Tokens) (x : RustToken) (terminal : Terminal) → KeepsInput s m → left m ≡ left s → TakesToken m t terminal
-    → x.start ≡ place_of m → x.text.now ≡ slice_range (source t) x.start (place_of t) → IsUtf8 x.text.now → x.what ≡ what_of terminal → IsCharBoundary (source m) (place_of m)
+    → x.start ≡ place_of m → x.text.now ≡ slice_range (source t) x.start (place_of t) → IsUtf8 x.text.now → x.what ≡ what_of terminal
+    → IsCharBoundary (source m) (place_of m)
     → IsCharBoundary (source t) (place_of t) → YieldsNextToken s (Some x) t
 takes_terminal s m t x terminal kept same taken there is utf8 sort before boundary =
     let slice : x.text.now ≡ slice_range (source m) (place_of m) (place_of t) = is ∙ (λ i. slice_range (taken.kept.text i) (there i) (place_of t)) in

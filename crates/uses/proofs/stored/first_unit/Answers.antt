@@ -17,7 +17,8 @@ pub returns-in-None-next : goal.returns-in-None-next
 returns-in-None-next c lexemes was =
     let tokens : List Token = token_of c.in-Some.field-0 ∷ [] in
     let cut : tokens_of c.args.o (chars c.args.text.now) ≡ tokens =
-    sym c.new-tokens.ensures.left ∙ c.in-Some.ensures.steps.first ∙ ap (λ (rest : List Token). token_of c.in-Some.field-0 ∷ rest) c.in-None-next.ensures.steps.first.0 in
+    sym c.new-tokens.ensures.left ∙ c.in-Some.ensures.steps.first ∙ ap (λ (rest : List Token). token_of c.in-Some.field-0 ∷ rest)
+    c.in-None-next.ensures.steps.first.0 in
     sym (ap unit_of_first (older_terminals_of_tokens c.one_sentence.ensures.sentence c.older_texts.ensures c.args.o lexemes _ tokens was cut))
 
 pub returns-in-Some-next : goal.returns-in-Some-next

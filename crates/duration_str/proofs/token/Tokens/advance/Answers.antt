@@ -12,7 +12,8 @@ look-self-requires c =
 
 pub invariant_of-self-clause-some : goal.invariant_of-self-clause-some
 invariant_of-self-clause-some c =
-    stands_same c.step.new.self.text.now c.look-self.new.self.text.now c.step.new.self.place c.look-self.new.self.place c.look-self.new.self.next c.look-self.result
+    stands_same c.step.new.self.text.now c.look-self.new.self.text.now c.step.new.self.place c.look-self.new.self.place c.look-self.new.self.next
+    c.look-self.result
     (ap (λ t. t.now) c.look-self.ensures.text) c.look-self.ensures.place c.look-self.ensures.some
 
 pub invariant_of-self-clause-counted : goal.invariant_of-self-clause-counted

@@ -18,11 +18,13 @@ loop-self-preserved c =
     let start = c.args.self.now in
     record {
       kept = keeps_on start s c.advance.new.self inv.kept c.advance.ensures.kept;
-      blanks = passes_head is_blank (source start) (source s) (place_of start) (place_of s) (place_of c.advance.new.self) s.head c.in-Some.c inv.kept.text inv.blanks c.in-Some.is
+      blanks = passes_head is_blank (source start) (source s) (place_of start) (place_of s) (place_of c.advance.new.self) s.head c.in-Some.c inv.kept.text
+          inv.blanks c.in-Some.is
           c.advance.ensures.past (sym c.is_blank.ensures ∙ c.if-is_blank.true);
     }
 
 pub loop-self-smaller : goal.loop-self-smaller
 loop-self-smaller c =
     let s = c.loop-self.self in
-    ahead_shorter (source s) _ (place_of s) (place_of c.advance.new.self) c.in-Some.c c.advance.ensures.kept.text (c.advance.ensures.past c.in-Some.c c.in-Some.is)
+    ahead_shorter (source s) _ (place_of s) (place_of c.advance.new.self) c.in-Some.c c.advance.ensures.kept.text
+    (c.advance.ensures.past c.in-Some.c c.in-Some.is)

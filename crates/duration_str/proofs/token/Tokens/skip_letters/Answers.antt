@@ -23,16 +23,21 @@ loop-self-preserved c =
     let start = c.args.self.now in
     record {
       kept = keeps_on start s c.advance.new.self inv.kept c.advance.ensures.kept;
-      letters = passes_head (is_unit_letter (options_of start)) (source start) (source s) (place_of start) (place_of s) (place_of c.advance.new.self) s.head c.in-Some.c inv.kept.text inv.letters c.in-Some.is
-          c.advance.ensures.past (letter_test (options_of start) s.options c.in-Some.c c.is_unit_letter.result _ inv.kept.options c.is_unit_letter.ensures c.if-is_unit_letter.true);
+      letters = passes_head (is_unit_letter (options_of start)) (source start) (source s) (place_of start) (place_of s) (place_of c.advance.new.self) s.head
+          c.in-Some.c inv.kept.text inv.letters c.in-Some.is
+          c.advance.ensures.past (letter_test (options_of start) s.options c.in-Some.c c.is_unit_letter.result _ inv.kept.options c.is_unit_letter.ensures
+          c.if-is_unit_letter.true);
     }
 
 pub loop-self-smaller : goal.loop-self-smaller
 loop-self-smaller c =
     let s = c.loop-self.self in
-    ahead_shorter (source s) _ (place_of s) (place_of c.advance.new.self) c.in-Some.c c.advance.ensures.kept.text (c.advance.ensures.past c.in-Some.c c.in-Some.is)
+    ahead_shorter (source s) _ (place_of s) (place_of c.advance.new.self) c.in-Some.c c.advance.ensures.kept.text
+    (c.advance.ensures.past c.in-Some.c c.in-Some.is)
 
 pub returns-else-is_unit_letter-clause-stops : goal.returns-else-is_unit_letter-clause-stops
 returns-else-is_unit_letter-clause-stops c =
     let s = c.loop-self.self in
-    stops_at (is_unit_letter (options_of c.args.self.now)) (source s) (place_of s) s.eye.next c.in-Some.c (s.some c.in-Some.c c.in-Some.is) (letter_test (options_of c.args.self.now) s.options c.in-Some.c c.is_unit_letter.result _ c.loop-self.invariant.kept.options c.is_unit_letter.ensures c.if-is_unit_letter.false)
+    stops_at (is_unit_letter (options_of c.args.self.now)) (source s) (place_of s) s.eye.next c.in-Some.c (s.some c.in-Some.c c.in-Some.is)
+    (letter_test (options_of c.args.self.now) s.options c.in-Some.c c.is_unit_letter.result _ c.loop-self.invariant.kept.options c.is_unit_letter.ensures
+    c.if-is_unit_letter.false)

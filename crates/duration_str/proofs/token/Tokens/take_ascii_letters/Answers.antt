@@ -1,4 +1,4 @@
-use Rattle.std.proofs.Common.{◌∙◌, ◌||◌, false, ap, refl, sym, arith}
+use Rattle.std.proofs.Common.{◌∙◌, false, refl, sym, arith}
 use Rattle.duration_str.specs.Tokenizer.{source, options_of, place_of}
 use Rattle.duration_str.proofs.Characters.CharacterLemmas.{ascii_letter}
 use Rattle.duration_str.proofs.Cutting.CuttingLemmas.{letters_none, letters_head, ahead_shorter}
@@ -12,8 +12,9 @@ loop-self-init c =
     let letter = ascii_letter (options_of s) first (letter_ahead s first c.requires c.in-Some.is) (sym c.is_ascii.ensures ∙ c.if-is_ascii.true) in
     record {
       kept = c.advance.ensures.kept;
-      letters = letters_head (source s) (source s) (place_of s) (place_of s) (place_of c.advance.new.self) s.head first 0 _ false _ refl (letters_none (source s) (place_of s)) c.in-Some.is c.advance.ensures.past letter
-          (let e = c.from-packed.ensures in omega (arith, e)) c.is_ascii_uppercase-has_capital.ensures.value;
+      letters = letters_head (source s) (source s) (place_of s) (place_of s) (place_of c.advance.new.self) s.head first 0 _ false _ refl
+          (letters_none (source s) (place_of s)) c.in-Some.is c.advance.ensures.past letter
+          (let e = c.from-packed.ensures in omega (arith, e)) refl;
     }
 
 pub loop-self-preserved : goal.loop-self-preserved
@@ -25,15 +26,17 @@ loop-self-preserved c =
     let letter = sym c.is_ascii_alphabetic.ensures.value ∙ c.if-is_ascii_alphabetic.true in
     record {
       kept = keeps_on start s more.new.self inv.kept more.ensures.kept;
-      letters = letters_head (source start) (source s) (place_of start) (place_of s) (place_of more.new.self) s.head c.in-Some-head.c c.loop-self.packed _ c.loop-self.has_capital _ inv.kept.text inv.letters c.in-Some-head.is
-          more.ensures.past letter refl (ap (λ b. c.loop-self.has_capital || b) c.is_ascii_uppercase-has_capital-in-loop-self.ensures.value);
+      letters = letters_head (source start) (source s) (place_of start) (place_of s) (place_of more.new.self) s.head c.in-Some-head.c c.loop-self.packed _
+          c.loop-self.has_capital _ inv.kept.text inv.letters c.in-Some-head.is
+          more.ensures.past letter refl refl;
     }
 
 pub loop-self-smaller : goal.loop-self-smaller
 loop-self-smaller c =
     let s = c.loop-self.self in
     let more = c.advance-in-loop-self in
-    ahead_shorter (source s) _ (place_of s) (place_of more.new.self) c.in-Some-head.c more.ensures.kept.text (more.ensures.past c.in-Some-head.c c.in-Some-head.is)
+    ahead_shorter (source s) _ (place_of s) (place_of more.new.self) c.in-Some-head.c more.ensures.kept.text
+    (more.ensures.past c.in-Some-head.c c.in-Some-head.is)
 
 pub returns-in_default-clause-letters : goal.returns-in_default-clause-letters
 returns-in_default-clause-letters c = letters_none (source c.args.self.now) (place_of c.args.self.now)

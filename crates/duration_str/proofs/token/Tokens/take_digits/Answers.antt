@@ -15,16 +15,19 @@ loop-self-preserved c =
     let start = c.args.self.now in
     record {
       kept = keeps_on start s c.advance.new.self inv.kept c.advance.ensures.kept;
-      digits = digits_head (source start) (source s) (place_of start) (place_of s) (place_of c.advance.new.self) s.head c.in-Some.c c.loop-self.number _ inv.kept.text inv.digits c.in-Some.is
+      digits = digits_head (source start) (source s) (place_of start) (place_of s) (place_of c.advance.new.self) s.head c.in-Some.c c.loop-self.number _
+          inv.kept.text inv.digits c.in-Some.is
           c.advance.ensures.past (sym c.is_ascii_digit.ensures.value ∙ c.if-is_ascii_digit.true) refl;
     }
 
 pub loop-self-smaller : goal.loop-self-smaller
 loop-self-smaller c =
     let s = c.loop-self.self in
-    ahead_shorter (source s) _ (place_of s) (place_of c.advance.new.self) c.in-Some.c c.advance.ensures.kept.text (c.advance.ensures.past c.in-Some.c c.in-Some.is)
+    ahead_shorter (source s) _ (place_of s) (place_of c.advance.new.self) c.in-Some.c c.advance.ensures.kept.text
+    (c.advance.ensures.past c.in-Some.c c.in-Some.is)
 
 pub returns-else-is_ascii_digit-clause-stops : goal.returns-else-is_ascii_digit-clause-stops
 returns-else-is_ascii_digit-clause-stops c =
     let s = c.loop-self.self in
-    stops_at is_digit (source s) (place_of s) s.eye.next c.in-Some.c (s.some c.in-Some.c c.in-Some.is) (sym c.is_ascii_digit.ensures.value ∙ c.if-is_ascii_digit.false)
+    stops_at is_digit (source s) (place_of s) s.eye.next c.in-Some.c (s.some c.in-Some.c c.in-Some.is)
+    (sym c.is_ascii_digit.ensures.value ∙ c.if-is_ascii_digit.false)

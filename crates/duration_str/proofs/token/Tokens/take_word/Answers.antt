@@ -31,12 +31,15 @@ pub returns-in_err-unit : goal.returns-in_err-unit
 returns-in_err-unit c =
     let m = c.take_ascii_letters-letters in
     let t = c.skip_letters in
-    takes_long_word c.args.self.now m.new.self t.new.self m.result.packed c.place-start.result m.result.has_capital c.since.result.now _ c.requires m.ensures.kept m.ensures.letters t.ensures.kept
-    t.ensures.letters t.ensures.stops c.place-start.ensures c.since.ensures c.since.utf8 (c.from_residual.ensures ∙ sym (c.in_err-unit.was {u = tt}) ∙ c.unit_by_name.ensures)
+    takes_long_word c.args.self.now m.new.self t.new.self m.result.packed c.place-start.result m.result.has_capital c.since.result.now _ c.requires
+    m.ensures.kept m.ensures.letters t.ensures.kept
+    t.ensures.letters t.ensures.stops c.place-start.ensures c.since.ensures c.since.utf8 (c.from_residual.ensures ∙ sym (c.in_err-unit.was {u = tt}) ∙
+    c.unit_by_name.ensures)
 
 pub returns-in_ok-unit : goal.returns-in_ok-unit
 returns-in_ok-unit c =
     let m = c.take_ascii_letters-letters in
     let t = c.skip_letters in
-    takes_long_word c.args.self.now m.new.self t.new.self m.result.packed c.place-start.result m.result.has_capital c.since.result.now _ c.requires m.ensures.kept m.ensures.letters t.ensures.kept
+    takes_long_word c.args.self.now m.new.self t.new.self m.result.packed c.place-start.result m.result.has_capital c.since.result.now _ c.requires
+    m.ensures.kept m.ensures.letters t.ensures.kept
     t.ensures.letters t.ensures.stops c.place-start.ensures c.since.ensures c.since.utf8 (sym (c.in_ok-unit.was {u = tt}) ∙ c.unit_by_name.ensures)

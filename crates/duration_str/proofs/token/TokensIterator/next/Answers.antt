@@ -19,7 +19,8 @@ pub since-text-requires-clause-boundary : goal.since-text-requires-clause-bounda
 since-text-requires-clause-boundary c =
     let m = c.sort_ahead.new.self in
     let taken = c.take_token-what.ensures.1 in
-    subst (λ text. IsCharBoundary text c.place-start.result) (sym taken.kept.text) (subst (IsCharBoundary (source m)) (sym c.place-start.ensures) m.eye.at_place)
+    subst (λ text. IsCharBoundary text c.place-start.result) (sym taken.kept.text) (subst (IsCharBoundary (source m)) (sym c.place-start.ensures)
+    m.eye.at_place)
 
 pub returns-clause-steps : goal.returns-clause-steps
 returns-clause-steps c =
@@ -27,7 +28,8 @@ returns-clause-steps c =
     let t = c.take_token-what.new.self in
     let e = c.sort_ahead.ensures in
     let taken = c.take_token-what.ensures in
-    takes_terminal c.args.self.now m t (record { start = c.place-start.result; text = c.since-text.result; what = c.take_token-what.result }) taken.0 e.kept e.same_left taken.1
+    takes_terminal c.args.self.now m t (record { start = c.place-start.result; text = c.since-text.result; what = c.take_token-what.result }) taken.0 e.kept
+    e.same_left taken.1
     c.place-start.ensures c.since-text.ensures c.since-text.utf8 taken.2 m.eye.at_place t.eye.at_place
 
 pub returns-clause-goes : goal.returns-clause-goes

@@ -10,5 +10,6 @@ pub returns-then-o : goal.returns-then-o
 returns-then-o c =
     let row = c.row-row.result in
     found_second c.is_any.result c.is_any-then-o.result _ c.args.o.cn_unit _
-    (by_name c.args.o c.args.word.now c.args.self row.names.now c.is_any.result c.utf8.word c.row-row.ensures.names c.is_any.ensures) c.if-is_any.false c.if-o.true
+    (by_name c.args.o c.args.word.now c.args.self row.names.now c.is_any.result c.utf8.word c.row-row.ensures.names c.is_any.ensures) c.if-is_any.false
+    c.if-o.true
     (by_chinese c.args.o c.args.word.now c.args.self row.chinese.now c.is_any-then-o.result c.utf8.word c.row-row.ensures.chinese c.is_any-then-o.ensures)
