@@ -43,12 +43,11 @@ fn shows_tokens(rt: HostRuntime) -> Result<(), Fail> {
 fn shows_causes(rt: HostRuntime) -> Result<(), Fail> {
     let (first, later) = (CondUnit::Plus, CondUnit::Star);
     let expected = AFTER_NUMBER;
+    let syntax =
+        "Syntax { place: 1, expected: Expected { number: false, unit_word: true, operator: true, text_end: true } }";
     for (cause, wanted) in [
         (Cause::Empty, "Empty"),
-        (
-            Cause::Syntax { place: 1, expected },
-            "Syntax { place: 1, expected: Expected { number: false, unit_word: true, operator: true, text_end: true } }",
-        ),
+        (Cause::Syntax { place: 1, expected }, syntax),
         (
             Cause::NumberTooLarge { place: Some(0) },
             "NumberTooLarge { place: Some(0) }",
