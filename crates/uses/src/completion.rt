@@ -22,9 +22,9 @@ pub struct Completion {
     pub expected: Expected,
 }
 
-/// What a person may type at the place of a syntax fault; `None` for a text without one. With a number, a unit's name or
-/// an operator of the expected kinds put there, the text up to it begins an expression, and with nothing else; and if
-/// the end is expected, the text up to the place is an expression already.
+/// What a person may type at the place of a syntax fault; `None` for a text without one. With a number, a unit's name
+/// or an operator of the expected kinds put there, the text up to it begins an expression, and with nothing else; and
+/// if the end is expected, the text up to the place is an expression already.
 ///
 /// ```text
 /// complete("1m 3-5", Options::off()) // after `1m 3`: a unit, an operator or nothing more
