@@ -102,7 +102,7 @@ impl Answer {
             OVERFLOW => Some(Cause::Overflow {
                 place: self.told_place(),
             }),
-            MIXED => self.mixed(),
+            MIXED => self.mixed_fault(),
             OUT_OF_RANGE => Some(Cause::OutOfRange),
             NOT_TEXT => Some(Cause::NotText { optional: false }),
             _ => None,
@@ -121,7 +121,7 @@ impl Answer {
     }
 
     /// The fault of its two operators, if both are operators.
-    fn mixed(self) -> Option<Cause>
+    fn mixed_fault(self) -> Option<Cause>
         ensures { result ≡ mixed_told (operator_told self.first_operator)
             (operator_told self.later_operator) }
     {

@@ -13,7 +13,7 @@ use Rattle.duration_str.specs.declared.options.Options.{Options}
 use Rattle.duration_str.specs.declared.unit.TimeUnit.{TimeUnit}
 use Rattle.duration_str.specs.declared.packed.TheConstants.{SPREAD}
 use Rattle.duration_str.specs.Units.{units, row_of, comparison_form, is_named, unit_of_word}
-use Rattle.duration_str.specs.Internal.Cutting.{packed_after, packed}
+use Rattle.duration_str.specs.Internal.Cutting.{packed_number_after, packed_number}
 use Rattle.duration_str.specs.Internal.Packed.{packs_to, unit_of_packed}
 use Rattle.duration_str.proofs.Characters.EachUnit.{each_unit}
 
@@ -29,14 +29,14 @@ are_small cs = list_all is_small_letter cs
 
 -- ---- the size of a packed number
 
-at_least : (n : ℕ) (cs : List ℕ) → n * 32 ^ length cs ≤ packed_after n cs
+at_least : (n : ℕ) (cs : List ℕ) → n * 32 ^ length cs ≤ packed_number_after n cs
 at_least n [] = omega arith
 at_least n (c ∷ cs) =
     let more = at_least (n * 32 + c % 32) cs in
     let step : n * 32 * 32 ^ length cs ≤ (n * 32 + c % 32) * 32 ^ length cs = mul-le-mul_right (32 ^ length cs) (omega arith) in
     let pow : 32 ^ length (c ∷ cs) ≡ 32 * 32 ^ length cs = pow-succ' 32 (length cs) in rw pow (omega (arith, more, step))
 
-below : (n : ℕ) (cs : List ℕ) → packed_after n cs < (n + 1) * 32 ^ length cs
+below : (n : ℕ) (cs : List ℕ) → packed_number_after n cs < (n + 1) * 32 ^ length cs
 below n [] = omega arith
 below n (c ∷ cs) =
     let less = below (n * 32 + c % 32) cs in
@@ -45,7 +45,7 @@ below n (c ∷ cs) =
     let pow : 32 ^ length (c ∷ cs) ≡ 32 * 32 ^ length cs = pow-succ' 32 (length cs) in rw pow (omega (arith, less, step))
 
 -- the packed number of a word of at most 12 letters is exact
-pub exact : (w : List ℕ) (n : ℕ) → length w ≤ 12 → n ≡ packed w % 2 ^ 64 → n ≡ packed w
+pub exact : (w : List ℕ) (n : ℕ) → length w ≤ 12 → n ≡ packed_number w % 2 ^ 64 → n ≡ packed_number w
 exact w n h e = let up = below 0 w in let pow : 32 ^ length w ≤ 32 ^ 12 = pow-le-pow_right (lit< tt) h in omega (arith, up, pow, e)
 
 -- ---- different words of small letters have different packed numbers
@@ -53,7 +53,7 @@ exact w n h e = let up = below 0 w in let pow : 32 ^ length w ≤ 32 ^ 12 = pow-
 small_letter : (c : ℕ) → is_small_letter c ≡ true → (97 ≤ c) × (c ≤ 122)
 small_letter c e = grind (arith, nat_tests)
 
-shorter : (xs ys : List ℕ) → are_small ys ≡ true → length xs < length ys → packed xs < packed ys
+shorter : (xs ys : List ℕ) → are_small ys ≡ true → length xs < length ys → packed_number xs < packed_number ys
 shorter xs [] e h = absurd (omega (arith, h))
 shorter xs (c ∷ cs) e h =
     let r = small_letter c (and_parts (is_small_letter c) (are_small cs) e).0 in
@@ -65,7 +65,7 @@ shorter xs (c ∷ cs) e h =
     omega (arith, up, down, pow, one)
 
 same_letters : (m n : ℕ) (xs ys : List ℕ) → are_small xs ≡ true → are_small ys ≡ true → length xs ≡ length ys
-    → packed_after m xs ≡ packed_after n ys → (m ≡ n) × (xs ≡ ys)
+    → packed_number_after m xs ≡ packed_number_after n ys → (m ≡ n) × (xs ≡ ys)
 same_letters m n [] [] ex ey len e = (e, refl)
 same_letters m n [] (y ∷ ys) ex ey len e = absurd (omega (arith, len))
 same_letters m n (x ∷ xs) [] ex ey len e = absurd (omega (arith, len))
@@ -78,7 +78,7 @@ same_letters m n (x ∷ xs) (y ∷ ys) ex ey len e =
     let first : x ≡ y = omega (arith, rest.0, rx, ry) in
     (omega (arith, rest.0, first), (λ i. first i ∷ rest.1 i))
 
-packed_same : (xs ys : List ℕ) → are_small xs ≡ true → are_small ys ≡ true → packed xs ≡ packed ys → xs ≡ ys
+packed_same : (xs ys : List ℕ) → are_small xs ≡ true → are_small ys ≡ true → packed_number xs ≡ packed_number ys → xs ≡ ys
 packed_same xs ys ex ey e =
     ⊎_elim (λ lt. let h = shorter xs ys ey lt in absurd (omega (arith, h, e)))
     (λ ge. ⊎_elim (λ lt. let h = shorter ys xs ex lt in absurd (omega (arith, h, e)))
@@ -96,26 +96,26 @@ lower_small (c ∷ cs) e =
     let b = and_parts (is_ascii_alphabetic c) (list_all is_ascii_alphabetic cs) e in
     and_from _ _ (lower_letter c b.0).0 (lower_small cs b.1)
 
-lower_packed : (n : ℕ) (w : List ℕ) → list_all is_ascii_alphabetic w ≡ true → packed_after n (map to_ascii_lowercase w) ≡ packed_after n w
+lower_packed : (n : ℕ) (w : List ℕ) → list_all is_ascii_alphabetic w ≡ true → packed_number_after n (map to_ascii_lowercase w) ≡ packed_number_after n w
 lower_packed n [] e = refl
 lower_packed n (c ∷ cs) e =
     let b = and_parts (is_ascii_alphabetic c) (list_all is_ascii_alphabetic cs) e in
-    ap (λ r. packed_after (n * 32 + r) (map to_ascii_lowercase cs)) (lower_letter c b.0).1 ∙ lower_packed (n * 32 + c % 32) cs b.1
+    ap (λ r. packed_number_after (n * 32 + r) (map to_ascii_lowercase cs)) (lower_letter c b.0).1 ∙ lower_packed (n * 32 + c % 32) cs b.1
 
 -- ---- a word of small letters is a name if their packed numbers are equal
 
-name_test : (v name : List ℕ) → are_small v ≡ true → bytes_eq v name ≡ packs_to (packed v) name
+name_test : (v name : List ℕ) → are_small v ≡ true → bytes_eq v name ≡ packs_to (packed_number v) name
 name_test v name small =
     ⊎_elim
     (λ same. let e = (bytes_eq-Decides v name).0 same in
-    same ∙ sym (and_from (are_small name) (eqb (packed name) (packed v)) (ap are_small (sym e) ∙ small) (eq-eqb (packed name) (packed v) (ap packed (sym e)))))
-    (λ differs. differs ∙ sym (false_from_ne_true (packs_to (packed v) name)
-    (λ both. let b = and_parts (are_small name) (eqb (packed name) (packed v)) both in
-    let e = packed_same v name small b.0 (sym (eqb-true (packed name) (packed v) b.1)) in
+    same ∙ sym (and_from (are_small name) (eqb (packed_number name) (packed_number v)) (ap are_small (sym e) ∙ small) (eq-eqb (packed_number name) (packed_number v) (ap packed_number (sym e)))))
+    (λ differs. differs ∙ sym (false_from_ne_true (packs_to (packed_number v) name)
+    (λ both. let b = and_parts (are_small name) (eqb (packed_number name) (packed_number v)) both in
+    let e = packed_same v name small b.0 (sym (eqb-true (packed_number name) (packed_number v) b.1)) in
     true≢false (sym ((bytes_eq-Decides v name).1 e) ∙ differs))))
     (bool_cases (bytes_eq v name))
 
-names_test : (v : List ℕ) (names : List (List ℕ)) → are_small v ≡ true → list_any (bytes_eq v) names ≡ list_any (packs_to (packed v)) names
+names_test : (v : List ℕ) (names : List (List ℕ)) → are_small v ≡ true → list_any (bytes_eq v) names ≡ list_any (packs_to (packed_number v)) names
 names_test v [] small = refl
 names_test v (name ∷ names) small = (λ i. name_test v name small i || names_test v names small i)
 
@@ -142,18 +142,18 @@ form_lower o w = elim o.lowercase as (λ b. (b && list_any is_ascii_uppercase w)
     [ true ↦ (λ e. sym (no_capital w e)) | false ↦ (λ e. refl) ]
 
 named_by_number : (o : Options) (w : List ℕ) (u : TimeUnit) → (o.lowercase && list_any is_ascii_uppercase w) ≡ false → list_all is_ascii_alphabetic w ≡ true
-    → is_named o w u ≡ list_any (packs_to (packed w)) (row_of u).names
+    → is_named o w u ≡ list_any (packs_to (packed_number w)) (row_of u).names
 named_by_number o w u folded letters =
     let v = map to_ascii_lowercase w in
     let small = lower_small w letters in
     ap (λ x. list_any (bytes_eq x) (row_of u).names || (o.cn_unit && list_any (bytes_eq x) (row_of u).chinese)) (form_lower o w folded)
     ∙ ascii_alone (list_any (bytes_eq v) (row_of u).names) o.cn_unit (list_any (bytes_eq v) (row_of u).chinese)
-    (names_test v (row_of u).chinese small ∙ no_chinese (packed v) u)
+    (names_test v (row_of u).chinese small ∙ no_chinese (packed_number v) u)
     ∙ names_test v (row_of u).names small ∙ ap (λ n. list_any (packs_to n) (row_of u).names) (lower_packed 0 w letters)
 
 -- the unit that a word of ASCII letters names, without capitals under `lowercase`
 pub unit_by_number : (o : Options) (w : List ℕ) → (o.lowercase && list_any is_ascii_uppercase w) ≡ false → list_all is_ascii_alphabetic w ≡ true
-    → unit_of_word o w ≡ unit_of_packed (packed w)
+    → unit_of_word o w ≡ unit_of_packed (packed_number w)
 unfolding unit_of_packed
 unit_by_number o w folded letters = (λ i. find (λ u. named_by_number o w u folded letters i) units)
 
@@ -189,21 +189,21 @@ slot_found table n d len right small key =
 
 -- whether a name, if it is all small letters, is in its slot
 abbrev pub is_kept : List (ℕ × TimeUnit) → (ℕ × TimeUnit) → List ℕ → Bool
-is_kept table d name = if are_small name then eqb (get_or table (slot (packed name)) d).0 (packed name) else true
+is_kept table d name = if are_small name then eqb (get_or table (slot (packed_number name)) d).0 (packed_number name) else true
 
 abbrev pub are_kept : List (ℕ × TimeUnit) → (ℕ × TimeUnit) → List TimeUnit → Bool
 are_kept table d us = list_all (λ u. list_all (is_kept table d) (row_of u).names) us
 
 not_it : (table : List (ℕ × TimeUnit)) (d : ℕ × TimeUnit) (name : List ℕ) (n : ℕ) → is_kept table d name ≡ true
     → ((get_or table (slot n) d).0 ≡ n → ⊥) → packs_to n name ≡ false
-not_it table d name n kept differs = go (are_small name) kept (bool_cases (eqb (packed name) n))
+not_it table d name n kept differs = go (are_small name) kept (bool_cases (eqb (packed_number name) n))
   where
-    go : (s : Bool) → (if s then eqb (get_or table (slot (packed name)) d).0 (packed name) else true) ≡ true
-        → (eqb (packed name) n ≡ true) ⊎ (eqb (packed name) n ≡ false) → (s && eqb (packed name) n) ≡ false
+    go : (s : Bool) → (if s then eqb (get_or table (slot (packed_number name)) d).0 (packed_number name) else true) ≡ true
+        → (eqb (packed_number name) n ≡ true) ⊎ (eqb (packed_number name) n ≡ false) → (s && eqb (packed_number name) n) ≡ false
     go false h c = refl
     go true h (inr f) = f
     go true h (inl t) =
-        let is : packed name ≡ n = eqb-true (packed name) n t in
+        let is : packed_number name ≡ n = eqb-true (packed_number name) n t in
         absurd (differs (ap (λ k. (get_or table (slot k) d).0) (sym is) ∙ eqb-true _ _ h ∙ is))
 
 none_of_names : (table : List (ℕ × TimeUnit)) (d : ℕ × TimeUnit) (names : List (List ℕ)) (n : ℕ) → list_all (is_kept table d) names ≡ true

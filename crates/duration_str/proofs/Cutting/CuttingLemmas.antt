@@ -21,7 +21,7 @@ use Rattle.duration_str.specs.Text.{width, byte_len, is_blank, IsBlank, is_digit
 use Rattle.duration_str.specs.Units.{unit_of_word}
 use Rattle.duration_str.specs.Internal.Numbers.{u64_from}
 use Rattle.duration_str.specs.Internal.Packed.{unit_of_packed}
-use Rattle.duration_str.specs.Internal.Cutting.{ahead, StandsAt, Between, Passes, Stops, TakesDigits, TakesLetters, TakesWord, packed_after}
+use Rattle.duration_str.specs.Internal.Cutting.{ahead, StandsAt, Between, Passes, Stops, TakesDigits, TakesLetters, packed_number_after}
 use Rattle.duration_str.proofs.Characters.CharacterLemmas.{letter_of_ascii, capital_below}
 use Rattle.duration_str.proofs.Sentences.SpellingLemmas.{all_weaker}
 use Rattle.duration_str.proofs.Characters.TextLemmas.{width_some, byte_len-append}
@@ -136,7 +136,7 @@ number_after-push : (n : ℕ) (cs : List ℕ) (c : ℕ) → number_after n (cs +
 number_after-push n [] c = refl
 number_after-push n (d ∷ cs) c = number_after-push (n * 10 + (d - 48)) cs c
 
-packed_after-push : (n : ℕ) (cs : List ℕ) (c : ℕ) → packed_after n (cs ++ c ∷ []) ≡ packed_after n cs * 32 + c % 32
+packed_after-push : (n : ℕ) (cs : List ℕ) (c : ℕ) → packed_number_after n (cs ++ c ∷ []) ≡ packed_number_after n cs * 32 + c % 32
 packed_after-push n [] c = refl
 packed_after-push n (d ∷ cs) c = packed_after-push (n * 32 + d % 32) cs c
 
@@ -210,6 +210,11 @@ short_number digits low utf8 number same short =
     let small : number_of cs < 2 ^ 64 = omega (arith, less, pow) in
     let whole : low ≡ number_of cs = omega (arith, same, small) in
     ap Some whole ∙ sym (u64_some (number_of cs) small)
+
+-- The characters from `place` to `next` are unit letters, and `unit` is the unit that they name.
+pub record TakesWord (o : Options) (text : List ℕ) (place next : ℕ) (unit : Option TimeUnit) : Type 0 where
+  pub run : Passes (is_unit_letter o) text place next
+  pub named : unit ≡ unit_of_word o run.characters
 
 -- a word of at most 12 ASCII letters, without capitals under `lowercase`, identified by its packed number
 pub short_word : (o : Options) (text : List ℕ) (place next value : ℕ) (capital : Bool) (unit : Option TimeUnit) → TakesLetters text place next value capital

@@ -10,14 +10,23 @@ use Rattle.duration_str.specs.declared.token.Sort.{Sort}
 use Rattle.duration_str.specs.declared.token.Sort.TheVariants.{Number, Word}
 use Rattle.duration_str.specs.Text.{width, byte_len, is_blank, is_digit, is_unit_letter, operator_of, number_of, IsBlank, IsNumber}
 use Rattle.duration_str.specs.Units.{unit_of_word}
-use Rattle.duration_str.specs.Grammar.{number, word, operator_or_other, sign_terminal, terminal_of}
-use Rattle.duration_str.specs.Tokens.{Token, are_of_one_run, goes_on, IsLexeme, AreTokens, tokens_from}
-use Rattle.duration_str.specs.Internal.Cutting.{ahead, StandsAt, Between, Passes, Stops, TakesWord}
-use Rattle.duration_str.specs.Internal.Sorts.{sign_sort, sort_at, sort_of, StandsToken}
+use Rattle.duration_str.specs.Grammar.{Terminal, number, word, operator_or_other, sign_terminal, terminal_of}
+use Rattle.duration_str.specs.Tokens.{EndsRun, Token, are_of_one_run, goes_on, IsLexeme, AreTokens, tokens_from}
+use Rattle.duration_str.specs.Internal.Cutting.{ahead, StandsAt, Between, Passes, Stops}
+use Rattle.duration_str.specs.Internal.Sorts.{sign_sort, sort_at, sort_of}
 use Rattle.duration_str.specs.Internal.Tokenizer.{is_number, IsSign}
 use Rattle.duration_str.proofs.Characters.CharacterLemmas.{digit-not_letter, letter-not_digit}
 use Rattle.duration_str.proofs.Cutting.TokenLemmas.{tokens_are}
 use Rattle.duration_str.proofs.Sentences.SpellingLemmas.{all_weaker, digits_are_lexeme, letters_are_lexeme}
+use Rattle.duration_str.proofs.Cutting.CuttingLemmas.{TakesWord}
+
+-- The characters from `place` to `next` are a token, as long as possible, that stands for this terminal.
+pub record StandsToken (o : Options) (text : List ℕ) (place next : ℕ) (terminal : Terminal) : Type 0 where
+  pub characters : List ℕ
+  pub between : Between text place next characters
+  pub is_lexeme : IsLexeme o characters
+  pub ends : EndsRun o characters (ahead text next)
+  pub is_terminal : terminal ≡ terminal_of o characters
 
 -- if the character ahead passes the test, the run of characters that pass it is not empty
 some_passed : (test : ℕ → Bool) (text : List ℕ) (place next at c : ℕ) (cs : List ℕ) → Between text place next cs → Stops test (ahead text next)

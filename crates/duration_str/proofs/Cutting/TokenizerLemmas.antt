@@ -15,13 +15,13 @@ use Rattle.duration_str.specs.Grammar.{Terminal, number, word, operator, other, 
 use Rattle.duration_str.specs.Text.{is_blank, is_digit, is_unit_letter, operator_of, number_of, IsNumber}
 use Rattle.duration_str.specs.Units.{unit_of_word}
 use Rattle.duration_str.specs.Tokens.{Token, tokens_from}
-use Rattle.duration_str.specs.Internal.Cutting.{ahead, StandsAt, Passes, Stops, TakesDigits, TakesLetters, TakesWord}
-use Rattle.duration_str.specs.Internal.Sorts.{sort_at, sort_of, StandsToken}
+use Rattle.duration_str.specs.Internal.Cutting.{ahead, StandsAt, Passes, Stops, TakesDigits, TakesLetters}
+use Rattle.duration_str.specs.Internal.Sorts.{sort_at, sort_of}
 use Rattle.duration_str.specs.Internal.Numbers.{u64_from}
 use Rattle.duration_str.specs.Tokenizer.{source, options_of, place_of, left, what_of, KeepsInput, YieldsNextToken}
 use Rattle.duration_str.specs.Internal.Tokenizer.{IsAhead, LooksAhead, IsSign, TakesToken, TakesNumber}
-use Rattle.duration_str.proofs.Cutting.CuttingLemmas.{chars_between, long_word, same_slice, blanks_passed, token_taken, place_at_end}
-use Rattle.duration_str.proofs.Cutting.SortLemmas.{number_stands, word_stands, sign_stands, digit_of_sort, letter_of_sort, sign_of_sort, sign_sorts, first_token}
+use Rattle.duration_str.proofs.Cutting.CuttingLemmas.{TakesWord, chars_between, long_word, same_slice, blanks_passed, token_taken, place_at_end}
+use Rattle.duration_str.proofs.Cutting.SortLemmas.{StandsToken, number_stands, word_stands, sign_stands, digit_of_sort, letter_of_sort, sign_of_sort, sign_sorts, first_token}
 
 pub keeps_all : (s : Tokens) → KeepsInput s s
 keeps_all s = record { text = refl; options = refl }

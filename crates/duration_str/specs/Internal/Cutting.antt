@@ -1,12 +1,9 @@
 -- How a text is cut: what is ahead of a byte, and what is between two bytes.
-use Rattle.std.specs.Prelude.{◌≡◌, ℕ, ◌+◌, ◌*◌, ◌%◌, ◌^◌, Bool, false, List, [], ◌∷◌, ◌++◌, drop, IsTrue, Option}
+use Rattle.std.specs.Prelude.{◌≡◌, ℕ, ◌+◌, ◌*◌, ◌%◌, ◌^◌, Bool, false, List, [], ◌∷◌, ◌++◌, drop, IsTrue}
 use Rattle.std.specs.List.{list_any, list_all}
 use Rattle.std.specs.Char.{is_ascii_alphabetic, is_ascii_uppercase}
 use Rattle.std.specs.Str.{chars}
-use Rattle.duration_str.specs.declared.options.Options.{Options}
-use Rattle.duration_str.specs.declared.unit.TimeUnit.{TimeUnit}
-use Rattle.duration_str.specs.Text.{width, byte_len, is_digit, is_unit_letter, number_of}
-use Rattle.duration_str.specs.Units.{unit_of_word}
+use Rattle.duration_str.specs.Text.{width, byte_len, is_digit, number_of}
 
 -- the characters from byte `place` on
 abbrev pub ahead : List ℕ → ℕ → List ℕ
@@ -34,13 +31,13 @@ pub record Passes (test : ℕ → Bool) (text : List ℕ) (place next : ℕ) : T
   pub all : IsTrue (list_all test characters)
 
 -- the packed number n with these ASCII letters after it, five bits for each, ignoring case
-abbrev pub packed_after : ℕ → List ℕ → ℕ
-packed_after n [] = n
-packed_after n (c ∷ letters) = packed_after (n * 32 + c % 32) letters
+abbrev pub packed_number_after : ℕ → List ℕ → ℕ
+packed_number_after n [] = n
+packed_number_after n (c ∷ letters) = packed_number_after (n * 32 + c % 32) letters
 
 -- ASCII letters packed into a number, five bits for each, ignoring case
-abbrev pub packed : List ℕ → ℕ
-packed letters = packed_after 0 letters
+abbrev pub packed_number : List ℕ → ℕ
+packed_number letters = packed_number_after 0 letters
 
 -- The characters from `place` to `next` are digits, and `value` is their number modulo 2^64.
 pub record TakesDigits (text : List ℕ) (place next value : ℕ) : Type 0 where
@@ -51,10 +48,5 @@ pub record TakesDigits (text : List ℕ) (place next value : ℕ) : Type 0 where
 -- is whether one of them is a capital.
 pub record TakesLetters (text : List ℕ) (place next value : ℕ) (has_capital : Bool) : Type 0 where
   pub run : Passes is_ascii_alphabetic text place next
-  pub number : value ≡ packed run.characters % 2 ^ 64
+  pub number : value ≡ packed_number run.characters % 2 ^ 64
   pub capital : has_capital ≡ list_any is_ascii_uppercase run.characters
-
--- The characters from `place` to `next` are unit letters, and `unit` is the unit that they name.
-pub record TakesWord (o : Options) (text : List ℕ) (place next : ℕ) (unit : Option TimeUnit) : Type 0 where
-  pub run : Passes (is_unit_letter o) text place next
-  pub named : unit ≡ unit_of_word o run.characters

@@ -3,11 +3,11 @@ use Rattle.std.specs.Prelude.{ℕ, Bool, ◌&&◌, ◌==◌, nat_le, List, Optio
 use Rattle.std.specs.List.{list_any, list_all, find}
 use Rattle.duration_str.specs.declared.unit.TimeUnit.{TimeUnit}
 use Rattle.duration_str.specs.Units.{units, row_of}
-use Rattle.duration_str.specs.Internal.Cutting.{packed}
+use Rattle.duration_str.specs.Internal.Cutting.{packed_number}
 
 -- whether a name is all lower-case ASCII letters and packs to n
 abbrev pub packs_to : ℕ → List ℕ → Bool
-packs_to n name = list_all (λ c. nat_le 97 c && nat_le c 122) name && packed name == n
+packs_to n name = list_all (λ c. nat_le 97 c && nat_le c 122) name && packed_number name == n
 
 -- the unit with a name that packs to n
 unfoldable pub unit_of_packed : ℕ → Option TimeUnit

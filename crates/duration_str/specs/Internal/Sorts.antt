@@ -1,13 +1,11 @@
 -- Sorts of tokens, by their first character and by their terminal.
-use Rattle.std.specs.Prelude.{◌≡◌, ℕ, List, Option, Some, None, if◌then◌else◌}
+use Rattle.std.specs.Prelude.{ℕ, Option, Some, None, if◌then◌else◌}
 use Rattle.duration_str.specs.declared.options.Options.{Options}
 use Rattle.duration_str.specs.declared.operator.CondUnit.{CondUnit}
 use Rattle.duration_str.specs.declared.token.Sort.{Sort}
 use Rattle.duration_str.specs.declared.token.Sort.TheVariants as sorts
 use Rattle.duration_str.specs.Text.{is_digit, is_unit_letter, operator_of}
-use Rattle.duration_str.specs.Grammar.{Terminal, number, word, operator, other, terminal_of}
-use Rattle.duration_str.specs.Tokens.{IsLexeme, EndsRun}
-use Rattle.duration_str.specs.Internal.Cutting.{ahead, Between}
+use Rattle.duration_str.specs.Grammar.{Terminal, number, word, operator, other}
 
 -- the sort of an operator, or `Other` without one
 abbrev pub sign_sort : Option CondUnit → Sort
@@ -24,11 +22,3 @@ sort_of (number n) = sorts.Number
 sort_of (word u) = sorts.Word
 sort_of (operator op) = sorts.Operator op
 sort_of other = sorts.Other
-
--- The characters from `place` to `next` are a token, as long as possible, that stands for this terminal.
-pub record StandsToken (o : Options) (text : List ℕ) (place next : ℕ) (terminal : Terminal) : Type 0 where
-  pub characters : List ℕ
-  pub between : Between text place next characters
-  pub is_lexeme : IsLexeme o characters
-  pub ends : EndsRun o characters (ahead text next)
-  pub is_terminal : terminal ≡ terminal_of o characters
