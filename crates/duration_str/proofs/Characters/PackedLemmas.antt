@@ -108,7 +108,8 @@ name_test : (v name : List ℕ) → are_small v ≡ true → bytes_eq v name ≡
 name_test v name small =
     ⊎_elim
     (λ same. let e = (bytes_eq-Decides v name).0 same in
-    same ∙ sym (and_from (are_small name) (eqb (packed_number name) (packed_number v)) (ap are_small (sym e) ∙ small) (eq-eqb (packed_number name) (packed_number v) (ap packed_number (sym e)))))
+    same ∙ sym (and_from (are_small name) (eqb (packed_number name) (packed_number v))
+    (ap are_small (sym e) ∙ small) (eq-eqb (packed_number name) (packed_number v) (ap packed_number (sym e)))))
     (λ differs. differs ∙ sym (false_from_ne_true (packs_to (packed_number v) name)
     (λ both. let b = and_parts (are_small name) (eqb (packed_number name) (packed_number v)) both in
     let e = packed_same v name small b.0 (sym (eqb-true (packed_number name) (packed_number v) b.1)) in
