@@ -34,9 +34,9 @@ line_of (NotText optional) =
     if optional then codes "expect duration string, null, or missing field"
     else codes "expect duration string, e.g: '1min+30'"
 
--- The text, below it a caret after one space for each character before the place, and below that the line.
+-- The text, below it a caret after so many spaces, and below that the line.
 abbrev pub caret_text : List ℕ → ℕ → List ℕ → List ℕ
-caret_text text place line = text ++ (codes "\n" ++ (replicate (length (chars (take place text))) 32 ++ (codes "^\n" ++ line)))
+caret_text text spaces line = text ++ (codes "\n" ++ (replicate spaces 32 ++ (codes "^\n" ++ line)))
 
 -- `byte N: ` with the place in decimal, and the line
 abbrev pub byte_text : ℕ → List ℕ → List ℕ
@@ -46,11 +46,15 @@ byte_text place line = codes "byte " ++ (decimal place ++ (codes ": " ++ line))
 abbrev pub has_line_feed : List ℕ → Bool
 has_line_feed text = list_any (λ b. b == 10) text
 
+-- the number of characters before the place
+abbrev pub chars_before : List ℕ → ℕ → ℕ
+chars_before text place = length (chars (take place text))
+
 -- without a place, the line alone; with one, `byte N: ` and the line if the text has a line feed, otherwise the text, a
--- caret and the line
+-- caret after one space for each character before the place, and the line
 abbrev pub placed_text : List ℕ → Option ℕ → List ℕ → List ℕ
 placed_text text None line = line
-placed_text text (Some place) line = if has_line_feed text then byte_text place line else caret_text text place line
+placed_text text (Some place) line = if has_line_feed text then byte_text place line else caret_text text (chars_before text place) line
 
 -- the bytes that a fault prints as, given the bytes of the text that was read
 abbrev pub fault_text : List ℕ → Cause → List ℕ

@@ -7,3 +7,4 @@ pub mod Tokenizer
 pub mod Packed
 pub mod Rest
 pub mod PrintedBytes
+pub mod Layouts

@@ -1,9 +1,10 @@
 //! Why a text is refused and where, shown with the text.
-ghost use Rattle.std.specs.Prelude.{◌≡◌, ◌≤◌, Some, replicate, length, take};
+ghost use Rattle.std.specs.Prelude.{◌≡◌, ◌≤◌, Some, replicate, encode_utf8_all};
 ghost use Rattle.std.specs.Option.{ForSome};
-ghost use Rattle.std.specs.Str.{IsCharBoundary, chars};
+ghost use Rattle.std.specs.Str.{IsCharBoundary};
 ghost use Rattle.duration_str.specs.Faults.{place_of};
-ghost use Rattle.duration_str.specs.FaultText.{fault_text};
+ghost use Rattle.duration_str.specs.FaultText.{chars_before, fault_text, line_of};
+ghost use Rattle.duration_str.specs.Internal.Layouts.{laid_out};
 
 use crate::unit::CondUnit;
 use std::fmt;
@@ -113,12 +114,46 @@ impl fmt::Display for Spaces {
     }
 }
 
-/// The number of characters before the place.
-pub(crate) fn chars_before(text: &str, place: usize) -> usize
+/// The number of characters before the place. In ASCII it is that of the bytes, which takes less time.
+fn chars_before(text: &str, place: usize) -> usize
     requires { IsCharBoundary text.now place }
-    ensures { result ≡ length (chars (take place text.now)) }
+    ensures { result ≡ chars_before text.now place }
 {
-    text[..place].chars().count()
+    let before = &text[..place];
+    if before.is_ascii() {
+        before.len()
+    } else {
+        before.chars().count()
+    }
+}
+
+/// How a message is laid out around its line.
+#[derive(Clone, Copy)]
+pub(crate) enum Layout {
+    /// The line alone.
+    Line,
+    /// `byte N: ` with the place, and the line.
+    Byte { place: usize },
+    /// The text, below it a caret after this many spaces, and below that the line.
+    Caret { spaces: usize },
+}
+
+impl Fault<'_> {
+    /// How its message is laid out.
+    pub(crate) fn layout(&self) -> Layout
+        ensures { laid_out result self.now.text.now (encode_utf8_all (line_of self.now.cause))
+            ≡ fault_text self.now.text.now self.now.cause }
+    {
+        let Some(place) = self.cause.place() else {
+            return Layout::Line;
+        };
+        if self.text.as_bytes().contains(&b'\n') {
+            return Layout::Byte { place };
+        }
+        Layout::Caret {
+            spaces: chars_before(self.text, place),
+        }
+    }
 }
 
 /// The line that says what is wrong. If the fault has a place, the text and a caret under the place are printed above
@@ -135,13 +170,13 @@ impl fmt::Display for Fault<'_> {
     fn fmt<W: fmt::Write>(&self, f: &mut fmt::Formatter<W>) -> fmt::Result {
         let text = self.text;
         let line = self.cause.line();
-        let Some(place) = self.cause.place() else {
-            return f.write_str(line);
-        };
-        if text.as_bytes().contains(&b'\n') {
-            return write!(f, "byte {place}: {line}");
+        match self.layout() {
+            Layout::Line => f.write_str(line),
+            Layout::Byte { place } => write!(f, "byte {place}: {line}"),
+            Layout::Caret { spaces } => {
+                let spaces = Spaces(spaces);
+                write!(f, "{text}\n{spaces}^\n{line}")
+            }
         }
-        let spaces = Spaces(chars_before(text, place));
-        write!(f, "{text}\n{spaces}^\n{line}")
     }
 }

@@ -2,12 +2,12 @@
 //!
 //! A `Display` may fail for reasons that its contract does not name, so nothing can be promised of what it prints.
 ghost use Rattle.std.specs.Prelude.{◌≡◌, ◌≤◌, ◌-◌, ◌^◌, ◌++◌, min, length, take, replicate, decimal, encode_utf8_all};
-ghost use Rattle.std.specs.Str.{IsCharBoundary};
 ghost use Rattle.duration_str.specs.FaultText.{fault_text, byte_text, caret_text, line_of};
+ghost use Rattle.duration_str.specs.Internal.Layouts.{laid_out};
 ghost use Rattle.duration_str.specs.Buffers.{IsInFront, IsWritten};
 
 use crate::ext::put_number;
-use crate::fault::{Cause, Fault, chars_before};
+use crate::fault::{Cause, Fault, Layout};
 
 /// Writes a part after the first `at` bytes, and returns where it ends; `None` if there is no room.
 fn put(buffer: &mut [u8], at: usize, part: &[u8]) -> Option<usize>
@@ -55,16 +55,15 @@ fn put_byte(buffer: &mut [u8], place: usize, line: &str) -> Option<usize>
     put(buffer, colon, line.as_bytes())
 }
 
-/// Writes the text, a caret under the place, and the line.
-fn put_caret(buffer: &mut [u8], text: &str, place: usize, line: &str) -> Option<usize>
-    requires { IsCharBoundary text.now place }
-    ensures { IsInFront (caret_text text.now place line.now) result buffer.new }
+/// Writes the text, a caret after this many spaces, and the line.
+fn put_caret(buffer: &mut [u8], text: &str, spaces: usize, line: &str) -> Option<usize>
+    ensures { IsInFront (caret_text text.now spaces line.now) result buffer.new }
 {
     let above = put(buffer, 0, text.as_bytes())?;
     let below = put(buffer, above, b"\n")?;
-    let spaces = put_spaces(buffer, below, chars_before(text, place))?;
-    let caret = put(buffer, spaces, b"^\n")?;
-    put(buffer, caret, line.as_bytes())
+    let caret = put_spaces(buffer, below, spaces)?;
+    let line_start = put(buffer, caret, b"^\n")?;
+    put(buffer, line_start, line.as_bytes())
 }
 
 /// The number of decimal digits.
@@ -76,21 +75,31 @@ fn decimal_len(number: usize) -> usize
     put_number(&mut digits, 0, number as u64)
 }
 
-/// The number of bytes that `put_byte` writes.
-fn byte_len(place: usize, line: &str) -> usize
-    ensures { result ≡ min (length (byte_text place line.now)) (2 ^ 64 - 1) }
-{
-    line.len().saturating_add(decimal_len(place) + 7)
-}
+impl Layout {
+    /// The length in bytes of a message with this layout; `usize::MAX` if it is greater than that.
+    fn len(self, text: &str, line: &str) -> usize
+        ensures { result ≡ min (length (laid_out self text.now line.now)) (2 ^ 64 - 1) }
+    {
+        match self {
+            Layout::Line => line.len(),
+            Layout::Byte { place } => line.len().saturating_add(decimal_len(place) + 7),
+            Layout::Caret { spaces } => {
+                let above = text.len().saturating_add(spaces);
+                above.saturating_add(line.len()).saturating_add(3)
+            }
+        }
+    }
 
-/// The number of bytes that `put_caret` writes.
-fn caret_len(text: &str, place: usize, line: &str) -> usize
-    requires { IsCharBoundary text.now place }
-    ensures { result ≡ min (length (caret_text text.now place line.now)) (2 ^ 64 - 1) }
-{
-    let spaces = chars_before(text, place);
-    let above = text.len().saturating_add(spaces);
-    above.saturating_add(line.len()).saturating_add(3)
+    /// Writes a message with this layout, and returns where it ends; `None` if there is no room.
+    fn put(self, buffer: &mut [u8], text: &str, line: &str) -> Option<usize>
+        ensures { IsInFront (laid_out self text.now line.now) result buffer.new }
+    {
+        match self {
+            Layout::Line => put(buffer, 0, line.as_bytes()),
+            Layout::Byte { place } => put_byte(buffer, place, line),
+            Layout::Caret { spaces } => put_caret(buffer, text, spaces, line),
+        }
+    }
 }
 
 impl Cause {
@@ -125,14 +134,7 @@ impl Fault<'_> {
     pub fn message_len(&self) -> usize
         ensures { result ≡ min (length (fault_text self.now.text.now self.now.cause)) (2 ^ 64 - 1) }
     {
-        let line = self.cause.line();
-        let Some(place) = self.cause.place() else {
-            return line.len();
-        };
-        if self.text.as_bytes().contains(&b'\n') {
-            return byte_len(place, line);
-        }
-        caret_len(self.text, place, line)
+        self.layout().len(self.text, self.cause.line())
     }
 
     /// Writes what the fault prints as to the start of a buffer, and returns its length in bytes.
@@ -147,23 +149,11 @@ impl Fault<'_> {
         ensures { IsWritten (fault_text self.now.text.now self.now.cause)
             buffer.old result buffer.new }
     {
-        if self.message_len() > buffer.len() {
+        let layout = self.layout();
+        let line = self.cause.line();
+        if layout.len(self.text, line) > buffer.len() {
             return None;
         }
-        self.put_message(buffer)
-    }
-
-    /// Writes the message, and returns where it ends; `None` if there is no room.
-    fn put_message(&self, buffer: &mut [u8]) -> Option<usize>
-        ensures { IsInFront (fault_text self.now.text.now self.now.cause) result buffer.new }
-    {
-        let line = self.cause.line();
-        let Some(place) = self.cause.place() else {
-            return put(buffer, 0, line.as_bytes());
-        };
-        if self.text.as_bytes().contains(&b'\n') {
-            return put_byte(buffer, place, line);
-        }
-        put_caret(buffer, self.text, place, line)
+        layout.put(buffer, self.text, line)
     }
 }

@@ -31,10 +31,7 @@ pub extern "C" fn duration_str_message(text: &[u8], answer: &Answer, buffer: &mu
         return 0;
     };
     match fault_of(text, cause) {
-        Some(fault) => {
-            fault.write_message(buffer);
-            fault.message_len()
-        }
+        Some(fault) => show_message(&fault, buffer),
         None => show_line(cause, buffer),
     }
 }
@@ -50,6 +47,16 @@ pub extern "C" fn duration_str_line(answer: &Answer, buffer: &mut [u8]) -> usize
     match answer.cause() {
         Some(cause) => show_line(cause, buffer),
         None => 0,
+    }
+}
+
+/// Writes the message if there is room, and returns its length in bytes.
+fn show_message(fault: &Fault<'_>, buffer: &mut [u8]) -> usize
+    ensures { IsShown (fault_text fault.now.text.now fault.now.cause) buffer.old result buffer.new }
+{
+    match fault.write_message(buffer) {
+        Some(length) => length,
+        None => fault.message_len(),
     }
 }
 
