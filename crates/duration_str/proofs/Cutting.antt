@@ -4,3 +4,4 @@ pub mod TokenLemmas
 pub mod TerminalLemmas
 pub mod SortLemmas
 pub mod TokenizerLemmas
+pub mod FoundLemmas

@@ -113,7 +113,9 @@ impl<'a> Fault<'a> {
         let Cause::Syntax { place, .. } = self.cause else {
             return None;
         };
-        token_at(Tokens::new(self.text, o), place)
+        // What stands before that character decides nothing about a token at the place.
+        let from = self.text.floor_char_boundary(place.saturating_sub(1));
+        token_at(Tokens::new(&self.text[from..], o), place - from)
     }
 }
 

@@ -1,0 +1,126 @@
+-- A token is found by cutting from a character before it.
+use Rattle.std.proofs.Common.{◌≡◌, ℕ, ◌+◌, ◌-◌, ◌<◌, ◌≤◌, ◌⊎◌, inl, inr, ◌==◌, Bool, true, false, List, [], ◌∷◌, ◌++◌, map, length, drop, take, Option, Some, None, IsUtf8, if◌then◌else◌, slice_range, arith, refl, sym, ap, subst, ◌∙◌}
+use Rattle.std.proofs.lemmas.Bool.{true≢false}
+use Rattle.std.proofs.lemmas.Bool.Decides.{nat_tests}
+use Rattle.std.proofs.lemmas.List.{take-append-drop, length-take-le, drop-drop}
+use Rattle.std.proofs.lemmas.Str.{chars-append, IsUtf8-take}
+use denote.Ref.{Bor}
+use Rattle.std.specs.Option.{option_map}
+use Rattle.std.specs.Str.{chars, IsCharBoundary}
+use Rattle.duration_str.specs.declared.options.Options.{Options}
+use Rattle.duration_str.specs.Text.{width, is_blank, byte_len}
+use Rattle.duration_str.specs.Tokens.{Token, goes_on, join, tokens_from, tokens_of}
+use Rattle.duration_str.specs.Faults.{token_at, IsSliceOf}
+use Rattle.duration_str.proofs.Characters.CharacterLemmas.{run-not_blank}
+use Rattle.duration_str.proofs.Characters.TextLemmas.{width_some}
+use Rattle.duration_str.proofs.OnePass.PlaceLemmas.{byte_count}
+use Rattle.duration_str.proofs.Cutting.SortLemmas.{first_token}
+
+-- ---- Characters that end before the place
+
+-- A token that starts elsewhere is not found.
+elsewhere : (place at : ℕ) (cs : List ℕ) (tokens : List Token) → at < place
+    → token_at place (record { start = at; characters = cs } ∷ tokens) ≡ token_at place tokens
+elsewhere place at cs tokens before = let no : (at == place) ≡ false = grind (arith, nat_tests) in rw no refl
+
+-- The token at the place is found without a character that ends before it.
+without_first : (o : Options) (at place c : ℕ) (text : List ℕ) → at + width c < place
+    → token_at place (tokens_from o at (c ∷ text)) ≡ token_at place (tokens_from o (at + width c) text)
+without_first o at place c text before = by_class (is_blank c) (goes_on o c text) refl
+  where
+    by_class : (blank more : Bool) → goes_on o c text ≡ more
+        → token_at place (if blank then tokens_from o (at + width c) text else if more then join at c (tokens_from o (at + width c) text)
+        else record { start = at; characters = c ∷ [] } ∷ tokens_from o (at + width c) text) ≡ token_at place (tokens_from o (at + width c) text)
+    by_class true more e = refl
+    by_class false false e = elsewhere place at (c ∷ []) (tokens_from o (at + width c) text) (omega (arith, before))
+    by_class false true e = joined text e
+      where
+        joined : (text : List ℕ) → goes_on o c text ≡ true
+            → token_at place (join at c (tokens_from o (at + width c) text)) ≡ token_at place (tokens_from o (at + width c) text)
+        joined [] e = absurd (true≢false (sym e))
+        joined (d ∷ more) e =
+            let (cs, rest, is, _) = first_token o (at + width c) d more (run-not_blank o c d e) in
+            rw is (elsewhere place at (c ∷ cs) rest (omega (arith, before)) ∙ sym (elsewhere place (at + width c) cs rest before))
+
+-- The same for some first characters.
+without_front : (o : Options) (at place : ℕ) (front text : List ℕ) → (0 < byte_len front → at + byte_len front < place)
+    → token_at place (tokens_from o at (front ++ text)) ≡ token_at place (tokens_from o (at + byte_len front) text)
+without_front o at place [] text before = ap (λ (n : ℕ). token_at place (tokens_from o n text)) (omega arith)
+without_front o at place (c ∷ front) text before =
+    let some : 0 < width c + byte_len front = omega (arith, width_some c) in
+    without_first o at place c (front ++ text) (omega (arith, before some))
+    ∙ without_front o (at + width c) place front text (λ _. omega (arith, before some))
+    ∙ ap (λ (n : ℕ). token_at place (tokens_from o n text)) (omega arith)
+
+-- ---- Tokens that are moved
+
+abbrev moved : ℕ → Token → Token
+moved by token = record { start = by + token.start; characters = token.characters }
+
+join_moved : (by at c : ℕ) (tokens : List Token) → join (by + at) c (map (moved by) tokens) ≡ map (moved by) (join at c tokens)
+join_moved by at c [] = refl
+join_moved by at c (token ∷ tokens) = refl
+
+tokens_moved : (o : Options) (by at : ℕ) (text : List ℕ) → tokens_from o (by + at) text ≡ map (moved by) (tokens_from o at text)
+tokens_moved o by at [] = refl
+tokens_moved o by at (c ∷ text) =
+    step (is_blank c) (goes_on o c text) (ap (λ (n : ℕ). tokens_from o n text) (omega arith) ∙ tokens_moved o by (at + width c) text)
+  where
+    step : (blank more : Bool) → tokens_from o (by + at + width c) text ≡ map (moved by) (tokens_from o (at + width c) text)
+        → (if blank then tokens_from o (by + at + width c) text else if more then join (by + at) c (tokens_from o (by + at + width c) text)
+        else record { start = by + at; characters = c ∷ [] } ∷ tokens_from o (by + at + width c) text)
+        ≡ map (moved by) (if blank then tokens_from o (at + width c) text else if more then join at c (tokens_from o (at + width c) text)
+        else record { start = at; characters = c ∷ [] } ∷ tokens_from o (at + width c) text)
+    step true more e = e
+    step false true e = ap (join (by + at) c) e ∙ join_moved by at c (tokens_from o (at + width c) text)
+    step false false e = ap (λ (tokens : List Token). record { start = by + at; characters = c ∷ [] } ∷ tokens) e
+
+found_moved : (by place : ℕ) (tokens : List Token) → token_at (by + place) (map (moved by) tokens) ≡ option_map (moved by) (token_at place tokens)
+found_moved by place [] = refl
+found_moved by place (token ∷ tokens) =
+    let same : (by + token.start == by + place) ≡ (token.start == place) = grind (arith, nat_tests) in
+    rw same (step (token.start == place) (found_moved by place tokens))
+  where
+    step : (here : Bool) → token_at (by + place) (map (moved by) tokens) ≡ option_map (moved by) (token_at place tokens)
+        → (if here then Some (moved by token) else token_at (by + place) (map (moved by) tokens))
+        ≡ option_map (moved by) (if here then Some token else token_at place tokens)
+    step true e = refl
+    step false e = e
+
+-- ---- The token at the place, cut from a boundary before it
+
+found_after : (o : Options) (bs : List ℕ) (from place : ℕ) → IsUtf8 bs → IsCharBoundary bs from → from ≤ place → (0 < from → from < place)
+    → token_at place (tokens_of o (chars bs)) ≡ option_map (moved from) (token_at (place - from) (tokens_of o (chars (drop from bs))))
+found_after o bs from place utf8 boundary within before =
+    let front = chars (take from bs) in
+    let text = chars (drop from bs) in
+    let parts : chars bs ≡ front ++ text =
+    sym (ap chars (take-append-drop from bs)) ∙ chars-append (take from bs) (drop from bs) (IsUtf8-take bs from utf8 boundary) in
+    let bytes : byte_len front ≡ from = byte_count (take from bs) (IsUtf8-take bs from utf8 boundary) ∙ length-take-le from bs boundary.0 in
+    let there : place ≡ from + (place - from) = omega (arith, within) in
+    let start : 0 + byte_len front ≡ from + 0 = omega (arith, bytes) in
+    ap (λ (cs : List ℕ). token_at place (tokens_of o cs)) parts
+    ∙ without_front o 0 place front text (λ some. omega (arith, bytes, before (omega (arith, bytes, some))))
+    ∙ ap (λ (n : ℕ). token_at place (tokens_from o n text)) start
+    ∙ ap (token_at place) (tokens_moved o from 0 text)
+    ∙ ap (λ (n : ℕ). token_at n (map (moved from) (tokens_of o text))) there
+    ∙ found_moved from (place - from) (tokens_of o text)
+
+-- The slice of a text from a boundary on is one of the text.
+slice_after : (bs : List ℕ) (from start n : ℕ) → slice_range (drop from bs) start (start + n) ≡ slice_range bs (from + start) (from + start + n)
+slice_after bs from start n =
+    let same : start + n - start ≡ from + start + n - (from + start) = omega arith in
+    rw same (ap (take (from + start + n - (from + start))) (drop-drop start from bs))
+
+pub slice_found : (o : Options) (bs : List ℕ) (from place : ℕ) (slice : Option (Bor (List ℕ))) → IsUtf8 bs → IsCharBoundary bs from
+    → from ≤ place → (0 < from → from < place)
+    → IsSliceOf (drop from bs) (token_at (place - from) (tokens_of o (chars (drop from bs)))) slice
+    → IsSliceOf bs (token_at place (tokens_of o (chars bs))) slice
+slice_found o bs from place None utf8 boundary within before none =
+    found_after o bs from place utf8 boundary within before ∙ ap (option_map (moved from)) none
+slice_found o bs from place (Some slice) utf8 boundary within before (token, is, characters, at) = (
+  moved from token,
+  found_after o bs from place utf8 boundary within before ∙ ap (option_map (moved from)) is,
+  characters,
+  at ∙ slice_after bs from token.start (length slice.now),
+)
