@@ -111,7 +111,7 @@ pub struct Tokens<'a> {
 impl<'a> Tokens<'a> {
     ghost use Rattle.duration_str.specs.Grammar.{Terminal, word};
     ghost use Rattle.duration_str.specs.Tokenizer.{source, options_of, place_of, looks_of, left, what_of, KeepsInput};
-    ghost use Rattle.duration_str.specs.Internal.Tokenizer.{IsAhead, LooksAhead, is_number, IsSign, u64_of, TakesNumber, TakesToken, TakesSign};
+    ghost use Rattle.duration_str.specs.Internal.Tokenizer.{IsAhead, LooksAhead, LooksForNumber, IsSignAhead, u64_of, TakesNumber, TakesToken, TakesTokenWith, TakesSign};
 
     /// The tokens of a text, cut under these options.
     #[inline(always)]
@@ -288,7 +288,7 @@ impl<'a> Tokens<'a> {
     /// Takes the single character ahead: an operator, or one that is neither a digit nor a unit letter.
     #[inline(always)]
     pub(crate) fn take_sign(&mut self)
-        requires { (sort : Sort) × IsSign sort × IsAhead self.old (Some sort) }
+        requires { IsSignAhead self.old }
         ensures kept { KeepsInput self.old self.new }
         ensures sign { TakesSign self.old self.new }
     {
@@ -299,8 +299,7 @@ impl<'a> Tokens<'a> {
     #[inline(always)]
     fn take_token(&mut self, sort: Sort) -> What
         requires { IsAhead self.old (Some sort) }
-        ensures { (terminal : Terminal)
-            × TakesToken self.old self.new terminal × (result ≡ what_of terminal) }
+        ensures { TakesTokenWith self.old self.new (λ terminal. result ≡ what_of terminal) }
     {
         match sort {
             Sort::Number => {
@@ -332,8 +331,7 @@ impl<'a> Tokens<'a> {
     /// Moves past the blanks, and returns whether a number is ahead.
     #[inline(always)]
     pub(crate) fn is_number_ahead(&mut self) -> bool
-        ensures { (sort : Option Sort)
-            × LooksAhead self.old self.new sort × (result ≡ is_number sort) }
+        ensures { LooksForNumber self.old self.new result }
     {
         self.skip_blanks();
         match self.head {

@@ -19,7 +19,7 @@ use Rattle.duration_str.specs.Internal.Cutting.{ahead, StandsAt, Passes, Stops, 
 use Rattle.duration_str.specs.Internal.Sorts.{sort_at, sort_of}
 use Rattle.duration_str.specs.Internal.Numbers.{u64_from}
 use Rattle.duration_str.specs.Tokenizer.{source, options_of, place_of, left, what_of, KeepsInput, YieldsNextToken}
-use Rattle.duration_str.specs.Internal.Tokenizer.{IsAhead, LooksAhead, IsSign, TakesToken, TakesNumber}
+use Rattle.duration_str.specs.Internal.Tokenizer.{IsAhead, LooksAhead, IsSign, TakesToken, TakesTokenWith, TakesNumber}
 use Rattle.duration_str.proofs.Cutting.CuttingLemmas.{TakesWord, chars_between, long_word, same_slice, blanks_passed, token_taken, place_at_end}
 use Rattle.duration_str.proofs.Cutting.SortLemmas.{StandsToken, number_stands, word_stands, sign_stands, digit_of_sort, letter_of_sort, sign_of_sort, sign_sorts, first_token}
 
@@ -53,22 +53,22 @@ none_left s end =
 pub first_left : (s : Tokens) (sort : Sort) → IsAhead s (Some sort)
     → (cs : List ℕ) × (rest : List Token) × (left s ≡ record { start = place_of s; characters = cs } ∷ rest) × (sort ≡ sort_of (terminal_of (options_of s) cs))
 first_left s sort h =
-    let stands : StandsAt (source s) (place_of s) s.eye.next h.0 = s.some h.0 h.1 in
-    let first = first_token (options_of s) (place_of s) h.0 (ahead (source s) s.eye.next) h.2 in
-    (first.0, first.1, ap (tokens_from (options_of s) (place_of s)) stands.head ∙ first.2, h.3 ∙ first.3)
+    let stands : StandsAt (source s) (place_of s) s.eye.next h.character = s.some h.character h.is_head in
+    let (cs, rest, is, sort_is) = first_token (options_of s) (place_of s) h.character (ahead (source s) s.eye.next) h.not_blank in
+    (cs, rest, ap (tokens_from (options_of s) (place_of s)) stands.head ∙ is, h.is_sort ∙ sort_is)
 
 pub one_sort : (s : Tokens) (a b : Sort) → IsAhead s (Some a) → IsAhead s (Some b) → a ≡ b
 one_sort s a b h k =
-    let heads = sym h.1 ∙ k.1 in
-    let same : h.0 ≡ k.0 = cc in
-    h.3 ∙ ap (sort_at (options_of s)) same ∙ sym k.3
+    let heads = sym h.is_head ∙ k.is_head in
+    let same : h.character ≡ k.character = cc in
+    h.is_sort ∙ ap (sort_at (options_of s)) same ∙ sym k.is_sort
 
 -- a word starts with a unit letter
 pub letter_ahead : (s : Tokens) (c : ℕ) → IsAhead s (Some Word) → s.head ≡ Some c → is_unit_letter (options_of s) c ≡ true
 letter_ahead s c h is =
-    let heads = sym h.1 ∙ is in
-    let same : h.0 ≡ c = cc in
-    ap (is_unit_letter (options_of s)) (sym same) ∙ letter_of_sort (options_of s) h.0 h.3
+    let heads = sym h.is_head ∙ is in
+    let same : h.character ≡ c = cc in
+    ap (is_unit_letter (options_of s)) (sym same) ∙ letter_of_sort (options_of s) h.character h.is_sort
 
 -- ---- the next token
 
@@ -91,9 +91,9 @@ pub takes_number : (s t : Tokens) (low start : ℕ) (slice : List ℕ) → IsAhe
 takes_number s t low start slice h kept taken stops there is utf8 =
     let same = chars_between (source s) (place_of s) (place_of t) taken.run.characters slice taken.run.between
     (same_slice slice (source t) (source s) start (place_of s) (place_of t) is kept.text there) utf8 in
-    let token = number_stands (options_of s) (source s) (place_of s) (place_of t) s.eye.next h.0 taken.run
-    (subst (λ l. Stops is_digit (ahead l (place_of t))) kept.text stops) (s.some h.0 h.1)
-    (digit_of_sort (options_of s) h.0 h.3) in (
+    let token = number_stands (options_of s) (source s) (place_of s) (place_of t) s.eye.next h.character taken.run
+    (subst (λ l. Stops is_digit (ahead l (place_of t))) kept.text stops) (s.some h.character h.is_head)
+    (digit_of_sort (options_of s) h.character h.is_sort) in (
       subst IsNumber (sym same) token.0,
       taken.number ∙ ap (λ l. number_of l % 2 ^ 64) (sym same),
       record { n = number_of taken.run.characters; token = takes_token s t _ kept token.1; is_value = ap (λ l. u64_from (number_of l)) same },
@@ -104,9 +104,9 @@ pub takes_word : (s t : Tokens) (unit : Option TimeUnit) → IsAhead s (Some Wor
     → TakesToken s t (word unit)
 takes_word s t unit h kept taken stops =
     takes_token s t (word unit) kept
-    (word_stands (options_of s) (source s) (place_of s) (place_of t) s.eye.next h.0 unit taken
+    (word_stands (options_of s) (source s) (place_of s) (place_of t) s.eye.next h.character unit taken
     (subst (λ l. Stops (is_unit_letter (options_of s)) (ahead l (place_of t))) kept.text stops)
-    (s.some h.0 h.1) (letter_of_sort (options_of s) h.0 h.3))
+    (s.some h.character h.is_head) (letter_of_sort (options_of s) h.character h.is_sort))
 
 -- a word by its slice: ASCII letters from s to m, then any unit letters up to t
 pub takes_long_word : (s m t : Tokens) (value start : ℕ) (capital : Bool) (slice : List ℕ) (unit : Option TimeUnit) → IsAhead s (Some Word) → KeepsInput s m
@@ -127,13 +127,15 @@ takes_long_word s m t value start capital slice unit h kept letters later passed
 -- taking the single character ahead
 pub takes_sign : (s t : Tokens) (sort : Sort) → IsSign sort → IsAhead s (Some sort) → KeepsInput s t
     → ((c : ℕ) → s.head ≡ Some c → StandsAt (source s) (place_of s) (place_of t) c)
-    → (terminal : Terminal) × TakesToken s t terminal × (sort ≡ sort_of terminal)
+    → TakesTokenWith s t (λ terminal. sort ≡ sort_of terminal)
 takes_sign s t sort sign h kept past =
-    let class = sign_of_sort (options_of s) h.0 sort sign h.3 in (
-      operator_or_other (operator_of h.0),
-      takes_token s t _ kept (sign_stands (options_of s) (source s) (place_of s) (place_of t) h.0 (past h.0 h.1) h.2 class.0 class.1),
-      class.2 ∙ sign_sorts (operator_of h.0),
-    )
+    let c = h.character in
+    let (no_digit, no_letter, sort_is) = sign_of_sort (options_of s) c sort sign h.is_sort in
+    record {
+      terminal = operator_or_other (operator_of c);
+      token = takes_token s t _ kept (sign_stands (options_of s) (source s) (place_of s) (place_of t) c (past c h.is_head) h.not_blank no_digit no_letter);
+      has = sort_is ∙ sign_sorts (operator_of c);
+    }
 
 -- the terminal of a single character, given its sort
 pub sign_what : (terminal : Terminal) (op : CondUnit) → Operator op ≡ sort_of terminal → whats.Operator op ≡ what_of terminal

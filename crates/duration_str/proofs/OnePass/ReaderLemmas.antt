@@ -44,10 +44,10 @@ by_terminal other at rest more is = (more, is)
 
 pub starts : (s m : Tokens) (ahead : Option Sort) (sort : Sort) → LooksAhead s m ahead → ahead ≡ Some sort → StartsWith sort (place_of m) (rest_of s)
 starts s m ahead sort look is =
-    let first = first_left m sort (subst (IsAhead m) is look.ahead) in
-    subst (λ x. StartsWith x (place_of m) (rest_of s)) (sym first.3)
-    (by_terminal (terminal_of (options_of m) first.0) (place_of m) (rest_of s) (rest_from (options_of m) (length (source m)) first.1)
-    (sym (same_rest s m ahead look) ∙ ap (rest_from (options_of m) (length (source m))) first.2))
+    let (cs, rest, left_is, sort_is) = first_left m sort (subst (IsAhead m) is look.ahead) in
+    subst (λ x. StartsWith x (place_of m) (rest_of s)) (sym sort_is)
+    (by_terminal (terminal_of (options_of m) cs) (place_of m) (rest_of s) (rest_from (options_of m) (length (source m)) rest)
+    (sym (same_rest s m ahead look) ∙ ap (rest_from (options_of m) (length (source m))) left_is))
 
 -- With a number ahead, the rest starts with it.
 pub at_number : (s : Tokens) → IsAhead s (Some sorts.Number) → StartsWith sorts.Number (place_of s) (rest_of s)
@@ -109,7 +109,8 @@ pub operator_taken : (s m t : Tokens) (ahead : Option Sort) (op : CondUnit) → 
 operator_taken s m t ahead op look is takes =
     let taken = takes (sorts.Operator op) (subst (IsAhead m) is look.ahead) in
     ap (operator_read false)
-    (sym (same_rest s m ahead look) ∙ after_token m t taken.0 taken.1 ∙ ap (λ x. terminal_at (place_of m) x (rest_of t)) (operator_terminal taken.0 op taken.2))
+    (sym (same_rest s m ahead look) ∙ after_token m t taken.terminal taken.token
+    ∙ ap (λ x. terminal_at (place_of m) x (rest_of t)) (operator_terminal taken.terminal op taken.has))
 
 -- the operator that was read
 abbrev operator_of : Result (Read (Option CondUnit)) Cause → Option CondUnit

@@ -145,9 +145,9 @@ by_number : {A : Type 0} (no_calc : Bool) (f g : Ended → A) (op next : CondUni
     → ((n : ℕ) (r : Result (Read TimeUnit) Cause) → f (after_number no_calc op n r) ≡ g (after_number no_calc next n r))
     → f (left_after no_calc op (rest_of s)) ≡ g (left_after no_calc next (rest_of s))
 by_number no_calc f g op next s ahead same =
-    let first = at_number s ahead in
-    let read = λ (set : CondUnit). ap (left_after no_calc set) first.2 ∙ terms_read no_calc set (place_of s) first.0 first.1 in
-    ap f (read op) ∙ same first.0 (unit_read no_calc first.1) ∙ sym (ap g (read next))
+    let (n, rest, is) = at_number s ahead in
+    let read = λ (set : CondUnit). ap (left_after no_calc set) is ∙ terms_read no_calc set (place_of s) n rest in
+    ap f (read op) ∙ same n (unit_read no_calc rest) ∙ sym (ap g (read next))
 
 -- The first of the later terms sets the operator.
 pub operator_set : (no_calc : Bool) (first : ℕ) (set : CondUnit) (s : Tokens) → IsAhead s (Some Number)

@@ -12,10 +12,17 @@ use Rattle.duration_str.specs.Internal.Numbers.{u64_from}
 use Rattle.duration_str.specs.Internal.Cutting.{Between}
 use Rattle.duration_str.specs.Internal.Sorts.{sort_at, sort_of}
 
--- The character ahead starts a token of this sort; `None` at the end.
+-- The character ahead starts a token of this sort.
+pub record StartsToken (s : Tokens) (sort : Sort) : Type 0 where
+  pub character : ℕ
+  pub is_head : s.head ≡ Some character
+  pub not_blank : is_blank character ≡ false
+  pub is_sort : sort ≡ sort_at (options_of s) character
+
+-- A token of this sort is ahead; `None` at the end.
 abbrev pub IsAhead : Tokens → Option Sort → Type 0
 IsAhead s None = s.head ≡ None
-IsAhead s (Some sort) = (c : ℕ) × (s.head ≡ Some c) × (is_blank c ≡ false) × (sort ≡ sort_at (options_of s) c)
+IsAhead s (Some sort) = StartsToken s sort
 
 -- Blanks are skipped, so the same tokens are left, and the character ahead starts a token of this sort; `None` at the
 -- end.
@@ -29,11 +36,23 @@ abbrev pub is_number : Option Sort → Bool
 is_number (Some sorts.Number) = true
 is_number _ = false
 
+-- Blanks are skipped, and the answer is whether a number is ahead.
+pub record LooksForNumber (old new : Tokens) (answer : Bool) : Type 0 where
+  pub sort : Option Sort
+  pub look : LooksAhead old new sort
+  pub is_answer : answer ≡ is_number sort
+
 -- The sort is of a single character, neither a digit nor a unit letter.
 abbrev pub IsSign : Sort → Type 0
 IsSign sorts.Number = ⊥
 IsSign sorts.Word = ⊥
 IsSign _ = Unit {0}
+
+-- A token of such a sort is ahead.
+pub record IsSignAhead (s : Tokens) : Type 0 where
+  pub sort : Sort
+  pub is_sign : IsSign sort
+  pub ahead : IsAhead s (Some sort)
 
 -- The first token that is left is taken; it starts at the place and stands for this terminal.
 pub record TakesToken (old new : Tokens) (terminal : Terminal) : Type 0 where
@@ -53,6 +72,12 @@ pub record TakesNumber (old new : Tokens) (value : Option ℕ) : Type 0 where
   pub token : TakesToken old new (number n)
   pub is_value : value ≡ u64_from n
 
+-- The first token that is left is taken; it stands for a terminal that has the property.
+pub record TakesTokenWith (old new : Tokens) (Has : Terminal → Type 0) : Type 0 where
+  pub terminal : Terminal
+  pub token : TakesToken old new terminal
+  pub has : Has terminal
+
 -- The first token that is left is taken; it stands for a terminal of the sort ahead.
 abbrev pub TakesSign : Tokens → Tokens → Type 0
-TakesSign old new = (sort : Sort) → IsAhead old (Some sort) → (terminal : Terminal) × TakesToken old new terminal × (sort ≡ sort_of terminal)
+TakesSign old new = (sort : Sort) → IsAhead old (Some sort) → TakesTokenWith old new (λ terminal. sort ≡ sort_of terminal)

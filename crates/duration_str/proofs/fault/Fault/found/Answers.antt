@@ -1,4 +1,4 @@
-use Rattle.std.proofs.Common.{◌≡◌, ℕ, ◌+◌, ◌-◌, ◌∙◌, List, drop, IsUtf8, rules, arith, ap, sym, subst₂}
+use Rattle.std.proofs.Common.{◌≡◌, ℕ, ◌-◌, ◌∙◌, List, drop, IsUtf8, rules, arith, ap, subst₂}
 use Rattle.std.specs.Str.{chars}
 use Rattle.duration_str.specs.Faults.{token_at, IsSliceOf}
 use Rattle.duration_str.specs.Tokens.{Token, tokens_of}

@@ -9,14 +9,17 @@ pub returns-in-Some : goal.returns-in-Some
 returns-in-Some c =
     let m = c.skip_blanks.new.self in
     let e = c.skip_blanks.ensures in
-    let first = c.in-Some.c in (
-      Some (sort_at (options_of m) first),
-      looks_ahead c.args.self.now m _ e.kept e.blanks (first, c.in-Some.is, e.stops first c.in-Some.is, refl),
-      c.is_ascii_digit.ensures.value ∙ digit_sort (options_of m) first,
-    )
+    let first = c.in-Some.c in
+    let head = c.in-Some.is in
+    record {
+      sort = Some (sort_at (options_of m) first);
+      look = looks_ahead c.args.self.now m _ e.kept e.blanks
+          (record { character = first; is_head = head; not_blank = e.stops first head; is_sort = refl });
+      is_answer = c.is_ascii_digit.ensures.value ∙ digit_sort (options_of m) first;
+    }
 
 pub returns-in-None : goal.returns-in-None
 returns-in-None c =
     let m = c.skip_blanks.new.self in
     let e = c.skip_blanks.ensures in
-    (None, looks_ahead c.args.self.now m _ e.kept e.blanks c.in-None.is, refl)
+    record { sort = None; look = looks_ahead c.args.self.now m _ e.kept e.blanks c.in-None.is; is_answer = refl }

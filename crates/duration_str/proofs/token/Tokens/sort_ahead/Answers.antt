@@ -14,4 +14,5 @@ returns c =
     let m = c.skip_blanks.new.self in
     let e = c.skip_blanks.ensures in
     let head = c.in_ok-first.was {u = tt} in
-    looks_ahead c.args.self.now m _ e.kept e.blanks (c.in_ok-first.first, head, e.stops c.in_ok-first.first head, c.sort_at.ensures)
+    looks_ahead c.args.self.now m _ e.kept e.blanks
+    (record { character = c.in_ok-first.first; is_head = head; not_blank = e.stops c.in_ok-first.first head; is_sort = c.sort_at.ensures })

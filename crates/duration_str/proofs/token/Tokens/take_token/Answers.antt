@@ -5,14 +5,14 @@ use Rattle.duration_str.proofs.Cutting.TokenizerLemmas.{sign_what, other_what}
 use Rattle.duration_str.proofs.token.Tokens.take_token.Goals as goal
 
 pub take_sign-requires : goal.take_sign-requires
-take_sign-requires c = (_, tt, subst (λ (sort : Sort). IsAhead c.args.self.now (Some sort)) c.in-Operator.is c.requires)
+take_sign-requires c = record { sort = _; is_sign = tt; ahead = subst (λ (sort : Sort). IsAhead c.args.self.now (Some sort)) c.in-Operator.is c.requires }
 
 pub returns-in-Operator : goal.returns-in-Operator
 returns-in-Operator c =
     let taken = c.take_sign.ensures.sign _ (subst (λ (sort : Sort). IsAhead c.args.self.now (Some sort)) c.in-Operator.is c.requires) in
-    (taken.0, taken.1, sign_what taken.0 c.in-Operator.operator taken.2)
+    record { terminal = taken.terminal; token = taken.token; has = sign_what taken.terminal c.in-Operator.operator taken.has }
 
 pub returns-in-Other : goal.returns-in-Other
 returns-in-Other c =
     let taken = c.take_sign-in-Other.ensures.sign _ (subst (λ (sort : Sort). IsAhead c.args.self.now (Some sort)) c.in-Other.is c.requires) in
-    (taken.0, taken.1, other_what taken.0 taken.2)
+    record { terminal = taken.terminal; token = taken.token; has = other_what taken.terminal taken.has }

@@ -12,13 +12,13 @@ returns-in_err-sort-clause-steps c =
 
 pub since-text-requires-clause-order : goal.since-text-requires-clause-order
 since-text-requires-clause-order c =
-    let taken = c.take_token-what.ensures.1 in
+    let taken = c.take_token-what.ensures.token in
     omega (arith, taken.between.bytes, c.place-start.ensures)
 
 pub since-text-requires-clause-boundary : goal.since-text-requires-clause-boundary
 since-text-requires-clause-boundary c =
     let m = c.sort_ahead.new.self in
-    let taken = c.take_token-what.ensures.1 in
+    let taken = c.take_token-what.ensures.token in
     subst (λ text. IsCharBoundary text c.place-start.result) (sym taken.kept.text) (subst (IsCharBoundary (source m)) (sym c.place-start.ensures)
     m.eye.at_place)
 
@@ -28,12 +28,12 @@ returns-clause-steps c =
     let t = c.take_token-what.new.self in
     let e = c.sort_ahead.ensures in
     let taken = c.take_token-what.ensures in
-    takes_terminal c.args.self.now m t (record { start = c.place-start.result; text = c.since-text.result; what = c.take_token-what.result }) taken.0 e.kept
-    e.same_left taken.1
-    c.place-start.ensures c.since-text.ensures c.since-text.utf8 taken.2 m.eye.at_place t.eye.at_place
+    takes_terminal c.args.self.now m t (record { start = c.place-start.result; text = c.since-text.result; what = c.take_token-what.result }) taken.terminal e.kept
+    e.same_left taken.token
+    c.place-start.ensures c.since-text.ensures c.since-text.utf8 taken.has m.eye.at_place t.eye.at_place
 
 pub returns-clause-goes : goal.returns-clause-goes
 returns-clause-goes c =
-    let first = ap length c.take_token-what.ensures.1.first in
+    let first = ap length c.take_token-what.ensures.token.first in
     let same = ap length c.sort_ahead.ensures.same_left in
     omega (arith, first, same)
