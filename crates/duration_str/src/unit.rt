@@ -196,7 +196,7 @@ impl TimeUnit {
         ensures { result ≡ is_named o (chars word.now) self }
     {
         let row = self.row();
-        is_any(row.names, word, o) || o.cn_unit && is_any(row.chinese, word, o)
+        o.cn_unit && is_any(row.chinese, word, o) || is_any(row.names, word, o)
     }
 }
 
@@ -267,9 +267,5 @@ fn is_any(names: &[&str], word: &str, o: Options) -> bool
 fn is_name(name: &str, word: &str, o: Options) -> bool
     ensures { result ≡ bytes_eq (comparison_form o word.now) (comparison_form o name.now) }
 {
-    if o.lowercase {
-        word == name
-    } else {
-        word.eq_ignore_ascii_case(name)
-    }
+    word == name || !o.lowercase && word.eq_ignore_ascii_case(name)
 }
