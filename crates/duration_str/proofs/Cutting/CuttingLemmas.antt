@@ -116,10 +116,6 @@ pub passes_weaker : (test weaker : ℕ → Bool) (text : List ℕ) (place next :
 passes_weaker test weaker text place next follows passed =
     record { characters = passed.characters; between = passed.between; all = all_weaker test weaker passed.characters follows passed.all }
 
--- less text is ahead of the next place
-pub ahead_shorter : (text text' : List ℕ) (place next c : ℕ) → text' ≡ text → StandsAt text place next c → length (ahead text' next) < length (ahead text place)
-ahead_shorter text text' place next c same stands = let len = ap length stands.head in omega (arith, len, ap (λ t. length (ahead t next)) same)
-
 -- the text stops if its head fails the test
 pub stops_at : (test : ℕ → Bool) (text : List ℕ) (place next c : ℕ) → StandsAt text place next c → test c ≡ false → Stops test (ahead text place)
 stops_at test text place next c stands e = subst (Stops test) (sym stands.head) e

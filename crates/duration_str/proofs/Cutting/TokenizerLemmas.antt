@@ -1,6 +1,7 @@
 -- The steps of `Tokens`: what is ahead, and the next token.
-use Rattle.std.proofs.Common.{Bool, ◌≡◌, ℕ, ◌-◌, ◌%◌, ◌^◌, ◌≤◌, drop, length-drop, arith, true, List, [], ◌∷◌, length, Option, Some, None, IsUtf8, refl, sym, ap, subst, ◌∙◌}
+use Rattle.std.proofs.Common.{Bool, ◌≡◌, ℕ, ◌-◌, ◌<◌, ◌%◌, ◌^◌, ◌≤◌, drop, length-drop, arith, true, List, [], ◌∷◌, length, Option, Some, None, IsUtf8, refl, sym, ap, subst, ◌∙◌}
 use Rattle.std.specs.Prelude.{slice_range}
+use Rattle.std.specs.Option.{ForSome}
 use Rattle.std.specs.Str.{IsCharBoundary, chars}
 use Rattle.std.proofs.lemmas.List.{length-take-le}
 use Rattle.std.proofs.lemmas.Str.{IsUtf8-had}
@@ -34,6 +35,13 @@ left_same : (s t : Tokens) → KeepsInput s t → left t ≡ tokens_from (option
 left_same s t kept = (λ i. tokens_from (kept.options i) (place_of t) (ahead (kept.text i) (place_of t)))
 
 -- ---- what is ahead
+
+-- Past the character ahead, fewer are ahead.
+pub fewer_ahead : (s t : Tokens) (c : ℕ) → KeepsInput s t → ForSome s.head (StandsAt (source s) (place_of s) (place_of t)) → s.head ≡ Some c
+    → length (ahead (source t) (place_of t)) < length (ahead (source s) (place_of s))
+fewer_ahead s t c kept past is =
+    let len = ap length (past c is).head in
+    omega (arith, len, ap (λ text. length (ahead text (place_of t))) kept.text)
 
 -- skipping the blanks from s to t
 pub looks_ahead : (s t : Tokens) (sort : Option Sort) → KeepsInput s t → Passes is_blank (source s) (place_of s) (place_of t) → IsAhead t sort

@@ -1,8 +1,8 @@
 use Rattle.std.proofs.Common.{◌∙◌, sym}
 use Rattle.duration_str.specs.Text.{is_blank}
 use Rattle.duration_str.specs.Tokenizer.{source, place_of}
-use Rattle.duration_str.proofs.Cutting.CuttingLemmas.{passes_none, passes_head, ahead_shorter}
-use Rattle.duration_str.proofs.Cutting.TokenizerLemmas.{keeps_all, keeps_on}
+use Rattle.duration_str.proofs.Cutting.CuttingLemmas.{passes_none, passes_head}
+use Rattle.duration_str.proofs.Cutting.TokenizerLemmas.{keeps_all, keeps_on, fewer_ahead}
 use Rattle.duration_str.proofs.token.Tokens.skip_blanks.Goals as goal
 
 pub loop-self-init : goal.loop-self-init
@@ -25,6 +25,4 @@ loop-self-preserved c =
 
 pub loop-self-smaller : goal.loop-self-smaller
 loop-self-smaller c =
-    let s = c.loop-self.self in
-    ahead_shorter (source s) _ (place_of s) (place_of c.advance.new.self) c.in-Some.c c.advance.ensures.kept.text
-    (c.advance.ensures.past c.in-Some.c c.in-Some.is)
+    fewer_ahead c.loop-self.self c.advance.new.self c.in-Some.c c.advance.ensures.kept c.advance.ensures.past c.in-Some.is

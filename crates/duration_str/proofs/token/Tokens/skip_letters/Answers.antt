@@ -2,8 +2,8 @@ use Rattle.std.proofs.Common.{◌≡◌, ℕ, Bool, ap, ◌∙◌, sym}
 use Rattle.duration_str.specs.declared.options.Options.{Options}
 use Rattle.duration_str.specs.Text.{is_unit_letter}
 use Rattle.duration_str.specs.Tokenizer.{source, options_of, place_of}
-use Rattle.duration_str.proofs.Cutting.CuttingLemmas.{passes_none, passes_head, ahead_shorter, stops_at}
-use Rattle.duration_str.proofs.Cutting.TokenizerLemmas.{keeps_all, keeps_on}
+use Rattle.duration_str.proofs.Cutting.CuttingLemmas.{passes_none, passes_head, stops_at}
+use Rattle.duration_str.proofs.Cutting.TokenizerLemmas.{keeps_all, keeps_on, fewer_ahead}
 use Rattle.duration_str.proofs.token.Tokens.skip_letters.Goals as goal
 
 -- the options stay the same, so the test is the one from the start
@@ -31,9 +31,7 @@ loop-self-preserved c =
 
 pub loop-self-smaller : goal.loop-self-smaller
 loop-self-smaller c =
-    let s = c.loop-self.self in
-    ahead_shorter (source s) _ (place_of s) (place_of c.advance.new.self) c.in-Some.c c.advance.ensures.kept.text
-    (c.advance.ensures.past c.in-Some.c c.in-Some.is)
+    fewer_ahead c.loop-self.self c.advance.new.self c.in-Some.c c.advance.ensures.kept c.advance.ensures.past c.in-Some.is
 
 pub returns-else-is_unit_letter-clause-stops : goal.returns-else-is_unit_letter-clause-stops
 returns-else-is_unit_letter-clause-stops c =

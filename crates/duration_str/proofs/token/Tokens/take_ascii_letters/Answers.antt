@@ -1,8 +1,8 @@
 use Rattle.std.proofs.Common.{◌∙◌, false, refl, sym, arith}
 use Rattle.duration_str.specs.Tokenizer.{source, options_of, place_of}
 use Rattle.duration_str.proofs.Characters.CharacterLemmas.{ascii_letter}
-use Rattle.duration_str.proofs.Cutting.CuttingLemmas.{letters_none, letters_head, ahead_shorter}
-use Rattle.duration_str.proofs.Cutting.TokenizerLemmas.{keeps_on, letter_ahead}
+use Rattle.duration_str.proofs.Cutting.CuttingLemmas.{letters_none, letters_head}
+use Rattle.duration_str.proofs.Cutting.TokenizerLemmas.{keeps_on, fewer_ahead, letter_ahead}
 use Rattle.duration_str.proofs.token.Tokens.take_ascii_letters.Goals as goal
 
 pub loop-self-init : goal.loop-self-init
@@ -33,10 +33,8 @@ loop-self-preserved c =
 
 pub loop-self-smaller : goal.loop-self-smaller
 loop-self-smaller c =
-    let s = c.loop-self.self in
     let more = c.advance-in-loop-self in
-    ahead_shorter (source s) _ (place_of s) (place_of more.new.self) c.in-Some-head.c more.ensures.kept.text
-    (more.ensures.past c.in-Some-head.c c.in-Some-head.is)
+    fewer_ahead c.loop-self.self more.new.self c.in-Some-head.c more.ensures.kept more.ensures.past c.in-Some-head.is
 
 pub returns-in_default-clause-letters : goal.returns-in_default-clause-letters
 returns-in_default-clause-letters c = letters_none (source c.args.self.now) (place_of c.args.self.now)
