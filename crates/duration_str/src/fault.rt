@@ -4,7 +4,7 @@ ghost use Rattle.std.specs.Option.{ForSome};
 ghost use Rattle.std.specs.Str.{IsCharBoundary};
 ghost use Rattle.duration_str.specs.Faults.{place_of};
 ghost use Rattle.duration_str.specs.FaultText.{chars_before, fault_text, line_of};
-ghost use Rattle.duration_str.specs.Internal.Layouts.{laid_out};
+ghost use Rattle.duration_str.specs.Internal.Layouts.{message_of};
 
 use crate::unit::CondUnit;
 use std::fmt;
@@ -141,7 +141,7 @@ pub(crate) enum Layout {
 impl Fault<'_> {
     /// How its message is laid out.
     pub(crate) fn layout(&self) -> Layout
-        ensures { laid_out result self.now.text.now (encode_utf8_all (line_of self.now.cause))
+        ensures { message_of result self.now.text.now (encode_utf8_all (line_of self.now.cause))
             ≡ fault_text self.now.text.now self.now.cause }
     {
         let Some(place) = self.cause.place() else {

@@ -3,7 +3,7 @@
 //! A `Display` may fail for reasons that its contract does not name, so nothing can be promised of what it prints.
 ghost use Rattle.std.specs.Prelude.{◌≡◌, ◌≤◌, ◌-◌, ◌^◌, ◌++◌, min, length, take, replicate, decimal, encode_utf8_all};
 ghost use Rattle.duration_str.specs.FaultText.{fault_text, byte_text, caret_text, line_of};
-ghost use Rattle.duration_str.specs.Internal.Layouts.{laid_out};
+ghost use Rattle.duration_str.specs.Internal.Layouts.{message_of};
 ghost use Rattle.duration_str.specs.Buffers.{IsInFront, IsWritten};
 
 use crate::ext::put_number;
@@ -78,7 +78,7 @@ fn decimal_len(number: usize) -> usize
 impl Layout {
     /// The length in bytes of a message with this layout; `usize::MAX` if it is greater than that.
     fn len(self, text: &str, line: &str) -> usize
-        ensures { result ≡ min (length (laid_out self text.now line.now)) (2 ^ 64 - 1) }
+        ensures { result ≡ min (length (message_of self text.now line.now)) (2 ^ 64 - 1) }
     {
         match self {
             Layout::Line => line.len(),
@@ -92,7 +92,7 @@ impl Layout {
 
     /// Writes a message with this layout, and returns where it ends; `None` if there is no room.
     fn put(self, buffer: &mut [u8], text: &str, line: &str) -> Option<usize>
-        ensures { IsInFront (laid_out self text.now line.now) result buffer.new }
+        ensures { IsInFront (message_of self text.now line.now) result buffer.new }
     {
         match self {
             Layout::Line => put(buffer, 0, line.as_bytes()),

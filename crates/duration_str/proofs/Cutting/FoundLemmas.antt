@@ -52,45 +52,48 @@ without_front o at place (c ∷ front) text before =
     ∙ without_front o (at + width c) place front text (λ _. omega (arith, before some))
     ∙ ap (λ (n : ℕ). token_at place (tokens_from o n text)) (omega arith)
 
--- ---- Tokens that are moved
+-- ---- Tokens so many bytes later
 
-abbrev moved : ℕ → Token → Token
-moved by token = record { start = by + token.start; characters = token.characters }
+-- the same token, so many bytes later
+abbrev later_token : ℕ → Token → Token
+later_token by token = record { start = by + token.start; characters = token.characters }
 
-join_moved : (by at c : ℕ) (tokens : List Token) → join (by + at) c (map (moved by) tokens) ≡ map (moved by) (join at c tokens)
-join_moved by at c [] = refl
-join_moved by at c (token ∷ tokens) = refl
+join_later : (by at c : ℕ) (tokens : List Token) → join (by + at) c (map (later_token by) tokens) ≡ map (later_token by) (join at c tokens)
+join_later by at c [] = refl
+join_later by at c (token ∷ tokens) = refl
 
-tokens_moved : (o : Options) (by at : ℕ) (text : List ℕ) → tokens_from o (by + at) text ≡ map (moved by) (tokens_from o at text)
-tokens_moved o by at [] = refl
-tokens_moved o by at (c ∷ text) =
-    step (is_blank c) (goes_on o c text) (ap (λ (n : ℕ). tokens_from o n text) (omega arith) ∙ tokens_moved o by (at + width c) text)
+-- The tokens of a text that starts later.
+tokens_later : (o : Options) (by at : ℕ) (text : List ℕ) → tokens_from o (by + at) text ≡ map (later_token by) (tokens_from o at text)
+tokens_later o by at [] = refl
+tokens_later o by at (c ∷ text) =
+    step (is_blank c) (goes_on o c text) (ap (λ (n : ℕ). tokens_from o n text) (omega arith) ∙ tokens_later o by (at + width c) text)
   where
-    step : (blank more : Bool) → tokens_from o (by + at + width c) text ≡ map (moved by) (tokens_from o (at + width c) text)
+    step : (blank more : Bool) → tokens_from o (by + at + width c) text ≡ map (later_token by) (tokens_from o (at + width c) text)
         → (if blank then tokens_from o (by + at + width c) text else if more then join (by + at) c (tokens_from o (by + at + width c) text)
         else record { start = by + at; characters = c ∷ [] } ∷ tokens_from o (by + at + width c) text)
-        ≡ map (moved by) (if blank then tokens_from o (at + width c) text else if more then join at c (tokens_from o (at + width c) text)
+        ≡ map (later_token by) (if blank then tokens_from o (at + width c) text else if more then join at c (tokens_from o (at + width c) text)
         else record { start = at; characters = c ∷ [] } ∷ tokens_from o (at + width c) text)
     step true more e = e
-    step false true e = ap (join (by + at) c) e ∙ join_moved by at c (tokens_from o (at + width c) text)
+    step false true e = ap (join (by + at) c) e ∙ join_later by at c (tokens_from o (at + width c) text)
     step false false e = ap (λ (tokens : List Token). record { start = by + at; characters = c ∷ [] } ∷ tokens) e
 
-found_moved : (by place : ℕ) (tokens : List Token) → token_at (by + place) (map (moved by) tokens) ≡ option_map (moved by) (token_at place tokens)
-found_moved by place [] = refl
-found_moved by place (token ∷ tokens) =
+-- A token is found in the same way among later ones.
+found_later : (by place : ℕ) (tokens : List Token) → token_at (by + place) (map (later_token by) tokens) ≡ option_map (later_token by) (token_at place tokens)
+found_later by place [] = refl
+found_later by place (token ∷ tokens) =
     let same : (by + token.start == by + place) ≡ (token.start == place) = grind (arith, nat_tests) in
-    rw same (step (token.start == place) (found_moved by place tokens))
+    rw same (step (token.start == place) (found_later by place tokens))
   where
-    step : (here : Bool) → token_at (by + place) (map (moved by) tokens) ≡ option_map (moved by) (token_at place tokens)
-        → (if here then Some (moved by token) else token_at (by + place) (map (moved by) tokens))
-        ≡ option_map (moved by) (if here then Some token else token_at place tokens)
+    step : (here : Bool) → token_at (by + place) (map (later_token by) tokens) ≡ option_map (later_token by) (token_at place tokens)
+        → (if here then Some (later_token by token) else token_at (by + place) (map (later_token by) tokens))
+        ≡ option_map (later_token by) (if here then Some token else token_at place tokens)
     step true e = refl
     step false e = e
 
 -- ---- The token at the place, cut from a boundary before it
 
 found_after : (o : Options) (bs : List ℕ) (from place : ℕ) → IsUtf8 bs → IsCharBoundary bs from → from ≤ place → (0 < from → from < place)
-    → token_at place (tokens_of o (chars bs)) ≡ option_map (moved from) (token_at (place - from) (tokens_of o (chars (drop from bs))))
+    → token_at place (tokens_of o (chars bs)) ≡ option_map (later_token from) (token_at (place - from) (tokens_of o (chars (drop from bs))))
 found_after o bs from place utf8 boundary within before =
     let front = chars (take from bs) in
     let text = chars (drop from bs) in
@@ -102,9 +105,9 @@ found_after o bs from place utf8 boundary within before =
     ap (λ (cs : List ℕ). token_at place (tokens_of o cs)) parts
     ∙ without_front o 0 place front text (λ some. omega (arith, bytes, before (omega (arith, bytes, some))))
     ∙ ap (λ (n : ℕ). token_at place (tokens_from o n text)) start
-    ∙ ap (token_at place) (tokens_moved o from 0 text)
-    ∙ ap (λ (n : ℕ). token_at n (map (moved from) (tokens_of o text))) there
-    ∙ found_moved from (place - from) (tokens_of o text)
+    ∙ ap (token_at place) (tokens_later o from 0 text)
+    ∙ ap (λ (n : ℕ). token_at n (map (later_token from) (tokens_of o text))) there
+    ∙ found_later from (place - from) (tokens_of o text)
 
 -- The slice of a text from a boundary on is one of the text.
 slice_after : (bs : List ℕ) (from start n : ℕ) → slice_range (drop from bs) start (start + n) ≡ slice_range bs (from + start) (from + start + n)
@@ -117,10 +120,10 @@ pub slice_found : (o : Options) (bs : List ℕ) (from place : ℕ) (slice : Opti
     → IsSliceOf (drop from bs) (token_at (place - from) (tokens_of o (chars (drop from bs)))) slice
     → IsSliceOf bs (token_at place (tokens_of o (chars bs))) slice
 slice_found o bs from place None utf8 boundary within before none =
-    found_after o bs from place utf8 boundary within before ∙ ap (option_map (moved from)) none
+    found_after o bs from place utf8 boundary within before ∙ ap (option_map (later_token from)) none
 slice_found o bs from place (Some slice) utf8 boundary within before (token, is, characters, at) = (
-  moved from token,
-  found_after o bs from place utf8 boundary within before ∙ ap (option_map (moved from)) is,
+  later_token from token,
+  found_after o bs from place utf8 boundary within before ∙ ap (option_map (later_token from)) is,
   characters,
   at ∙ slice_after bs from token.start (length slice.now),
 )

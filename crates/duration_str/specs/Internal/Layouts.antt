@@ -5,7 +5,7 @@ use Rattle.duration_str.specs.declared.fault.Layout.TheVariants.{Line, Byte, Car
 use Rattle.duration_str.specs.FaultText.{byte_text, caret_text}
 
 -- the bytes of a message, given those of the text and of the line
-abbrev pub laid_out : Layout → List ℕ → List ℕ → List ℕ
-laid_out Line text line = line
-laid_out (Byte place) text line = byte_text place line
-laid_out (Caret spaces) text line = caret_text text spaces line
+abbrev pub message_of : Layout → List ℕ → List ℕ → List ℕ
+message_of Line text line = line
+message_of (Byte place) text line = byte_text place line
+message_of (Caret spaces) text line = caret_text text spaces line
