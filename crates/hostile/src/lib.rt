@@ -1,6 +1,6 @@
-//! Tests of hostile input: very long texts, and characters that look like others.
+//! Tests of hostile input, very long texts and characters that look like others, and of a run whose memory is refused.
 //!
-//! Refused memory and failing devices are tested next to the functions that take an allocator, a reader or a writer.
+//! Failing devices are tested next to the functions that take a reader or a writer.
 #![tactic(auto)]
 
 #[cfg(test)]

@@ -1,4 +1,4 @@
-// Long texts, look-alikes, and calls that have no allocator.
+// Long texts, look-alikes, calls that have no allocator, and a run whose allocator refuses.
 use arrayvec::ArrayString;
 use duration_str::{
     Cause, Expected, Fault, Options, after_naive_date, deserialize_duration, parse, parse_with,
@@ -7,9 +7,10 @@ use duration_str::{
 use duration_str_tests::vectors::{
     AFTER_NUMBER, AFTER_UNIT, CN_UNIT, NUMBER, OFF, OPERATORS, START, TOO_LARGE, UNITS, syntax,
 };
-use durstr_run::run;
+use durstr_run::{RunFault, run};
 use jiff::Timestamp;
 use jiff::civil::Date;
+use refusing::Refusing;
 use serde_json::{Value, json};
 use std::alloc::{AllocError, Global};
 use std::fmt::Write;
@@ -185,4 +186,22 @@ fn runs_over_long_lines(rt: HostRuntime) -> Result<(), Fail> {
     let want = long(&rt, first, "Empty input\n", 100_000, "")?;
     assert!(rt; output.as_slice() == want.as_bytes());
     Ok(())
+}
+
+#[test]
+fn runs_until_a_request_is_refused(rt: HostRuntime) {
+    let wanted: &[u8] = b"211000000000 3min 31s\nEmpty input\noverflow error\n";
+    for granted in 0..100u64 {
+        let memory = Refusing::new(rt.alloc(), granted);
+        let mut input: &[u8] = b"3m31\n\n580y*2";
+        let mut written = Vec::new(rt.alloc());
+        let answer = run(&memory, &mut input, &mut written, OFF);
+        if answer == Ok(false) {
+            assert!(rt; granted >= 2 && written.as_slice() == wanted, "{granted}");
+            return;
+        }
+        let is_refused = answer == Err(RunFault::Memory) && written.is_empty();
+        assert!(rt; is_refused, "at {granted}");
+    }
+    assert!(rt; false, "always refused");
 }

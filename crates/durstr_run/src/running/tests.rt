@@ -1,10 +1,9 @@
-// Runs with readers, writers and an allocator in memory.
+// Runs with readers and writers in memory.
 ghost use Rattle.std.specs.Prelude.{◌≤◌};
 
 use super::run;
 use crate::fault::RunFault;
 use duration_str::Options;
-use refusing::Refusing;
 use std::alloc::Global;
 use std::io;
 use std::io::{ErrorKind, Read, Write};
@@ -248,20 +247,4 @@ fn makes_a_read_for_each_byte_and_one_more(rt: HostRuntime) -> Result<(), Fail> 
         );
     }
     Ok(())
-}
-
-#[test]
-fn stops_at_each_refused_request(rt: HostRuntime) {
-    for granted in 0..100u64 {
-        let memory = Refusing::new(rt.alloc(), granted);
-        let mut sink = Sink::new();
-        let answer = run(&memory, &mut Source::new(INPUT), &mut sink, Options::off());
-        if answer == Ok(false) {
-            assert!(rt; granted >= 2 && sink.written() == OUTPUT, "{granted}");
-            return;
-        }
-        let is_refused = answer == Err(RunFault::Memory) && sink.written().is_empty();
-        assert!(rt; is_refused, "at {granted}");
-    }
-    assert!(rt; false, "always refused");
 }
