@@ -44,3 +44,9 @@ pub Continues-end : (o : Options) (input left written : List ℕ) (so_far : Bool
 Continues-end o input left written so_far before e =
     subst (λ out. IsOutput o input out so_far) (append-nil written)
     (subst (λ all. IsOutput o input (written ++ []) all) (and-true so_far) (before [] true (IsOutput-nil o left e)))
+
+-- Number, space, printed duration and line feed were pushed one by one.
+pub pushed_parts : (before digits human with_digits with_space with_human after : List ℕ)
+    → with_digits ≡ before ++ digits → with_space ≡ with_digits ++ (32 ∷ []) → with_human ≡ with_space ++ human
+    → after ≡ with_human ++ (10 ∷ []) → after ≡ before ++ ((digits ++ (32 ∷ human)) ++ (10 ∷ []))
+pushed_parts before digits human with_digits with_space with_human after h1 h2 h3 h4 = simp (h4, h3, h2, h1, append_assoc)
