@@ -1,6 +1,5 @@
 //! The output for the lines, and its writing.
 ghost use Rattle.std.specs.Prelude.{◌≡◌, ℕ, ◌^◌, ◌<◌, List, [], ◌∷◌, ◌++◌, IfOk, OnOk, OnErr, IfSome, IfNone, IsUtf8, decimal, encode_utf8_all, string_bytes};
-ghost use Rattle.std.specs.Bool.{MatchBool};
 ghost use Rattle.std.specs.Duration.{as_nanos};
 ghost use Rattle.std.specs.Io.KnownBytes.{Appends};
 ghost use Rattle.duration_str.specs.Printing.{IsPrinted};
@@ -16,25 +15,14 @@ use std::io::Write;
 use std::time::Duration;
 
 /// The bytes as a text, if they are UTF-8. Most are ASCII, which can be tested faster.
-#[inline(always)]
 fn text_of(bytes: &[u8]) -> Option<&str>
     ensures text { IfSome result (λ text. (text.now ≡ bytes.now) × IsUtf8 bytes.now) }
     ensures not_text { IfNone result (¬ (IsUtf8 bytes.now)) }
 {
-    if bytes.is_ascii() || is_utf8(bytes) {
-        Some(unsafe { str::from_utf8_unchecked(bytes) })
-    } else {
-        None
+    if bytes.is_ascii() {
+        return Some(unsafe { str::from_utf8_unchecked(bytes) });
     }
-}
-
-/// Whether the bytes are UTF-8.
-#[cold]
-#[inline(never)]
-fn is_utf8(bytes: &[u8]) -> bool
-    ensures { MatchBool result (IsUtf8 bytes.now) (¬ (IsUtf8 bytes.now)) }
-{
-    str::from_utf8(bytes).is_ok()
+    str::from_utf8(bytes).ok()
 }
 
 /// Adds the nanoseconds, a space, the printed duration and a line feed.
