@@ -2,12 +2,14 @@
 ghost use Rattle.std.specs.Prelude.{◌≡◌, ◌==◌, ◌<◌, ◌∷◌, length, position, All, IfNone, false};
 ghost use Rattle.durstr_run.specs.Lines.{lines_of};
 
-/// The offset of the first line feed.
+use memchr::memchr_iter;
+
+/// The offset of the first line feed. Most lines are short, and the iterator first looks at the next 32 bytes.
 fn line_end(bytes: &[u8]) -> Option<usize>
     ensures value { result ≡ position (λ b. b == 10) bytes.now }
     ensures none { IfNone result (All (λ b. (b == 10) ≡ false) bytes.now) }
 {
-    bytes.iter().position(|b| *b == b'\n')
+    memchr_iter(b'\n', bytes).next()
 }
 
 /// The first line, and the bytes after its line feed.

@@ -1,14 +1,46 @@
 //! The output for the lines, and its writing.
-ghost use Rattle.std.specs.Prelude.{◌≡◌, ℕ, List, [], ◌∷◌, ◌++◌, IfOk, OnOk, OnErr, string_bytes};
+ghost use Rattle.std.specs.Prelude.{◌≡◌, ℕ, ◌^◌, ◌<◌, List, [], ◌∷◌, ◌++◌, IfOk, OnOk, OnErr, IfSome, IfNone, IsUtf8, decimal, encode_utf8_all, string_bytes};
+ghost use Rattle.std.specs.Duration.{as_nanos};
 ghost use Rattle.std.specs.Io.KnownBytes.{Appends};
+ghost use Rattle.duration_str.specs.Printing.{IsPrinted};
 ghost use Rattle.durstr_run.specs.Running.{WritesFront};
 ghost use Rattle.durstr_run.specs.Output.{IsLineOutput, IsOutput};
 
 use crate::fault::RunFault;
 use crate::lines::first_line;
 use duration_str::{Options, parse_with, write_human};
+use itoa::Buffer;
 use std::alloc::{AllocError, Allocator};
 use std::io::Write;
+use std::time::Duration;
+
+/// The bytes as a text, if they are UTF-8. Most are ASCII, which can be tested faster.
+fn text_of(bytes: &[u8]) -> Option<&str>
+    ensures text { IfSome result (λ text. (text.now ≡ bytes.now) × IsUtf8 bytes.now) }
+    ensures not_text { IfNone result (¬ (IsUtf8 bytes.now)) }
+{
+    if bytes.is_ascii() {
+        return Some(unsafe { str::from_utf8_unchecked(bytes) });
+    }
+    str::from_utf8(bytes).ok()
+}
+
+/// Adds the nanoseconds, a space, the printed duration and a line feed.
+fn push_value<A: Allocator>(out: &mut String<A>, duration: Duration) -> Result<(), AllocError>
+    requires fits { as_nanos duration < 2 ^ 64 }
+    ensures { OnOk result ((human : List ℕ) × IsPrinted (as_nanos duration) human
+        × (string_bytes out.new ≡ string_bytes out.old
+        ++ ((decimal (as_nanos duration) ++ (32 ∷ encode_utf8_all human)) ++ (10 ∷ [])))) }
+{
+    let nanos = duration.as_nanos() as u64;
+    let mut digits = Buffer::new();
+    let mut human = [0; 64];
+    out.push_str(digits.format(nanos))?;
+    out.push(' ')?;
+    out.push_str(write_human(&duration, &mut human))?;
+    out.push('\n')?;
+    Ok(())
+}
 
 /// Adds the output for one line and a line feed, and returns whether the line was accepted.
 fn push_line<A: Allocator>(
@@ -19,16 +51,13 @@ fn push_line<A: Allocator>(
     ensures { IfOk result (λ accepted. (text : List ℕ) × IsLineOutput options line.now text accepted
         × (string_bytes out.new ≡ string_bytes out.old ++ (text ++ (10 ∷ [])))) }
 {
-    let Ok(text) = str::from_utf8(line) else {
+    let Some(text) = text_of(line) else {
         out.push_str("not UTF-8\n")?;
         return Ok(false);
     };
     match parse_with(text, options) {
         Ok(duration) => {
-            let nanos = duration.as_nanos() as u64;
-            let mut buffer = [0u8; 64];
-            let human = write_human(&duration, &mut buffer);
-            writeln!(out, "{nanos} {human}")?;
+            push_value(out, duration)?;
             Ok(true)
         }
         Err(fault) => {
