@@ -18,7 +18,7 @@ pub use accepted::Accepted;
 pub use blanks::{compact, write_line};
 pub use cache::{canonical, key, read_back, share_entry};
 pub use completion::{Completion, complete, is_offered};
-pub use portable::is_portable;
+pub use portable::{is_portable, keeps_value};
 pub use product::{Part, scaled};
 pub use retention::{Period, total_of};
 pub use scheduler::{is_outdated, remaining, show};

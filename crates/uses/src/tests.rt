@@ -1,6 +1,6 @@
 // Texts that are read once, added and looked up.
 use super::*;
-use duration_str::{Cause, Options, TimeUnit, parse};
+use duration_str::{Cause, Options, TimeUnit, parse, parse_with};
 use std::process::Abort;
 use std::time::Duration;
 
@@ -144,6 +144,35 @@ fn knows_what_is_portable(rt: HostRuntime) {
     ] {
         assert_eq!(rt; is_portable(text), portable);
     }
+}
+
+#[test]
+fn keeps_a_value_if_options_change(rt: HostRuntime) {
+    let off = Options::off();
+    let no_calc = Options {
+        no_calc: true,
+        ..off
+    };
+    let lowercase = Options {
+        lowercase: true,
+        ..off
+    };
+    let cn_unit = Options {
+        cn_unit: true,
+        ..off
+    };
+    for (text, after, kept) in [
+        ("2H 37m", no_calc, true),
+        ("2H 37m", lowercase, false),
+        ("2h + 37m", no_calc, false),
+        ("2h + 37m", lowercase, true),
+        ("2天", cn_unit, false),
+    ] {
+        assert_eq!(rt; keeps_value(text, off, after), kept);
+        let is_same = parse_with(text, off).ok() == parse_with(text, after).ok();
+        assert_eq!(rt; is_same, kept);
+    }
+    assert!(rt; keeps_value("2H + 3天", no_calc, no_calc));
 }
 
 #[test]
