@@ -4,6 +4,7 @@ pub mod CacheLemmas
 pub mod CompletionLemmas
 pub mod CutLemmas
 pub mod FollowLemmas
+pub mod HelpLemmas
 pub mod PortableLemmas
 pub mod ProductLemmas
 pub mod StoredLemmas

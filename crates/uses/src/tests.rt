@@ -176,6 +176,15 @@ fn keeps_a_value_if_options_change(rt: HostRuntime) {
 }
 
 #[test]
+fn shows_examples_as_they_are_read(rt: HostRuntime) {
+    assert_eq!(rt; examples()[0].answer, Ok(Duration::from_millis(193_029)));
+    for example in examples() {
+        let answer = parse_with(example.text, example.options).map_err(|fault| fault.cause());
+        assert_eq!(rt; answer, example.answer);
+    }
+}
+
+#[test]
 fn keeps_what_was_stored(rt: HostRuntime) {
     let stored = Stored::read("30", "1y 2mon", Options::off());
     assert_eq!(rt;
