@@ -11,3 +11,4 @@ pub mod StoredLemmas
 pub mod SumLemmas
 pub mod SyntaxLemmas
 pub mod TextLemmas
+pub mod WrittenLemmas

@@ -1,13 +1,9 @@
 //! Expressions without blanks.
-ghost use Rattle.std.specs.Prelude.{◌≡◌, ℕ, List};
+ghost use Rattle.std.specs.Prelude.{◌≡◌, ◌≤◌, ◌++◌, length, take};
 ghost use Rattle.std.specs.Str.{chars};
-ghost use Rattle.duration_str.specs.declared.options.Options.{Options as Choice};
-ghost use Rattle.duration_str.specs.declared.fault.Cause.{Cause as AnyCause};
 ghost use Rattle.duration_str.specs.Text.{is_blank};
-ghost use Rattle.duration_str.specs.Grammar.{IsSentenceOf};
-ghost use Rattle.duration_str.specs.Reading.{IsRead, IsRefused};
 ghost use Rattle.duration_str.specs.Buffers.{IsInFront};
-ghost use Rattle.uses.specs.Blanks.{without_blanks, line_of};
+ghost use Rattle.uses.specs.Blanks.{without_blanks, line_of, IsReadAsBefore};
 
 use duration_str::laws::{blanks_free, one_sentence};
 
@@ -20,11 +16,7 @@ use duration_str::laws::{blanks_free, one_sentence};
 /// ```
 pub fn compact(text: &str, buffer: &mut [u8]) -> Option<usize>
     ensures bytes { IsInFront (without_blanks text.now) result buffer.new }
-    ensures value { (o : Choice) (nanos : ℕ) → IsRead o (chars text.now) nanos
-        → IsRead o (chars (without_blanks text.now)) nanos }
-    ensures cause { (o : Choice) (lexemes : List (List ℕ)) (cause : AnyCause)
-        → IsSentenceOf o lexemes (chars text.now) → IsRefused o (chars text.now) cause
-        → IsRefused o (chars (without_blanks text.now)) cause }
+    ensures read { IsReadAsBefore (chars text.now) (chars (without_blanks text.now)) }
 {
     blanks_free();
     one_sentence();
@@ -39,20 +31,24 @@ pub fn compact(text: &str, buffer: &mut [u8]) -> Option<usize>
 /// ```
 pub fn write_line(text: &str, buffer: &mut [u8]) -> Option<usize>
     ensures bytes { IsInFront (line_of text.now) result buffer.new }
-    ensures value { (o : Choice) (nanos : ℕ) → IsRead o (chars text.now) nanos
-        → IsRead o (chars (line_of text.now)) nanos }
-    ensures cause { (o : Choice) (lexemes : List (List ℕ)) (cause : AnyCause)
-        → IsSentenceOf o lexemes (chars text.now) → IsRefused o (chars text.now) cause
-        → IsRefused o (chars (line_of text.now)) cause }
+    ensures read { IsReadAsBefore (chars text.now) (chars (line_of text.now)) }
 {
     blanks_free();
-    let end = text.len();
-    if end >= buffer.len() {
+    let end = put(buffer, 0, text.as_bytes())?;
+    put(buffer, end, b"\n")
+}
+
+/// Writes a part of a text after the first `at` bytes, and returns where it ends; `None` if there is no room.
+pub(crate) fn put(buffer: &mut [u8], at: usize, part: &[u8]) -> Option<usize>
+    requires { at ≤ length buffer.old }
+    ensures { IsInFront (take at buffer.old ++ part.now) result buffer.new }
+{
+    if part.len() > buffer.len() - at {
         return None;
     }
-    buffer[..end].copy_from_slice(text.as_bytes());
-    buffer[end] = b'\n';
-    Some(end + 1)
+    let end = at + part.len();
+    buffer[at..end].copy_from_slice(part);
+    Some(end)
 }
 
 /// Copies the bytes that are no blanks.

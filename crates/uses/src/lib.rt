@@ -26,7 +26,7 @@ pub use retention::{Period, total_of};
 pub use scheduler::{is_outdated, remaining, show};
 pub use settings::{Settings, SettingsFault};
 pub use stored::{Stored, first_unit, stored_duration};
-pub use sum::longest_first;
+pub use sum::{longest_first, sorted};
 pub use table::{Key, Table};
 
 #[cfg(test)]

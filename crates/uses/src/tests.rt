@@ -233,6 +233,25 @@ fn sorts_the_longest_first(rt: HostRuntime) {
 }
 
 #[test]
+fn writes_the_longest_first(rt: HostRuntime) {
+    let part = |number, unit| Part { number, unit };
+    let mut parts = [
+        part(29, TimeUnit::MilliSecond),
+        part(3, TimeUnit::Minute),
+        part(13, TimeUnit::Second),
+    ];
+    let mut buffer = [0u8; 13];
+    assert_eq!(rt; sorted(&mut parts, &mut buffer), Some(13));
+    assert_eq!(rt; &buffer, b"3min+13s+29ms");
+    assert_eq!(rt; parse("3min+13s+29ms").ok(), parse("29ms+3min+13s").ok());
+    assert_eq!(rt; sorted(&mut parts, &mut buffer[..12]), None);
+    assert_eq!(rt; sorted(&mut [], &mut buffer), None);
+    let mut one = [part(10, TimeUnit::MicroSecond)];
+    assert_eq!(rt; sorted(&mut one, &mut buffer), Some(5));
+    assert_eq!(rt; &buffer[..5], "10µs".as_bytes());
+}
+
+#[test]
 fn offers_what_can_follow(rt: HostRuntime) {
     let off = Options::off();
     for (text, place, offered) in [
