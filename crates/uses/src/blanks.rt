@@ -1,10 +1,11 @@
 //! Expressions without blanks.
-ghost use Rattle.std.specs.Prelude.{◌≡◌, ◌≤◌, ◌++◌, length, take};
+ghost use Rattle.std.specs.Prelude.{◌≡◌};
 ghost use Rattle.std.specs.Str.{chars};
 ghost use Rattle.duration_str.specs.Text.{is_blank};
 ghost use Rattle.duration_str.specs.Buffers.{IsInFront};
 ghost use Rattle.uses.specs.Blanks.{without_blanks, line_of, IsReadAsBefore};
 
+use crate::buffer::put;
 use duration_str::laws::{blanks_free, one_sentence};
 
 /// Writes an expression without its blanks to the start of a buffer, and returns its length; `None` if the buffer is
@@ -36,19 +37,6 @@ pub fn write_line(text: &str, buffer: &mut [u8]) -> Option<usize>
     blanks_free();
     let end = put(buffer, 0, text.as_bytes())?;
     put(buffer, end, b"\n")
-}
-
-/// Writes a part of a text after the first `at` bytes, and returns where it ends; `None` if there is no room.
-pub(crate) fn put(buffer: &mut [u8], at: usize, part: &[u8]) -> Option<usize>
-    requires { at ≤ length buffer.old }
-    ensures { IsInFront (take at buffer.old ++ part.now) result buffer.new }
-{
-    if part.len() > buffer.len() - at {
-        return None;
-    }
-    let end = at + part.len();
-    buffer[at..end].copy_from_slice(part);
-    Some(end)
 }
 
 /// Copies the bytes that are no blanks.

@@ -3,6 +3,7 @@
 
 pub mod accepted;
 pub mod blanks;
+mod buffer;
 pub mod cache;
 pub mod completion;
 pub mod help;

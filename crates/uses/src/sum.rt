@@ -10,7 +10,7 @@ ghost use Rattle.duration_str.specs.Buffers.{IsInFront};
 ghost use Rattle.uses.specs.Product.{nanos_in};
 ghost use Rattle.uses.specs.Sum.{Adds, part_text, later_text, IsNumbered, IsSumInFront};
 
-use crate::blanks::put;
+use crate::buffer::put;
 use crate::cache::key;
 use crate::product::Part;
 use duration_str::TimeUnit;
