@@ -29,7 +29,7 @@ abbrev pub IsUnaffected : Options → Options → List ℕ → Type 0
 IsUnaffected o p text = IsTrue (list_all (is_unaffected o p) text)
 
 -- all options on
-abbrev pub all : Options
+abbrev all : Options
 all = record { no_calc = true; lowercase = true; cn_unit = true }
 
 -- What is tested of a character if a flag changes, passes if the flag changes.
@@ -107,8 +107,11 @@ unaffected_has_same_cause idle o p text h same cause =
 abbrev is_plain : ℕ → Bool
 is_plain c = is_unaffected off all c
 
+abbrev IsPlain : List ℕ → Type 0
+IsPlain text = IsTrue (list_all is_plain text)
+
 -- A plain text is affected by no change of options.
-pub plain_is_unaffected : (o p : Options) (text : List ℕ) → IsTrue (list_all is_plain text) → IsUnaffected o p text
+pub plain_is_unaffected : (o p : Options) (text : List ℕ) → IsPlain text → IsUnaffected o p text
 plain_is_unaffected o p text h =
     all_weaker is_plain (is_unaffected o p) text (λ c plain.
     let parts : Parts off all c = parts_of off all c plain in
@@ -120,9 +123,6 @@ plain_is_unaffected o p text h =
 -- the choice of options under which the fewest texts are read
 abbrev strict : Options
 strict = record { no_calc = true; lowercase = true; cn_unit = false }
-
-abbrev IsPlain : List ℕ → Type 0
-IsPlain text = IsTrue (list_all is_plain text)
 
 -- A number, or a word that names a unit.
 abbrev IsPlainTerminal : Terminal → Type 0
@@ -203,7 +203,7 @@ text_plain (w ∷ lexemes) text h s =
     (list_all-append is_plain w s.1 ∙ and_from _ _ (lexeme_plain w h.0) (text_plain lexemes s.1 h.1 s.4))
 
 -- A text that is read under every choice of options has no other characters.
-pub always_plain : (text : List ℕ) (nanos : ℕ) → IsReadAlways text nanos → IsTrue (list_all is_plain text)
+pub always_plain : (text : List ℕ) (nanos : ℕ) → IsReadAlways text nanos → IsPlain text
 always_plain text nanos always =
     let read : IsRead strict text nanos = always strict in
     text_plain read.lexemes text (sentence_plain (map (terminal_of strict) read.lexemes) read.spells.0) read.spells.1

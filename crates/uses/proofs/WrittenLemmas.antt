@@ -24,7 +24,7 @@ use Rattle.duration_str.specs.Value.{Term, AllPlus, terms_of}
 use Rattle.uses.specs.declared.product.Part.{Part}
 use Rattle.uses.specs.Product.{term_of_part}
 use Rattle.uses.specs.Cache.{canonical_text, IsKey}
-use Rattle.uses.specs.Sum.{Adds, part_text, later_text, sum_text, IsNumbered, IsSumInFront}
+use Rattle.uses.specs.Sum.{Adds, part_text, later_text, sum_text, NumberFits, IsSumInFront}
 
 -- ---- The printed name of a unit
 
@@ -40,6 +40,7 @@ unfolding encode
 name_after_one u nanos bytes e utf8 k =
     sym (encodes-chars bytes utf8) ∙ ap encodes (k.one ∙ ap canonical_text e ∙ one_printed u)
 
+-- The bytes after the first.
 pub after_one : (bytes rest : List ℕ) → bytes ≡ 49 ∷ rest → take (length bytes - 1) (drop 1 bytes) ≡ rest
 after_one bytes rest e =
     let left : length bytes - 1 ≡ length rest = omega (arith, ap length e) in
@@ -47,9 +48,9 @@ after_one bytes rest e =
 
 -- ---- Terminals
 
--- The digits of a number are its terminal.
-own : IsNumeralModel (λ ds. IsTrue (list_all is_digit ds)) (number_after 0)
-own = numerals_by_fold _ (search rules) number_after (search rules)
+-- Digits are tested and read as the toolchain does.
+decimal_digits : IsNumeralModel (λ ds. IsTrue (list_all is_digit ds)) (number_after 0)
+decimal_digits = numerals_by_fold _ (search rules) number_after (search rules)
 
 digits_terminal : (o : Options) (digits : List ℕ) → 0 < length digits → IsTrue (list_all is_digit digits) → terminal_of o digits ≡ number (number_of digits)
 digits_terminal o [] some h = absurd (omega arith)
@@ -57,7 +58,7 @@ digits_terminal o (c ∷ cs) some h = cond-true _ _ _ h
 
 decimal_terminal : (o : Options) (n : ℕ) → n < 2 ^ 64 → terminal_of o (decimal n) ≡ number n
 decimal_terminal o n small =
-    digits_terminal o (decimal n) (decimal_nonempty n small) (digits_decimal own n small) ∙ ap number (digits_value-decimal own n small)
+    digits_terminal o (decimal n) (decimal_nonempty n small) (digits_decimal decimal_digits n small) ∙ ap number (digits_value-decimal decimal_digits n small)
 
 -- The printed name of a unit is a word for it, under every choice of options.
 named : (no_calc lowercase cn_unit : Bool) (u : TimeUnit)
@@ -119,20 +120,20 @@ later_spells [] = refl
 later_spells (p ∷ parts) =
     ([], part_text p ++ later_text parts, refl, refl, part_spells p (later_lexemes parts) (later_text parts) (later_spells parts))
 
-part_named : (o : Options) (p : Part) (more : List (List ℕ)) (terminals : List Terminal) → IsNumbered p → map (terminal_of o) more ≡ terminals
+part_named : (o : Options) (p : Part) (more : List (List ℕ)) (terminals : List Terminal) → NumberFits p → map (terminal_of o) more ≡ terminals
     → map (terminal_of o) (part_lexemes p more) ≡ part_terminals p terminals
 part_named o p more terminals small e =
     ap₂ (λ (t : Terminal) (ts : List Terminal). t ∷ ts) (decimal_terminal o p.number small)
     (ap₂ (λ (t : Terminal) (ts : List Terminal). t ∷ ts) (name_terminal o p.unit) e)
 
-later_named : (o : Options) (parts : List Part) → AllByRecursion IsNumbered parts → map (terminal_of o) (later_lexemes parts) ≡ later_terminals parts
+later_named : (o : Options) (parts : List Part) → AllByRecursion NumberFits parts → map (terminal_of o) (later_lexemes parts) ≡ later_terminals parts
 later_named o [] small = refl
 later_named o (p ∷ parts) small =
     ap₂ (λ (t : Terminal) (ts : List Terminal). t ∷ ts) (plus_named o.no_calc o.lowercase o.cn_unit)
     (part_named o p (later_lexemes parts) (later_terminals parts) small.0 (later_named o parts small.1))
 
 -- The written text adds the parts.
-pub sum_adds : (o : Options) (p : Part) (parts : List Part) → o.no_calc ≡ false → AllByRecursion IsNumbered (p ∷ parts)
+sum_adds : (o : Options) (p : Part) (parts : List Part) → o.no_calc ≡ false → AllByRecursion NumberFits (p ∷ parts)
     → Adds o (p ∷ parts) (sum_text (p ∷ parts))
 sum_adds o p parts e small =
     let terminals : List Terminal = part_terminals p (later_terminals parts) in
@@ -162,20 +163,20 @@ scalars_decimal : (n : ℕ) → n < 2 ^ 64 → scalars (decimal n) ≡ true
 scalars_decimal n small =
     let ascii = IsAscii-decimal n small in ap scalars (sym (chars-IsAscii (decimal n) ascii)) ∙ scalars-chars (decimal n) (IsUtf8-from_ascii (decimal n) ascii)
 
-scalars_part : (p : Part) → IsNumbered p → scalars (part_text p) ≡ true
+scalars_part : (p : Part) → NumberFits p → scalars (part_text p) ≡ true
 scalars_part p small = scalars_both (decimal p.number) (row_of p.unit).printed (scalars_decimal p.number small) (scalars_name p.unit)
 
-scalars_later : (parts : List Part) → AllByRecursion IsNumbered parts → scalars (later_text parts) ≡ true
+scalars_later : (parts : List Part) → AllByRecursion NumberFits parts → scalars (later_text parts) ≡ true
 scalars_later [] small = refl
 scalars_later (p ∷ parts) small = scalars_both (part_text p) (later_text parts) (scalars_part p small.0) (scalars_later parts small.1)
 
 -- What stands in the front of the buffer adds the parts.
-pub front_adds : (parts : List Part) (result : Option ℕ) (buffer : List ℕ) → IsSumInFront parts result buffer → IfSome result (λ _. All IsNumbered parts)
+pub front_adds : (parts : List Part) (result : Option ℕ) (buffer : List ℕ) → IsSumInFront parts result buffer → IfSome result (λ _. All NumberFits parts)
     → IfSome result (λ end. (o : Options) → o.no_calc ≡ false → Adds o parts (chars (take end buffer)))
 front_adds parts None buffer front small = tt
 front_adds [] (Some end) buffer front small = absurd (none-some end (sym front))
 front_adds (p ∷ parts) (Some end) buffer front small = λ o e.
-    let each : AllByRecursion IsNumbered (p ∷ parts) = recursion_from_All IsNumbered (p ∷ parts) small in
+    let each : AllByRecursion NumberFits (p ∷ parts) = recursion_from_All NumberFits (p ∷ parts) small in
     let valid : scalars (sum_text (p ∷ parts)) ≡ true = scalars_both (part_text p) (later_text parts) (scalars_part p each.0) (scalars_later parts each.1) in
     subst (Adds o (p ∷ parts)) (sym (ap chars front.1 ∙ chars-encodes (sum_text (p ∷ parts)) valid)) (sum_adds o p parts e each)
 

@@ -37,5 +37,5 @@ IsSumInFront [] result buffer = result ≡ None
 IsSumInFront (part ∷ parts) result buffer = IsInFront (encode_utf8_all (sum_text (part ∷ parts))) result buffer
 
 -- The number of the part is below 2^64, as every `u64` is.
-abbrev pub IsNumbered : Part → Type 0
-IsNumbered part = part.number < 2 ^ 64
+abbrev pub NumberFits : Part → Type 0
+NumberFits part = part.number < 2 ^ 64

@@ -8,6 +8,13 @@ ghost use Rattle.uses.specs.Portable.{is_unaffected, HasSameValue, HasSameCause,
 use duration_str::laws::{no_calc_agrees, options_idle};
 use duration_str::{CondUnit, Options};
 
+/// All three options off.
+pub(crate) const OFF: Options = Options {
+    no_calc: false,
+    lowercase: false,
+    cn_unit: false,
+};
+
 /// All three options on.
 const ALL: Options = Options {
     no_calc: true,
@@ -31,7 +38,7 @@ pub fn is_portable(text: &str) -> bool
 {
     no_calc_agrees();
     options_idle();
-    are_unaffected(text, Options::off(), ALL)
+    are_unaffected(text, OFF, ALL)
 }
 
 /// Whether a text keeps its value when a program changes its options from `before` to `after`: it is read under the one

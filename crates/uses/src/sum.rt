@@ -8,7 +8,7 @@ ghost use Rattle.duration_str.specs.Units.{row_of};
 ghost use Rattle.duration_str.specs.Reading.{IsRead};
 ghost use Rattle.duration_str.specs.Buffers.{IsInFront};
 ghost use Rattle.uses.specs.Product.{nanos_in};
-ghost use Rattle.uses.specs.Sum.{Adds, part_text, later_text, IsNumbered, IsSumInFront};
+ghost use Rattle.uses.specs.Sum.{Adds, part_text, later_text, NumberFits, IsSumInFront};
 
 use crate::buffer::put;
 use crate::cache::key;
@@ -60,7 +60,7 @@ pub fn longest_first(parts: &mut [Part])
 /// Writes the sum of the parts in this order.
 fn put_sum(buffer: &mut [u8], parts: &[Part]) -> Option<usize>
     ensures bytes { IsSumInFront parts.now result buffer.new }
-    ensures fit { IfSome result (λ _. All IsNumbered parts.now) }
+    ensures fit { IfSome result (λ _. All NumberFits parts.now) }
 {
     let (first, later) = parts.split_first()?;
     let end = put_part(buffer, 0, *first)?;
@@ -73,7 +73,7 @@ fn put_later(buffer: &mut [u8], at: usize, parts: &[Part]) -> Option<usize>
     requires { at ≤ length buffer.old }
     ensures bytes { IsInFront (take at buffer.old ++ encode_utf8_all (later_text parts.now))
         result buffer.new }
-    ensures fit { IfSome result (λ _. All IsNumbered parts.now) }
+    ensures fit { IfSome result (λ _. All NumberFits parts.now) }
 {
     let mut end = at;
     for part in parts {
@@ -88,7 +88,7 @@ fn put_part(buffer: &mut [u8], at: usize, part: Part) -> Option<usize>
     requires { at ≤ length buffer.old }
     ensures bytes { IsInFront (take at buffer.old ++ encode_utf8_all (part_text part))
         result buffer.new }
-    ensures fits { IsNumbered part }
+    ensures fits { NumberFits part }
 {
     let end = put(buffer, at, Buffer::new().format(part.number).as_bytes())?;
     put_name(buffer, end, part.unit)

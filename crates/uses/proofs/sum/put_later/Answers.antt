@@ -1,7 +1,7 @@
 use Rattle.std.proofs.Common.{length, take, arith, ap}
 use Rattle.std.proofs.lemmas.List.{length-take}
 use Rattle.std.proofs.lemmas.List.Elements.{All-more}
-use Rattle.uses.specs.Sum.{IsNumbered}
+use Rattle.uses.specs.Sum.{NumberFits}
 use Rattle.uses.proofs.WrittenLemmas.{part_written, part_missing, sign_missing}
 use Rattle.uses.proofs.sum.put_later.Goals as goal
 
@@ -26,5 +26,5 @@ loop-part-preserved c =
       within = omega (arith, part.0, ap length part.1, length-take c.in_ok-end.end c.put_part.new.buffer);
       text = part_written (take c.args.at c.args.buffer.now) _ c.args.parts.now loop.part-index c.loop-part-test.true loop.invariant.text _ _
           c.in_ok-sign.ensures.1 part.1;
-      fit = All-more IsNumbered c.args.parts.now loop.part-index _ c.loop-part-test.true loop.invariant.fit c.put_part.ensures.fits;
+      fit = All-more NumberFits c.args.parts.now loop.part-index _ c.loop-part-test.true loop.invariant.fit c.put_part.ensures.fits;
     }
