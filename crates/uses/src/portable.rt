@@ -44,7 +44,7 @@ pub fn is_portable(text: &str) -> bool
 /// Whether a text keeps its value when a program changes its options from `before` to `after`: it is read under the one
 /// choice exactly if under the other, as the same value, and if `no_calc` stays, it is refused for the same cause. Only
 /// its characters are looked at: it has no operator if `no_calc` changes, no ASCII capital if `lowercase` does, and no
-/// Chinese character if `cn_unit` does.
+/// Chinese character if `cn_unit` does. Of a text with such a character nothing is promised.
 ///
 /// ```text
 /// let off = Options::off();
