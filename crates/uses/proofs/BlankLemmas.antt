@@ -10,13 +10,11 @@ use lib.Utf8.{encodes, encode, scalars}
 use Rattle.std.specs.List.{list_all, filter}
 use Rattle.std.specs.Str.{chars}
 use Rattle.duration_str.specs.declared.options.Options.{Options}
-use Rattle.duration_str.specs.declared.fault.Cause.{Cause}
 use Rattle.duration_str.specs.Text.{width, is_blank, IsBlank}
 use Rattle.duration_str.specs.Grammar.{Spells, IsSentenceOf}
 use Rattle.duration_str.specs.Tokens.{Token, goes_on, join, tokens_from, tokens_of, lexemes_of}
-use Rattle.duration_str.specs.Reading.{IsRead, IsRefused}
 use Rattle.duration_str.specs.Laws.{OneSentence, BlanksFree}
-use Rattle.uses.specs.Blanks.{without_blanks, line_of}
+use Rattle.uses.specs.Blanks.{without_blanks, line_of, IsReadAsBefore}
 
 -- ---- Filters
 
@@ -127,18 +125,18 @@ chars_without bytes u =
 
 -- ---- What the text without blanks is read as
 
-pub value_without_blanks : OneSentence → BlanksFree → (o : Options) (bytes : List ℕ) (nanos : ℕ) → IsUtf8 bytes → IsRead o (chars bytes) nanos
-    → IsRead o (chars (without_blanks bytes)) nanos
-value_without_blanks one free o bytes nanos u read =
-    subst (λ (text : List ℕ). IsRead o text nanos) (sym (chars_without bytes u))
-    (free.value o (chars bytes) (without_blanks (chars bytes)) read.lexemes nanos read.spells (sentence_spells one o read.lexemes (chars bytes) read.spells)
-    read)
+-- A text that spells the same sentences is read as before.
+read_as_before : BlanksFree → (old new : List ℕ) → ((o : Options) (lexemes : List (List ℕ)) → IsSentenceOf o lexemes old → Spells lexemes new)
+    → IsReadAsBefore old new
+read_as_before free old new spells = record {
+  value = λ o nanos read. free.value o old new read.lexemes nanos read.spells (spells o read.lexemes read.spells) read;
+  cause = λ o lexemes cause s refused. free.cause o old new lexemes cause s (spells o lexemes s) refused;
+}
 
-pub cause_without_blanks : OneSentence → BlanksFree → (o : Options) (bytes : List ℕ) (lexemes : List (List ℕ)) (cause : Cause) → IsUtf8 bytes
-    → IsSentenceOf o lexemes (chars bytes) → IsRefused o (chars bytes) cause → IsRefused o (chars (without_blanks bytes)) cause
-cause_without_blanks one free o bytes lexemes cause u s refused =
-    subst (λ (text : List ℕ). IsRefused o text cause) (sym (chars_without bytes u))
-    (free.cause o (chars bytes) (without_blanks (chars bytes)) lexemes cause s (sentence_spells one o lexemes (chars bytes) s) refused)
+pub read_without_blanks : OneSentence → BlanksFree → (bytes : List ℕ) → IsUtf8 bytes → IsReadAsBefore (chars bytes) (chars (without_blanks bytes))
+read_without_blanks one free bytes u =
+    subst (IsReadAsBefore (chars bytes)) (sym (chars_without bytes u))
+    (read_as_before free (chars bytes) _ (λ o lexemes s. sentence_spells one o lexemes (chars bytes) s))
 
 -- ---- Copying byte by byte
 
@@ -164,14 +162,7 @@ chars_line : (bytes : List ℕ) → IsUtf8 bytes → chars (line_of bytes) ≡ l
 unfolding chars
 chars_line bytes u = chars-append bytes (10 ∷ []) u
 
-pub value_of_line : BlanksFree → (o : Options) (bytes : List ℕ) (nanos : ℕ) → IsUtf8 bytes → IsRead o (chars bytes) nanos
-    → IsRead o (chars (line_of bytes)) nanos
-value_of_line free o bytes nanos u read =
-    subst (λ (text : List ℕ). IsRead o text nanos) (sym (chars_line bytes u))
-    (free.value o (chars bytes) (line_of (chars bytes)) read.lexemes nanos read.spells (spells_line read.lexemes (chars bytes) read.spells.1) read)
-
-pub cause_of_line : BlanksFree → (o : Options) (bytes : List ℕ) (lexemes : List (List ℕ)) (cause : Cause) → IsUtf8 bytes
-    → IsSentenceOf o lexemes (chars bytes) → IsRefused o (chars bytes) cause → IsRefused o (chars (line_of bytes)) cause
-cause_of_line free o bytes lexemes cause u s refused =
-    subst (λ (text : List ℕ). IsRefused o text cause) (sym (chars_line bytes u))
-    (free.cause o (chars bytes) (line_of (chars bytes)) lexemes cause s (spells_line lexemes (chars bytes) s.1) refused)
+pub line_read : BlanksFree → (bytes : List ℕ) → IsUtf8 bytes → IsReadAsBefore (chars bytes) (chars (line_of bytes))
+line_read free bytes u =
+    subst (IsReadAsBefore (chars bytes)) (sym (chars_line bytes u))
+    (read_as_before free (chars bytes) _ (λ o lexemes s. spells_line lexemes (chars bytes) s.1))

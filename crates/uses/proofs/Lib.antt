@@ -4,9 +4,11 @@ pub mod CacheLemmas
 pub mod CompletionLemmas
 pub mod CutLemmas
 pub mod FollowLemmas
+pub mod HelpLemmas
 pub mod PortableLemmas
 pub mod ProductLemmas
 pub mod StoredLemmas
 pub mod SumLemmas
 pub mod SyntaxLemmas
 pub mod TextLemmas
+pub mod WrittenLemmas

@@ -1,6 +1,7 @@
--- Texts whose characters mean the same under all choices of options.
-use Rattle.std.proofs.Common.{◌≡◌, ℕ, ◌⊎◌, inl, inr, Bool, true, false, not, cond, if◌then◌else◌, List, [], ◌∷◌, ◌++◌, map, Option, Some, None, IsTrue, arith, refl, sym, ap, subst, ◌∙◌}
-use Rattle.std.proofs.lemmas.Bool.{true≢false, and_from, and_parts, or_cases}
+-- Texts whose characters mean the same under several choices of options.
+use Rattle.std.proofs.Common.{◌≡◌, ◌↔◌, ◌||◌, ◌&&◌, ℕ, ◌⊎◌, inl, inr, Bool, true, false, not, cond, if◌then◌else◌, List, [], ◌∷◌, ◌++◌, map, Option, Some, None, IsTrue, arith, refl, sym, ap, subst, ◌∙◌}
+use Rattle.std.proofs.Math.Bool.{beq}
+use Rattle.std.proofs.lemmas.Bool.{true≢false, and_from, and_parts, or_cases, or_right}
 use Rattle.std.proofs.lemmas.Bool.Decides.{nat_tests}
 use Rattle.std.proofs.lemmas.List.Folds.{list_all-append}
 use Rattle.std.proofs.lemmas.Slice.Eq.{bytes_eq-Decides}
@@ -13,61 +14,115 @@ use Rattle.duration_str.specs.declared.operator.CondUnit.{CondUnit}
 use Rattle.duration_str.specs.declared.options.Options.{Options}
 use Rattle.duration_str.specs.Laws.{is_operator}
 use Rattle.duration_str.specs.Text.{is_chinese, is_blank, is_digit, is_unit_letter, operator_of, number_of}
-use Rattle.duration_str.specs.Units.{units, row_of, is_named, unit_among}
+use Rattle.duration_str.specs.Units.{off, units, row_of, is_named, unit_among}
 use Rattle.duration_str.specs.Grammar.{Terminal, number, word, operator, operator_or_other, sign_terminal, terminal_of, IsSentence, Spells}
 use Rattle.duration_str.specs.Reading.{IsRead, IsRefused}
 use Rattle.duration_str.specs.Laws.{NoCalcAgrees, OptionsIdle, HasNoOperator, HasNoCapital, HasNoChinese}
-use Rattle.uses.specs.Portable.{is_plain, MeansTheSame, IsReadAlways, IsRefusedTheSame}
+use Rattle.uses.specs.Portable.{is_unaffected, HasSameValue, HasSameCause, IsReadAlways}
 
 all_weaker : (p q : ℕ → Bool) (cs : List ℕ) → ((c : ℕ) → p c ≡ true → q c ≡ true) → IsTrue (list_all p cs) → IsTrue (list_all q cs)
 all_weaker p q [] weaker h = refl
 all_weaker p q (c ∷ cs) weaker h = and_from _ _ (weaker c (and_parts _ _ h).0) (all_weaker p q cs weaker (and_parts _ _ h).1)
 
-no_operator : (text : List ℕ) → IsTrue (list_all is_plain text) → HasNoOperator text
-no_operator text = all_weaker is_plain (λ c. not (is_operator c)) text (λ c h. (and_parts _ _ (and_parts _ _ h).0).0)
+-- Each character means the same under both choices.
+abbrev pub IsUnaffected : Options → Options → List ℕ → Type 0
+IsUnaffected o p text = IsTrue (list_all (is_unaffected o p) text)
 
-no_capital : (text : List ℕ) → IsTrue (list_all is_plain text) → HasNoCapital text
-no_capital text = all_weaker is_plain (λ c. not (is_ascii_uppercase c)) text (λ c h. (and_parts _ _ (and_parts _ _ h).0).1)
+-- all options on
+abbrev all : Options
+all = record { no_calc = true; lowercase = true; cn_unit = true }
 
-no_chinese : (text : List ℕ) → IsTrue (list_all is_plain text) → HasNoChinese text
-no_chinese text = all_weaker is_plain (λ c. not (is_chinese c)) text (λ c h. (and_parts _ _ h).1)
+-- What is tested of a character if a flag changes, passes if the flag changes.
+if_changed : (same test : Bool) → same ≡ false → (same || test) ≡ true → test ≡ true
+if_changed true test differ h = absurd (true≢false differ)
+if_changed false test differ h = h
 
--- What holds of one choice of a flag holds of the other, if each implies the other.
-either_way : (P : Bool → Type 0) (b d : Bool) → (P true → P false) → (P false → P true) → P b → P d
-either_way P true true there back h = h
-either_way P true false there back h = there h
-either_way P false true there back h = back h
-either_way P false false there back h = h
+record Parts (o p : Options) (c : ℕ) : Type 0 where
+  calc : (beq o.no_calc p.no_calc || not (is_operator c)) ≡ true
+  lower : (beq o.lowercase p.lowercase || not (is_ascii_uppercase c)) ≡ true
+  chinese : (beq o.cn_unit p.cn_unit || not (is_chinese c)) ≡ true
 
-pub plain_means_the_same : NoCalcAgrees → OptionsIdle → (text : List ℕ) → IsTrue (list_all is_plain text) → MeansTheSame text
-plain_means_the_same agrees idle text plain o p nanos read =
+parts_of : (o p : Options) (c : ℕ) → is_unaffected o p c ≡ true → Parts o p c
+parts_of o p c h =
+    let calc : Bool = beq o.no_calc p.no_calc || not (is_operator c) in
+    let lower : Bool = beq o.lowercase p.lowercase || not (is_ascii_uppercase c) in
+    let both = and_parts (calc && lower) (beq o.cn_unit p.cn_unit || not (is_chinese c)) h in
+    let each = and_parts calc lower both.0 in record { calc = each.0; lower = each.1; chinese = both.1 }
+
+no_operator : (o p : Options) (text : List ℕ) → IsUnaffected o p text → beq o.no_calc p.no_calc ≡ false → HasNoOperator text
+no_operator o p text h differ =
+    all_weaker (is_unaffected o p) (λ c. not (is_operator c)) text (λ c u. if_changed _ _ differ (parts_of o p c u).calc) h
+
+no_capital : (o p : Options) (text : List ℕ) → IsUnaffected o p text → beq o.lowercase p.lowercase ≡ false → HasNoCapital text
+no_capital o p text h differ =
+    all_weaker (is_unaffected o p) (λ c. not (is_ascii_uppercase c)) text (λ c u. if_changed _ _ differ (parts_of o p c u).lower) h
+
+no_chinese : (o p : Options) (text : List ℕ) → IsUnaffected o p text → beq o.cn_unit p.cn_unit ≡ false → HasNoChinese text
+no_chinese o p text h differ =
+    all_weaker (is_unaffected o p) (λ c. not (is_chinese c)) text (λ c u. if_changed _ _ differ (parts_of o p c u).chinese) h
+
+-- What holds of one choice of a flag holds of the other, if they are the same or each implies the other.
+either_way : (P : Bool → Type 0) (b d : Bool) → (beq b d ≡ false → (P true ↔ P false)) → (P b ↔ P d)
+either_way P true true ways = (λ h. h, λ h. h)
+either_way P true false ways = ways refl
+either_way P false true ways = ((ways refl).1, (ways refl).0)
+either_way P false false ways = (λ h. h, λ h. h)
+
+both : {P Q R : Type 0} → (P ↔ Q) → (Q ↔ R) → (P ↔ R)
+both first next = (λ p. next.0 (first.0 p), λ r. first.1 (next.1 r))
+
+-- What holds under one choice holds under the other, if `no_calc` can be changed, and each of the others where it has to
+-- be. They are changed one after the other.
+changed_one_by_one : (P : Options → Type 0) (o p : Options) → (P o ↔ P (record o { no_calc = p.no_calc }))
+    → ((q : Options) → beq o.lowercase p.lowercase ≡ false → (P (record q { lowercase = true }) ↔ P (record q { lowercase = false })))
+    → ((q : Options) → beq o.cn_unit p.cn_unit ≡ false → (P (record q { cn_unit = true }) ↔ P (record q { cn_unit = false })))
+    → (P o ↔ P p)
+changed_one_by_one P o p calc lower chinese =
     let one : Options = record o { no_calc = p.no_calc } in
     let two : Options = record one { lowercase = p.lowercase } in
-    let calc = agrees o text nanos (no_operator text plain) in
-    let lower = idle.lowercase_value one text nanos (no_capital text plain) in
-    let chinese = idle.cn_unit_value two text nanos (no_chinese text plain) in
-    either_way (λ (b : Bool). IsRead (record two { cn_unit = b }) text nanos) two.cn_unit p.cn_unit chinese.0 chinese.1
-    (either_way (λ (b : Bool). IsRead (record one { lowercase = b }) text nanos) one.lowercase p.lowercase lower.0 lower.1
-    (either_way (λ (b : Bool). IsRead (record o { no_calc = b }) text nanos) o.no_calc p.no_calc calc.0 calc.1 read))
+    both calc
+    (both (either_way (λ (b : Bool). P (record one { lowercase = b })) o.lowercase p.lowercase (lower one))
+    (either_way (λ (b : Bool). P (record two { cn_unit = b })) o.cn_unit p.cn_unit (chinese two)))
 
-pub plain_is_refused_the_same : OptionsIdle → (text : List ℕ) → IsTrue (list_all is_plain text) → IsRefusedTheSame text
-plain_is_refused_the_same idle text plain o p cause same refused =
-    let one : Options = record o { no_calc = p.no_calc } in
-    let two : Options = record one { lowercase = p.lowercase } in
-    let lower = idle.lowercase_cause one text cause (no_capital text plain) in
-    let chinese = idle.cn_unit_cause two text cause (no_chinese text plain) in
-    either_way (λ (b : Bool). IsRefused (record two { cn_unit = b }) text cause) two.cn_unit p.cn_unit chinese.0 chinese.1
-    (either_way (λ (b : Bool). IsRefused (record one { lowercase = b }) text cause) one.lowercase p.lowercase lower.0 lower.1
-    (subst (λ (b : Bool). IsRefused (record o { no_calc = b }) text cause) same refused))
+pub unaffected_has_same_value : NoCalcAgrees → OptionsIdle → (o p : Options) (text : List ℕ) → IsUnaffected o p text → HasSameValue o p text
+unaffected_has_same_value agrees idle o p text h nanos =
+    changed_one_by_one (λ (q : Options). IsRead q text nanos) o p
+    (either_way (λ (b : Bool). IsRead (record o { no_calc = b }) text nanos) o.no_calc p.no_calc
+    (λ differ. agrees o text nanos (no_operator o p text h differ)))
+    (λ q differ. idle.lowercase_value q text nanos (no_capital o p text h differ))
+    (λ q differ. idle.cn_unit_value q text nanos (no_chinese o p text h differ))
+
+pub unaffected_has_same_cause : OptionsIdle → (o p : Options) (text : List ℕ) → IsUnaffected o p text → o.no_calc ≡ p.no_calc
+    → HasSameCause o p text
+unaffected_has_same_cause idle o p text h same cause =
+    changed_one_by_one (λ (q : Options). IsRefused q text cause) o p
+    (subst (λ (b : Bool). IsRefused o text cause ↔ IsRefused (record o { no_calc = b }) text cause) same (λ r. r, λ r. r))
+    (λ q differ. idle.lowercase_cause q text cause (no_capital o p text h differ))
+    (λ q differ. idle.cn_unit_cause q text cause (no_chinese o p text h differ))
+
+-- ---- All choices
+
+-- whether the character means the same under all choices: it is neither an operator nor an ASCII capital nor one of the
+-- Chinese characters
+abbrev is_plain : ℕ → Bool
+is_plain c = is_unaffected off all c
+
+abbrev IsPlain : List ℕ → Type 0
+IsPlain text = IsTrue (list_all is_plain text)
+
+-- A plain text is affected by no change of options.
+pub plain_is_unaffected : (o p : Options) (text : List ℕ) → IsPlain text → IsUnaffected o p text
+plain_is_unaffected o p text h =
+    all_weaker is_plain (is_unaffected o p) text (λ c plain.
+    let parts : Parts off all c = parts_of off all c plain in
+    and_from _ (beq o.cn_unit p.cn_unit || not (is_chinese c)) (and_from (beq o.no_calc p.no_calc || not (is_operator c))
+    (beq o.lowercase p.lowercase || not (is_ascii_uppercase c)) (or_right _ _ parts.calc) (or_right _ _ parts.lower)) (or_right _ _ parts.chinese)) h
 
 -- ---- What is read under all choices has no other characters
 
 -- the choice of options under which the fewest texts are read
 abbrev strict : Options
 strict = record { no_calc = true; lowercase = true; cn_unit = false }
-
-abbrev IsPlain : List ℕ → Type 0
-IsPlain text = IsTrue (list_all is_plain text)
 
 -- A number, or a word that names a unit.
 abbrev IsPlainTerminal : Terminal → Type 0
@@ -148,7 +203,7 @@ text_plain (w ∷ lexemes) text h s =
     (list_all-append is_plain w s.1 ∙ and_from _ _ (lexeme_plain w h.0) (text_plain lexemes s.1 h.1 s.4))
 
 -- A text that is read under every choice of options has no other characters.
-pub always_plain : (text : List ℕ) (nanos : ℕ) → IsReadAlways text nanos → IsTrue (list_all is_plain text)
+pub always_plain : (text : List ℕ) (nanos : ℕ) → IsReadAlways text nanos → IsPlain text
 always_plain text nanos always =
     let read : IsRead strict text nanos = always strict in
     text_plain read.lexemes text (sentence_plain (map (terminal_of strict) read.lexemes) read.spells.0) read.spells.1

@@ -2,6 +2,7 @@ pub mod Accepted
 pub mod Blanks
 pub mod Cache
 pub mod Completion
+pub mod Help
 pub mod Portable
 pub mod Product
 pub mod Settings

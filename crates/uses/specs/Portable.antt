@@ -1,5 +1,6 @@
--- Expressions that mean the same under all options.
-use Rattle.std.specs.Prelude.{◌≡◌, ℕ, Bool, not, ◌&&◌, List}
+-- Expressions that mean the same under several choices of options.
+use Rattle.std.specs.Prelude.{◌≡◌, ℕ, Bool, not, ◌&&◌, ◌||◌, List, ◌↔◌}
+use Rattle.std.proofs.Math.Bool.{beq}
 use Rattle.std.specs.Char.{is_ascii_uppercase}
 use Rattle.duration_str.specs.declared.options.Options.{Options}
 use Rattle.duration_str.specs.declared.fault.Cause.{Cause}
@@ -7,20 +8,30 @@ use Rattle.duration_str.specs.Laws.{is_operator}
 use Rattle.duration_str.specs.Text.{is_chinese}
 use Rattle.duration_str.specs.Reading.{IsRead, IsRefused}
 
--- whether the character is neither an operator nor an ASCII capital nor one of the Chinese characters of the units
-abbrev pub is_plain : ℕ → Bool
-is_plain c = not (is_operator c) && not (is_ascii_uppercase c) && not (is_chinese c)
+-- whether the character means the same under both choices: an operator if `no_calc` is the same, an ASCII capital if
+-- `lowercase` is, one of the Chinese characters of the units if `cn_unit` is, and any other character
+abbrev pub is_unaffected : Options → Options → ℕ → Bool
+is_unaffected o p c =
+    (beq o.no_calc p.no_calc || not (is_operator c))
+    && (beq o.lowercase p.lowercase || not (is_ascii_uppercase c))
+    && (beq o.cn_unit p.cn_unit || not (is_chinese c))
 
--- A value that the text has under some choice of options, it has under every other.
+-- The text has the same values under both choices.
+abbrev pub HasSameValue : Options → Options → List ℕ → Type 0
+HasSameValue o p text = (nanos : ℕ) → (IsRead o text nanos ↔ IsRead p text nanos)
+
+-- The text is refused for the same causes under both choices.
+abbrev pub HasSameCause : Options → Options → List ℕ → Type 0
+HasSameCause o p text = (cause : Cause) → (IsRefused o text cause ↔ IsRefused p text cause)
+
+-- The text has the same values under any two choices of options.
 abbrev pub MeansTheSame : List ℕ → Type 0
-MeansTheSame text = (o p : Options) (nanos : ℕ) → IsRead o text nanos → IsRead p text nanos
+MeansTheSame text = (o p : Options) → HasSameValue o p text
 
 -- The text has this value under every choice of options.
 abbrev pub IsReadAlways : List ℕ → ℕ → Type 0
 IsReadAlways text nanos = (o : Options) → IsRead o text nanos
 
--- A cause for which the text is refused under some choice of options is that under every other with the same
--- `no_calc`.
+-- The text is refused for the same causes under any two choices of options with the same `no_calc`.
 abbrev pub IsRefusedTheSame : List ℕ → Type 0
-IsRefusedTheSame text =
-    (o p : Options) (cause : Cause) → o.no_calc ≡ p.no_calc → IsRefused o text cause → IsRefused p text cause
+IsRefusedTheSame text = (o p : Options) → o.no_calc ≡ p.no_calc → HasSameCause o p text

@@ -1,14 +1,11 @@
 //! Expressions without blanks.
-ghost use Rattle.std.specs.Prelude.{◌≡◌, ℕ, List};
+ghost use Rattle.std.specs.Prelude.{◌≡◌};
 ghost use Rattle.std.specs.Str.{chars};
-ghost use Rattle.duration_str.specs.declared.options.Options.{Options as Choice};
-ghost use Rattle.duration_str.specs.declared.fault.Cause.{Cause as AnyCause};
 ghost use Rattle.duration_str.specs.Text.{is_blank};
-ghost use Rattle.duration_str.specs.Grammar.{IsSentenceOf};
-ghost use Rattle.duration_str.specs.Reading.{IsRead, IsRefused};
 ghost use Rattle.duration_str.specs.Buffers.{IsInFront};
-ghost use Rattle.uses.specs.Blanks.{without_blanks, line_of};
+ghost use Rattle.uses.specs.Blanks.{without_blanks, line_of, IsReadAsBefore};
 
+use crate::buffer::put;
 use duration_str::laws::{blanks_free, one_sentence};
 
 /// Writes an expression without its blanks to the start of a buffer, and returns its length; `None` if the buffer is
@@ -20,11 +17,7 @@ use duration_str::laws::{blanks_free, one_sentence};
 /// ```
 pub fn compact(text: &str, buffer: &mut [u8]) -> Option<usize>
     ensures bytes { IsInFront (without_blanks text.now) result buffer.new }
-    ensures value { (o : Choice) (nanos : ℕ) → IsRead o (chars text.now) nanos
-        → IsRead o (chars (without_blanks text.now)) nanos }
-    ensures cause { (o : Choice) (lexemes : List (List ℕ)) (cause : AnyCause)
-        → IsSentenceOf o lexemes (chars text.now) → IsRefused o (chars text.now) cause
-        → IsRefused o (chars (without_blanks text.now)) cause }
+    ensures read { IsReadAsBefore (chars text.now) (chars (without_blanks text.now)) }
 {
     blanks_free();
     one_sentence();
@@ -39,20 +32,11 @@ pub fn compact(text: &str, buffer: &mut [u8]) -> Option<usize>
 /// ```
 pub fn write_line(text: &str, buffer: &mut [u8]) -> Option<usize>
     ensures bytes { IsInFront (line_of text.now) result buffer.new }
-    ensures value { (o : Choice) (nanos : ℕ) → IsRead o (chars text.now) nanos
-        → IsRead o (chars (line_of text.now)) nanos }
-    ensures cause { (o : Choice) (lexemes : List (List ℕ)) (cause : AnyCause)
-        → IsSentenceOf o lexemes (chars text.now) → IsRefused o (chars text.now) cause
-        → IsRefused o (chars (line_of text.now)) cause }
+    ensures read { IsReadAsBefore (chars text.now) (chars (line_of text.now)) }
 {
     blanks_free();
-    let end = text.len();
-    if end >= buffer.len() {
-        return None;
-    }
-    buffer[..end].copy_from_slice(text.as_bytes());
-    buffer[end] = b'\n';
-    Some(end + 1)
+    let end = put(buffer, 0, text.as_bytes())?;
+    put(buffer, end, b"\n")
 }
 
 /// Copies the bytes that are no blanks.

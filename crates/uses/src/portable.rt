@@ -1,12 +1,26 @@
-//! Expressions that mean the same under all options.
+//! Expressions that mean the same under several choices of options.
 ghost use Rattle.std.specs.Prelude.{◌≡◌, ℕ, IsTrue};
 ghost use Rattle.std.specs.List.{list_all};
 ghost use Rattle.std.specs.Str.{chars};
 ghost use Rattle.duration_str.specs.Text.{is_chinese};
-ghost use Rattle.uses.specs.Portable.{is_plain, MeansTheSame, IsReadAlways, IsRefusedTheSame};
+ghost use Rattle.uses.specs.Portable.{is_unaffected, HasSameValue, HasSameCause, MeansTheSame, IsReadAlways, IsRefusedTheSame};
 
-use duration_str::CondUnit;
 use duration_str::laws::{no_calc_agrees, options_idle};
+use duration_str::{CondUnit, Options};
+
+/// All three options off.
+pub(crate) const OFF: Options = Options {
+    no_calc: false,
+    lowercase: false,
+    cn_unit: false,
+};
+
+/// All three options on.
+const ALL: Options = Options {
+    no_calc: true,
+    lowercase: true,
+    cn_unit: true,
+};
 
 /// Whether an accepted expression has one value under all eight choices of options, so that it may be handed to a
 /// program that chose others. Only its characters are looked at: it has no operator, no ASCII capital and no Chinese
@@ -24,21 +38,44 @@ pub fn is_portable(text: &str) -> bool
 {
     no_calc_agrees();
     options_idle();
-    is_plain_text(text)
+    are_unaffected(text, OFF, ALL)
 }
 
-/// Whether each character means the same under all choices of options.
-fn is_plain_text(text: &str) -> bool
-    ensures { result ≡ list_all is_plain (chars text.now) }
+/// Whether a text keeps its value when a program changes its options from `before` to `after`: it is read under the one
+/// choice exactly if under the other, as the same value, and if `no_calc` stays, it is refused for the same cause. Only
+/// its characters are looked at: it has no operator if `no_calc` changes, no ASCII capital if `lowercase` does, and no
+/// Chinese character if `cn_unit` does. Of a text with such a character nothing is promised.
+///
+/// ```text
+/// let off = Options::off();
+/// keeps_value("2H 37m", off, Options { no_calc: true, ..off })   // true
+/// keeps_value("2H 37m", off, Options { lowercase: true, ..off }) // false: refused under `lowercase`
+/// ```
+pub fn keeps_value(text: &str, before: Options, after: Options) -> bool
+    ensures exact { result ≡ list_all (is_unaffected before after) (chars text.now) }
+    ensures value { IsTrue result → HasSameValue before after (chars text.now) }
+    ensures cause { IsTrue result → before.no_calc ≡ after.no_calc
+        → HasSameCause before after (chars text.now) }
 {
-    text.chars().all(|c| is_plain(c))
+    no_calc_agrees();
+    options_idle();
+    are_unaffected(text, before, after)
 }
 
-/// Whether a character means the same under all choices of options.
-fn is_plain(c: char) -> bool
-    ensures { result ≡ is_plain c }
+/// Whether each character means the same under both choices of options.
+fn are_unaffected(text: &str, before: Options, after: Options) -> bool
+    ensures { result ≡ list_all (is_unaffected before after) (chars text.now) }
 {
-    CondUnit::from_char(c).is_none() && !c.is_ascii_uppercase() && !is_chinese(c)
+    text.chars().all(|c| is_unaffected(c, before, after))
+}
+
+/// Whether a character means the same under both choices of options.
+fn is_unaffected(c: char, before: Options, after: Options) -> bool
+    ensures { result ≡ is_unaffected before after c }
+{
+    (before.no_calc == after.no_calc || CondUnit::from_char(c).is_none())
+        && (before.lowercase == after.lowercase || !c.is_ascii_uppercase())
+        && (before.cn_unit == after.cn_unit || !is_chinese(c))
 }
 
 /// Whether it is a letter of the Chinese names of units.

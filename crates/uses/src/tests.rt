@@ -1,6 +1,6 @@
 // Texts that are read once, added and looked up.
 use super::*;
-use duration_str::{Cause, Options, TimeUnit, parse};
+use duration_str::{Cause, Options, TimeUnit, parse, parse_with};
 use std::process::Abort;
 use std::time::Duration;
 
@@ -147,6 +147,44 @@ fn knows_what_is_portable(rt: HostRuntime) {
 }
 
 #[test]
+fn keeps_a_value_if_options_change(rt: HostRuntime) {
+    let off = Options::off();
+    let no_calc = Options {
+        no_calc: true,
+        ..off
+    };
+    let lowercase = Options {
+        lowercase: true,
+        ..off
+    };
+    let cn_unit = Options {
+        cn_unit: true,
+        ..off
+    };
+    for (text, after, kept) in [
+        ("2H 37m", no_calc, true),
+        ("2H 37m", lowercase, false),
+        ("2h + 37m", no_calc, false),
+        ("2h + 37m", lowercase, true),
+        ("2天", cn_unit, false),
+    ] {
+        assert_eq!(rt; keeps_value(text, off, after), kept);
+        let is_same = parse_with(text, off).ok() == parse_with(text, after).ok();
+        assert_eq!(rt; is_same, kept);
+    }
+    assert!(rt; keeps_value("2H + 3天", no_calc, no_calc));
+}
+
+#[test]
+fn shows_examples_as_they_are_read(rt: HostRuntime) {
+    assert_eq!(rt; examples()[0].answer, Ok(Duration::from_millis(193_029)));
+    for example in examples() {
+        let answer = parse_with(example.text, example.options).map_err(|fault| fault.cause());
+        assert_eq!(rt; answer, example.answer);
+    }
+}
+
+#[test]
 fn keeps_what_was_stored(rt: HostRuntime) {
     let stored = Stored::read("30", "1y 2mon", Options::off());
     assert_eq!(rt;
@@ -192,6 +230,25 @@ fn sorts_the_longest_first(rt: HostRuntime) {
     assert_eq!(rt; parts[0], part(3, TimeUnit::Minute));
     assert_eq!(rt; parts[1], part(13, TimeUnit::Second));
     assert_eq!(rt; parts[2], part(29, TimeUnit::MilliSecond));
+}
+
+#[test]
+fn writes_the_longest_first(rt: HostRuntime) {
+    let part = |number, unit| Part { number, unit };
+    let mut parts = [
+        part(29, TimeUnit::MilliSecond),
+        part(3, TimeUnit::Minute),
+        part(13, TimeUnit::Second),
+    ];
+    let mut buffer = [0u8; 13];
+    assert_eq!(rt; sorted(&mut parts, &mut buffer), Some(13));
+    assert_eq!(rt; &buffer, b"3min+13s+29ms");
+    assert_eq!(rt; parse("3min+13s+29ms").ok(), parse("29ms+3min+13s").ok());
+    assert_eq!(rt; sorted(&mut parts, &mut buffer[..12]), None);
+    assert_eq!(rt; sorted(&mut [], &mut buffer), None);
+    let mut one = [part(10, TimeUnit::MicroSecond)];
+    assert_eq!(rt; sorted(&mut one, &mut buffer), Some(5));
+    assert_eq!(rt; &buffer[..5], "10µs".as_bytes());
 }
 
 #[test]

@@ -1,0 +1,17 @@
+-- What the text of an example is read as or refused for.
+use Rattle.std.specs.Prelude.{◌≡◌, ℕ, List, ◌↔◌, Result, Ok, Err}
+use Rattle.std.specs.declared.time.Duration.{Duration}
+use Rattle.std.specs.Duration.{as_nanos}
+use Rattle.duration_str.specs.declared.options.Options.{Options}
+use Rattle.duration_str.specs.declared.fault.Cause.{Cause}
+use Rattle.duration_str.specs.Reading.{IsRead, IsRefused}
+
+-- the answer with its duration in nanoseconds
+abbrev pub in_nanos : Result Duration Cause → Result ℕ Cause
+in_nanos (Ok d) = Ok (as_nanos d)
+in_nanos (Err cause) = Err cause
+
+-- The text is read as the value in `Ok` and no other, or refused for the cause in `Err` and no other.
+pub record IsOnlyAnswerTo (o : Options) (text : List ℕ) (answer : Result Duration Cause) : Type 0 where
+  pub read : (nanos : ℕ) → (IsRead o text nanos ↔ in_nanos answer ≡ Ok nanos)
+  pub refused : (cause : Cause) → (IsRefused o text cause ↔ in_nanos answer ≡ Err cause)
