@@ -1,6 +1,6 @@
 -- Expressions that mean the same under several choices of options.
 use Rattle.std.specs.Prelude.{◌≡◌, ℕ, Bool, not, ◌&&◌, ◌||◌, List, ◌↔◌}
-use Rattle.std.proofs.Math.Bool.{beq}
+use Rattle.std.specs.Bool.{beq}
 use Rattle.std.specs.Char.{is_ascii_uppercase}
 use Rattle.duration_str.specs.declared.options.Options.{Options}
 use Rattle.duration_str.specs.declared.fault.Cause.{Cause}
