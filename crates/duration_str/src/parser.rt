@@ -113,7 +113,7 @@ impl<'a> Fault<'a> {
         let Cause::Syntax { place, .. } = self.cause else {
             return None;
         };
-        // What stands before that character decides nothing about a token at the place.
+        // To find a token at the place it is enough to cut from the character before it on.
         let from = self.text.floor_char_boundary(place.saturating_sub(1));
         token_at(Tokens::new(&self.text[from..], o), place - from)
     }
