@@ -1,6 +1,7 @@
 //! The units of time and their names, with the options and operators that are used with them.
-ghost use Rattle.std.specs.Prelude.{◌≡◌, None, Some, true, encode_utf8_all};
+ghost use Rattle.std.specs.Prelude.{◌≡◌, ◌∷◌, None, Some, true, encode_utf8_all};
 ghost use Rattle.std.specs.List.{list_any};
+ghost use Rattle.std.specs.Option.{ForSome, option_to_list};
 ghost use Rattle.std.specs.Str.{bytes_eq, chars};
 ghost use Rattle.duration_str.specs.Text.{IsNumber, number_of};
 ghost use Rattle.duration_str.specs.declared.unit.TimeUnit.{TimeUnit};
@@ -154,12 +155,10 @@ impl TimeUnit {
         ensures only { (unit : TimeUnit) → is_named o (chars word.now) unit ≡ true
             → unit_of_word o (chars word.now) ≡ Some unit }
     {
-        if let Some(unit) = likely_unit(word)
-            && unit.is_named(word, o)
-        {
-            return Some(unit);
+        match unit_of_short_name(word, o) {
+            Some(unit) => Some(unit),
+            None => named_unit(word, o),
         }
-        UNITS.iter().copied().find(|unit| unit.is_named(word, o))
     }
 
     /// The value in nanoseconds of a term with this number, a nonempty run of digits.
@@ -196,7 +195,7 @@ impl TimeUnit {
         ensures { result ≡ is_named o (chars word.now) self }
     {
         let row = self.row();
-        o.cn_unit && is_any(row.chinese, word, o) || is_any(row.names, word, o)
+        is_any(row.names, word, o) || o.cn_unit && is_any(row.chinese, word, o)
     }
 }
 
@@ -237,20 +236,56 @@ static UNITS: [TimeUnit; 11] = [
     TimeUnit::NanoSecond,
 ];
 
-/// The unit that a word most likely names if it starts with a letter beyond ASCII. It is tried first, so whatever this
-/// returns changes no answer, only how soon it is found.
-fn likely_unit(word: &str) -> Option<TimeUnit> {
-    match word.chars().next()? {
-        '年' => Some(TimeUnit::Year),
-        '月' => Some(TimeUnit::Month),
-        '周' => Some(TimeUnit::Week),
-        '日' | '天' => Some(TimeUnit::Day),
-        '时' => Some(TimeUnit::Hour),
-        '分' => Some(TimeUnit::Minute),
-        '秒' => Some(TimeUnit::Second),
-        '毫' => Some(TimeUnit::MilliSecond),
-        'µ' | '微' => Some(TimeUnit::MicroSecond),
-        '纳' => Some(TimeUnit::NanoSecond),
+/// The first unit with the word among its names.
+#[inline(never)]
+fn named_unit(word: &str, o: Options) -> Option<TimeUnit>
+    ensures { result ≡ unit_of_word o (chars word.now) }
+{
+    UNITS.iter().copied().find(|unit| unit.is_named(word, o))
+}
+
+/// The unit that a word names, if it is spelled like one of the short names beyond ASCII. `None` doesn't mean that the
+/// word is no name.
+fn unit_of_short_name(word: &str, o: Options) -> Option<TimeUnit>
+    ensures { ForSome result (λ unit. unit_of_word o (chars word.now) ≡ Some unit) }
+{
+    let (first, second) = one_or_two_chars(word)?;
+    unit_of_letters(first, second, o)
+}
+
+/// The characters of a text that has one or two.
+#[inline(always)]
+fn one_or_two_chars(text: &str) -> Option<(char, Option<char>)>
+    ensures { ForSome result (λ letters. chars text.now ≡ letters.0 ∷ option_to_list letters.1) }
+{
+    let mut letters = text.chars();
+    let first = letters.next()?;
+    let second = letters.next();
+    match letters.next() {
+        None => Some((first, second)),
+        Some(_) => None,
+    }
+}
+
+/// The unit with this name of one or two letters beyond ASCII. `named_unit` finds the names that are missing here.
+#[inline(always)]
+fn unit_of_letters(first: char, second: Option<char>, o: Options) -> Option<TimeUnit>
+    ensures { ForSome result (λ unit. is_named (record o { lowercase = true })
+        (first ∷ option_to_list second) unit ≡ true) }
+{
+    match (first, second) {
+        ('µ', Some('s')) => Some(TimeUnit::MicroSecond),
+        _ if !o.cn_unit => None,
+        ('年', None) => Some(TimeUnit::Year),
+        ('月', None) => Some(TimeUnit::Month),
+        ('周', None) => Some(TimeUnit::Week),
+        ('日' | '天', None) => Some(TimeUnit::Day),
+        ('时', None) => Some(TimeUnit::Hour),
+        ('分', None) => Some(TimeUnit::Minute),
+        ('秒', None) => Some(TimeUnit::Second),
+        ('毫', Some('秒')) => Some(TimeUnit::MilliSecond),
+        ('微', Some('秒')) => Some(TimeUnit::MicroSecond),
+        ('纳', Some('秒')) => Some(TimeUnit::NanoSecond),
         _ => None,
     }
 }
@@ -267,5 +302,9 @@ fn is_any(names: &[&str], word: &str, o: Options) -> bool
 fn is_name(name: &str, word: &str, o: Options) -> bool
     ensures { result ≡ bytes_eq (comparison_form o word.now) (comparison_form o name.now) }
 {
-    word == name || !o.lowercase && word.eq_ignore_ascii_case(name)
+    if o.lowercase {
+        word == name
+    } else {
+        word.eq_ignore_ascii_case(name)
+    }
 }

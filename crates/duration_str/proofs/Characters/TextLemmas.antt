@@ -1,11 +1,12 @@
 -- Characters and bytes: widths, and the character at a place.
-use Rattle.std.proofs.Common.{◌≡◌, ℕ, ◌+◌, ◌<◌, ◌≤◌, true, false, ◌&&◌, ◌⊎◌, inl, inr, List, [], ◌∷◌, ◌++◌, length, drop, get_or, IsUtf8, ap, sym, subst, ◌∙◌, arith, leb}
+use Rattle.std.proofs.Common.{◌≡◌, ℕ, ◌+◌, ◌<◌, ◌≤◌, true, false, Option, None, Some, ◌&&◌, ◌⊎◌, inl, inr, List, [], ◌∷◌, ◌++◌, length, drop, get_or, IsUtf8, ap, sym, subst, ◌∙◌, arith, leb}
 use Rattle.std.proofs.lemmas.Bool.{and_parts}
 use Rattle.std.proofs.lemmas.Bool.Decides.{nat_tests}
-use Rattle.std.proofs.lemmas.List.{drop_more, drop_all}
-use Rattle.std.proofs.lemmas.Str.{chars-nil, encode_ascii, len_utf8_ascii, len_utf8_bounds, scalars-chars, IsUtf8-drop, IsCharBoundary-past_char, chars_past_char, drop_past_char}
+use Rattle.std.proofs.lemmas.List.{drop_more, drop_all, nil_from_length}
+use Rattle.std.proofs.lemmas.Str.{chars-nil, encode_ascii, len_utf8_ascii, len_utf8_bounds, scalars-chars, IsUtf8-drop, IsUtf8-past_char, IsCharBoundary-past_char, chars_past_char, drop_past_char}
 use Rattle.std.specs.Prelude.{encode_utf8, if◌then◌else◌}
 use Rattle.std.specs.Char.{len_utf8}
+use Rattle.std.specs.Option.{MatchOption, option_to_list}
 use Rattle.std.specs.Str.{IsCharBoundary, chars}
 use lib.Utf8.{scalar, scalars, scalar_cases}
 use Rattle.duration_str.specs.Text.{width, byte_len}
@@ -50,6 +51,20 @@ ascii_stands text place b utf8 boundary inside is small =
       stands_char text (drop (place + 1) text) place b ahead_utf8 begins,
       IsCharBoundary-past_char text (drop (place + 1) text) place b boundary.0 ahead_utf8 begins,
     )
+
+-- the characters of a text of which one step of an iterator leaves nothing
+last_chars : (X : Type 0) (rest after : List ℕ) (r : Option ℕ) → IsUtf8 rest → MatchOption r ((length rest ≡ 0) × X) (λ c. rest ≡ encode_utf8 c ++ after)
+    → length after ≡ 0 → chars rest ≡ option_to_list r
+last_chars X rest after None utf8 step end = ap chars (nil_from_length rest step.0) ∙ chars-nil
+last_chars X rest after (Some c) utf8 step end =
+    chars_past_char rest after c utf8 step ∙ ap (λ bytes. c ∷ chars bytes) (nil_from_length after end) ∙ ap (λ cs. c ∷ cs) chars-nil
+
+-- the characters of a text that two steps of an iterator pass
+pub one_or_two_chars : (X : Type 0) (text rest after : List ℕ) (first : ℕ) (second : Option ℕ) → IsUtf8 text → text ≡ encode_utf8 first ++ rest
+    → MatchOption second ((length rest ≡ 0) × X) (λ c. rest ≡ encode_utf8 c ++ after) → length after ≡ 0 → chars text ≡ first ∷ option_to_list second
+one_or_two_chars X text rest after first second utf8 begins step end =
+    chars_past_char text rest first utf8 begins
+    ∙ ap (λ cs. first ∷ cs) (last_chars X rest after second (IsUtf8-past_char text rest first utf8 begins) step end)
 
 -- the width of a character is not 0
 pub width_some : (c : ℕ) → 1 ≤ width c

@@ -1,7 +1,8 @@
 -- Words and names, as bytes and as characters, and their ASCII capitals.
-use Rattle.std.proofs.Common.{◌≡◌, ℕ, ◌+◌, ◌/◌, ◌%◌, ◌<◌, ◌≤◌, Bool, true, false, cond, ltb, eqb, not, ◌||◌, ◌&&◌, Some, List, [], ◌∷◌, ◌++◌, map, IsUtf8, refl, ap, sym, ◌∙◌, arith, ⊎_elim}
+use Rattle.std.proofs.Common.{◌≡◌, ℕ, ◌+◌, ◌/◌, ◌%◌, ◌<◌, ◌≤◌, Bool, true, false, cond, ltb, eqb, not, ◌||◌, ◌&&◌, Option, Some, List, [], ◌∷◌, ◌++◌, map, IsUtf8, refl, ap, sym, ◌∙◌, arith, ⊎_elim}
 use Rattle.std.specs.Prelude.{if◌then◌else◌}
 use Rattle.std.specs.List.{list_any, list_all, find}
+use Rattle.std.specs.Option.{ForSome}
 use Rattle.std.specs.Str.{bytes_eq, chars}
 use Rattle.std.specs.Char.{to_ascii_lowercase}
 use Rattle.std.specs.Bool.{Decides}
@@ -180,6 +181,27 @@ named_among_all false false ch h = absurd (true≢false (sym h))
 among_all : (o : Options) (w : List ℕ) (u : TimeUnit) → is_named o w u ≡ true → list_any (bytes_eq (comparison_form o w)) (all_names u) ≡ true
 among_all o w u h = list_any-append (bytes_eq (comparison_form o w)) (row_of u).names (row_of u).chinese ∙ named_among_all _ o.cn_unit _ h
 
+-- a word that is spelled like a name without capitals has none
+spelled_form : (o : Options) (w : List ℕ) (names : List (List ℕ)) → list_all is_small names ≡ true → list_any (bytes_eq w) names ≡ true
+    → comparison_form o w ≡ w
+spelled_form o w [] small h = absurd (true≢false (sym h))
+spelled_form o w (name ∷ names) small h =
+    let parts = and_parts (is_small name) (list_all is_small names) small in
+    ⊎_elim
+    (λ (is : bytes_eq w name ≡ true). let same = (bytes_eq-Decides w name).0 is in ap (comparison_form o) same ∙ small_form o name parts.0 ∙ sym same)
+    (λ (later : list_any (bytes_eq w) names ≡ true). spelled_form o w names parts.1 later)
+    (or_cases (bytes_eq w name) (list_any (bytes_eq w) names) h)
+
+all_names_small : (u : TimeUnit) → list_all is_small (all_names u) ≡ true
+all_names_small = each_unit (λ u. list_all is_small (all_names u) ≡ true) assumption
+
+-- A word that names a unit under `lowercase` names it without, too.
+named_in_any_case : (o : Options) (w : List ℕ) (u : TimeUnit) → is_named (record o { lowercase = true }) w u ≡ true → is_named o w u ≡ true
+named_in_any_case o w u h =
+    ap (λ form. list_any (bytes_eq form) (row_of u).names || (o.cn_unit && list_any (bytes_eq form) (row_of u).chinese))
+    (spelled_form o w (all_names u) (all_names_small u) (among_all (record o { lowercase = true }) w u h))
+    ∙ h
+
 one_unit : (o : Options) (w : List ℕ) (u v : TimeUnit) → is_named o w u ≡ true → is_named o w v ≡ true → u ≡ v
 one_unit o w u v h k =
     ⊎_elim (λ same. same_length u v (eqb-true (nanos_of u) (nanos_of v) same))
@@ -213,6 +235,12 @@ found_only o w (v ∷ us) u h there = go (is_named o w v) refl (found_only o w u
 -- the unit that a word names
 pub named_unit : (o : Options) (w : List ℕ) (u : TimeUnit) → is_named o w u ≡ true → unit_of_word o w ≡ Some u
 named_unit o w u h = found_only o w units u h (all_units (λ u. list_any (λ v. eqb (nanos_of v) (nanos_of u)) units) refl u)
+
+-- the unit that a word names with these letters, under `lowercase` too
+pub unit_of_letters : (o : Options) (w letters : List ℕ) (r : Option TimeUnit) → w ≡ letters
+    → ForSome r (λ u. is_named (record o { lowercase = true }) letters u ≡ true) → ForSome r (λ u. unit_of_word o w ≡ Some u)
+unit_of_letters o w letters r spelled named u is =
+    ap (unit_of_word o) spelled ∙ named_unit o letters u (named_in_any_case o letters u (named u is))
 
 -- A unit found among some units is found among all.
 pub found_among_all : (o : Options) (w : List ℕ) (us : List TimeUnit) (u : TimeUnit) → unit_among us o w ≡ Some u → unit_of_word o w ≡ Some u
