@@ -1,5 +1,4 @@
 -- The printer writes the printed text.
-pub mod DecimalLemmas
 pub mod PrintingLemmas
 pub mod DigitLemmas
 pub mod SpaceLemmas

@@ -1,45 +1,26 @@
 -- What can be typed at the place of a syntax fault.
-use Rattle.std.proofs.Common.{◌≡◌, ℕ, ◌+◌, List, [], ◌∷◌, ◌++◌, None, map, take, length, IsTrue, codes, refl, sym, ap, ap₂, subst, ◌∙◌, append-nil, append_assoc, zero-add}
-use Rattle.std.proofs.lemmas.Bool.{true≢false, and_from}
+use Rattle.std.proofs.Common.{◌≡◌, ℕ, ◌+◌, List, [], ◌∷◌, ◌++◌, None, map, take, length, IsTrue, codes, refl, sym, ap, ap₂, subst, ◌∙◌, append-nil, zero-add}
+use Rattle.std.proofs.lemmas.Bool.{true≢false}
 use Rattle.std.proofs.lemmas.List.{take-map, map-append}
-use Rattle.std.proofs.lemmas.List.Folds.{list_all-append}
 use Rattle.std.proofs.Math.Seq.{take-append_seam}
 use Rattle.duration_str.specs.declared.options.Options.{Options}
 use Rattle.duration_str.specs.declared.fault.Expected.{Expected}
 use Rattle.duration_str.specs.declared.fault.Cause.TheVariants.{Syntax}
-use Rattle.duration_str.specs.Text.{is_blank, byte_len}
+use Rattle.duration_str.specs.Text.{byte_len}
 use Rattle.duration_str.specs.Grammar.{Terminal, number, word, operator, other, terminal_of, IsSentence, Spells}
 use Rattle.duration_str.specs.Tokens.{Token, IsLexeme, AreTokens, tokens_of, lexemes_of}
 use Rattle.duration_str.specs.Place.{BeginsSentence, start_after, terminals_of}
 use Rattle.duration_str.specs.Answer.{kinds_after, allows, last_of}
 use Rattle.duration_str.specs.Reading.{IsRefused}
 use Rattle.duration_str.specs.Laws.{OneSentence, OneCut, PlaceAndKinds}
+use Rattle.duration_str.proofs.Sentences.SpellingLemmas.{tokens_spell_at}
+use Rattle.duration_str.proofs.LawProofs.SumOfTexts.{spells_both}
 use Rattle.uses.specs.Completion.{BeginsExpression, IsCompletion}
 use Rattle.uses.proofs.FollowLemmas.{follows, number_ends, word_ends, operator_goes_on}
 use Rattle.uses.proofs.CutLemmas.{IsSplit, split_at, joined, blank_before, at_any, one_token}
 use Rattle.uses.proofs.SyntaxLemmas.{HasSyntaxFault, syntax_fault_parts}
 
 -- ---- Spelling
-
-spells_tokens : (o : Options) (at : ℕ) (text : List ℕ) (tokens : List Token) → AreTokens o at text tokens → Spells (lexemes_of tokens) text
-spells_tokens o at text [] h = h
-spells_tokens o at text (token ∷ tokens) h =
-    (h.1.blanks, h.0, h.1.blank, h.1.parts, spells_tokens o (token.start + byte_len token.characters) h.0 tokens h.2)
-
-blank_then : (blanks text : List ℕ) (lexemes : List (List ℕ)) → Spells [] blanks → Spells lexemes text → Spells lexemes (blanks ++ text)
-blank_then blanks text [] b s = list_all-append is_blank blanks text ∙ and_from _ _ b s
-blank_then blanks text (w ∷ lexemes) b s = (
-  blanks ++ s.0,
-  s.1,
-  list_all-append is_blank blanks s.0 ∙ and_from _ _ b s.2,
-  ap (λ (r : List ℕ). blanks ++ r) s.3 ∙ simp append_assoc,
-  s.4,
-)
-
-spells_both : (xs ys : List (List ℕ)) (a b : List ℕ) → Spells xs a → Spells ys b → Spells (xs ++ ys) (a ++ b)
-spells_both [] ys a b s t = blank_then a b ys s t
-spells_both (w ∷ xs) ys a b s t =
-    (s.0, s.1 ++ b, s.2, ap (λ (r : List ℕ). r ++ b) s.3 ∙ simp append_assoc, spells_both xs ys s.1 b s.4 t)
 
 spells_one : (w : List ℕ) → Spells (w ∷ []) (32 ∷ w)
 spells_one w = (32 ∷ [], [], refl, ap (λ (r : List ℕ). 32 ∷ r) (sym (append-nil w)), refl)
@@ -79,7 +60,7 @@ kept_of cut o text place expected s =
 
 -- The lexemes spell the kept text and then a blank and w.
 typed_spells : (o : Options) (kept w : List ℕ) (tokens : List Token) → AreTokens o 0 kept tokens → Spells (lexemes_of tokens ++ w ∷ []) (kept ++ 32 ∷ w)
-typed_spells o kept w tokens are = spells_both (lexemes_of tokens) (w ∷ []) kept (32 ∷ w) (spells_tokens o 0 kept tokens are) (spells_one w)
+typed_spells o kept w tokens are = spells_both (lexemes_of tokens) (w ∷ []) kept (32 ∷ w) (tokens_spell_at o 0 kept tokens are) (spells_one w)
 
 typed_terminals : (o : Options) (lexemes : List (List ℕ)) (front : List Terminal) (w : List ℕ) (t : Terminal) → map (terminal_of o) lexemes ≡ front
     → terminal_of o w ≡ t → map (terminal_of o) (lexemes ++ w ∷ []) ≡ front ++ t ∷ []
@@ -174,7 +155,7 @@ completion_of one cut law o text place expected s =
           lexemes_of k.tokens,
           (
             subst (IsSentence o.no_calc) (sym k.terminals) (s.can_follow.end_expected.0 ended),
-            spells_tokens o 0 k.kept k.tokens k.are,
+            tokens_spell_at o 0 k.kept k.tokens k.are,
           ),
         ),
       );

@@ -1,26 +1,27 @@
 -- The written text of a sum, and what it adds.
-use Rattle.std.proofs.Common.{◌≡◌, ℕ, ◌+◌, ◌-◌, ◌^◌, ◌<◌, ◌≤◌, Bool, true, false, List, [], ◌∷◌, ◌++◌, map, length, take, drop, get_or, Option, Some, None, IfSome, decimal, codes, IsTrue, IsUtf8, arith, rules, refl, sym, ap, ap₂, subst, ◌∙◌, append_assoc, length-append}
-use Rattle.std.proofs.lemmas.Bool.{and_from, and_parts, cond-true}
+use Rattle.std.proofs.Common.{◌≡◌, ℕ, ◌+◌, ◌-◌, ◌^◌, ◌<◌, ◌≤◌, Bool, true, false, List, [], ◌∷◌, ◌++◌, map, length, take, drop, get_or, Option, Some, None, IfSome, decimal, codes, IsUtf8, arith, refl, sym, ap, ◌∙◌, append_assoc, length-append}
+use Rattle.std.proofs.lemmas.Bool.{and_from, and_parts}
 use Rattle.std.proofs.lemmas.List.{take_more, flat_map_more, take-append-drop}
 use Rattle.std.proofs.lemmas.List.Elements.{recursion_from_All}
 use Rattle.std.proofs.Math.Seq.{take-length}
 use Rattle.std.proofs.lemmas.Option.{none-some}
 use Rattle.std.proofs.lemmas.Grind.{flat_map-append}
-use Rattle.std.proofs.lemmas.Fmt.{digits_decimal, digits_value-decimal, decimal_nonempty, IsAscii-decimal}
+use Rattle.std.proofs.lemmas.Fmt.{IsAscii-decimal}
 use Rattle.std.proofs.lemmas.Str.{encodes-append, encodes-IsAscii, encodes-chars, chars-encodes, scalars-chars, chars-IsAscii, IsUtf8-from_ascii}
-use Rattle.std.proofs.lemmas.Str.Parse.{IsNumeralModel, numerals_by_fold}
+use Rattle.duration_str.proofs.Characters.NumberLemmas.{decimal_terminal}
+use Rattle.duration_str.proofs.Printer.PrintingLemmas.{printed_terminal}
+use Rattle.duration_str.proofs.LawProofs.SumOfTexts.{plus_terminal}
 use Rattle.std.specs.Fmt.{digits}
-use Rattle.std.specs.List.{list_all, All, AllByRecursion}
+use Rattle.std.specs.List.{All, AllByRecursion}
 use Rattle.std.specs.Str.{chars, IsAscii}
 use lib.Utf8.{encode, encodes, scalars}
 use Rattle.duration_str.specs.declared.options.Options.{Options}
 use Rattle.duration_str.specs.declared.operator.CondUnit.TheVariants.{Plus}
 use Rattle.duration_str.specs.declared.unit.TimeUnit.{TimeUnit}
 use Rattle.duration_str.specs.declared.unit.TimeUnit.TheVariants.{Year}
-use Rattle.duration_str.specs.Text.{is_digit, number_of, number_after}
 use Rattle.duration_str.specs.Units.{row_of, nanos_of}
 use Rattle.duration_str.specs.Grammar.{Terminal, number, word, operator, terminal_of, IsSentence, Spells}
-use Rattle.duration_str.specs.Value.{Term, AllPlus, terms_of}
+use Rattle.duration_str.specs.Value.{AllPlus, terms_of}
 use Rattle.uses.specs.declared.product.Part.{Part}
 use Rattle.uses.specs.Product.{term_of_part}
 use Rattle.uses.specs.Cache.{canonical_text, IsKey}
@@ -38,47 +39,12 @@ pub name_after_one : (u : TimeUnit) (nanos : ℕ) (bytes : List ℕ) → nanos �
     → bytes ≡ 49 ∷ encodes (row_of u).printed
 unfolding encode
 name_after_one u nanos bytes e utf8 k =
-    sym (encodes-chars bytes utf8) ∙ ap encodes (k.one ∙ ap canonical_text e ∙ one_printed u)
+    rw (k.one, e, one_printed u) at (sym (encodes-chars bytes utf8))
 
 -- The bytes after the first.
 pub after_one : (bytes rest : List ℕ) → bytes ≡ 49 ∷ rest → take (length bytes - 1) (drop 1 bytes) ≡ rest
 after_one bytes rest e =
-    let left : length bytes - 1 ≡ length rest = omega (arith, ap length e) in
-    ap₂ (λ (n : ℕ) (bs : List ℕ). take n (drop 1 bs)) left e ∙ take-length rest
-
--- ---- Terminals
-
--- Digits are tested and read as the toolchain does.
-decimal_digits : IsNumeralModel (λ ds. IsTrue (list_all is_digit ds)) (number_after 0)
-decimal_digits = numerals_by_fold _ (search rules) number_after (search rules)
-
-digits_terminal : (o : Options) (digits : List ℕ) → 0 < length digits → IsTrue (list_all is_digit digits) → terminal_of o digits ≡ number (number_of digits)
-digits_terminal o [] some h = absurd (omega arith)
-digits_terminal o (c ∷ cs) some h = cond-true _ _ _ h
-
-decimal_terminal : (o : Options) (n : ℕ) → n < 2 ^ 64 → terminal_of o (decimal n) ≡ number n
-decimal_terminal o n small =
-    digits_terminal o (decimal n) (decimal_nonempty n small) (digits_decimal decimal_digits n small) ∙ ap number (digits_value-decimal decimal_digits n small)
-
--- The printed name of a unit is a word for it, under every choice of options.
-named : (no_calc lowercase cn_unit : Bool) (u : TimeUnit)
-    → terminal_of (record { no_calc = no_calc; lowercase = lowercase; cn_unit = cn_unit }) (row_of u).printed ≡ word (Some u)
-named no_calc true true Year = refl
-named no_calc true true _ = refl
-named no_calc true false Year = refl
-named no_calc true false _ = refl
-named no_calc false true Year = refl
-named no_calc false true _ = refl
-named no_calc false false Year = refl
-named no_calc false false _ = refl
-
-name_terminal : (o : Options) (u : TimeUnit) → terminal_of o (row_of u).printed ≡ word (Some u)
-name_terminal o u = named o.no_calc o.lowercase o.cn_unit u
-
-plus_named : (no_calc lowercase cn_unit : Bool)
-    → terminal_of (record { no_calc = no_calc; lowercase = lowercase; cn_unit = cn_unit }) (codes "+") ≡ operator Plus
-plus_named no_calc lowercase true = refl
-plus_named no_calc lowercase false = refl
+    let left : length bytes - 1 ≡ length rest = omega (arith, ap length e) in rw (left, e) (take-length rest)
 
 -- ---- The sentence of a sum
 
@@ -100,7 +66,7 @@ all_plus (p ∷ parts) = (refl, all_plus parts)
 
 later_terms : (parts : List Part) → terms_of (later_terminals parts) ≡ map (term_of_part Plus) parts
 later_terms [] = refl
-later_terms (p ∷ parts) = ap (λ (terms : List Term). term_of_part Plus p ∷ terms) (later_terms parts)
+later_terms (p ∷ parts) = rw (later_terms parts)
 
 -- ---- Its lexemes
 
@@ -123,30 +89,23 @@ later_spells (p ∷ parts) =
 part_named : (o : Options) (p : Part) (more : List (List ℕ)) (terminals : List Terminal) → NumberFits p → map (terminal_of o) more ≡ terminals
     → map (terminal_of o) (part_lexemes p more) ≡ part_terminals p terminals
 part_named o p more terminals small e =
-    ap₂ (λ (t : Terminal) (ts : List Terminal). t ∷ ts) (decimal_terminal o p.number small)
-    (ap₂ (λ (t : Terminal) (ts : List Terminal). t ∷ ts) (name_terminal o p.unit) e)
+    rw (decimal_terminal o p.number small, printed_terminal o p.unit, e)
 
 later_named : (o : Options) (parts : List Part) → AllByRecursion NumberFits parts → map (terminal_of o) (later_lexemes parts) ≡ later_terminals parts
 later_named o [] small = refl
 later_named o (p ∷ parts) small =
-    ap₂ (λ (t : Terminal) (ts : List Terminal). t ∷ ts) (plus_named o.no_calc o.lowercase o.cn_unit)
-    (part_named o p (later_lexemes parts) (later_terminals parts) small.0 (later_named o parts small.1))
+    rw (plus_terminal o, part_named o p (later_lexemes parts) (later_terminals parts) small.0 (later_named o parts small.1))
 
 -- The written text adds the parts.
 sum_adds : (o : Options) (p : Part) (parts : List Part) → o.no_calc ≡ false → AllByRecursion NumberFits (p ∷ parts)
     → Adds o (p ∷ parts) (sum_text (p ∷ parts))
 sum_adds o p parts e small =
-    let terminals : List Terminal = part_terminals p (later_terminals parts) in
-    let same : map (terminal_of o) (part_lexemes p (later_lexemes parts)) ≡ terminals =
-    part_named o p (later_lexemes parts) (later_terminals parts) small.0 (later_named o parts small.1) in
+    let same = part_named o p (later_lexemes parts) (later_terminals parts) small.0 (later_named o parts small.1) in
     record {
       lexemes = part_lexemes p (later_lexemes parts);
-      spells = (
-        subst (IsSentence o.no_calc) (sym same) (is_sentence o.no_calc p parts e),
-        part_spells p (later_lexemes parts) (later_text parts) (later_spells parts),
-      );
-      plus = subst AllPlus (sym same) (all_plus parts);
-      terms = ap terms_of same ∙ ap (λ (terms : List Term). term_of_part Plus p ∷ terms) (later_terms parts);
+      spells = (rw same (is_sentence o.no_calc p parts e), part_spells p (later_lexemes parts) (later_text parts) (later_spells parts));
+      plus = rw same (all_plus parts);
+      terms = rw (same, later_terms parts);
     }
 
 -- ---- Its characters and bytes
@@ -161,7 +120,8 @@ scalars_name _ = refl
 
 scalars_decimal : (n : ℕ) → n < 2 ^ 64 → scalars (decimal n) ≡ true
 scalars_decimal n small =
-    let ascii = IsAscii-decimal n small in ap scalars (sym (chars-IsAscii (decimal n) ascii)) ∙ scalars-chars (decimal n) (IsUtf8-from_ascii (decimal n) ascii)
+    let ascii = IsAscii-decimal n small in
+    rw (chars-IsAscii (decimal n) ascii) at (scalars-chars (decimal n) (IsUtf8-from_ascii (decimal n) ascii))
 
 scalars_part : (p : Part) → NumberFits p → scalars (part_text p) ≡ true
 scalars_part p small = scalars_both (decimal p.number) (row_of p.unit).printed (scalars_decimal p.number small) (scalars_name p.unit)
@@ -178,14 +138,13 @@ front_adds [] (Some end) buffer front small = absurd (none-some end (sym front))
 front_adds (p ∷ parts) (Some end) buffer front small = λ o e.
     let each : AllByRecursion NumberFits (p ∷ parts) = recursion_from_All NumberFits (p ∷ parts) small in
     let valid : scalars (sum_text (p ∷ parts)) ≡ true = scalars_both (part_text p) (later_text parts) (scalars_part p each.0) (scalars_later parts each.1) in
-    subst (Adds o (p ∷ parts)) (sym (ap chars front.1 ∙ chars-encodes (sum_text (p ∷ parts)) valid)) (sum_adds o p parts e each)
+    rw (front.1, chars-encodes (sum_text (p ∷ parts)) valid) (sum_adds o p parts e each)
 
 -- ---- Its bytes, piece by piece
 
 pub encodes_part : (p : Part) → IsAscii (decimal p.number) → encodes (part_text p) ≡ decimal p.number ++ encodes (row_of p.unit).printed
 encodes_part p ascii =
-    encodes-append (decimal p.number) (row_of p.unit).printed
-    ∙ ap (λ (bytes : List ℕ). bytes ++ encodes (row_of p.unit).printed) (encodes-IsAscii (decimal p.number) ascii)
+    rw (encodes-append (decimal p.number), encodes-IsAscii (decimal p.number) ascii)
 
 encodes_plus : (p : Part) → encodes (codes "+" ++ part_text p) ≡ 43 ∷ encodes (part_text p)
 unfolding encode
@@ -201,10 +160,14 @@ encodes_more : (parts : List Part) (i : ℕ) → i < length parts
 encodes_more parts i l =
     let p : Part = part_at parts i in
     let before : List ℕ = later_text (take i parts) in
-    append_assoc (encodes before) (43 ∷ []) (encodes (part_text p)) ∙ ap (λ (bytes : List ℕ). encodes before ++ bytes) (sym (encodes_plus p))
-    ∙ sym (encodes-append before (codes "+" ++ part_text p))
-    ∙ ap encodes (flat_map_more (λ (q : Part). codes "+" ++ part_text q) [] (take i parts) p)
-    ∙ ap (λ (ps : List Part). encodes (later_text ps)) (sym (take_more parts i _ l))
+    let none : Part = record { number = 0; unit = Year } in
+    rw (
+      append_assoc (encodes before),
+      ← encodes_plus p,
+      ← encodes-append before,
+      flat_map_more (λ (q : Part). codes "+" ++ part_text q) [] (take i parts) p,
+      take_more parts i none l,
+    )
 
 -- The first of the parts are no longer than all.
 length_first : (parts : List Part) (n : ℕ) → length (encodes (later_text (take n parts))) ≤ length (encodes (later_text parts))

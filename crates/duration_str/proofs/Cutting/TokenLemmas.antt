@@ -1,6 +1,6 @@
 -- `tokens_from` gives the tokens of a text, and a text has no others.
-use Rattle.std.proofs.Common.{◌≡◌, ℕ, ◌+◌, Bool, true, false, List, [], ◌∷◌, ◌++◌, IsTrue, if◌then◌else◌, arith, refl, sym, ap, ap₂, subst, subst₂, ◌∙◌, add_assoc, add-zero}
-use Rattle.std.proofs.lemmas.Bool.{true≢false, and_parts, and_from}
+use Rattle.std.proofs.Common.{◌≡◌, ℕ, ◌+◌, Bool, true, false, List, [], ◌∷◌, ◌++◌, IsTrue, if◌then◌else◌, arith, refl, sym, ◌∙◌, add_assoc, add-zero}
+use Rattle.std.proofs.lemmas.Bool.{and_parts, and_from}
 use Rattle.std.specs.List.{list_all}
 use Rattle.duration_str.specs.declared.options.Options.{Options}
 use Rattle.duration_str.specs.Text.{width, is_blank, IsBlank, byte_len}
@@ -16,17 +16,13 @@ Stops test (c ∷ _) = test c ≡ false
 parted_once : (test : ℕ → Bool) (xs ys r s : List ℕ) → IsTrue (list_all test xs) → IsTrue (list_all test ys)
     → Stops test r → Stops test s → xs ++ r ≡ ys ++ s → (xs ≡ ys) × (r ≡ s)
 parted_once test [] [] r s h k p q e = (refl, e)
-parted_once test [] (y ∷ ys) r s h k p q e =
-    let stops : test y ≡ false = subst (Stops test) e p in
-    absurd (true≢false (sym (and_parts _ _ k).0 ∙ stops))
-parted_once test (x ∷ xs) [] r s h k p q e =
-    let stops : test x ≡ false = subst (Stops test) (sym e) q in
-    absurd (true≢false (sym (and_parts _ _ h).0 ∙ stops))
+parted_once test [] (y ∷ ys) r s h k p q e = cc (rw e at p, (and_parts (test y) _ k).0)
+parted_once test (x ∷ xs) [] r s h k p q e = cc (rw (← e) at q, (and_parts (test x) _ h).0)
 parted_once test (x ∷ xs) (y ∷ ys) r s h k p q e =
     let heads : x ≡ y = cc in
     let tails : xs ++ r ≡ ys ++ s = cc in
-    let rest = parted_once test xs ys r s (and_parts _ _ h).1 (and_parts _ _ k).1 p q tails in
-    (ap₂ ◌∷◌ heads rest.0, rest.1)
+    let rest = parted_once test xs ys r s (and_parts (test x) _ h).1 (and_parts (test y) _ k).1 p q tails in
+    (cc rest.0, rest.1)
 
 stops_at : (o : Options) (c : ℕ) (rest : List ℕ) → goes_on o c rest ≡ false → Stops (are_of_one_run o c) rest
 stops_at o c [] h = tt
@@ -39,17 +35,14 @@ parts_once o a b [] ds r s ha hb hc hd er es e = absurd hc
 parts_once o a b (c ∷ cs) [] r s ha hb hc hd er es e = absurd hd
 parts_once o a b (c ∷ cs) (d ∷ ds) r s ha hb hc hd er es e =
     let blanks = parted_once is_blank a b (c ∷ (cs ++ r)) (d ∷ (ds ++ s)) ha hb hc.0 hd.0 e in
-    let whole : c ∷ (cs ++ r) ≡ d ∷ (ds ++ s) = blanks.1 in
-    let heads : c ≡ d = cc in
-    let tails : cs ++ r ≡ ds ++ s = cc in
-    let in_run : IsTrue (list_all (are_of_one_run o c) ds) = subst (λ (x : ℕ). IsTrue (list_all (are_of_one_run o x) ds)) (sym heads) hd.1 in
-    let ends : goes_on o c s ≡ false = subst (λ (x : ℕ). goes_on o x s ≡ false) (sym heads) es in
-    let run = parted_once (are_of_one_run o c) cs ds r s hc.1 in_run (stops_at o c r er) (stops_at o c s ends) tails in
-    (blanks.0, ap₂ ◌∷◌ heads run.0, run.1)
+    let heads : c ≡ d = cc blanks.1 in
+    let run = parted_once (are_of_one_run o c) cs ds r s hc.1 (rw (← heads) at hd.1) (stops_at o c r er) (stops_at o c s (rw (← heads) at es))
+    (cc blanks.1) in
+    (blanks.0, cc run.0, run.1)
 
 no_token : (o : Options) (blanks cs rest : List ℕ) → IsLexeme o cs → IsBlank (blanks ++ (cs ++ rest)) → ⊥
 no_token o [] [] rest h k = h
-no_token o [] (c ∷ cs) rest h k = true≢false (sym (and_parts _ _ k).0 ∙ h.0)
+no_token o [] (c ∷ cs) rest h k = cc (h.0, (and_parts (is_blank c) _ k).0)
 no_token o (b ∷ blanks) cs rest h k = no_token o blanks cs rest h (and_parts _ _ k).1
 
 next_once : (o : Options) (at : ℕ) (text : List ℕ) (p q : Token) (r s : List ℕ) → IsNextToken o at text p r → IsNextToken o at text q s
@@ -57,18 +50,18 @@ next_once : (o : Options) (at : ℕ) (text : List ℕ) (p q : Token) (r s : List
 next_once o at text p q r s h k =
     let same = parts_once o h.blanks k.blanks p.characters q.characters r s h.blank k.blank h.is_lexeme k.is_lexeme h.ends k.ends
     (sym h.parts ∙ k.parts) in
-    let starts : p.start ≡ q.start = h.start ∙ ap (λ (b : List ℕ). at + byte_len b) same.0 ∙ sym k.start in
-    (ap₂ (λ (start : ℕ) (cs : List ℕ). let token : Token = record { start = start; characters = cs } in token) starts same.1, same.2)
+    let starts : p.start ≡ q.start = rw (h.start, k.start, same.0) in
+    (λ i. record { start = starts i; characters = same.1 i }, same.2)
 
 -- A text has only one list of tokens.
 pub tokens_once : (o : Options) (at : ℕ) (text : List ℕ) (ps qs : List Token) → AreTokens o at text ps → AreTokens o at text qs → ps ≡ qs
 tokens_once o at text [] [] h k = refl
-tokens_once o at text [] (q ∷ qs) h k = absurd (no_token o k.1.blanks q.characters k.0 k.1.is_lexeme (subst IsBlank k.1.parts h))
-tokens_once o at text (p ∷ ps) [] h k = absurd (no_token o h.1.blanks p.characters h.0 h.1.is_lexeme (subst IsBlank h.1.parts k))
+tokens_once o at text [] (q ∷ qs) h k = absurd (no_token o k.1.blanks q.characters k.0 k.1.is_lexeme (rw k.1.parts at h))
+tokens_once o at text (p ∷ ps) [] h k = absurd (no_token o h.1.blanks p.characters h.0 h.1.is_lexeme (rw h.1.parts at k))
 tokens_once o at text (p ∷ ps) (q ∷ qs) h k =
     let same = next_once o at text p q h.0 k.0 h.1 k.1 in
-    ap₂ ◌∷◌ same.0 (tokens_once o (p.start + byte_len p.characters) h.0 ps qs h.2
-    (subst₂ (λ (x : Token) (r : List ℕ). AreTokens o (x.start + byte_len x.characters) r qs) (sym same.0) (sym same.1) k.2))
+    let rest = tokens_once o (p.start + byte_len p.characters) h.0 ps qs h.2 (rw (← same.0, ← same.1) at k.2) in
+    cc (same.0, rest)
 
 blank_in_front : (o : Options) (at c : ℕ) (text : List ℕ) (ps : List Token) → is_blank c ≡ true
     → AreTokens o (at + width c) text ps → AreTokens o at (c ∷ text) ps
@@ -78,8 +71,8 @@ blank_in_front o at c text (p ∷ ps) e h = (
   record {
     blanks = c ∷ h.1.blanks;
     blank = and_from _ _ e h.1.blank;
-    parts = ap (λ (xs : List ℕ). c ∷ xs) h.1.parts;
-    start = h.1.start ∙ add_assoc at (width c) (byte_len h.1.blanks);
+    parts = rw h.1.parts;
+    start = rw add_assoc at h.1.start;
     is_lexeme = h.1.is_lexeme;
     ends = h.1.ends;
   },
@@ -94,11 +87,11 @@ lone_in_front o at c text ps e g h = (
     blanks = [];
     blank = refl;
     parts = refl;
-    start = sym (add-zero at);
+    start = rw add-zero;
     is_lexeme = (e, refl);
     ends = g;
   },
-  subst (λ (n : ℕ). AreTokens o (at + n) text ps) (sym (add-zero (width c))) h,
+  rw add-zero h,
 )
 
 all_of_run : (o : Options) (c d : ℕ) (cs : List ℕ) → are_of_one_run o c d ≡ true → IsTrue (list_all (are_of_one_run o d) cs)
@@ -117,23 +110,22 @@ joined_in_front : (o : Options) (at c d : ℕ) (text blanks cs rest : List ℕ) 
     → AreTokens o (start + byte_len cs) rest ps
     → AreTokens o at (c ∷ d ∷ text) (record { start = at; characters = c ∷ cs } ∷ ps)
 joined_in_front o at c d text (b ∷ blanks) cs rest start ps e g hb parts st hp en more =
-    let heads : d ≡ b = cc in
-    absurd (true≢false (sym (and_parts _ _ hb).0 ∙ ap is_blank (sym heads) ∙ run-not_blank o c d g))
+    let heads : d ≡ b = cc in cc ((and_parts (is_blank b) _ hb).0, run-not_blank o c d g)
 joined_in_front o at c d text [] [] rest start ps e g hb parts st hp en more = absurd hp
 joined_in_front o at c d text [] (x ∷ cs) rest start ps e g hb parts st hp en more =
     let heads : d ≡ x = cc in
-    let in_run : are_of_one_run o c x ≡ true = subst (λ (y : ℕ). are_of_one_run o c y ≡ true) heads g in
+    let in_run = rw heads at g in
     let moved : start + byte_len (x ∷ cs) ≡ at + (width c + byte_len (x ∷ cs)) = omega arith in (
       rest,
       record {
         blanks = [];
         blank = refl;
-        parts = ap (λ (xs : List ℕ). c ∷ xs) parts;
-        start = sym (add-zero at);
+        parts = rw parts;
+        start = rw add-zero;
         is_lexeme = (e, and_from _ _ in_run (all_of_run o c x cs in_run hp.1));
         ends = ends_of_run o c x rest in_run en;
       },
-      subst (λ (n : ℕ). AreTokens o n rest ps) moved more,
+      rw moved at more,
     )
 
 in_front : (o : Options) (at c : ℕ) (text : List ℕ) (ps : List Token) (blank goes : Bool) → is_blank c ≡ blank → goes_on o c text ≡ goes
@@ -141,8 +133,8 @@ in_front : (o : Options) (at c : ℕ) (text : List ℕ) (ps : List Token) (blank
     → AreTokens o at (c ∷ text) (if blank then ps else if goes then join at c ps else record { start = at; characters = c ∷ [] } ∷ ps)
 in_front o at c text ps true goes e g h = blank_in_front o at c text ps e h
 in_front o at c text ps false false e g h = lone_in_front o at c text ps e g h
-in_front o at c [] ps false true e g h = absurd (true≢false (sym g))
-in_front o at c (d ∷ text) [] false true e g h = absurd (true≢false (sym (and_parts _ _ h).0 ∙ run-not_blank o c d g))
+in_front o at c [] ps false true e g h = cc g
+in_front o at c (d ∷ text) [] false true e g h = cc ((and_parts (is_blank d) _ h).0, run-not_blank o c d g)
 in_front o at c (d ∷ text) (p ∷ ps) false true e g h =
     joined_in_front o at c d text h.1.blanks p.characters h.0 p.start ps e g h.1.blank h.1.parts h.1.start h.1.is_lexeme h.1.ends h.2
 

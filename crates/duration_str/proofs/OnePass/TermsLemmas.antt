@@ -19,7 +19,7 @@ use Rattle.duration_str.specs.Reading.{without_last_number, complete, late_fault
 use Rattle.duration_str.specs.Answer.{late_answer, answer_after, answer_at, kinds_after, last_of, front_of}
 use Rattle.duration_str.specs.Tokenizer.{place_of}
 use Rattle.duration_str.specs.Internal.Tokenizer.{IsAhead, TakesNumber}
-use Rattle.duration_str.specs.Internal.Rest.{Rest, terminal_at, end_at, rest_of, start_left, terminals_in, Read, leaving, unit_read, operator_read, answer_left, first_term, fault_or, join, nothing_of, before_operator, at_once}
+use Rattle.duration_str.specs.Internal.Rest.{Rest, terminal_at, rest_of, start_left, terminals_in, Read, leaving, unit_read, operator_read, answer_left, first_term, fault_or, join, nothing_of, before_operator, at_once}
 use Rattle.duration_str.proofs.Sentences.FaultLemmas.{term_below_no_fault}
 use Rattle.duration_str.proofs.Sentences.FrontLemmas.{begins_allowed, table_front}
 use Rattle.duration_str.proofs.Sentences.SumLemmas.{AreAdded, terms_added}
@@ -89,46 +89,22 @@ at_operator op next front (terminal ∷ rest) = refl
 -- The terms from a number on are determined by the unit and the operator read after it.
 terms_read : (no_calc : Bool) (op : CondUnit) (at n : ℕ) (rest : Rest)
     → left_after no_calc op (terminal_at at (number n) rest) ≡ after_number no_calc op n (unit_read no_calc rest)
-terms_read no_calc op at n (end_at p) = refl
-terms_read no_calc op at n (terminal_at p (number m) rest) = refl
-terms_read no_calc op at n (terminal_at p other rest) = refl
-terms_read no_calc op at n (terminal_at p (word None) rest) = refl
-terms_read no_calc op at n (terminal_at p (word (Some u)) (end_at q)) = refl
 terms_read no_calc op at n (terminal_at p (word (Some u)) (terminal_at q (number m) rest)) =
     let here = terminal_at q (number m) rest in
-    ap (λ terms. record { terms = terms; fault = (left_after no_calc Plus here).fault })
-    (with_unit op n u (front_in no_calc here) (after_in no_calc here))
-terms_read no_calc op at n (terminal_at p (word (Some u)) (terminal_at q (word v) rest)) = refl
-terms_read no_calc op at n (terminal_at p (word (Some u)) (terminal_at q other rest)) = refl
-terms_read true op at n (terminal_at p (word (Some u)) (terminal_at q (operator next) rest)) = refl
-terms_read false op at n (terminal_at p (word (Some u)) (terminal_at q (operator next) (end_at r))) = refl
+    rw (with_unit op n u (front_in no_calc here) (after_in no_calc here))
 terms_read false op at n (terminal_at p (word (Some u)) (terminal_at q (operator next) (terminal_at r (number m) rest))) =
     let here = terminal_at r (number m) rest in
-    let front = front_in false here in
-    let after = after_in false here in
-    ap (λ terms. record { terms = terms; fault = (left_after false next here).fault })
-    (with_unit op n u (operator next ∷ front) after
-    ∙ ap (λ terms. record { operator = op; number = n; length = nanos_of u } ∷ terms) (at_operator Plus next front after))
-terms_read false op at n (terminal_at p (word (Some u)) (terminal_at q (operator next) (terminal_at r (word v) rest))) = refl
-terms_read false op at n (terminal_at p (word (Some u)) (terminal_at q (operator next) (terminal_at r (operator o) rest))) = refl
-terms_read false op at n (terminal_at p (word (Some u)) (terminal_at q (operator next) (terminal_at r other rest))) = refl
-terms_read true op at n (terminal_at p (operator next) rest) = refl
-terms_read false op at n (terminal_at p (operator next) (end_at q)) = refl
+    rw (with_unit op n u (operator next ∷ front_in false here) (after_in false here), at_operator Plus next (front_in false here) (after_in false here))
 terms_read false op at n (terminal_at p (operator next) (terminal_at q (number m) rest)) =
     let here = terminal_at q (number m) rest in
-    ap (λ terms. record { terms = terms; fault = (left_after false next here).fault })
-    (without_unit op next n (front_in false here) (after_in false here))
-terms_read false op at n (terminal_at p (operator next) (terminal_at q (word v) rest)) = refl
-terms_read false op at n (terminal_at p (operator next) (terminal_at q (operator o) rest)) = refl
-terms_read false op at n (terminal_at p (operator next) (terminal_at q other rest)) = refl
+    rw (without_unit op next n (front_in false here) (after_in false here))
+terms_read no_calc op at n rest = refl
 
 -- A number is taken, and r is the result of reading the unit after it.
 pub number_taken : (no_calc : Bool) (op : CondUnit) (s a : Tokens) (n : Option ℕ) (taken : TakesNumber s a n)
     (r : Result (Read TimeUnit) Cause) → r ≡ unit_read no_calc (rest_of a)
     → left_after no_calc op (rest_of s) ≡ after_number no_calc op taken.n r
-number_taken no_calc op s a n taken r is =
-    ap (left_after no_calc op) (after_token s a _ taken.token) ∙ terms_read no_calc op (place_of s) taken.n (rest_of a)
-    ∙ ap (after_number no_calc op taken.n) (sym is)
+number_taken no_calc op s a n taken r is = rw (after_token s a _ taken.token, terms_read no_calc op (place_of s) taken.n (rest_of a), is)
 
 -- ---- Steps of the answer
 
@@ -146,8 +122,7 @@ by_number : {A : Type 0} (no_calc : Bool) (f g : Ended → A) (op next : CondUni
     → f (left_after no_calc op (rest_of s)) ≡ g (left_after no_calc next (rest_of s))
 by_number no_calc f g op next s ahead same =
     let (n, rest, is) = at_number s ahead in
-    let read = λ (set : CondUnit). ap (left_after no_calc set) is ∙ terms_read no_calc set (place_of s) n rest in
-    ap f (read op) ∙ same n (unit_read no_calc rest) ∙ sym (ap g (read next))
+    rw (is, terms_read no_calc op (place_of s) n rest, terms_read no_calc next (place_of s) n rest) (same n (unit_read no_calc rest))
 
 -- The first of the later terms sets the operator.
 pub operator_set : (no_calc : Bool) (first : ℕ) (set : CondUnit) (s : Tokens) → IsAhead s (Some Number)
@@ -181,20 +156,13 @@ operator_next no_calc first set next later s ahead =
         (same_operator set (before_operator set later next))
     by n (Err cause) = refl
 
--- A later term is read up to b and added: `next` is the later terms' value including it, `fault` ends the loop at once,
--- and r is read as the operator after it.
-pub later_read : (no_calc : Bool) (first : ℕ) (set : CondUnit) (later next all : Result ℕ Cause) (fault : Option Cause) (s a b : Tokens)
-    (n : Option ℕ) (u : TimeUnit) (r : Result (Read (Option CondUnit)) Cause)
-    → with_left no_calc first set later (left_after no_calc set (rest_of s)) ≡ all → TakesNumber s a n
-    → leaving (rest_of b) (Ok u) ≡ unit_read no_calc (rest_of a) → next ≡ join set later (term_value None n (nanos_of u))
-    → fault ≡ at_once no_calc (join set (Ok first) next) → r ≡ operator_read no_calc (rest_of b)
-    → fault_or fault (with_left no_calc first set next (after_unit no_calc r)) ≡ all
-later_read no_calc first set later next all fault s a b n u r same taken unit is stops op =
-    let after = after_unit no_calc (operator_read no_calc (rest_of b)) in
-    let added = is ∙ (λ i. join set (sym (same_operator set later) i) (term_value None (taken.is_value i) (nanos_of u))) in
-    (λ i. fault_or (stops i) (with_left no_calc first set next (after_unit no_calc (op i))))
-    ∙ ap (λ x. fault_or (at_once no_calc (join set (Ok first) x)) (with_left no_calc first set x after)) added
-    ∙ sym (ap (with_left no_calc first set later) (number_taken no_calc set s a n taken _ unit)) ∙ same
+-- A later term is read up to b and added: `next` is the later terms' value including it.
+pub later_step : {next : Result ℕ Cause} {s a : Tokens} {n : Option ℕ} (no_calc : Bool) (first : ℕ) (set : CondUnit) (later : Result ℕ Cause) (b : Tokens) (u : TimeUnit)
+    → TakesNumber s a n → leaving (rest_of b) (Ok u) ≡ unit_read no_calc (rest_of a) → next ≡ join set later (term_value None n (nanos_of u))
+    → with_left no_calc first set later (left_after no_calc set (rest_of s))
+    ≡ fault_or (at_once no_calc (join set (Ok first) next)) (with_left no_calc first set next (after_unit no_calc (operator_read no_calc (rest_of b))))
+later_step {s = s} {a = a} {n = n} no_calc first set later b u taken unit is =
+    ap (with_left no_calc first set later) (number_taken no_calc set s a n taken _ unit) ∙ rw (same_operator set later, is, taken.is_value)
 
 abbrev pub count : Ended → ℕ
 count left = length left.terms
@@ -264,7 +232,7 @@ by_first no_calc (Err cause) left = Err cause
 
 first_told : (no_calc : Bool) (place : Option ℕ) (f : Term) (left : Ended)
     → fault_or (term_fault place f) (total_of no_calc (value_of_term f) left) ≡ by_first no_calc (term_value place (u64_from f.number) f.length) left
-first_told no_calc place f left = by (term_fault place f) ∙ ap (λ r. by_first no_calc r left) (sym (term_told place f))
+first_told no_calc place f left = rw (term_told place f) (by (term_fault place f))
   where
     by : (fault : Option Cause) → fault_or fault (total_of no_calc (value_of_term f) left) ≡ by_first no_calc (fault_or fault (Ok (value_of_term f))) left
     by None = refl
@@ -285,22 +253,19 @@ no_terms true cause = refl
 pub first_unread : (no_calc : Bool) (s m a : Tokens) (n : Option ℕ) (cause : Cause) → rest_of m ≡ rest_of s → TakesNumber m a n
     → Err cause ≡ unit_read no_calc (rest_of a) → Err cause ≡ answer_left no_calc [] (rest_of s)
 first_unread no_calc s m a n cause same taken unit =
-    no_terms no_calc cause ∙ from_start no_calc (rest_of m) _ (number_taken no_calc Plus m a n taken _ unit)
-    ∙ ap (answer_left no_calc []) same
+    rw (← same, ← from_start no_calc (rest_of m) _ (number_taken no_calc Plus m a n taken _ unit)) (no_terms no_calc cause)
 
--- The first term is read up to b, and has this value or fault; r is read as the operator after it.
-pub first_read : (no_calc : Bool) (s m a b : Tokens) (n : Option ℕ) (u : TimeUnit) (first : Result ℕ Cause) (r : Result (Read (Option CondUnit)) Cause)
-    → rest_of m ≡ rest_of s → TakesNumber m a n → leaving (rest_of b) (Ok u) ≡ unit_read no_calc (rest_of a)
-    → first ≡ term_value (Some 0) n (nanos_of u) → r ≡ operator_read no_calc (rest_of b)
-    → by_first no_calc first (after_unit no_calc r) ≡ answer_left no_calc [] (rest_of s)
-first_read no_calc s m a b n u first r same taken unit is op =
+-- The first term is read up to b, and has this value or fault.
+pub first_step : {m a : Tokens} {n : Option ℕ} {first : Result ℕ Cause} (no_calc : Bool) (s b : Tokens) (u : TimeUnit)
+    → rest_of m ≡ rest_of s → TakesNumber m a n → leaving (rest_of b) (Ok u) ≡ unit_read no_calc (rest_of a) → first ≡ term_value (Some 0) n (nanos_of u)
+    → answer_left no_calc [] (rest_of s) ≡ by_first no_calc first (after_unit no_calc (operator_read no_calc (rest_of b)))
+first_step {m = m} {a = a} {n = n} no_calc s b u same taken unit is =
     let t = term_of taken.n u in
     let more = after_unit no_calc (operator_read no_calc (rest_of b)) in
     let read = number_taken no_calc Plus m a n taken _ unit in
-    (λ i. by_first no_calc ((is ∙ ap (λ k. term_value (Some 0) k (nanos_of u)) taken.is_value) i) (after_unit no_calc (op i)))
-    ∙ sym (one_by_one no_calc t more.terms more.fault
-    (λ h. subst (λ (l : Ended). AreAdded l.terms) read (left_added no_calc Plus (rest_of m) refl h)) ∙ first_told no_calc (Some 0) t more)
-    ∙ from_start no_calc (rest_of m) _ read ∙ ap (answer_left no_calc []) same
+    let added = λ (h : IsTrue no_calc). subst (λ (l : Ended). AreAdded l.terms) read (left_added no_calc Plus (rest_of m) refl h) in
+    rw (← same, ← from_start no_calc (rest_of m) _ read, is, taken.is_value)
+    (one_by_one no_calc t more.terms more.fault added ∙ first_told no_calc (Some 0) t more)
 
 first_stands : (first : ℕ) (set : CondUnit) (front rest : List Terminal)
     → terms_of (complete (first_term first set ++ front) rest) ≡ term_of first NanoSecond ∷ terms_after set (complete front rest)

@@ -1,23 +1,23 @@
 -- A text is read or refused, not both, and the computed answer says which.
-use Rattle.std.proofs.Common.{◌≡◌, ℕ, ◌^◌, ◌<◌, ◌≤◌, Bool, true, false, ◌⊎◌, inl, inr, List, [], ◌∷◌, ◌++◌, map, length, take, drop, Option, Some, None, Result, Ok, Err, unwrap_or, if◌then◌else◌, arith, refl, sym, ap, subst, subst₂, ◌∙◌, append-nil}
-use Rattle.std.proofs.lemmas.Bool.{true≢false, and_parts, cond-true}
+use Rattle.std.proofs.Common.{◌≡◌, ℕ, ◌^◌, ◌<◌, ◌≤◌, Bool, true, false, ◌⊎◌, inl, inr, List, [], ◌∷◌, ◌++◌, map, length, take, drop, Option, Some, None, Result, Ok, Err, if◌then◌else◌, arith, refl, sym, ap, subst, ◌∙◌, append-nil}
+use Rattle.std.proofs.lemmas.Bool.{and_parts, cond-true}
 use Rattle.std.proofs.lemmas.List.{length-take-le}
 use Rattle.std.specs.List.{list_all}
 use Rattle.duration_str.specs.declared.options.Options.{Options}
 use Rattle.duration_str.specs.declared.operator.CondUnit.{CondUnit}
 use Rattle.duration_str.specs.declared.fault.Cause.{Cause}
-use Rattle.duration_str.specs.declared.fault.Cause.TheVariants.{Syntax, Overflow, Mixed}
+use Rattle.duration_str.specs.declared.fault.Cause.TheVariants.{Syntax}
 use Rattle.duration_str.specs.Text.{byte_len}
 use Rattle.duration_str.specs.Grammar.{Terminal, number, word, operator, other, terminal_of, IsSentence, IsSentenceOf}
 use Rattle.duration_str.specs.Tokens.{tokens_of, lexemes_of}
 use Rattle.duration_str.specs.Place.{IsFront, start_after, terminals_of}
-use Rattle.duration_str.specs.Value.{AllPlus, Term, value_of_term, later_total, total_of, value_of, terms_of, fits, unless, term_fault, later_fault, evaluation_fault, is_same_operator, Evaluates}
+use Rattle.duration_str.specs.Value.{AllPlus, Term, value_of_term, later_total, total_of, value_of, terms_of, later_fault, evaluation_fault, is_same_operator, Evaluates}
 use Rattle.duration_str.specs.Reading.{first_fault, early_fault, late_fault, IsRead, IsRefusedAt, early, syntax_fault, late, IsRefused}
 use Rattle.duration_str.specs.Answer.{is_whole, late_answer, answer_after, answer_at, answer, kinds_after, last_of, front_of}
 use Rattle.duration_str.specs.Laws.{OneAnswer, IsAnswer}
 use Rattle.duration_str.proofs.Sentences.FrontLemmas.{AreAllowed, sentence_allowed, whole_allowed, no_operators, one_front, one_expected, table_front, front_within, ends_by_table, kinds_by_table}
 use Rattle.duration_str.proofs.Sentences.SpellingLemmas.{sentence_terminals, tokens_spell, empty_no_sentence}
-use Rattle.duration_str.proofs.Sentences.FaultLemmas.{no_faults, no_fault_true, no_fault_below, term_no_fault_below, fault_moves}
+use Rattle.duration_str.proofs.Sentences.FaultLemmas.{no_fault, or_else-none, is_same_operator-true}
 use Rattle.duration_str.proofs.Sentences.SumLemmas.{terms_added, has_terms, running_none, running_none_below, below_evaluate, evaluate_below}
 
 -- ---- The faults of a sentence
@@ -27,15 +27,15 @@ pub allowed_plus : (last : Option Terminal) (terminals : List Terminal) → AreA
 allowed_plus last [] h = tt
 allowed_plus last (number n ∷ terminals) h = allowed_plus (Some (number n)) terminals h.1
 allowed_plus last (word u ∷ terminals) h = allowed_plus (Some (word u)) terminals h.1
-allowed_plus last (operator op ∷ terminals) h = absurd (true≢false (sym h.0 ∙ no_operators true last refl))
-allowed_plus last (other ∷ terminals) h = absurd (true≢false (sym h.0))
+allowed_plus last (operator op ∷ terminals) h = let none = no_operators true last refl in cc h.0
+allowed_plus last (other ∷ terminals) h = cc h.0
 
 no_calc_plus : (terminals : List Terminal) → IsSentence true terminals → AllPlus terminals
 no_calc_plus terminals s = allowed_plus None terminals (whole_allowed true None terminals (sentence_allowed true terminals s))
 
 first_none : (terms : List Term) → Evaluates terms → first_fault terms ≡ None
 first_none [] e = refl
-first_none (t ∷ terms) e = fault_moves None (Some 0) t e.0
+first_none (t ∷ terms) e = simp no_fault (simp no_fault at e.0)
 
 evaluates_late : (terms : List Term) → Evaluates terms → evaluation_fault terms ≡ None
 evaluates_late [] e = absurd e
@@ -43,7 +43,7 @@ evaluates_late (t ∷ later) e = e.1
 
 evaluates_by_faults : (terms : List Term) → 1 ≤ length terms → first_fault terms ≡ None → evaluation_fault terms ≡ None → Evaluates terms
 evaluates_by_faults [] l f e = absurd (omega arith)
-evaluates_by_faults (t ∷ terms) l f e = (fault_moves (Some 0) None t f, e)
+evaluates_by_faults (t ∷ terms) l f e = (simp no_fault (simp no_fault at f), e)
 
 -- A sentence evaluates exactly if it has neither an early nor a late fault.
 early_none : (no_calc : Bool) (terminals : List Terminal) → IsSentence no_calc terminals → Evaluates (terms_of terminals)
@@ -70,10 +70,8 @@ same_later : (set : CondUnit) (before later : List Term) → later_fault set bef
     → list_all (λ v. is_same_operator set v.operator) later ≡ true
 same_later set before [] h = refl
 same_later set before (t ∷ later) h =
-    let mixed = no_faults (unless (is_same_operator set t.operator) (Mixed set t.operator)) _ h in
-    let own = no_faults (term_fault None t) _ mixed.1 in
-    let step = no_faults (unless (fits (later_total set (before ++ t ∷ []))) (Overflow None)) _ own.1 in
-    rw (no_fault_true (is_same_operator set t.operator) (Mixed set t.operator) mixed.0) (same_later set (before ++ t ∷ []) later step.1)
+    let parts = simp no_fault at h in
+    rw ((is_same_operator-true set t.operator).1 parts.0) (same_later set (before ++ t ∷ []) later parts.1.1.1)
 
 pub later_value : (t u : Term) (later : List Term) → later_fault u.operator [] (u ∷ later) ≡ None
     → value_of (t ∷ u ∷ later) ≡ Some (total_of u.operator t (later_total u.operator (u ∷ later)))
@@ -82,17 +80,16 @@ later_value t u later h =
 
 has_value_below : (terms : List Term) → Evaluates terms → (n : ℕ) × (value_of terms ≡ Some n) × (n < 2 ^ 64)
 has_value_below [] e = absurd e
-has_value_below (t ∷ []) e = (value_of_term t, refl, term_no_fault_below None t e.0)
+has_value_below (t ∷ []) e = (value_of_term t, refl, (simp no_fault at e.0).1)
 has_value_below (t ∷ u ∷ later) e =
-    let faults = no_faults (later_fault u.operator [] (u ∷ later)) _ e.1 in
-    (total_of u.operator t (later_total u.operator (u ∷ later)), later_value t u later faults.0, no_fault_below _ (Overflow None) faults.1)
+    let faults = (or_else-none (later_fault u.operator [] (u ∷ later)) _).0 e.1 in (_, later_value t u later faults.0, simp no_fault at faults.1)
 
 -- ---- Readings and refusals in terms of terminals
 
 sentence_front : (no_calc : Bool) (terminals : List Terminal) → IsSentence no_calc terminals → IsFront no_calc terminals terminals []
 sentence_front no_calc terminals s = record {
   parts = sym (append-nil terminals);
-  begins = ([], subst (IsSentence no_calc) (sym (append-nil terminals)) s);
+  begins = ([], rw append-nil s);
   longest = λ n l _. l;
 }
 
@@ -104,13 +101,12 @@ pub record IsReadAs (no_calc : Bool) (terminals : List Terminal) (nanos : ℕ) :
 
 pub read_terminals : (o : Options) (text : List ℕ) (nanos : ℕ) → IsRead o text nanos → IsReadAs o.no_calc (terminals_of o text) nanos
 read_terminals o text nanos r =
-    subst (λ (terminals : List Terminal). IsReadAs o.no_calc terminals nanos) (sentence_terminals o text r.lexemes r.spells)
-    (record { sentence = r.spells.0; evaluates = r.evaluates; value = r.value })
+    rw (← sentence_terminals o text r.lexemes r.spells) (record { sentence = r.spells.0; evaluates = r.evaluates; value = r.value })
 
 pub read_sentence : (o : Options) (text : List ℕ) (lexemes : List (List ℕ)) (nanos : ℕ) → IsSentenceOf o lexemes text → IsRead o text nanos
     → IsReadAs o.no_calc (map (terminal_of o) lexemes) nanos
 read_sentence o text lexemes nanos s r =
-    subst (λ (terminals : List Terminal). IsReadAs o.no_calc terminals nanos) (sym (sentence_terminals o text lexemes s)) (read_terminals o text nanos r)
+    rw (sentence_terminals o text lexemes s) (read_terminals o text nanos r)
 
 pub sentence_read : (o : Options) (text : List ℕ) (lexemes : List (List ℕ)) (nanos : ℕ) → IsSentenceOf o lexemes text
     → IsReadAs o.no_calc (map (terminal_of o) lexemes) nanos → IsRead o text nanos
@@ -122,16 +118,12 @@ terminals_read o text nanos r = sentence_read o text (lexemes_of (tokens_of o te
 pub read_below : (o : Options) (text : List ℕ) (nanos : ℕ) → IsRead o text nanos → nanos < 2 ^ 64
 read_below o text nanos r =
     let found = has_value_below (terms_of (map (terminal_of o) r.lexemes)) r.evaluates in
-    let value = r.value in
-    let value_found = found.1 in
-    let same : found.0 ≡ nanos = cc in
-    subst (λ (n : ℕ). n < 2 ^ 64) same found.2
+    let same : found.0 ≡ nanos = cc (r.value, found.1) in
+    omega arith
 
 one_value_at : (o : Options) (text : List ℕ) (m n : ℕ) → IsRead o text m → IsRead o text n → m ≡ n
 one_value_at o text m n r s =
-    let value = (read_terminals o text m r).value in
-    let other_value = (read_terminals o text n s).value in
-    cc
+    cc ((read_terminals o text m r).value, (read_terminals o text n s).value)
 
 one_cause_of : (no_calc : Bool) (place : ℕ) (front rest : List Terminal) (c d : Cause) → IsRefusedAt no_calc place front rest c
     → IsRefusedAt no_calc place front rest d → c ≡ d
@@ -149,11 +141,10 @@ one_cause_of no_calc place front rest c d (late e n f) (late e' n' f') = cc
 evaluates_not_refused : (no_calc : Bool) (place : ℕ) (terminals : List Terminal) (cause : Cause) → IsSentence no_calc terminals → Evaluates (terms_of terminals)
     → IsRefusedAt no_calc place terminals [] cause → ⊥
 evaluates_not_refused no_calc place terminals cause s e (early k) = let none = early_none no_calc terminals s e in cc
-evaluates_not_refused no_calc place terminals cause s e (syntax_fault x k n f c) = n (subst (IsSentence no_calc) (sym (append-nil terminals)) s)
+evaluates_not_refused no_calc place terminals cause s e (syntax_fault x k n f c) = n (rw append-nil s)
 evaluates_not_refused no_calc place terminals cause s e (late k n f) =
     let none = late_none no_calc terminals e in
-    let found : late_fault no_calc terminals ≡ Some cause = subst (λ (ts : List Terminal). late_fault no_calc ts ≡ Some cause) (append-nil terminals) f in
-    cc
+    cc (rw append-nil at f)
 
 -- The refusal of a text with this front and this rest.
 abbrev IsRefusedFrom : Options → List ℕ → Cause → List Terminal → List Terminal → Type 0
@@ -163,7 +154,7 @@ IsRefusedFrom o text cause front rest = IsRefusedAt o.no_calc (start_after (leng
 place_free : (no_calc : Bool) (p q : ℕ) (terminals : List Terminal) (cause : Cause) → IsSentence no_calc terminals
     → IsRefusedAt no_calc p terminals [] cause → IsRefusedAt no_calc q terminals [] cause
 place_free no_calc p q terminals cause s (early e) = early e
-place_free no_calc p q terminals cause s (syntax_fault x e n f c) = absurd (n (subst (IsSentence no_calc) (sym (append-nil terminals)) s))
+place_free no_calc p q terminals cause s (syntax_fault x e n f c) = absurd (n (rw append-nil s))
 place_free no_calc p q terminals cause s (late e n f) = late e n f
 
 -- A text that a sentence spells is refused exactly if the terminals of the sentence are.
@@ -172,10 +163,9 @@ pub refused_sentence : (o : Options) (text : List ℕ) (lexemes : List (List ℕ
 refused_sentence o [] lexemes cause place s h = absurd (empty_no_sentence o lexemes s)
 refused_sentence o (c ∷ text) lexemes cause place s h =
     let terminals : List Terminal = map (terminal_of o) lexemes in
-    let front : IsFront o.no_calc terminals h.0 h.1 =
-    subst (λ (ts : List Terminal). IsFront o.no_calc ts h.0 h.1) (sym (sentence_terminals o (c ∷ text) lexemes s)) h.2 in
+    let front = rw (← sentence_terminals o (c ∷ text) lexemes s) at h.2 in
     let same = one_front o.no_calc terminals h.0 h.1 terminals [] front (sentence_front o.no_calc terminals s.0) in
-    place_free o.no_calc _ place terminals cause s.0 (subst₂ (IsRefusedFrom o (c ∷ text) cause) same.0 same.1 h.3)
+    place_free o.no_calc _ place terminals cause s.0 (rw (same.0, same.1) at h.3)
 
 pub sentence_refused : (o : Options) (text : List ℕ) (lexemes : List (List ℕ)) (cause : Cause) → IsSentenceOf o lexemes text
     → ((place : ℕ) → IsRefusedAt o.no_calc place (map (terminal_of o) lexemes) [] cause) → IsRefused o text cause
@@ -184,8 +174,8 @@ sentence_refused o (c ∷ text) lexemes cause s h =
     let same : map (terminal_of o) lexemes ≡ terminals_of o (c ∷ text) = sentence_terminals o (c ∷ text) lexemes s in (
       terminals_of o (c ∷ text),
       [],
-      sentence_front o.no_calc (terminals_of o (c ∷ text)) (subst (IsSentence o.no_calc) same s.0),
-      subst (λ (terminals : List Terminal). IsRefusedFrom o (c ∷ text) cause terminals []) same (h _),
+      sentence_front o.no_calc (terminals_of o (c ∷ text)) (rw same at s.0),
+      rw (← same) (h _),
     )
 
 not_both_at : (o : Options) (text : List ℕ) (nanos : ℕ) (cause : Cause) → IsRead o text nanos → IsRefused o text cause → ⊥
@@ -197,7 +187,7 @@ one_cause_at : (o : Options) (text : List ℕ) (c d : Cause) → IsRefused o tex
 one_cause_at o [] c d h k = h ∙ sym k
 one_cause_at o (x ∷ text) c d h k =
     let same = one_front o.no_calc (terminals_of o (x ∷ text)) k.0 k.1 h.0 h.1 k.2 h.2 in
-    one_cause_of o.no_calc _ h.0 h.1 c d h.3 (subst₂ (IsRefusedFrom o (x ∷ text) d) same.0 same.1 k.3)
+    one_cause_of o.no_calc _ h.0 h.1 c d h.3 (rw (same.0, same.1) at k.3)
 
 -- ---- The computed answer
 
@@ -213,14 +203,11 @@ MeansAt no_calc place front rest (Err cause) = IsRefusedAt no_calc place front r
 
 late_means : (no_calc : Bool) (place : ℕ) (terminals : List Terminal) (cause : Option Cause) → IsSentence no_calc terminals
     → early_fault no_calc terminals [] ≡ None → late_fault no_calc terminals ≡ cause → MeansAt no_calc place terminals [] (late_answer cause terminals)
-late_means no_calc place terminals (Some cause) s e l = late e (subst (IsSentence no_calc) (sym (append-nil terminals)) s)
-    (subst (λ (ts : List Terminal). late_fault no_calc ts ≡ Some cause) (sym (append-nil terminals)) l)
+late_means no_calc place terminals (Some cause) s e l = late e (rw append-nil s) (rw append-nil l)
 late_means no_calc place terminals None s e l =
     let evaluated : Evaluates (terms_of terminals) = evaluates_from no_calc terminals s e l in
     let found = has_value_below (terms_of terminals) evaluated in
-    let value : value_of (terms_of terminals) ≡ Some (unwrap_or (value_of (terms_of terminals)) 0) =
-    found.1 ∙ ap (λ (v : Option ℕ). Some (unwrap_or v 0)) (sym found.1) in
-    (refl, record { sentence = s; evaluates = evaluated; value = value })
+    (refl, record { sentence = s; evaluates = evaluated; value = rw found.1 })
 
 syntax_means : (no_calc : Bool) (place : ℕ) (front rest : List Terminal) → IsFront no_calc (front ++ rest) front rest
     → early_fault no_calc front rest ≡ None → (IsSentence no_calc (front ++ rest) → ⊥)
@@ -235,11 +222,10 @@ whole_means : (no_calc : Bool) (place : ℕ) (front rest : List Terminal) → Is
     (if whole then late_answer (late_fault no_calc front) front else Err (Syntax place (kinds_after no_calc (last_of None front))))
 whole_means no_calc place front [] f e true w = late_means no_calc place front _ ((ends_by_table no_calc front f.begins).0 w) e refl
 whole_means no_calc place front [] f e false w = syntax_means no_calc place front [] f e
-    (λ s. true≢false (sym ((ends_by_table no_calc front f.begins).1 (subst (IsSentence no_calc) (append-nil front) s)) ∙ w))
-whole_means no_calc place front (t ∷ rest) f e true w = absurd (true≢false (sym w))
+    (λ s. cc ((ends_by_table no_calc front f.begins).1 (rw append-nil at s)))
+whole_means no_calc place front (t ∷ rest) f e true w = cc
 whole_means no_calc place front (t ∷ rest) f e false w = syntax_means no_calc place front (t ∷ rest) f e
-    (λ s. let terminals : List Terminal = front ++ t ∷ rest in
-    let same : t ∷ rest ≡ [] = (one_front no_calc terminals front (t ∷ rest) terminals [] f (sentence_front no_calc terminals s)).1 in cc)
+    (λ s. cc (one_front no_calc _ front (t ∷ rest) _ [] f (sentence_front no_calc (front ++ t ∷ rest) s)).1)
 
 front_means : (no_calc : Bool) (place : ℕ) (front rest : List Terminal) → IsFront no_calc (front ++ rest) front rest
     → (cause : Option Cause) → early_fault no_calc front rest ≡ cause → MeansAt no_calc place front rest (answer_after no_calc place front rest cause)
@@ -252,8 +238,7 @@ text_means : (o : Options) (c : ℕ) (text : List ℕ) (front rest : List Termin
     → Means o (c ∷ text) result
 text_means o c text front rest (Err cause) f h = (front, rest, f, h)
 text_means o c text front rest (Ok nanos) f h =
-    let same : terminals_of o (c ∷ text) ≡ front = f.parts ∙ ap (λ (r : List Terminal). front ++ r) h.0 ∙ append-nil front in
-    terminals_read o (c ∷ text) nanos (subst (λ (terminals : List Terminal). IsReadAs o.no_calc terminals nanos) (sym same) h.1)
+    terminals_read o (c ∷ text) nanos (rw (f.parts, h.0, append-nil) h.1)
 
 answer_means : (o : Options) (text : List ℕ) → Means o text (answer o text)
 answer_means o [] = refl
@@ -266,8 +251,7 @@ answer_means o (c ∷ text) =
     let long : length front ≡ n = length-take-le n terminals (front_within o.no_calc None terminals) in
     let start = λ (k : ℕ). start_after k (byte_len (c ∷ text)) (tokens_of o (c ∷ text)) in
     text_means o c text front rest (answer_at o.no_calc (start n) front rest) f
-    (subst (λ (k : ℕ). MeansAt o.no_calc (start k) front rest (answer_at o.no_calc (start n) front rest)) (sym long)
-    (front_means o.no_calc (start n) front rest (subst (λ (ts : List Terminal). IsFront o.no_calc ts front rest) f.parts f) _ refl))
+    (rw long (front_means o.no_calc (start n) front rest (subst (λ (ts : List Terminal). IsFront o.no_calc ts front rest) f.parts f) _ refl))
 
 by_value : (o : Options) (text : List ℕ) (nanos : ℕ) → IsRead o text nanos → (result : Result ℕ Cause) → Means o text result → result ≡ Ok nanos
 by_value o text nanos r (Ok n) h = ap Ok (one_value_at o text n nanos h r)
@@ -294,7 +278,7 @@ one_answer_holds = record {
 pub is_answer_holds : IsAnswer
 is_answer_holds = record {
   read = λ o text nanos.
-      (λ e. subst (Means o text) e (answer_means o text), λ r. by_value o text nanos r (answer o text) (answer_means o text));
+      (λ e. rw e at (answer_means o text), λ r. by_value o text nanos r (answer o text) (answer_means o text));
   refused = λ o text cause.
-      (λ e. subst (Means o text) e (answer_means o text), λ r. by_cause o text cause r (answer o text) (answer_means o text));
+      (λ e. rw e at (answer_means o text), λ r. by_cause o text cause r (answer o text) (answer_means o text));
 }

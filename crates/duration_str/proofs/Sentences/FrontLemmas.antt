@@ -1,6 +1,7 @@
 -- Sentences in terms of the table of what may follow a terminal, and the front of a list of terminals.
-use Rattle.std.proofs.Common.{◌≡◌, ℕ, suc, zero, ◌≤◌, Bool, true, false, ◌↔◌, List, [], ◌∷◌, ◌++◌, Option, Some, None, take, drop, length, IsTrue, if◌then◌else◌, arith, refl, sym, ap, subst, ◌∙◌, zero-le, le_antisymm, suc-le-suc, le_of_suc-le-suc}
-use Rattle.std.proofs.lemmas.Bool.{true≢false, not_from_false, not-true, not_from_true, and_from, and_parts}
+use Rattle.std.proofs.Common.{◌≡◌, ℕ, suc, zero, ◌≤◌, Bool, true, false, ◌↔◌, inl, inr, List, [], ◌∷◌, ◌++◌, Option, Some, None, take, drop, length, IsTrue, arith, refl, sym, ap, ◌∙◌, zero-le, le_antisymm, suc-le-suc, le_of_suc-le-suc}
+use Rattle.std.proofs.lemmas.Bool.Decides.{same_from_decides}
+use Rattle.std.proofs.lemmas.Bool.{cases_Bool, true≢false, not_from_false, not-true, not_from_true, and_from, and_parts}
 use Rattle.std.proofs.lemmas.List.{take-append-drop, take_at, drop_at, length-append}
 use Rattle.duration_str.specs.declared.unit.TimeUnit.TheVariants.{Second}
 use Rattle.duration_str.specs.declared.operator.CondUnit.{CondUnit}
@@ -160,56 +161,42 @@ table_can_follow no_calc front b = record {
   end_expected = ends_by_table no_calc front b;
 }
 
-same_test : {P : Type 0} (a b : Bool) → (IsTrue a ↔ P) → (IsTrue b ↔ P) → a ≡ b
-same_test true true h k = refl
-same_test true false h k = sym (k.1 (h.0 refl))
-same_test false true h k = h.1 (k.0 refl)
-same_test false false h k = refl
-
 -- Only one set of kinds can follow a front.
 pub one_expected : (no_calc : Bool) (front : List Terminal) (a b : Expected) → CanFollow no_calc front a → CanFollow no_calc front b → a ≡ b
 one_expected no_calc front a b h k =
-    let number_same = same_test a.number b.number h.number_expected k.number_expected in
-    let unit_same = same_test a.unit_word b.unit_word h.unit_expected k.unit_expected in
-    let operator_same = same_test a.operator b.operator h.operator_expected k.operator_expected in
-    let end_same = same_test a.text_end b.text_end h.end_expected k.end_expected in
+    let number_same = same_from_decides a.number b.number h.number_expected k.number_expected in
+    let unit_same = same_from_decides a.unit_word b.unit_word h.unit_expected k.unit_expected in
+    let operator_same = same_from_decides a.operator b.operator h.operator_expected k.operator_expected in
+    let end_same = same_from_decides a.text_end b.text_end h.end_expected k.end_expected in
     λ i. record { number = number_same i; unit_word = unit_same i; operator = operator_same i; text_end = end_same i }
 
 pub kinds_by_table : (no_calc : Bool) (front : List Terminal) (expected : Expected) → BeginsSentence no_calc front
     → (CanFollow no_calc front expected ↔ (expected ≡ kinds_after no_calc (last_of None front)))
 kinds_by_table no_calc front expected b = (
   λ h. one_expected no_calc front expected (kinds_after no_calc (last_of None front)) h (table_can_follow no_calc front b),
-  λ e. subst (CanFollow no_calc front) (sym e) (table_can_follow no_calc front b),
+  λ e. rw e (table_can_follow no_calc front b),
 )
 
 pub no_operators : (no_calc : Bool) (last : Option Terminal) → no_calc ≡ true → (kinds_after no_calc last).operator ≡ false
-no_operators no_calc None e = refl
 no_operators no_calc (Some (number n)) e = not_from_true _ e
 no_operators no_calc (Some (word u)) e = not_from_true _ e
-no_operators no_calc (Some (operator op)) e = refl
-no_operators no_calc (Some other) e = refl
+no_operators no_calc _ e = refl
 
 -- ---- The table finds the front
-
-allowed_step : (no_calc : Bool) (last : Option Terminal) (t : Terminal) (terminals : List Terminal) (n : ℕ) (b : Bool)
-    → allows (kinds_after no_calc last) t ≡ b → AreAllowed no_calc (Some t) (take n terminals)
-    → AreAllowed no_calc last (take (if b then suc n else 0) (t ∷ terminals))
-allowed_step no_calc last t terminals n true e h = (e, h)
-allowed_step no_calc last t terminals n false e h = tt
 
 front_allowed : (no_calc : Bool) (last : Option Terminal) (terminals : List Terminal)
     → AreAllowed no_calc last (take (front_after no_calc last terminals) terminals)
 front_allowed no_calc last [] = tt
 front_allowed no_calc last (t ∷ terminals) =
-    allowed_step no_calc last t terminals (front_after no_calc (Some t) terminals) _ refl (front_allowed no_calc (Some t) terminals)
-
-step_within : (b : Bool) (n m : ℕ) → n ≤ m → (if b then suc n else 0) ≤ suc m
-step_within true n m h = suc-le-suc h
-step_within false n m h = zero-le
+    elim (cases_Bool (allows (kinds_after no_calc last) t)) [ inl e ↦ rw e (e, front_allowed no_calc (Some t) terminals) | inr e ↦ rw e tt ]
 
 pub front_within : (no_calc : Bool) (last : Option Terminal) (terminals : List Terminal) → front_after no_calc last terminals ≤ length terminals
 front_within no_calc last [] = zero-le
-front_within no_calc last (t ∷ terminals) = step_within _ _ _ (front_within no_calc (Some t) terminals)
+front_within no_calc last (t ∷ terminals) =
+    elim (cases_Bool (allows (kinds_after no_calc last) t)) [
+      | inl e ↦ rw e (suc-le-suc (front_within no_calc (Some t) terminals))
+      | inr e ↦ rw e zero-le
+    ]
 
 longest_allowed : (no_calc : Bool) (last : Option Terminal) (terminals : List Terminal) (n : ℕ) → n ≤ length terminals
     → AreAllowed no_calc last (take n terminals) → n ≤ length (take (front_after no_calc last terminals) terminals)
@@ -228,8 +215,8 @@ table_front no_calc terminals = record {
 front_length : (no_calc : Bool) (terminals a r b s : List Terminal) → IsFront no_calc terminals a r → IsFront no_calc terminals b s → length a ≤ length b
 front_length no_calc terminals a r b s h k =
     let within : length a ≤ length terminals = omega (arith, ap length h.parts, length-append a r) in
-    let here : take (length a) terminals ≡ a = ap (take (length a)) h.parts ∙ take_at a r (length a) refl in
-    k.longest (length a) within (subst (BeginsSentence no_calc) (sym here) h.begins)
+    let here : take (length a) terminals ≡ a = rw h.parts (take_at a r (length a) refl) in
+    k.longest (length a) within (rw here h.begins)
 
 pub one_front : (no_calc : Bool) (terminals a r b s : List Terminal) → IsFront no_calc terminals a r → IsFront no_calc terminals b s → (a ≡ b) × (r ≡ s)
 one_front no_calc terminals a r b s h k =

@@ -1,12 +1,12 @@
 -- A sentence spells a text exactly if its lexemes are those of the text's tokens.
-use Rattle.std.proofs.Common.{◌≡◌, ℕ, ◌+◌, Bool, true, false, ◌&&◌, ◌⊎◌, inl, inr, List, [], ◌∷◌, ◌++◌, map, Option, Some, None, IsTrue, refl, sym, ap, subst, ◌∙◌}
+use Rattle.std.proofs.Common.{◌≡◌, ℕ, ◌+◌, Bool, true, false, ◌&&◌, inl, inr, List, [], ◌∷◌, ◌++◌, map, Option, Some, None, IsTrue, refl, sym, ◌∙◌}
 use Rattle.std.proofs.lemmas.Bool.{true≢false, and_from, and_parts, or_cases, or_left, or_right, false_from_ne_true}
 use Rattle.std.proofs.lemmas.List.Folds.{list_all-append}
 use Rattle.std.specs.List.{list_all}
 use Rattle.duration_str.specs.declared.options.Options.{Options}
 use Rattle.duration_str.specs.declared.fault.Expected.{Expected}
 use Rattle.duration_str.specs.Text.{is_blank, is_digit, is_unit_letter, IsBlank, byte_len}
-use Rattle.duration_str.specs.Grammar.{Terminal, number, word, other, terminal_of, IsSentence, IsSentenceOf, Spells}
+use Rattle.duration_str.specs.Grammar.{Terminal, number, word, other, terminal_of, IsSentenceOf, Spells}
 use Rattle.duration_str.specs.Tokens.{Token, are_of_one_run, goes_on, IsLexeme, EndsRun, AreTokens, tokens_of, lexemes_of}
 use Rattle.duration_str.specs.Place.{terminals_of}
 use Rattle.duration_str.specs.Answer.{kinds_after, allows}
@@ -70,31 +70,32 @@ letter_terminal o = terminal_cases o (λ w t. StartsWith (is_unit_letter o) w �
 
 not_two_numbers : (o : Options) (s t : Terminal) → is_number_or_other s ≡ true → is_number_or_other t ≡ true
     → IsTrue (allows (kinds_after o.no_calc (Some s)) t) → ⊥
-not_two_numbers o (number n) (number m) h k a = true≢false (sym a)
-not_two_numbers o other (number m) h k a = true≢false (sym a)
-not_two_numbers o s other h k a = true≢false (sym a)
+not_two_numbers o (number n) (number m) h k a = cc
+not_two_numbers o other (number m) h k a = cc
+not_two_numbers o s other h k a = cc
 not_two_numbers o s t h k a = cc
 
 not_two_lexemes : (o : Options) (s t : Terminal) → is_word_or_other s ≡ true → is_word_or_other t ≡ true
     → IsTrue (allows (kinds_after o.no_calc (Some s)) t) → ⊥
-not_two_lexemes o (word u) (word v) h k a = true≢false (sym a)
-not_two_lexemes o other (word v) h k a = true≢false (sym a)
-not_two_lexemes o s other h k a = true≢false (sym a)
+not_two_lexemes o (word u) (word v) h k a = cc
+not_two_lexemes o other (word v) h k a = cc
+not_two_lexemes o s other h k a = cc
 not_two_lexemes o s t h k a = cc
 
 -- If the table allows the terminal of one lexeme after that of another, the two are not of one run.
 allowed_apart : (o : Options) (c : ℕ) (cs : List ℕ) (d : ℕ) (ds : List ℕ)
     → IsTrue (allows (kinds_after o.no_calc (Some (terminal_of o (c ∷ cs)))) (terminal_of o (d ∷ ds))) → are_of_one_run o c d ≡ false
-allowed_apart o c cs d ds a = false_from_ne_true _ (λ (run : are_of_one_run o c d ≡ true). both (or_cases _ _ run))
-  where
-    both : ((is_digit c && is_digit d) ≡ true) ⊎ ((is_unit_letter o c && is_unit_letter o d) ≡ true) → ⊥
-    both (inl h) = not_two_numbers o (terminal_of o (c ∷ cs)) (terminal_of o (d ∷ ds))
-        (digit_terminal o (c ∷ cs) (and_parts _ _ h).0) (digit_terminal o (d ∷ ds) (and_parts _ _ h).1) a
-    both (inr h) = not_two_lexemes o (terminal_of o (c ∷ cs)) (terminal_of o (d ∷ ds))
-        (letter_terminal o (c ∷ cs) (and_parts _ _ h).0) (letter_terminal o (d ∷ ds) (and_parts _ _ h).1) a
+allowed_apart o c cs d ds a = false_from_ne_true _ (λ run. elim (or_cases (is_digit c && is_digit d) (is_unit_letter o c && is_unit_letter o d) run) [
+  | inl h ↦
+      let both = and_parts (is_digit c) (is_digit d) h in
+      not_two_numbers o (terminal_of o (c ∷ cs)) (terminal_of o (d ∷ ds)) (digit_terminal o (c ∷ cs) both.0) (digit_terminal o (d ∷ ds) both.1) a
+  | inr h ↦
+      let both = and_parts (is_unit_letter o c) (is_unit_letter o d) h in
+      not_two_lexemes o (terminal_of o (c ∷ cs)) (terminal_of o (d ∷ ds)) (letter_terminal o (c ∷ cs) both.0) (letter_terminal o (d ∷ ds) both.1) a
+])
 
 stops_at_blank : (o : Options) (c d : ℕ) → is_blank d ≡ true → are_of_one_run o c d ≡ false
-stops_at_blank o c d e = false_from_ne_true _ (λ (run : are_of_one_run o c d ≡ true). true≢false (sym e ∙ run-not_blank o c d run))
+stops_at_blank o c d e = false_from_ne_true _ (λ run. cc (run-not_blank o c d run))
 
 stops_before : (o : Options) (c : ℕ) (cs blanks w rest : List ℕ) → IsBlank blanks
     → IsTrue (allows (kinds_after o.no_calc (Some (terminal_of o (c ∷ cs)))) (terminal_of o w)) → goes_on o c (blanks ++ (w ++ rest)) ≡ false
@@ -109,7 +110,7 @@ ends_in_sentence o [] rest ws a s = tt
 ends_in_sentence o (c ∷ cs) [] [] a s = refl
 ends_in_sentence o (c ∷ cs) (d ∷ rest) [] a s = stops_at_blank o c d (and_parts _ _ s).0
 ends_in_sentence o (c ∷ cs) rest (v ∷ ws) a s =
-    subst (λ (text : List ℕ). goes_on o c text ≡ false) (sym s.3) (stops_before o c cs s.0 v s.1 s.2 a.0)
+    rw s.3 (stops_before o c cs s.0 v s.1 s.2 a.0)
 
 -- The lexemes of a sentence that spells the text are the characters of its tokens.
 spelled_tokens : (o : Options) (at : ℕ) (last : Option Terminal) (lexemes : List (List ℕ)) (text : List ℕ)
@@ -132,10 +133,10 @@ spelled_tokens o at last (w ∷ ws) text a s =
         },
         more.1,
       ),
-      ap (λ (vs : List (List ℕ)). w ∷ vs) more.2,
+      rw more.2,
     )
 
-tokens_spell_at : (o : Options) (at : ℕ) (text : List ℕ) (tokens : List Token) → AreTokens o at text tokens → Spells (lexemes_of tokens) text
+pub tokens_spell_at : (o : Options) (at : ℕ) (text : List ℕ) (tokens : List Token) → AreTokens o at text tokens → Spells (lexemes_of tokens) text
 tokens_spell_at o at text [] h = h
 tokens_spell_at o at text (p ∷ tokens) h =
     (h.1.blanks, h.0, h.1.blank, h.1.parts, tokens_spell_at o (p.start + byte_len p.characters) h.0 tokens h.2)
@@ -146,14 +147,14 @@ tokens_spell o text = tokens_spell_at o 0 text (tokens_of o text) (tokens_are o 
 pub sentence_tokens : (o : Options) (text : List ℕ) (lexemes : List (List ℕ)) → IsSentenceOf o lexemes text → lexemes ≡ lexemes_of (tokens_of o text)
 sentence_tokens o text lexemes s =
     let found = spelled_tokens o 0 None lexemes text (sentence_allowed o.no_calc (map (terminal_of o) lexemes) s.0) s.1 in
-    sym found.2 ∙ ap lexemes_of (tokens_once o 0 text found.0 (tokens_of o text) found.1 (tokens_are o 0 text))
+    rw (← tokens_once o 0 text found.0 (tokens_of o text) found.1 (tokens_are o 0 text), found.2)
 
 pub sentence_terminals : (o : Options) (text : List ℕ) (lexemes : List (List ℕ)) → IsSentenceOf o lexemes text
     → map (terminal_of o) lexemes ≡ terminals_of o text
-sentence_terminals o text lexemes s = ap (map (terminal_of o)) (sentence_tokens o text lexemes s)
+sentence_terminals o text lexemes s = rw (sentence_tokens o text lexemes s)
 
 pub empty_no_sentence : (o : Options) (lexemes : List (List ℕ)) → IsSentenceOf o lexemes [] → ⊥
-empty_no_sentence o lexemes s = subst (IsSentence o.no_calc) (sentence_terminals o [] lexemes s) s.0
+empty_no_sentence o lexemes s = rw (sentence_terminals o [] lexemes s) at s.0
 
 -- All characters of each lexeme pass the test.
 abbrev pub EachPasses : (ℕ → Bool) → List (List ℕ) → Type 0
@@ -163,7 +164,6 @@ EachPasses test (w ∷ lexemes) = IsTrue (list_all test w) × EachPasses test le
 pub lexemes_pass : (test : ℕ → Bool) (lexemes : List (List ℕ)) (text : List ℕ) → IsTrue (list_all test text) → Spells lexemes text → EachPasses test lexemes
 lexemes_pass test [] text h s = tt
 lexemes_pass test (w ∷ lexemes) text h s =
-    let whole : IsTrue (list_all test (s.0 ++ (w ++ s.1))) = subst (λ (t : List ℕ). IsTrue (list_all test t)) s.3 h in
-    let after : IsTrue (list_all test (w ++ s.1)) = (and_parts _ _ (sym (list_all-append test s.0 (w ++ s.1)) ∙ whole)).1 in
-    let parts = and_parts _ _ (sym (list_all-append test w s.1) ∙ after) in
+    let whole = rw (s.3, list_all-append, list_all-append) at h in
+    let parts = and_parts (list_all test w) _ (and_parts (list_all test s.0) _ whole).1 in
     (parts.0, lexemes_pass test lexemes s.1 parts.1 s.4)

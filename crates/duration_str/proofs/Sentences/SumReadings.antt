@@ -1,16 +1,14 @@
 -- A text that a sum spells is read as the sum if it is below 2^64, and otherwise refused as an overflow.
-use Rattle.std.proofs.Common.{◌≡◌, ℕ, ◌+◌, ◌^◌, ◌≤◌, ◌<◌, ◌⊎◌, inl, inr, ⊎_elim, Bool, true, false, List, [], ◌∷◌, ◌++◌, map, length, Option, Some, None, arith, refl, sym, ap, subst, ◌∙◌, append_assoc, append-nil}
-use Rattle.std.proofs.lemmas.Bool.{cases_lt}
+use Rattle.std.proofs.Common.{◌≡◌, ℕ, ◌^◌, ◌≤◌, ◌<◌, ◌⊎◌, inl, inr, Bool, true, false, List, [], ◌∷◌, ◌++◌, map, length, Some, None, arith, refl, sym, ap, subst, ◌∙◌, append_assoc, append-nil}
+use Rattle.std.proofs.lemmas.Bool.{cases_lt, lt-ltb, le-ltb}
 use Rattle.duration_str.specs.declared.options.Options.{Options}
-use Rattle.duration_str.specs.declared.operator.CondUnit.{CondUnit}
 use Rattle.duration_str.specs.declared.operator.CondUnit.TheVariants.{Plus}
-use Rattle.duration_str.specs.declared.fault.Cause.{Cause}
-use Rattle.duration_str.specs.declared.fault.Cause.TheVariants.{Overflow, Mixed}
+use Rattle.duration_str.specs.declared.fault.Cause.TheVariants.{Overflow}
 use Rattle.duration_str.specs.Grammar.{Terminal, terminal_of, IsSentence, IsSentenceOf}
-use Rattle.duration_str.specs.Value.{AllPlus, Term, terms_of, value_of, value_of_term, sum_of, fits, or_else, unless, term_fault, later_fault, evaluation_fault, is_same_operator}
+use Rattle.duration_str.specs.Value.{AllPlus, Term, terms_of, value_of, value_of_term, sum_of, later_fault, evaluation_fault}
 use Rattle.duration_str.specs.Reading.{first_fault, running_fault, place_after, late_fault, IsRead, IsRefusedAt, early, late, IsRefused}
-use Rattle.duration_str.proofs.Sentences.FaultLemmas.{fault_by, first_fault_is, next_fault_is, below_no_fault, above_fault, term_below_no_fault}
-use Rattle.duration_str.proofs.Sentences.SumLemmas.{AreAdded, terms_added, has_terms, below_evaluate, value_is_sum}
+use Rattle.duration_str.proofs.Sentences.FaultLemmas.{is_same_operator-true, term_below_no_fault}
+use Rattle.duration_str.proofs.Sentences.SumLemmas.{AreAdded, terms_added, has_terms, fault_of_sum, below_evaluate, value_is_sum}
 use Rattle.duration_str.proofs.Sentences.AnswerLemmas.{read_sentence, sentence_refused}
 
 -- The lexemes are a sentence of the options' grammar without `*`, and spell the text.
@@ -59,49 +57,30 @@ sum_fits_each (t ∷ terms) h = (omega arith, sum_fits_each terms (omega arith))
 
 pub running_overflow : (before terms : List Term) → AreAdded terms → EachFits terms → sum_of before < 2 ^ 64
     → 2 ^ 64 ≤ sum_of (before ++ terms) → running_fault before terms ≡ Some (Overflow None)
-running_overflow before [] a f b h =
-    let less : sum_of (before ++ []) < 2 ^ 64 = rw (append-nil before) b in
-    absurd (omega arith)
-running_overflow before (t ∷ later) a f b h =
-    let sum : ℕ = sum_of (before ++ t ∷ []) in
-    next_fault_is (term_fault (place_after before) t) _ (Overflow None) (term_below_no_fault (place_after before) t a.1 f.0)
-    (⊎_elim
-    (λ (below : sum < 2 ^ 64). next_fault_is _ _ (Overflow None) (below_no_fault sum (Overflow None) below)
-    (running_overflow (before ++ t ∷ []) later a.2 f.1 below (rw (append_assoc before (t ∷ []) later) h)))
-    (λ (above : 2 ^ 64 ≤ sum). first_fault_is _ _ (Overflow None) (above_fault sum (Overflow None) above))
-    (cases_lt sum (2 ^ 64)))
+running_overflow before [] a f b h = let e = append-nil before in absurd (omega (arith, rw e at h))
+running_overflow before (t ∷ later) a f b h = rw (term_below_no_fault (place_after before) t a.1 f.0) (elim (cases_lt (sum_of (before ++ t ∷ [])) (2 ^ 64)) [
+  | inl below ↦
+      let rest = running_overflow (before ++ t ∷ []) later a.2 f.1 below (rw append_assoc h) in
+      rw (lt-ltb _ _ below, rest)
+  | inr above ↦ rw (le-ltb _ _ above)
+])
 
-abbrev IsNoneOrOverflow : Option Cause → Type 0
-IsNoneOrOverflow fault = (fault ≡ None) ⊎ (fault ≡ Some (Overflow None))
-
-next_overflow : (a b : Option Cause) → a ≡ None → IsNoneOrOverflow b → IsNoneOrOverflow (or_else a b)
-next_overflow None b e h = h
-next_overflow (Some cause) b e h = let none : ⊥ = cc in absurd none
-
-later_overflow : (before terms : List Term) → AreAdded terms → EachFits terms → IsNoneOrOverflow (later_fault Plus before terms)
+later_overflow : (before terms : List Term) → AreAdded terms → EachFits terms
+    → (later_fault Plus before terms ≡ None) ⊎ (later_fault Plus before terms ≡ Some (Overflow None))
 later_overflow before [] a f = inl refl
-later_overflow before (t ∷ later) a f =
-    let sum : ℕ = sum_of (before ++ t ∷ []) in
-    let same : unless (is_same_operator Plus t.operator) (Mixed Plus t.operator) ≡ None = rw a.0 in
-    next_overflow _ _ same
-    (next_overflow (term_fault None t) _ (term_below_no_fault None t a.1 f.0)
-    (⊎_elim
-    (λ (below : sum < 2 ^ 64). next_overflow (unless (fits sum) (Overflow None)) _ (below_no_fault sum (Overflow None) below)
-    (later_overflow (before ++ t ∷ []) later a.2 f.1))
-    (λ (above : 2 ^ 64 ≤ sum). inr (first_fault_is (unless (fits sum) (Overflow None)) _ (Overflow None) (above_fault sum (Overflow None) above)))
-    (cases_lt sum (2 ^ 64))))
+later_overflow before (t ∷ later) a f = rw ((is_same_operator-true Plus t.operator).1 a.0, term_below_no_fault None t a.1 f.0) (elim (cases_lt (sum_of (before ++ t ∷ [])) (2 ^ 64)) [
+  | inl below ↦ rw (lt-ltb _ _ below) (later_overflow (before ++ t ∷ []) later a.2 f.1)
+  | inr above ↦ rw (le-ltb _ _ above) (inr refl)
+])
 
 added_overflow : (terms : List Term) → AreAdded terms → EachFits terms → 2 ^ 64 ≤ sum_of terms
     → evaluation_fault terms ≡ Some (Overflow None)
 added_overflow [] a f h = absurd (omega arith)
 added_overflow (t ∷ []) a f h = let own : value_of_term t < 2 ^ 64 = f.0 in absurd (omega arith)
-added_overflow (t ∷ u ∷ later) a f h =
-    subst (λ (set : CondUnit). fault_by set t (u ∷ later) ≡ Some (Overflow None)) (sym a.2.0)
-    (⊎_elim
-    (λ (none : later_fault Plus [] (u ∷ later) ≡ None).
-    next_fault_is _ _ (Overflow None) none (above_fault (value_of_term t + sum_of (u ∷ later)) (Overflow None) h))
-    (λ (some : later_fault Plus [] (u ∷ later) ≡ Some (Overflow None)). first_fault_is _ _ (Overflow None) some)
-    (later_overflow [] (u ∷ later) a.2 f.1))
+added_overflow (t ∷ u ∷ later) a f h = rw (fault_of_sum t u later a.2.0) (elim (later_overflow [] (u ∷ later) a.2 f.1) [
+  | inl none ↦ rw (none, le-ltb _ _ h)
+  | inr some ↦ rw some
+])
 
 first_fits : (terms : List Term) → AreAdded terms → EachFits terms → first_fault terms ≡ None
 first_fits [] a f = refl
