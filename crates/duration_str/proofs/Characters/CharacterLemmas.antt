@@ -1,6 +1,7 @@
 -- The classes of characters exclude one another, and a run is of one class.
-use Rattle.std.proofs.Common.{◌≡◌, ℕ, ◌≤◌, Bool, true, false, ◌&&◌, ◌||◌, inl, inr, Some, arith, refl}
-use Rattle.std.proofs.lemmas.Bool.{cases_Bool, false_from_ne_true, or_cases, and_parts}
+use Rattle.std.proofs.Common.{◌≡◌, ℕ, ◌≤◌, Bool, true, false, ◌&&◌, ◌||◌, inl, inr, List, [], ◌∷◌, Some, IsTrue, arith, refl}
+use Rattle.std.proofs.lemmas.Bool.{cases_Bool, false_from_ne_true, or_cases, and_parts, and_from}
+use Rattle.std.specs.List.{list_all}
 use Rattle.std.proofs.lemmas.Bool.Decides.{nat_tests}
 use Rattle.std.specs.Prelude.{nat_lt}
 use Rattle.std.specs.Char.{is_ascii, is_ascii_alphabetic, is_ascii_uppercase}
@@ -8,6 +9,11 @@ use Rattle.duration_str.specs.declared.options.Options.{Options}
 use Rattle.duration_str.specs.declared.operator.CondUnit.{CondUnit}
 use Rattle.duration_str.specs.Text.{is_blank, is_digit, is_unit_letter, operator_of}
 use Rattle.duration_str.specs.Tokens.{are_of_one_run}
+
+-- Characters that pass a test also pass a weaker one.
+pub all_weaker : (p q : ℕ → Bool) (cs : List ℕ) → ((c : ℕ) → p c ≡ true → q c ≡ true) → IsTrue (list_all p cs) → IsTrue (list_all q cs)
+all_weaker p q [] weaker h = refl
+all_weaker p q (c ∷ cs) weaker h = and_from _ _ (weaker c (and_parts _ _ h).0) (all_weaker p q cs weaker (and_parts _ _ h).1)
 
 letter_above : (o : Options) (c : ℕ) → is_unit_letter o c ≡ true → 65 ≤ c
 letter_above o c e = grind (arith, nat_tests)

@@ -21,8 +21,7 @@ use Rattle.duration_str.specs.Units.{unit_of_word}
 use Rattle.duration_str.specs.Internal.Numbers.{u64_from}
 use Rattle.duration_str.specs.Internal.Packed.{unit_of_packed}
 use Rattle.duration_str.specs.Internal.Cutting.{ahead, StandsAt, Between, Passes, Stops, TakesDigits, TakesLetters, packed_number_after}
-use Rattle.duration_str.proofs.Characters.CharacterLemmas.{letter_of_ascii, capital_below}
-use Rattle.duration_str.proofs.Sentences.SpellingLemmas.{all_weaker}
+use Rattle.duration_str.proofs.Characters.CharacterLemmas.{all_weaker, letter_of_ascii, capital_below}
 use Rattle.duration_str.proofs.Characters.TextLemmas.{width_some, byte_len-append}
 use Rattle.duration_str.proofs.Characters.NumberLemmas.{decimal_digits}
 use Rattle.std.proofs.lemmas.Str.Parse.{digits_value_short}

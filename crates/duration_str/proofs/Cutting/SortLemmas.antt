@@ -17,7 +17,7 @@ use Rattle.duration_str.specs.Internal.Sorts.{sign_sort, sort_at, sort_of}
 use Rattle.duration_str.specs.Internal.Tokenizer.{is_number, IsSign}
 use Rattle.duration_str.proofs.Characters.CharacterLemmas.{digit-not_letter, letter-not_digit}
 use Rattle.duration_str.proofs.Cutting.TokenLemmas.{tokens_are}
-use Rattle.duration_str.proofs.Sentences.SpellingLemmas.{all_weaker, digits_are_lexeme, letters_are_lexeme}
+use Rattle.duration_str.proofs.Cutting.TerminalLemmas.{digits_are_lexeme, letters_are_lexeme, no_run, sign_sorts, lexeme_sort}
 use Rattle.duration_str.proofs.Cutting.CuttingLemmas.{TakesWord}
 
 -- The characters from `place` to `next` are a token, as long as possible, that stands for this terminal.
@@ -88,10 +88,6 @@ word_stands o text place next at c unit taken stops stands e =
     rw taken.named (run_stands o (is_unit_letter o) (λ cs. word (unit_of_word o cs)) text place next at c run.characters run.between run.all stops stands e
     (λ d ds all. (letters_are_lexeme o d ds all, letters_mean o d ds all)) (letters_end o)).1
 
-no_run : (o : Options) (c : ℕ) (rest : List ℕ) → is_digit c ≡ false → is_unit_letter o c ≡ false → goes_on o c rest ≡ false
-no_run o c [] e f = refl
-no_run o c (d ∷ rest) e f = rw (e, f) refl
-
 -- an operator, or a character of no other class
 pub sign_stands : (o : Options) (text : List ℕ) (place next c : ℕ) → StandsAt text place next c → is_blank c ≡ false → is_digit c ≡ false
     → is_unit_letter o c ≡ false
@@ -140,38 +136,7 @@ sign_of_sort o c sort sign is =
     let none = sign_by (is_digit c) (is_unit_letter o c) (operator_of c) (rw is at sign) in
     (none.0, none.1, rw (none.0, none.1) at is)
 
-pub sign_sorts : (op : Option CondUnit) → sign_sort op ≡ sort_of (operator_or_other op)
-sign_sorts None = refl
-sign_sorts (Some op) = refl
-
 -- ---- the token that starts with a character
-
-left_false : (a b p q : Bool) → ((a && b) || (p && q)) ≡ true → a ≡ false → q ≡ true
-left_false a b p q h e = grind arith
-
-right_false : (a b p q : Bool) → ((a && b) || (p && q)) ≡ true → p ≡ false → b ≡ true
-right_false a b p q h e = grind arith
-
-sign_alone : (o : Options) (c : ℕ) (ds : List ℕ) → is_digit c ≡ false → is_unit_letter o c ≡ false → IsTrue (list_all (are_of_one_run o c) ds)
-    → sort_at o c ≡ sort_of (terminal_of o (c ∷ ds))
-sign_alone o c [] e f all = rw (e, f) (sign_sorts (operator_of c))
-sign_alone o c (d ∷ ds) e f all = cc (no_run o c (d ∷ ds) e f, (and_parts (are_of_one_run o c d) _ all).0)
-
--- The first character of a token determines the sort of its terminal.
-token_sort : (o : Options) (c : ℕ) (cs : List ℕ) → IsLexeme o (c ∷ cs) → sort_at o c ≡ sort_of (terminal_of o (c ∷ cs))
-token_sort o c cs p = elim (cases_Bool (is_digit c)) [
-  | inl e ↦
-      let rest = all_weaker (are_of_one_run o c) is_digit cs
-      (λ d h. right_false (is_digit c) (is_digit d) (is_unit_letter o c) (is_unit_letter o d) h (digit-not_letter o c e)) p.1 in
-      rw (e, rest)
-  | inr e ↦ elim (cases_Bool (is_unit_letter o c)) [
-    | inl f ↦
-        let rest = all_weaker (are_of_one_run o c) (is_unit_letter o) cs
-        (λ d h. left_false (is_digit c) (is_digit d) (is_unit_letter o c) (is_unit_letter o d) h e) p.1 in
-        rw (e, f, rest)
-    | inr f ↦ sign_alone o c cs e f p.1
-  ]
-]
 
 -- A text that starts with a character other than a blank starts with a token of that character.
 pub first_token : (o : Options) (at c : ℕ) (text : List ℕ) → is_blank c ≡ false
@@ -184,7 +149,7 @@ first_token o at c text e = of_tokens (tokens_from o at (c ∷ text)) (tokens_ar
     begins start (b ∷ blanks) cs rest hb parts there p = cc (and_parts (is_blank b) _ hb).0
     begins start [] [] rest hb parts there p = absurd p
     begins start [] (d ∷ cs) rest hb parts there p =
-        let heads : c ≡ d = cc in (rw add-zero at there, rw heads (token_sort o d cs p))
+        let heads : c ≡ d = cc in (rw add-zero at there, rw heads (lexeme_sort o d cs p))
 
     of_tokens : (ps : List Token) → AreTokens o at (c ∷ text) ps
         → (cs : List ℕ) × (rest : List Token) × (ps ≡ record { start = at; characters = cs } ∷ rest) × (sort_at o c ≡ sort_of (terminal_of o cs))

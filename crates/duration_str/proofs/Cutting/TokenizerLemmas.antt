@@ -22,7 +22,8 @@ use Rattle.duration_str.specs.Internal.Numbers.{u64_from}
 use Rattle.duration_str.specs.Tokenizer.{source, options_of, place_of, left, what_of, KeepsInput, YieldsNextToken}
 use Rattle.duration_str.specs.Internal.Tokenizer.{IsAhead, LooksAhead, IsSign, TakesToken, TakesTokenWith, TakesNumber}
 use Rattle.duration_str.proofs.Cutting.CuttingLemmas.{TakesWord, chars_between, long_word, same_slice, blanks_passed, token_taken, place_at_end}
-use Rattle.duration_str.proofs.Cutting.SortLemmas.{StandsToken, number_stands, word_stands, sign_stands, digit_of_sort, letter_of_sort, sign_of_sort, sign_sorts, first_token}
+use Rattle.duration_str.proofs.Cutting.SortLemmas.{StandsToken, number_stands, word_stands, sign_stands, digit_of_sort, letter_of_sort, sign_of_sort, first_token}
+use Rattle.duration_str.proofs.Cutting.TerminalLemmas.{sign_sorts}
 
 pub keeps_all : (s : Tokens) → KeepsInput s s
 keeps_all s = record { text = refl; options = refl }

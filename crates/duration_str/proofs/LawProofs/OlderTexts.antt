@@ -14,7 +14,7 @@ use Rattle.duration_str.specs.Older.{older_units, older_terminals, WasSentenceOf
 use Rattle.duration_str.specs.Laws.{OlderTexts}
 use Rattle.duration_str.proofs.Characters.UnitLemmas.{found_among_all}
 use Rattle.duration_str.proofs.Sentences.AnswerLemmas.{sentence_refused}
-use Rattle.duration_str.proofs.Sentences.FrontLemmas.{AreAllowed, whole_allowed, sentence_allowed}
+use Rattle.duration_str.proofs.Sentences.FrontLemmas.{AreAllowed, sentence_allowed}
 
 -- the terminal of characters, given the two tests and the unit that they name
 abbrev terminal_by : Bool → Bool → List ℕ → Option TimeUnit → Terminal
@@ -45,8 +45,7 @@ same_terminals o last (w ∷ lexemes) a = ap₂ ◌∷◌ (same_terminal o last 
 
 older_same : (o : Options) (lexemes : List (List ℕ)) (text : List ℕ) → WasSentenceOf o lexemes text → older_terminals o lexemes ≡ map (terminal_of o) lexemes
 older_same o lexemes text was =
-    same_terminals o None lexemes
-    (whole_allowed o.no_calc None (older_terminals o lexemes) (sentence_allowed o.no_calc (older_terminals o lexemes) was.sentence))
+    same_terminals o None lexemes (sentence_allowed o.no_calc (older_terminals o lexemes) was.sentence)
 
 older_sentence : (o : Options) (lexemes : List (List ℕ)) (text : List ℕ) → WasSentenceOf o lexemes text → IsSentenceOf o lexemes text
 older_sentence o lexemes text was = (subst (IsSentence o.no_calc) (older_same o lexemes text was) was.sentence, was.spells)

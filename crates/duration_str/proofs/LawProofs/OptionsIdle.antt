@@ -30,7 +30,7 @@ alike_back o p text h = record { grammar = sym h.grammar; tokens = sym h.tokens;
 
 read_alike : (o p : Options) (text : List ℕ) (nanos : ℕ) → AreAlike o p text → IsRead o text nanos → IsRead p text nanos
 read_alike o p text nanos h r =
-    terminals_read p text nanos (rw (h.grammar, h.terminals) at (read_terminals o text nanos r))
+    terminals_read p text nanos (rw (h.grammar, h.terminals) at (read_terminals r))
 
 refused_alike : (o p : Options) (text : List ℕ) (cause : Cause) → AreAlike o p text → IsRefused o text cause → IsRefused p text cause
 refused_alike o p [] cause h r = r

@@ -22,5 +22,5 @@ place_and_kinds_hold = record {
   kinds = kinds_by_table;
   no_operator = λ no_calc front op e b. no_operator_last no_calc None front op e (λ q. cc) (begins_allowed no_calc front b);
   front = table_front;
-  only = λ no_calc terminals front rest h. one_front no_calc terminals front rest _ _ h (table_front no_calc terminals);
+  only = λ no_calc terminals front rest h. one_front h (table_front no_calc terminals);
 }

@@ -13,7 +13,6 @@ use Rattle.duration_str.specs.Value.{AllPlus, Term, sum_of, terms_of, terms_afte
 use Rattle.duration_str.specs.Reading.{IsRead}
 use Rattle.duration_str.specs.Laws.{SumOfTexts, HasNoStar}
 use Rattle.duration_str.proofs.Cutting.TerminalLemmas.{terminal_cases}
-use Rattle.duration_str.proofs.Sentences.FrontLemmas.{AreAllowedWhole, after_operator, sentence_allowed, allowed_sentence}
 use Rattle.duration_str.proofs.Sentences.SpellingLemmas.{EachPasses, lexemes_pass}
 use Rattle.duration_str.proofs.Sentences.SumLemmas.{sum-append}
 use Rattle.duration_str.proofs.Sentences.AnswerLemmas.{read_below}
@@ -51,21 +50,13 @@ plus_terminal o = at o.no_calc o.lowercase o.cn_unit
     at no_calc lowercase true = refl
     at no_calc lowercase false = refl
 
--- A plus can follow wherever a sentence can end.
-plus_allowed : (last : Option Terminal) (ys : List Terminal) → AreAllowedWhole false last [] → AreAllowedWhole false None ys
-    → AreAllowedWhole false last (operator Plus ∷ ys)
-plus_allowed (Some (number n)) ys h k = (refl, after_operator false Plus ys k)
-plus_allowed (Some (word u)) ys h k = (refl, after_operator false Plus ys k)
-plus_allowed _ ys h k = cc
-
-both_allowed : (last : Option Terminal) (xs ys : List Terminal) → AreAllowedWhole false last xs → AreAllowedWhole false None ys
-    → AreAllowedWhole false last (xs ++ operator Plus ∷ ys)
-both_allowed last [] ys h k = plus_allowed last ys h k
-both_allowed last (x ∷ xs) ys h k = (h.0, both_allowed (Some x) xs ys h.1 k)
-
 both_sentence : (xs ys : List Terminal) → IsSentence false xs → IsSentence false ys → IsSentence false (xs ++ operator Plus ∷ ys)
-both_sentence xs ys s t =
-    allowed_sentence false (xs ++ operator Plus ∷ ys) (both_allowed None xs ys (sentence_allowed false xs s) (sentence_allowed false ys t))
+both_sentence (number n ∷ []) ys s t = (refl, t)
+both_sentence (number n ∷ operator next ∷ more) ys s t = (refl, both_sentence more ys s.1 t)
+both_sentence (number n ∷ word (Some u) ∷ []) ys s t = (refl, t)
+both_sentence (number n ∷ word (Some u) ∷ operator next ∷ more) ys s t = (refl, both_sentence more ys s.1 t)
+both_sentence (number n ∷ word (Some u) ∷ number m ∷ more) ys s t = both_sentence (number m ∷ more) ys s t
+both_sentence _ ys s t = absurd s
 
 both_terms : (op : CondUnit) (xs ys : List Terminal) → IsSentence false xs
     → terms_after op (xs ++ operator Plus ∷ ys) ≡ terms_after op xs ++ terms_of ys
@@ -152,8 +143,8 @@ reads_joined o a b m n calc plain_a plain_b r q =
     let terms = joined_terms o r.lexemes q.lexemes (rw calc at r.spells.0) in
     let sum_a : sum_of xs ≡ m = read_sum o r.lexemes a m s r in
     let sum_b : sum_of ys ≡ n = read_sum o q.lexemes b n t q in
-    let small_a = sum_fits_each xs (rw sum_a (read_below o a m r)) in
-    let small_b = sum_fits_each ys (rw sum_b (read_below o b n q)) in
+    let small_a = sum_fits_each xs (rw sum_a (read_below r)) in
+    let small_b = sum_fits_each ys (rw sum_b (read_below q)) in
     record {
       lexemes = joined_lexemes r.lexemes q.lexemes;
       sum = combination_is_sum o a b r.lexemes q.lexemes calc s t;

@@ -1,5 +1,5 @@
 -- A text is read or refused, not both, and the computed answer says which.
-use Rattle.std.proofs.Common.{◌≡◌, ℕ, ◌^◌, ◌<◌, ◌≤◌, Bool, true, false, ◌⊎◌, inl, inr, List, [], ◌∷◌, ◌++◌, map, length, take, drop, Option, Some, None, Result, Ok, Err, if◌then◌else◌, arith, refl, sym, ap, subst, ◌∙◌, append-nil}
+use Rattle.std.proofs.Common.{◌≡◌, ℕ, ◌^◌, ◌<◌, ◌≤◌, Bool, true, false, ◌⊎◌, ◌↔◌, inl, inr, List, [], ◌∷◌, ◌++◌, map, length, take, drop, Option, Some, None, Result, Ok, Err, if◌then◌else◌, arith, refl, sym, ap, subst, ◌∙◌, append-nil}
 use Rattle.std.proofs.lemmas.Bool.{and_parts, cond-true}
 use Rattle.std.proofs.lemmas.List.{length-take-le}
 use Rattle.std.specs.List.{list_all}
@@ -15,7 +15,7 @@ use Rattle.duration_str.specs.Value.{AllPlus, Term, value_of_term, later_total, 
 use Rattle.duration_str.specs.Reading.{first_fault, early_fault, late_fault, IsRead, IsRefusedAt, early, syntax_fault, late, IsRefused}
 use Rattle.duration_str.specs.Answer.{is_whole, late_answer, answer_after, answer_at, answer, kinds_after, last_of, front_of}
 use Rattle.duration_str.specs.Laws.{OneAnswer, IsAnswer}
-use Rattle.duration_str.proofs.Sentences.FrontLemmas.{AreAllowed, sentence_allowed, whole_allowed, no_operators, one_front, one_expected, table_front, front_within, ends_by_table, kinds_by_table}
+use Rattle.duration_str.proofs.Sentences.FrontLemmas.{AreAllowed, sentence_allowed, no_operators, one_front, one_expected, table_front, front_within, ends_by_table, kinds_by_table}
 use Rattle.duration_str.proofs.Sentences.SpellingLemmas.{sentence_terminals, tokens_spell, empty_no_sentence}
 use Rattle.duration_str.proofs.Sentences.FaultLemmas.{no_fault, or_else-none, is_same_operator-true}
 use Rattle.duration_str.proofs.Sentences.SumLemmas.{terms_added, has_terms, running_none, running_none_below, below_evaluate, evaluate_below}
@@ -31,38 +31,24 @@ allowed_plus last (operator op ∷ terminals) h = let none = no_operators true l
 allowed_plus last (other ∷ terminals) h = cc h.0
 
 no_calc_plus : (terminals : List Terminal) → IsSentence true terminals → AllPlus terminals
-no_calc_plus terminals s = allowed_plus None terminals (whole_allowed true None terminals (sentence_allowed true terminals s))
+no_calc_plus terminals s = allowed_plus None terminals (sentence_allowed true terminals s)
 
-first_none : (terms : List Term) → Evaluates terms → first_fault terms ≡ None
-first_none [] e = refl
-first_none (t ∷ terms) e = simp no_fault (simp no_fault at e.0)
-
-evaluates_late : (terms : List Term) → Evaluates terms → evaluation_fault terms ≡ None
-evaluates_late [] e = absurd e
-evaluates_late (t ∷ later) e = e.1
-
-evaluates_by_faults : (terms : List Term) → 1 ≤ length terms → first_fault terms ≡ None → evaluation_fault terms ≡ None → Evaluates terms
-evaluates_by_faults [] l f e = absurd (omega arith)
-evaluates_by_faults (t ∷ terms) l f e = (simp no_fault (simp no_fault at f), e)
+evaluates_by_faults : (terms : List Term) → 1 ≤ length terms
+    → (Evaluates terms ↔ (first_fault terms ≡ None) × (evaluation_fault terms ≡ None))
+evaluates_by_faults [] l = absurd (omega arith)
+evaluates_by_faults (t ∷ terms) l =
+    (λ e. (simp no_fault (simp no_fault at e.0), e.1), λ f. (simp no_fault (simp no_fault at f.0), f.1))
 
 -- A sentence evaluates exactly if it has neither an early nor a late fault.
-early_none : (no_calc : Bool) (terminals : List Terminal) → IsSentence no_calc terminals → Evaluates (terms_of terminals)
-    → early_fault no_calc terminals [] ≡ None
-early_none false terminals s e = first_none (terms_of terminals) e
-early_none true terminals s e =
-    let added = terms_added terminals (no_calc_plus terminals s) in
-    running_none [] (terms_of terminals) added (evaluate_below (terms_of terminals) added e)
-
-late_none : (no_calc : Bool) (terminals : List Terminal) → Evaluates (terms_of terminals) → late_fault no_calc terminals ≡ None
-late_none false terminals e = evaluates_late (terms_of terminals) e
-late_none true terminals e = refl
-
-evaluates_from : (no_calc : Bool) (terminals : List Terminal) → IsSentence no_calc terminals → early_fault no_calc terminals [] ≡ None
-    → late_fault no_calc terminals ≡ None → Evaluates (terms_of terminals)
-evaluates_from false terminals s e l = evaluates_by_faults (terms_of terminals) (has_terms false terminals s) e l
-evaluates_from true terminals s e l =
-    below_evaluate (terms_of terminals) (has_terms true terminals s)
-    (terms_added terminals (no_calc_plus terminals s)) (running_none_below (terms_of terminals) e)
+evaluates_by : (no_calc : Bool) (terminals : List Terminal) → IsSentence no_calc terminals
+    → (Evaluates (terms_of terminals) ↔ (early_fault no_calc terminals [] ≡ None) × (late_fault no_calc terminals ≡ None))
+evaluates_by false terminals s = evaluates_by_faults (terms_of terminals) (has_terms false terminals s)
+evaluates_by true terminals s =
+    let terms = terms_of terminals in
+    let added = terms_added terminals (no_calc_plus terminals s) in (
+      λ e. (running_none [] terms added (evaluate_below terms added e), refl),
+      λ f. below_evaluate terms (has_terms true terminals s) added (running_none_below terms f.0),
+    )
 
 -- ---- The value of terms that evaluate
 
@@ -99,95 +85,86 @@ pub record IsReadAs (no_calc : Bool) (terminals : List Terminal) (nanos : ℕ) :
   pub evaluates : Evaluates (terms_of terminals)
   pub value : value_of (terms_of terminals) ≡ Some nanos
 
-pub read_terminals : (o : Options) (text : List ℕ) (nanos : ℕ) → IsRead o text nanos → IsReadAs o.no_calc (terminals_of o text) nanos
-read_terminals o text nanos r =
+pub read_terminals : {o : Options} {text : List ℕ} {nanos : ℕ} → IsRead o text nanos → IsReadAs o.no_calc (terminals_of o text) nanos
+read_terminals {o} {text} r =
     rw (← sentence_terminals o text r.lexemes r.spells) (record { sentence = r.spells.0; evaluates = r.evaluates; value = r.value })
 
-pub read_sentence : (o : Options) (text : List ℕ) (lexemes : List (List ℕ)) (nanos : ℕ) → IsSentenceOf o lexemes text → IsRead o text nanos
-    → IsReadAs o.no_calc (map (terminal_of o) lexemes) nanos
-read_sentence o text lexemes nanos s r =
-    rw (sentence_terminals o text lexemes s) (read_terminals o text nanos r)
-
-pub sentence_read : (o : Options) (text : List ℕ) (lexemes : List (List ℕ)) (nanos : ℕ) → IsSentenceOf o lexemes text
-    → IsReadAs o.no_calc (map (terminal_of o) lexemes) nanos → IsRead o text nanos
-sentence_read o text lexemes nanos s r = record { lexemes = lexemes; spells = s; evaluates = r.evaluates; value = r.value }
+pub read_sentence : {o : Options} {text : List ℕ} {nanos : ℕ} (lexemes : List (List ℕ)) → IsSentenceOf o lexemes text
+    → IsRead o text nanos → IsReadAs o.no_calc (map (terminal_of o) lexemes) nanos
+read_sentence {o} {text} lexemes s r = rw (sentence_terminals o text lexemes s) (read_terminals r)
 
 pub terminals_read : (o : Options) (text : List ℕ) (nanos : ℕ) → IsReadAs o.no_calc (terminals_of o text) nanos → IsRead o text nanos
-terminals_read o text nanos r = sentence_read o text (lexemes_of (tokens_of o text)) nanos (r.sentence, tokens_spell o text) r
+terminals_read o text nanos r = record {
+  lexemes = lexemes_of (tokens_of o text);
+  spells = (r.sentence, tokens_spell o text);
+  evaluates = r.evaluates;
+  value = r.value;
+}
 
-pub read_below : (o : Options) (text : List ℕ) (nanos : ℕ) → IsRead o text nanos → nanos < 2 ^ 64
-read_below o text nanos r =
+pub read_below : {o : Options} {text : List ℕ} {nanos : ℕ} → IsRead o text nanos → nanos < 2 ^ 64
+read_below {o} {nanos = nanos} r =
     let found = has_value_below (terms_of (map (terminal_of o) r.lexemes)) r.evaluates in
     let same : found.0 ≡ nanos = cc (r.value, found.1) in
     omega arith
 
-one_value_at : (o : Options) (text : List ℕ) (m n : ℕ) → IsRead o text m → IsRead o text n → m ≡ n
-one_value_at o text m n r s =
-    cc ((read_terminals o text m r).value, (read_terminals o text n s).value)
+one_value : {o : Options} {text : List ℕ} {m n : ℕ} → IsRead o text m → IsRead o text n → m ≡ n
+one_value r s = cc ((read_terminals r).value, (read_terminals s).value)
 
-one_cause_of : (no_calc : Bool) (place : ℕ) (front rest : List Terminal) (c d : Cause) → IsRefusedAt no_calc place front rest c
+-- There is one cause for a front, its rest and the place of the rest.
+one_cause_at : {no_calc : Bool} {place : ℕ} {front rest : List Terminal} {c d : Cause} → IsRefusedAt no_calc place front rest c
     → IsRefusedAt no_calc place front rest d → c ≡ d
-one_cause_of no_calc place front rest c d (early h) (early k) = cc
-one_cause_of no_calc place front rest c d (early h) (syntax_fault x e n f s) = cc
-one_cause_of no_calc place front rest c d (early h) (late e n f) = cc
-one_cause_of no_calc place front rest c d (syntax_fault x e n f s) (early k) = cc
-one_cause_of no_calc place front rest c d (syntax_fault x e n f s) (syntax_fault y e' n' f' s') =
-    s ∙ ap (Syntax place) (one_expected no_calc front x y f f') ∙ sym s'
-one_cause_of no_calc place front rest c d (syntax_fault x e n f s) (late e' n' f') = absurd (n n')
-one_cause_of no_calc place front rest c d (late e n f) (early k) = cc
-one_cause_of no_calc place front rest c d (late e n f) (syntax_fault x e' n' f' s') = absurd (n' n)
-one_cause_of no_calc place front rest c d (late e n f) (late e' n' f') = cc
+one_cause_at (early h) (early k) = cc
+one_cause_at (early h) (syntax_fault x e n f s) = cc
+one_cause_at (early h) (late e n f) = cc
+one_cause_at (syntax_fault x e n f s) (early k) = cc
+one_cause_at (syntax_fault x e n f s) (syntax_fault y e' n' f' s') = cc (one_expected f f')
+one_cause_at (syntax_fault x e n f s) (late e' n' f') = absurd (n n')
+one_cause_at (late e n f) (early k) = cc
+one_cause_at (late e n f) (syntax_fault x e' n' f' s') = absurd (n' n)
+one_cause_at (late e n f) (late e' n' f') = cc
 
-evaluates_not_refused : (no_calc : Bool) (place : ℕ) (terminals : List Terminal) (cause : Cause) → IsSentence no_calc terminals → Evaluates (terms_of terminals)
-    → IsRefusedAt no_calc place terminals [] cause → ⊥
-evaluates_not_refused no_calc place terminals cause s e (early k) = let none = early_none no_calc terminals s e in cc
-evaluates_not_refused no_calc place terminals cause s e (syntax_fault x k n f c) = n (rw append-nil s)
-evaluates_not_refused no_calc place terminals cause s e (late k n f) =
-    let none = late_none no_calc terminals e in
+evaluates_not_refused : {no_calc : Bool} {place : ℕ} (terminals : List Terminal) (cause : Cause) → IsSentence no_calc terminals
+    → Evaluates (terms_of terminals) → IsRefusedAt no_calc place terminals [] cause → ⊥
+evaluates_not_refused {no_calc} terminals cause s e (early k) = cc ((evaluates_by no_calc terminals s).0 e).0
+evaluates_not_refused terminals cause s e (syntax_fault x k n f c) = n (rw append-nil s)
+evaluates_not_refused {no_calc} terminals cause s e (late k n f) =
+    let none = ((evaluates_by no_calc terminals s).0 e).1 in
     cc (rw append-nil at f)
 
--- The refusal of a text with this front and this rest.
-abbrev IsRefusedFrom : Options → List ℕ → Cause → List Terminal → List Terminal → Type 0
-IsRefusedFrom o text cause front rest = IsRefusedAt o.no_calc (start_after (length front) (byte_len text) (tokens_of o text)) front rest cause
-
 -- A sentence has no syntax fault, so its refusal does not depend on the place of the rest.
-place_free : (no_calc : Bool) (p q : ℕ) (terminals : List Terminal) (cause : Cause) → IsSentence no_calc terminals
+place_free : {no_calc : Bool} {p : ℕ} (q : ℕ) {terminals : List Terminal} {cause : Cause} → IsSentence no_calc terminals
     → IsRefusedAt no_calc p terminals [] cause → IsRefusedAt no_calc q terminals [] cause
-place_free no_calc p q terminals cause s (early e) = early e
-place_free no_calc p q terminals cause s (syntax_fault x e n f c) = absurd (n (rw append-nil s))
-place_free no_calc p q terminals cause s (late e n f) = late e n f
+place_free q s (early e) = early e
+place_free q s (syntax_fault x e n f c) = absurd (n (rw append-nil s))
+place_free q s (late e n f) = late e n f
 
 -- A text that a sentence spells is refused exactly if the terminals of the sentence are.
 pub refused_sentence : (o : Options) (text : List ℕ) (lexemes : List (List ℕ)) (cause : Cause) (place : ℕ) → IsSentenceOf o lexemes text
     → IsRefused o text cause → IsRefusedAt o.no_calc place (map (terminal_of o) lexemes) [] cause
 refused_sentence o [] lexemes cause place s h = absurd (empty_no_sentence o lexemes s)
 refused_sentence o (c ∷ text) lexemes cause place s h =
-    let terminals : List Terminal = map (terminal_of o) lexemes in
     let front = rw (← sentence_terminals o (c ∷ text) lexemes s) at h.2 in
-    let same = one_front o.no_calc terminals h.0 h.1 terminals [] front (sentence_front o.no_calc terminals s.0) in
-    place_free o.no_calc _ place terminals cause s.0 (rw (same.0, same.1) at h.3)
+    let same = one_front front (sentence_front o.no_calc (map (terminal_of o) lexemes) s.0) in
+    place_free place s.0 (rw (same.0, same.1) at h.3)
 
 pub sentence_refused : (o : Options) (text : List ℕ) (lexemes : List (List ℕ)) (cause : Cause) → IsSentenceOf o lexemes text
     → ((place : ℕ) → IsRefusedAt o.no_calc place (map (terminal_of o) lexemes) [] cause) → IsRefused o text cause
 sentence_refused o [] lexemes cause s h = absurd (empty_no_sentence o lexemes s)
 sentence_refused o (c ∷ text) lexemes cause s h =
-    let same : map (terminal_of o) lexemes ≡ terminals_of o (c ∷ text) = sentence_terminals o (c ∷ text) lexemes s in (
-      terminals_of o (c ∷ text),
-      [],
-      sentence_front o.no_calc (terminals_of o (c ∷ text)) (rw same at s.0),
-      rw (← same) (h _),
-    )
+    let terminals = terminals_of o (c ∷ text) in
+    let same : map (terminal_of o) lexemes ≡ terminals = sentence_terminals o (c ∷ text) lexemes s in
+    (terminals, [], sentence_front o.no_calc terminals (rw same at s.0), rw (← same) (h _))
 
-not_both_at : (o : Options) (text : List ℕ) (nanos : ℕ) (cause : Cause) → IsRead o text nanos → IsRefused o text cause → ⊥
-not_both_at o text nanos cause r h =
-    evaluates_not_refused o.no_calc 0 (map (terminal_of o) r.lexemes) cause r.spells.0 r.evaluates
+not_both : (o : Options) (text : List ℕ) (nanos : ℕ) (cause : Cause) → IsRead o text nanos → IsRefused o text cause → ⊥
+not_both o text nanos cause r h =
+    evaluates_not_refused (map (terminal_of o) r.lexemes) cause r.spells.0 r.evaluates
     (refused_sentence o text r.lexemes cause 0 r.spells h)
 
-one_cause_at : (o : Options) (text : List ℕ) (c d : Cause) → IsRefused o text c → IsRefused o text d → c ≡ d
-one_cause_at o [] c d h k = h ∙ sym k
-one_cause_at o (x ∷ text) c d h k =
-    let same = one_front o.no_calc (terminals_of o (x ∷ text)) k.0 k.1 h.0 h.1 k.2 h.2 in
-    one_cause_of o.no_calc _ h.0 h.1 c d h.3 (rw (same.0, same.1) at k.3)
+one_cause : (o : Options) (text : List ℕ) (c d : Cause) → IsRefused o text c → IsRefused o text d → c ≡ d
+one_cause o [] c d h k = h ∙ sym k
+one_cause o (x ∷ text) c d h k =
+    let same = one_front k.2 h.2 in
+    one_cause_at h.3 (rw (same.0, same.1) at k.3)
 
 -- ---- The computed answer
 
@@ -201,84 +178,78 @@ abbrev MeansAt : Bool → ℕ → List Terminal → List Terminal → Result ℕ
 MeansAt no_calc place front rest (Ok nanos) = (rest ≡ []) × IsReadAs no_calc front nanos
 MeansAt no_calc place front rest (Err cause) = IsRefusedAt no_calc place front rest cause
 
-late_means : (no_calc : Bool) (place : ℕ) (terminals : List Terminal) (cause : Option Cause) → IsSentence no_calc terminals
-    → early_fault no_calc terminals [] ≡ None → late_fault no_calc terminals ≡ cause → MeansAt no_calc place terminals [] (late_answer cause terminals)
-late_means no_calc place terminals (Some cause) s e l = late e (rw append-nil s) (rw append-nil l)
-late_means no_calc place terminals None s e l =
-    let evaluated : Evaluates (terms_of terminals) = evaluates_from no_calc terminals s e l in
-    let found = has_value_below (terms_of terminals) evaluated in
-    (refl, record { sentence = s; evaluates = evaluated; value = rw found.1 })
+module _ (no_calc : Bool) (place : ℕ) where
+  late_means : (terminals : List Terminal) (cause : Option Cause) → IsSentence no_calc terminals
+      → early_fault no_calc terminals [] ≡ None → late_fault no_calc terminals ≡ cause
+      → MeansAt no_calc place terminals [] (late_answer cause terminals)
+  late_means terminals (Some cause) s e l = late e (rw append-nil s) (rw append-nil l)
+  late_means terminals None s e l =
+      let evaluates = (evaluates_by no_calc terminals s).1 (e, l) in
+      let found = has_value_below (terms_of terminals) evaluates in
+      (refl, record { sentence = s; evaluates = evaluates; value = rw found.1 })
 
-syntax_means : (no_calc : Bool) (place : ℕ) (front rest : List Terminal) → IsFront no_calc (front ++ rest) front rest
-    → early_fault no_calc front rest ≡ None → (IsSentence no_calc (front ++ rest) → ⊥)
-    → IsRefusedAt no_calc place front rest (Syntax place (kinds_after no_calc (last_of None front)))
-syntax_means no_calc place front rest f e n =
-    let expected = kinds_after no_calc (last_of None front) in
-    syntax_fault expected e n ((kinds_by_table no_calc front expected f.begins).1 refl) refl
+  syntax_means : {terminals : List Terminal} (front rest : List Terminal) → IsFront no_calc terminals front rest
+      → early_fault no_calc front rest ≡ None → (IsSentence no_calc (front ++ rest) → ⊥)
+      → IsRefusedAt no_calc place front rest (Syntax place (kinds_after no_calc (last_of None front)))
+  syntax_means front rest f e n = syntax_fault _ e n ((kinds_by_table no_calc front _ f.begins).1 refl) refl
 
-whole_means : (no_calc : Bool) (place : ℕ) (front rest : List Terminal) → IsFront no_calc (front ++ rest) front rest
-    → early_fault no_calc front rest ≡ None → (whole : Bool) → is_whole no_calc front rest ≡ whole
-    → MeansAt no_calc place front rest
-    (if whole then late_answer (late_fault no_calc front) front else Err (Syntax place (kinds_after no_calc (last_of None front))))
-whole_means no_calc place front [] f e true w = late_means no_calc place front _ ((ends_by_table no_calc front f.begins).0 w) e refl
-whole_means no_calc place front [] f e false w = syntax_means no_calc place front [] f e
-    (λ s. cc ((ends_by_table no_calc front f.begins).1 (rw append-nil at s)))
-whole_means no_calc place front (t ∷ rest) f e true w = cc
-whole_means no_calc place front (t ∷ rest) f e false w = syntax_means no_calc place front (t ∷ rest) f e
-    (λ s. cc (one_front no_calc _ front (t ∷ rest) _ [] f (sentence_front no_calc (front ++ t ∷ rest) s)).1)
+  whole_means : {terminals : List Terminal} (front rest : List Terminal) → IsFront no_calc terminals front rest
+      → early_fault no_calc front rest ≡ None → (whole : Bool) → is_whole no_calc front rest ≡ whole
+      → MeansAt no_calc place front rest
+      (if whole then late_answer (late_fault no_calc front) front else Err (Syntax place (kinds_after no_calc (last_of None front))))
+  whole_means front [] f e true w = late_means front _ ((ends_by_table no_calc front f.begins).0 w) e refl
+  whole_means front [] f e false w =
+      syntax_means front [] f e (λ s. cc ((ends_by_table no_calc front f.begins).1 (rw append-nil at s)))
+  whole_means front (t ∷ rest) f e true w = cc
+  whole_means front (t ∷ rest) f e false w =
+      syntax_means front (t ∷ rest) f e (λ s. cc (one_front (rw f.parts at f) (sentence_front no_calc (front ++ t ∷ rest) s)).1)
 
-front_means : (no_calc : Bool) (place : ℕ) (front rest : List Terminal) → IsFront no_calc (front ++ rest) front rest
-    → (cause : Option Cause) → early_fault no_calc front rest ≡ cause → MeansAt no_calc place front rest (answer_after no_calc place front rest cause)
-front_means no_calc place front rest f (Some cause) e = early e
-front_means no_calc place front rest f None e = whole_means no_calc place front rest f e _ refl
+  front_means : {terminals : List Terminal} (front rest : List Terminal) → IsFront no_calc terminals front rest
+      → (cause : Option Cause) → early_fault no_calc front rest ≡ cause
+      → MeansAt no_calc place front rest (answer_after no_calc place front rest cause)
+  front_means front rest f (Some cause) e = early e
+  front_means front rest f None e = whole_means front rest f e _ refl
 
 text_means : (o : Options) (c : ℕ) (text : List ℕ) (front rest : List Terminal) (result : Result ℕ Cause)
     → IsFront o.no_calc (terminals_of o (c ∷ text)) front rest
     → MeansAt o.no_calc (start_after (length front) (byte_len (c ∷ text)) (tokens_of o (c ∷ text))) front rest result
     → Means o (c ∷ text) result
 text_means o c text front rest (Err cause) f h = (front, rest, f, h)
-text_means o c text front rest (Ok nanos) f h =
-    terminals_read o (c ∷ text) nanos (rw (f.parts, h.0, append-nil) h.1)
+text_means o c text front rest (Ok nanos) f h = terminals_read o (c ∷ text) nanos (rw (f.parts, h.0, append-nil) h.1)
 
 answer_means : (o : Options) (text : List ℕ) → Means o text (answer o text)
 answer_means o [] = refl
 answer_means o (c ∷ text) =
     let terminals : List Terminal = terminals_of o (c ∷ text) in
     let n : ℕ = front_of o.no_calc terminals in
-    let front : List Terminal = take n terminals in
-    let rest : List Terminal = drop n terminals in
-    let f : IsFront o.no_calc terminals front rest = table_front o.no_calc terminals in
-    let long : length front ≡ n = length-take-le n terminals (front_within o.no_calc None terminals) in
-    let start = λ (k : ℕ). start_after k (byte_len (c ∷ text)) (tokens_of o (c ∷ text)) in
-    text_means o c text front rest (answer_at o.no_calc (start n) front rest) f
-    (rw long (front_means o.no_calc (start n) front rest (subst (λ (ts : List Terminal). IsFront o.no_calc ts front rest) f.parts f) _ refl))
-
-by_value : (o : Options) (text : List ℕ) (nanos : ℕ) → IsRead o text nanos → (result : Result ℕ Cause) → Means o text result → result ≡ Ok nanos
-by_value o text nanos r (Ok n) h = ap Ok (one_value_at o text n nanos h r)
-by_value o text nanos r (Err cause) h = absurd (not_both_at o text nanos cause r h)
-
-by_cause : (o : Options) (text : List ℕ) (cause : Cause) → IsRefused o text cause → (result : Result ℕ Cause) → Means o text result
-    → result ≡ Err cause
-by_cause o text cause r (Ok n) h = absurd (not_both_at o text n cause h r)
-by_cause o text cause r (Err d) h = ap Err (one_cause_at o text d cause h r)
+    let f = table_front o.no_calc terminals in
+    let long : length (take n terminals) ≡ n = length-take-le n terminals (front_within o.no_calc None terminals) in
+    text_means o c text _ _ _ f (rw long (front_means o.no_calc _ _ _ f _ refl))
 
 some_answer : (o : Options) (text : List ℕ) (result : Result ℕ Cause) → Means o text result
     → ((nanos : ℕ) × IsRead o text nanos) ⊎ ((cause : Cause) × IsRefused o text cause)
 some_answer o text (Ok nanos) h = inl (nanos, h)
 some_answer o text (Err cause) h = inr (cause, h)
 
+by_value : (o : Options) (text : List ℕ) (nanos : ℕ) → IsRead o text nanos → (result : Result ℕ Cause) → Means o text result → result ≡ Ok nanos
+by_value o text nanos r (Ok n) h = ap Ok (one_value h r)
+by_value o text nanos r (Err cause) h = absurd (not_both o text nanos cause r h)
+
+by_cause : (o : Options) (text : List ℕ) (cause : Cause) → IsRefused o text cause → (result : Result ℕ Cause) → Means o text result
+    → result ≡ Err cause
+by_cause o text cause r (Ok n) h = absurd (not_both o text n cause h r)
+by_cause o text cause r (Err d) h = ap Err (one_cause o text d cause h r)
+
 pub one_answer_holds : OneAnswer
 one_answer_holds = record {
   some = λ o text. some_answer o text (answer o text) (answer_means o text);
-  one_value = one_value_at;
-  one_cause = one_cause_at;
-  not_both = not_both_at;
+  one_value = λ o text m n. one_value;
+  one_cause = one_cause;
+  not_both = not_both;
 }
 
 pub is_answer_holds : IsAnswer
 is_answer_holds = record {
-  read = λ o text nanos.
-      (λ e. rw e at (answer_means o text), λ r. by_value o text nanos r (answer o text) (answer_means o text));
-  refused = λ o text cause.
-      (λ e. rw e at (answer_means o text), λ r. by_cause o text cause r (answer o text) (answer_means o text));
+  read = λ o text nanos. (λ e. rw e at (answer_means o text), λ r. by_value o text nanos r _ (answer_means o text));
+  refused = λ o text cause. (λ e. rw e at (answer_means o text), λ r. by_cause o text cause r _ (answer_means o text));
 }

@@ -1,138 +1,71 @@
 -- A sentence spells a text exactly if its lexemes are those of the text's tokens.
-use Rattle.std.proofs.Common.{◌≡◌, ℕ, ◌+◌, Bool, true, false, ◌&&◌, inl, inr, List, [], ◌∷◌, ◌++◌, map, Option, Some, None, IsTrue, refl, sym, ◌∙◌}
-use Rattle.std.proofs.lemmas.Bool.{true≢false, and_from, and_parts, or_cases, or_left, or_right, false_from_ne_true}
+use Rattle.std.proofs.Common.{◌≡◌, ℕ, ◌+◌, Bool, true, false, List, [], ◌∷◌, ◌++◌, map, Option, Some, None, IsTrue, refl, sym, ◌∙◌}
+use Rattle.std.proofs.lemmas.Bool.{and_parts, false_from_ne_true}
 use Rattle.std.proofs.lemmas.List.Folds.{list_all-append}
 use Rattle.std.specs.List.{list_all}
 use Rattle.duration_str.specs.declared.options.Options.{Options}
 use Rattle.duration_str.specs.declared.fault.Expected.{Expected}
-use Rattle.duration_str.specs.Text.{is_blank, is_digit, is_unit_letter, IsBlank, byte_len}
-use Rattle.duration_str.specs.Grammar.{Terminal, number, word, other, terminal_of, IsSentenceOf, Spells}
+use Rattle.duration_str.specs.Text.{is_blank, IsBlank, byte_len}
+use Rattle.duration_str.specs.Grammar.{Terminal, number, word, operator, other, terminal_of, IsSentenceOf, Spells}
 use Rattle.duration_str.specs.Tokens.{Token, are_of_one_run, goes_on, IsLexeme, EndsRun, AreTokens, tokens_of, lexemes_of}
 use Rattle.duration_str.specs.Place.{terminals_of}
 use Rattle.duration_str.specs.Answer.{kinds_after, allows}
-use Rattle.duration_str.proofs.Characters.CharacterLemmas.{digit-not_blank, letter-not_blank, operator-not_blank, digit-not_letter, letter-not_digit, run-not_blank}
+use Rattle.duration_str.specs.Internal.Sorts.{sort_of}
+use Rattle.duration_str.proofs.Characters.CharacterLemmas.{operator-not_blank, run-not_blank}
 use Rattle.duration_str.proofs.Cutting.TokenLemmas.{tokens_once, tokens_are}
-use Rattle.duration_str.proofs.Cutting.TerminalLemmas.{terminal_cases}
-use Rattle.duration_str.proofs.Sentences.FrontLemmas.{AreAllowedWhole, sentence_allowed}
-
--- Characters that pass a test also pass a weaker one.
-pub all_weaker : (p q : ℕ → Bool) (cs : List ℕ) → ((c : ℕ) → p c ≡ true → q c ≡ true) → IsTrue (list_all p cs) → IsTrue (list_all q cs)
-all_weaker p q [] weaker h = refl
-all_weaker p q (c ∷ cs) weaker h = and_from _ _ (weaker c (and_parts _ _ h).0) (all_weaker p q cs weaker (and_parts _ _ h).1)
-
-pub digits_are_lexeme : (o : Options) (c : ℕ) (cs : List ℕ) → IsTrue (list_all is_digit (c ∷ cs)) → IsLexeme o (c ∷ cs)
-digits_are_lexeme o c cs h =
-    let first : is_digit c ≡ true = (and_parts (is_digit c) (list_all is_digit cs) h).0 in
-    let in_run : (d : ℕ) → is_digit d ≡ true → are_of_one_run o c d ≡ true =
-    λ d e. or_left (is_digit c && is_digit d) (is_unit_letter o c && is_unit_letter o d) (and_from _ _ first e) in
-    (digit-not_blank c first, all_weaker is_digit (are_of_one_run o c) cs in_run (and_parts _ _ h).1)
-
-pub letters_are_lexeme : (o : Options) (c : ℕ) (cs : List ℕ) → IsTrue (list_all (is_unit_letter o) (c ∷ cs)) → IsLexeme o (c ∷ cs)
-letters_are_lexeme o c cs h =
-    let first : is_unit_letter o c ≡ true = (and_parts (is_unit_letter o c) (list_all (is_unit_letter o) cs) h).0 in
-    let in_run : (d : ℕ) → is_unit_letter o d ≡ true → are_of_one_run o c d ≡ true =
-    λ d e. or_right (is_digit c && is_digit d) (is_unit_letter o c && is_unit_letter o d) (and_from _ _ first e) in
-    (letter-not_blank o c first, all_weaker (is_unit_letter o) (are_of_one_run o c) cs in_run (and_parts _ _ h).1)
+use Rattle.duration_str.proofs.Cutting.TerminalLemmas.{terminal_cases, digits_are_lexeme, letters_are_lexeme, lexeme_sort, run_sort}
+use Rattle.duration_str.proofs.Sentences.FrontLemmas.{AreAllowed, sentence_allowed}
 
 -- Characters whose terminal is of an expected kind are a lexeme.
 allowed_is_lexeme : (o : Options) (expected : Expected) (w : List ℕ) → IsTrue (allows expected (terminal_of o w)) → IsLexeme o w
 allowed_is_lexeme o expected = terminal_cases o (λ w t. IsTrue (allows expected t) → IsLexeme o w)
-    (λ h. true≢false (sym h)) (λ c cs digits h. digits_are_lexeme o c cs digits) (λ c cs letters h. letters_are_lexeme o c cs letters)
-    (λ c op _ _ sign h. (operator-not_blank c op sign, refl)) (λ c cs _ _ h. absurd (true≢false (sym h)))
+    (λ h. cc) (λ c cs digits h. digits_are_lexeme o c cs digits) (λ c cs letters h. letters_are_lexeme o c cs letters)
+    (λ c op _ _ sign h. (operator-not_blank c op sign, refl)) (λ c cs _ _ h. cc)
 
--- The first character passes the test.
-abbrev StartsWith : (ℕ → Bool) → List ℕ → Type 0
-StartsWith test [] = ⊥
-StartsWith test (c ∷ _) = test c ≡ true
-
-abbrev is_number_or_other : Terminal → Bool
-is_number_or_other (number n) = true
-is_number_or_other other = true
-is_number_or_other _ = false
-
-abbrev is_word_or_other : Terminal → Bool
-is_word_or_other (word u) = true
-is_word_or_other other = true
-is_word_or_other _ = false
-
-digit_terminal : (o : Options) (w : List ℕ) → StartsWith is_digit w → is_number_or_other (terminal_of o w) ≡ true
-digit_terminal o = terminal_cases o (λ w t. StartsWith is_digit w → is_number_or_other t ≡ true)
-    (λ e. refl) (λ c cs digits e. refl)
-    (λ c cs letters e. absurd (true≢false (sym (and_parts (is_unit_letter o c) _ letters).0 ∙ digit-not_letter o c e)))
-    (λ c op no_digits _ sign e. absurd (true≢false (sym (and_from _ true e refl) ∙ no_digits))) (λ c cs _ _ e. refl)
-
-letter_terminal : (o : Options) (w : List ℕ) → StartsWith (is_unit_letter o) w → is_word_or_other (terminal_of o w) ≡ true
-letter_terminal o = terminal_cases o (λ w t. StartsWith (is_unit_letter o) w → is_word_or_other t ≡ true)
-    (λ e. refl)
-    (λ c cs digits e. absurd (true≢false (sym (and_parts (is_digit c) _ digits).0 ∙ letter-not_digit o c e)))
-    (λ c cs letters e. refl)
-    (λ c op _ no_letters sign e. absurd (true≢false (sym (and_from _ true e refl) ∙ no_letters))) (λ c cs _ _ e. refl)
-
-not_two_numbers : (o : Options) (s t : Terminal) → is_number_or_other s ≡ true → is_number_or_other t ≡ true
-    → IsTrue (allows (kinds_after o.no_calc (Some s)) t) → ⊥
-not_two_numbers o (number n) (number m) h k a = cc
-not_two_numbers o other (number m) h k a = cc
-not_two_numbers o s other h k a = cc
-not_two_numbers o s t h k a = cc
-
-not_two_lexemes : (o : Options) (s t : Terminal) → is_word_or_other s ≡ true → is_word_or_other t ≡ true
-    → IsTrue (allows (kinds_after o.no_calc (Some s)) t) → ⊥
-not_two_lexemes o (word u) (word v) h k a = cc
-not_two_lexemes o other (word v) h k a = cc
-not_two_lexemes o s other h k a = cc
-not_two_lexemes o s t h k a = cc
+-- The table allows no terminal after one of its own sort.
+sorts_apart : (no_calc : Bool) (s t : Terminal) → IsTrue (allows (kinds_after no_calc (Some s)) t) → sort_of s ≡ sort_of t → ⊥
+sorts_apart no_calc (number n) (number m) a e = cc
+sorts_apart no_calc (word u) (word v) a e = cc
+sorts_apart no_calc (operator op) (operator next) a e = cc
+sorts_apart no_calc other other a e = cc
+sorts_apart no_calc s t a e = cc
 
 -- If the table allows the terminal of one lexeme after that of another, the two are not of one run.
-allowed_apart : (o : Options) (c : ℕ) (cs : List ℕ) (d : ℕ) (ds : List ℕ)
+allowed_apart : (o : Options) (c : ℕ) (cs : List ℕ) (d : ℕ) (ds : List ℕ) → IsLexeme o (c ∷ cs) → IsLexeme o (d ∷ ds)
     → IsTrue (allows (kinds_after o.no_calc (Some (terminal_of o (c ∷ cs)))) (terminal_of o (d ∷ ds))) → are_of_one_run o c d ≡ false
-allowed_apart o c cs d ds a = false_from_ne_true _ (λ run. elim (or_cases (is_digit c && is_digit d) (is_unit_letter o c && is_unit_letter o d) run) [
-  | inl h ↦
-      let both = and_parts (is_digit c) (is_digit d) h in
-      not_two_numbers o (terminal_of o (c ∷ cs)) (terminal_of o (d ∷ ds)) (digit_terminal o (c ∷ cs) both.0) (digit_terminal o (d ∷ ds) both.1) a
-  | inr h ↦
-      let both = and_parts (is_unit_letter o c) (is_unit_letter o d) h in
-      not_two_lexemes o (terminal_of o (c ∷ cs)) (terminal_of o (d ∷ ds)) (letter_terminal o (c ∷ cs) both.0) (letter_terminal o (d ∷ ds) both.1) a
-])
+allowed_apart o c cs d ds p q a = false_from_ne_true _ (λ run.
+    sorts_apart o.no_calc _ _ a (sym (lexeme_sort o c cs p) ∙ run_sort o c d run ∙ lexeme_sort o d ds q))
 
 stops_at_blank : (o : Options) (c d : ℕ) → is_blank d ≡ true → are_of_one_run o c d ≡ false
 stops_at_blank o c d e = false_from_ne_true _ (λ run. cc (run-not_blank o c d run))
 
-stops_before : (o : Options) (c : ℕ) (cs blanks w rest : List ℕ) → IsBlank blanks
+stops_before : (o : Options) (c : ℕ) (cs blanks w rest : List ℕ) → IsBlank blanks → IsLexeme o (c ∷ cs) → IsLexeme o w
     → IsTrue (allows (kinds_after o.no_calc (Some (terminal_of o (c ∷ cs)))) (terminal_of o w)) → goes_on o c (blanks ++ (w ++ rest)) ≡ false
-stops_before o c cs (b ∷ blanks) w rest h a = stops_at_blank o c b (and_parts _ _ h).0
-stops_before o c cs [] [] rest h a = absurd (true≢false (sym a))
-stops_before o c cs [] (d ∷ ds) rest h a = allowed_apart o c cs d ds a
+stops_before o c cs (b ∷ blanks) w rest h p q a = stops_at_blank o c b (and_parts _ _ h).0
+stops_before o c cs [] [] rest h p q a = absurd q
+stops_before o c cs [] (d ∷ ds) rest h p q a = allowed_apart o c cs d ds p q a
 
 -- A run in a sentence ends where its lexeme ends.
-ends_in_sentence : (o : Options) (w rest : List ℕ) (ws : List (List ℕ)) → AreAllowedWhole o.no_calc (Some (terminal_of o w)) (map (terminal_of o) ws)
-    → Spells ws rest → EndsRun o w rest
-ends_in_sentence o [] rest ws a s = tt
-ends_in_sentence o (c ∷ cs) [] [] a s = refl
-ends_in_sentence o (c ∷ cs) (d ∷ rest) [] a s = stops_at_blank o c d (and_parts _ _ s).0
-ends_in_sentence o (c ∷ cs) rest (v ∷ ws) a s =
-    rw s.3 (stops_before o c cs s.0 v s.1 s.2 a.0)
+ends_in_sentence : (o : Options) (w rest : List ℕ) (ws : List (List ℕ)) → IsLexeme o w
+    → AreAllowed o.no_calc (Some (terminal_of o w)) (map (terminal_of o) ws) → Spells ws rest → EndsRun o w rest
+ends_in_sentence o [] rest ws p a s = tt
+ends_in_sentence o (c ∷ cs) [] [] p a s = refl
+ends_in_sentence o (c ∷ cs) (d ∷ rest) [] p a s = stops_at_blank o c d (and_parts _ _ s).0
+ends_in_sentence o (c ∷ cs) rest (v ∷ ws) p a s =
+    rw s.3 (stops_before o c cs s.0 v s.1 s.2 p (allowed_is_lexeme o (kinds_after o.no_calc (Some (terminal_of o (c ∷ cs)))) v a.0) a.0)
 
 -- The lexemes of a sentence that spells the text are the characters of its tokens.
 spelled_tokens : (o : Options) (at : ℕ) (last : Option Terminal) (lexemes : List (List ℕ)) (text : List ℕ)
-    → AreAllowedWhole o.no_calc last (map (terminal_of o) lexemes) → Spells lexemes text
+    → AreAllowed o.no_calc last (map (terminal_of o) lexemes) → Spells lexemes text
     → (tokens : List Token) × AreTokens o at text tokens × (lexemes_of tokens ≡ lexemes)
 spelled_tokens o at last [] text a s = ([], s, refl)
 spelled_tokens o at last (w ∷ ws) text a s =
-    let start : ℕ = at + byte_len s.0 in
+    let start = at + byte_len s.0 in
+    let is_lexeme = allowed_is_lexeme o (kinds_after o.no_calc last) w a.0 in
+    let ends = ends_in_sentence o w s.1 ws is_lexeme a.1 s.4 in
     let more = spelled_tokens o (start + byte_len w) (Some (terminal_of o w)) ws s.1 a.1 s.4 in (
       record { start = start; characters = w } ∷ more.0,
-      (
-        s.1,
-        record {
-          blanks = s.0;
-          blank = s.2;
-          parts = s.3;
-          start = refl;
-          is_lexeme = allowed_is_lexeme o (kinds_after o.no_calc last) w a.0;
-          ends = ends_in_sentence o w s.1 ws a.1 s.4;
-        },
-        more.1,
-      ),
+      (s.1, record { blanks = s.0; blank = s.2; parts = s.3; start = refl; is_lexeme = is_lexeme; ends = ends }, more.1),
       rw more.2,
     )
 

@@ -39,7 +39,7 @@ pub read_sum : (o : Options) (lexemes : List (List ℕ)) (text : List ℕ) (nano
     → sum_of (terms_of_lexemes o lexemes) ≡ nanos
 read_sum o lexemes text nanos s r =
     let terminals : List Terminal = map (terminal_of o) lexemes in
-    let value : value_of (terms_of terminals) ≡ Some nanos = (read_sentence o text lexemes nanos s.sentence r).value in
+    let value : value_of (terms_of terminals) ≡ Some nanos = (read_sentence lexemes s.sentence r).value in
     let found : value_of (terms_of terminals) ≡ Some (sum_of (terms_of terminals)) =
     value_is_sum (terms_of terminals) (has_terms o.no_calc terminals s.sentence.0) (terms_added terminals s.plus) in
     cc
