@@ -57,17 +57,21 @@ abbrev pub next_terms : Bool → Option CondUnit → Rest → Ended
 next_terms no_calc None rest = record { terms = []; fault = None }
 next_terms no_calc (Some op) rest = left_after no_calc op rest
 
+-- no terms, and this fault
+abbrev pub no_terms : Cause → Ended
+no_terms cause = record { terms = []; fault = Some cause }
+
 -- the terms after a unit, given what was read as the operator after it
 abbrev pub after_unit : Bool → Result (Read (Option CondUnit)) Cause → Ended
 after_unit no_calc (Ok r) = next_terms no_calc r.item r.rest
-after_unit no_calc (Err cause) = record { terms = []; fault = Some cause }
+after_unit no_calc (Err cause) = no_terms cause
 
 -- the terms from the number n on, given what was read as the unit after it
 abbrev pub after_number : Bool → CondUnit → ℕ → Result (Read TimeUnit) Cause → Ended
 after_number no_calc op n (Ok r) =
     let more = after_unit no_calc (operator_read no_calc r.rest) in
     record { terms = record { operator = op; number = n; length = nanos_of r.item } ∷ more.terms; fault = more.fault }
-after_number no_calc op n (Err cause) = record { terms = []; fault = Some cause }
+after_number no_calc op n (Err cause) = no_terms cause
 
 with_unit : (op : CondUnit) (n : ℕ) (u : TimeUnit) (front rest : List Terminal)
     → terms_after op (complete (number n ∷ word (Some u) ∷ front) rest)
@@ -116,24 +120,31 @@ with_left no_calc first set later left = answer_with no_calc first set later lef
 abbrev pub total_of : Bool → ℕ → Ended → Result ℕ Cause
 total_of no_calc first left = answer_after_first no_calc first left.terms left.fault
 
--- A property of the terms that are left after any number holds if a number is ahead.
+-- A property of the terms that are left after a number holds if a number is ahead.
 by_number : {A : Type 0} (no_calc : Bool) (f g : Ended → A) (op next : CondUnit) (s : Tokens) → IsAhead s (Some Number)
-    → ((n : ℕ) (r : Result (Read TimeUnit) Cause) → f (after_number no_calc op n r) ≡ g (after_number no_calc next n r))
+    → ((n : ℕ) (r : Read TimeUnit) → f (after_number no_calc op n (Ok r)) ≡ g (after_number no_calc next n (Ok r)))
+    → ((cause : Cause) → f (no_terms cause) ≡ g (no_terms cause))
     → f (left_after no_calc op (rest_of s)) ≡ g (left_after no_calc next (rest_of s))
-by_number no_calc f g op next s ahead same =
+by_number no_calc f g op next s ahead terms none =
     let (n, rest, is) = at_number s ahead in
-    rw (is, terms_read no_calc op (place_of s) n rest, terms_read no_calc next (place_of s) n rest) (same n (unit_read no_calc rest))
-
--- The first of the later terms sets the operator.
-pub operator_set : (no_calc : Bool) (first : ℕ) (set : CondUnit) (s : Tokens) → IsAhead s (Some Number)
-    → with_left no_calc first set (Ok (nothing_of set)) (left_after no_calc set (rest_of s)) ≡ total_of no_calc first (left_after no_calc set (rest_of s))
-operator_set no_calc first set s ahead =
-    by_number no_calc (with_left no_calc first set (Ok (nothing_of set))) (total_of no_calc first) set set s ahead by
+    rw (is, terms_read no_calc op (place_of s) n rest, terms_read no_calc next (place_of s) n rest) (by n (unit_read no_calc rest))
   where
-    by : (n : ℕ) (r : Result (Read TimeUnit) Cause)
-        → with_left no_calc first set (Ok (nothing_of set)) (after_number no_calc set n r) ≡ total_of no_calc first (after_number no_calc set n r)
-    by n (Ok r) = refl
-    by n (Err cause) = refl
+    by : (n : ℕ) (r : Result (Read TimeUnit) Cause) → f (after_number no_calc op n r) ≡ g (after_number no_calc next n r)
+    by n (Ok r) = terms n r
+    by n (Err cause) = none cause
+
+abbrev pub count : Ended → ℕ
+count left = length left.terms
+
+-- Taking a term leaves fewer.
+pub fewer : (no_calc : Bool) (set next : CondUnit) (s a b d : Tokens) (n : Option ℕ) (u : TimeUnit) → TakesNumber s a n
+    → leaving (rest_of b) (Ok u) ≡ unit_read no_calc (rest_of a)
+    → leaving (rest_of d) (Ok (Some next)) ≡ operator_read no_calc (rest_of b)
+    → IsAhead d (Some Number) → count (left_after no_calc set (rest_of d)) < count (left_after no_calc set (rest_of s))
+fewer no_calc set next s a b d n u taken unit op ahead =
+    let here = ap count (number_taken no_calc set s a n taken _ unit) in
+    let after = ap (λ r. count (after_unit no_calc r)) (sym op) in
+    omega (arith, here, after, by_number no_calc count count set next d ahead (λ n r. refl) (λ cause. refl))
 
 -- The operator that was set is not a fault.
 same_operator : (set : CondUnit) (later : Result ℕ Cause) → before_operator set later set ≡ later
@@ -141,44 +152,33 @@ same_operator Plus (Ok total) = refl
 same_operator Star (Ok total) = refl
 same_operator set (Err cause) = refl
 
--- Checking an operator when it is read gives the same answer as checking it with its term.
-pub operator_next : (no_calc : Bool) (first : ℕ) (set next : CondUnit) (later : Result ℕ Cause) (s : Tokens) → IsAhead s (Some Number)
-    → with_left no_calc first set (before_operator set later next) (left_after no_calc set (rest_of s))
-    ≡ with_left no_calc first set later (left_after no_calc next (rest_of s))
-operator_next no_calc first set next later s ahead =
-    by_number no_calc (with_left no_calc first set (before_operator set later next)) (with_left no_calc first set later) set next s ahead by
-  where
-    by : (n : ℕ) (r : Result (Read TimeUnit) Cause) → with_left no_calc first set (before_operator set later next) (after_number no_calc set n r)
-        ≡ with_left no_calc first set later (after_number no_calc next n r)
-    by n (Ok r) =
-        ap (λ x. let sum = join set x (term_value None (u64_from n) (nanos_of r.item)) in
-        fault_or (at_once no_calc (join set (Ok first) sum)) (with_left no_calc first set sum (after_unit no_calc (operator_read no_calc r.rest))))
-        (same_operator set (before_operator set later next))
-    by n (Err cause) = refl
+module _ (no_calc : Bool) (first : ℕ) (set : CondUnit) where
+  -- The first of the later terms sets the operator.
+  pub operator_set : (s : Tokens) → IsAhead s (Some Number)
+      → with_left no_calc first set (Ok (nothing_of set)) (left_after no_calc set (rest_of s))
+      ≡ total_of no_calc first (left_after no_calc set (rest_of s))
+  operator_set s ahead =
+      by_number no_calc (with_left no_calc first set (Ok (nothing_of set))) (total_of no_calc first) set set s ahead
+      (λ n r. refl) (λ cause. refl)
 
--- A later term is read up to b and added: `next` is the later terms' value including it.
-pub later_step : {next : Result ℕ Cause} {s a : Tokens} {n : Option ℕ} (no_calc : Bool) (first : ℕ) (set : CondUnit) (later : Result ℕ Cause) (b : Tokens) (u : TimeUnit)
-    → TakesNumber s a n → leaving (rest_of b) (Ok u) ≡ unit_read no_calc (rest_of a) → next ≡ join set later (term_value None n (nanos_of u))
-    → with_left no_calc first set later (left_after no_calc set (rest_of s))
-    ≡ fault_or (at_once no_calc (join set (Ok first) next)) (with_left no_calc first set next (after_unit no_calc (operator_read no_calc (rest_of b))))
-later_step {s = s} {a = a} {n = n} no_calc first set later b u taken unit is =
-    ap (with_left no_calc first set later) (number_taken no_calc set s a n taken _ unit) ∙ rw (same_operator set later, is, taken.is_value)
+  -- Checking an operator when it is read gives the same answer as checking it with its term.
+  pub operator_next : (next : CondUnit) (later : Result ℕ Cause) (s : Tokens) → IsAhead s (Some Number)
+      → with_left no_calc first set (before_operator set later next) (left_after no_calc set (rest_of s))
+      ≡ with_left no_calc first set later (left_after no_calc next (rest_of s))
+  operator_next next later s ahead =
+      by_number no_calc (with_left no_calc first set (before_operator set later next)) (with_left no_calc first set later)
+      set next s ahead (λ n r. rw (same_operator set (before_operator set later next))) (λ cause. refl)
 
-abbrev pub count : Ended → ℕ
-count left = length left.terms
-
--- Taking a term leaves fewer.
-pub fewer : (no_calc : Bool) (set next : CondUnit) (s a b d : Tokens) (n : Option ℕ) (u : TimeUnit) → TakesNumber s a n
-    → leaving (rest_of b) (Ok u) ≡ unit_read no_calc (rest_of a) → leaving (rest_of d) (Ok (Some next)) ≡ operator_read no_calc (rest_of b)
-    → IsAhead d (Some Number) → count (left_after no_calc set (rest_of d)) < count (left_after no_calc set (rest_of s))
-fewer no_calc set next s a b d n u taken unit op ahead =
-    let here = ap count (number_taken no_calc set s a n taken _ unit) in
-    let after = ap (λ r. count (after_unit no_calc r)) (sym op) in
-    omega (arith, here, after, by_number no_calc count count set next d ahead by)
-  where
-    by : (n : ℕ) (r : Result (Read TimeUnit) Cause) → count (after_number no_calc set n r) ≡ count (after_number no_calc next n r)
-    by n (Ok r) = refl
-    by n (Err cause) = refl
+  -- A later term is read up to b and added: `next` is the later terms' value including it.
+  pub later_step : {next : Result ℕ Cause} {s a : Tokens} {n : Option ℕ} (later : Result ℕ Cause) (b : Tokens) (u : TimeUnit)
+      → TakesNumber s a n → leaving (rest_of b) (Ok u) ≡ unit_read no_calc (rest_of a)
+      → next ≡ join set later (term_value None n (nanos_of u))
+      → with_left no_calc first set later (left_after no_calc set (rest_of s))
+      ≡ fault_or (at_once no_calc (join set (Ok first) next))
+      (with_left no_calc first set next (after_unit no_calc (operator_read no_calc (rest_of b))))
+  later_step {s = s} {a = a} {n = n} later b u taken unit is =
+      ap (with_left no_calc first set later) (number_taken no_calc set s a n taken _ unit)
+      ∙ rw (same_operator set later, is, taken.is_value)
 
 -- ---- The answer in order: the early fault, the syntax fault, the late fault, and the value
 
@@ -206,10 +206,8 @@ in_order no_calc place front (terminal ∷ rest) = answer_told no_calc place fro
 without_last_plus : (terminals : List Terminal) → AllPlus terminals → AllPlus (without_last_number terminals)
 without_last_plus [] a = tt
 without_last_plus (number n ∷ []) a = tt
-without_last_plus (number n ∷ terminal ∷ terminals) a = without_last_plus (terminal ∷ terminals) a
-without_last_plus (word u ∷ terminals) a = without_last_plus terminals a
 without_last_plus (operator op ∷ terminals) a = (a.0, without_last_plus terminals a.1)
-without_last_plus (other ∷ terminals) a = without_last_plus terminals a
+without_last_plus (t ∷ terminals) a = without_last_plus terminals a
 
 complete_plus : (front rest : List Terminal) → AllPlus front → AllPlus (complete front rest)
 complete_plus front [] a = a
@@ -217,13 +215,11 @@ complete_plus front (terminal ∷ rest) a = without_last_plus front a
 
 -- Under `no_calc` all terms that are left are added.
 left_added : (no_calc : Bool) (op : CondUnit) (rest : Rest) → op ≡ Plus → IsTrue no_calc → AreAdded (left_after no_calc op rest).terms
-left_added false op rest plus h = absurd (true≢false (sym h))
+left_added false op rest plus h = cc h
 left_added true op rest plus h =
-    let terminals = terminals_in rest in
-    let front = take (front_of true terminals) terminals in
-    let stands = complete front (drop (front_of true terminals) terminals) in
-    subst (λ set. AreAdded (terms_after set stands)) (sym plus)
-    (terms_added stands (complete_plus front _ (allowed_plus None front (begins_allowed true front (table_front true terminals).begins))))
+    let front = front_in true rest in
+    let allowed = begins_allowed true front (table_front true (terminals_in rest)).begins in
+    rw plus (terms_added (complete front (after_in true rest)) (complete_plus front _ (allowed_plus None front allowed)))
 
 -- the answer, given the first value or its fault, and what is left after it
 abbrev pub by_first : Bool → Result ℕ Cause → Ended → Result ℕ Cause
@@ -245,15 +241,15 @@ from_start no_calc rest left is =
     let n = front_of no_calc terminals in
     ap (λ (l : Ended). answer_of no_calc l.terms l.fault) (sym is) ∙ in_order no_calc (start_left n rest) (take n terminals) (drop n terminals)
 
-no_terms : (no_calc : Bool) (cause : Cause) → Err cause ≡ answer_of no_calc [] (Some cause)
-no_terms false cause = refl
-no_terms true cause = refl
+fault_alone : (no_calc : Bool) (cause : Cause) → Err cause ≡ answer_of no_calc [] (Some cause)
+fault_alone false cause = refl
+fault_alone true cause = refl
 
 -- The first unit cannot be read.
 pub first_unread : (no_calc : Bool) (s m a : Tokens) (n : Option ℕ) (cause : Cause) → rest_of m ≡ rest_of s → TakesNumber m a n
     → Err cause ≡ unit_read no_calc (rest_of a) → Err cause ≡ answer_left no_calc [] (rest_of s)
 first_unread no_calc s m a n cause same taken unit =
-    rw (← same, ← from_start no_calc (rest_of m) _ (number_taken no_calc Plus m a n taken _ unit)) (no_terms no_calc cause)
+    rw (← same, ← from_start no_calc (rest_of m) _ (number_taken no_calc Plus m a n taken _ unit)) (fault_alone no_calc cause)
 
 -- The first term is read up to b, and has this value or fault.
 pub first_step : {m a : Tokens} {n : Option ℕ} {first : Result ℕ Cause} (no_calc : Bool) (s b : Tokens) (u : TimeUnit)
