@@ -96,28 +96,32 @@ any_now : (test : List ℕ → Bool) (texts : List (Bor (List ℕ))) → list_an
 any_now test [] = refl
 any_now test (text ∷ texts) = rw (any_now test texts)
 
--- a word can be searched among names by their bytes
-any_name : (o : Options) (word : List ℕ) (texts : List (Bor (List ℕ))) (names : List (List ℕ)) → IsUtf8 word → AreEncoded texts names
-    → list_all is_small names ≡ true
-    → list_any (λ text. bytes_eq (comparison_form o word) (comparison_form o text.now)) texts ≡ list_any (bytes_eq (comparison_form o (chars word))) names
-any_name o word texts names utf8 encoded small =
-    rw (any_now (λ bytes. bytes_eq (comparison_form o word) (comparison_form o bytes)) texts, encoded) (names_test o word names utf8 small)
+-- A word is among the texts of these names exactly if its characters are one of the names.
+any_name : (o : Options) (word : List ℕ) (texts : List (Bor (List ℕ))) (names : List (List ℕ)) (r : Bool) → IsUtf8 word
+    → AreEncoded texts names → list_all is_small names ≡ true
+    → r ≡ list_any (λ text. bytes_eq (comparison_form o word) (comparison_form o text.now)) texts
+    → r ≡ list_any (bytes_eq (comparison_form o (chars word))) names
+any_name o word texts names r utf8 encoded small is =
+    let test = λ (bytes : List ℕ). bytes_eq (comparison_form o word) (comparison_form o bytes) in
+    is ∙ rw (any_now test texts, encoded) (names_test o word names utf8 small)
 
 -- the names in the table have no ASCII capitals
 names_small : (u : TimeUnit) → (list_all is_small (row_of u).names ≡ true) × (list_all is_small (row_of u).chinese ≡ true)
 names_small = each_unit (λ u. (list_all is_small (row_of u).names ≡ true) × (list_all is_small (row_of u).chinese ≡ true)) assumption
 
 -- the word is among the unit's names
-pub by_name : (o : Options) (word : List ℕ) (u : TimeUnit) (texts : List (Bor (List ℕ))) (r : Bool) → IsUtf8 word → AreEncoded texts (row_of u).names
+pub by_name : (o : Options) (word : List ℕ) (u : TimeUnit) (texts : List (Bor (List ℕ))) (r : Bool) → IsUtf8 word
+    → AreEncoded texts (row_of u).names
     → r ≡ list_any (λ text. bytes_eq (comparison_form o word) (comparison_form o text.now)) texts
     → r ≡ list_any (bytes_eq (comparison_form o (chars word))) (row_of u).names
-by_name o word u texts r utf8 encoded is = is ∙ any_name o word texts (row_of u).names utf8 encoded (names_small u).0
+by_name o word u texts r utf8 encoded is = any_name o word texts (row_of u).names r utf8 encoded (names_small u).0 is
 
 -- the word is among the names that `cn_unit` adds
-pub by_chinese : (o : Options) (word : List ℕ) (u : TimeUnit) (texts : List (Bor (List ℕ))) (r : Bool) → IsUtf8 word → AreEncoded texts (row_of u).chinese
+pub by_chinese : (o : Options) (word : List ℕ) (u : TimeUnit) (texts : List (Bor (List ℕ))) (r : Bool) → IsUtf8 word
+    → AreEncoded texts (row_of u).chinese
     → r ≡ list_any (λ text. bytes_eq (comparison_form o word) (comparison_form o text.now)) texts
     → r ≡ list_any (bytes_eq (comparison_form o (chars word))) (row_of u).chinese
-by_chinese o word u texts r utf8 encoded is = is ∙ any_name o word texts (row_of u).chinese utf8 encoded (names_small u).1
+by_chinese o word u texts r utf8 encoded is = any_name o word texts (row_of u).chinese r utf8 encoded (names_small u).1 is
 
 -- ---- a name belongs to one unit
 

@@ -226,20 +226,16 @@ abbrev pub by_first : Bool → Result ℕ Cause → Ended → Result ℕ Cause
 by_first no_calc (Ok first) left = total_of no_calc first left
 by_first no_calc (Err cause) left = Err cause
 
-first_told : (no_calc : Bool) (place : Option ℕ) (f : Term) (left : Ended)
-    → fault_or (term_fault place f) (total_of no_calc (value_of_term f) left) ≡ by_first no_calc (term_value place (u64_from f.number) f.length) left
-first_told no_calc place f left = rw (term_told place f) (by (term_fault place f))
-  where
-    by : (fault : Option Cause) → fault_or fault (total_of no_calc (value_of_term f) left) ≡ by_first no_calc (fault_or fault (Ok (value_of_term f))) left
-    by None = refl
-    by (Some cause) = refl
+by_first-fault : (no_calc : Bool) (fault : Option Cause) (first : ℕ) (left : Ended)
+    → by_first no_calc (fault_or fault (Ok first)) left ≡ fault_or fault (total_of no_calc first left)
+by_first-fault no_calc None first left = refl
+by_first-fault no_calc (Some cause) first left = refl
 
 from_start : (no_calc : Bool) (rest : Rest) (left : Ended) → left_after no_calc Plus rest ≡ left
     → answer_of no_calc left.terms left.fault ≡ answer_left no_calc [] rest
 from_start no_calc rest left is =
-    let terminals = terminals_in rest in
-    let n = front_of no_calc terminals in
-    ap (λ (l : Ended). answer_of no_calc l.terms l.fault) (sym is) ∙ in_order no_calc (start_left n rest) (take n terminals) (drop n terminals)
+    ap (λ (l : Ended). answer_of no_calc l.terms l.fault) (sym is)
+    ∙ in_order no_calc (start_left (front_of no_calc (terminals_in rest)) rest) (front_in no_calc rest) (after_in no_calc rest)
 
 fault_alone : (no_calc : Bool) (cause : Cause) → Err cause ≡ answer_of no_calc [] (Some cause)
 fault_alone false cause = refl
@@ -260,8 +256,8 @@ first_step {m = m} {a = a} {n = n} no_calc s b u same taken unit is =
     let more = after_unit no_calc (operator_read no_calc (rest_of b)) in
     let read = number_taken no_calc Plus m a n taken _ unit in
     let added = λ (h : IsTrue no_calc). subst (λ (l : Ended). AreAdded l.terms) read (left_added no_calc Plus (rest_of m) refl h) in
-    rw (← same, ← from_start no_calc (rest_of m) _ read, is, taken.is_value)
-    (one_by_one no_calc t more.terms more.fault added ∙ first_told no_calc (Some 0) t more)
+    let whole = one_by_one no_calc t more.terms more.fault added in
+    rw (← same, ← from_start no_calc (rest_of m) _ read, is, taken.is_value, term_told (Some 0) t, by_first-fault no_calc, whole)
 
 first_stands : (first : ℕ) (set : CondUnit) (front rest : List Terminal)
     → terms_of (complete (first_term first set ++ front) rest) ≡ term_of first NanoSecond ∷ terms_after set (complete front rest)
@@ -277,15 +273,17 @@ same_kinds no_calc op (terminal ∷ front) = refl
 pub from_later : (no_calc : Bool) (first : ℕ) (set : CondUnit) (rest : Rest) → first < 2 ^ 64 → (IsTrue no_calc → set ≡ Plus)
     → total_of no_calc first (left_after no_calc set rest) ≡ answer_left no_calc (first_term first set) rest
 from_later no_calc first set rest below plus =
-    let terminals = terminals_in rest in
-    let n = front_of no_calc terminals in
-    let front = take n terminals in
+    let front = front_in no_calc rest in
+    let after = after_in no_calc rest in
     let left = left_after no_calc set rest in
     let f = term_of first NanoSecond in
     let value : first ≡ value_of_term f = omega arith in
-    let none = term_below_no_fault (Some 0) f (omega arith) (omega (arith, below)) in
-    (λ i. fault_or (sym none i) (total_of no_calc (value i) left))
-    ∙ sym (one_by_one no_calc f left.terms left.fault (λ h. (refl, omega arith, left_added no_calc set rest (plus h) h)))
-    ∙ (λ i. answer_of no_calc (sym (first_stands first set front (drop n terminals)) i)
-    (fault_at (start_left n rest) (sym (same_kinds no_calc set front) i) (drop n terminals)))
-    ∙ in_order no_calc (start_left n rest) (first_term first set ++ front) (drop n terminals)
+    let none = sym (term_below_no_fault (Some 0) f (omega arith) (omega (arith, below))) in
+    let added : IsTrue no_calc → AreAdded (f ∷ left.terms) = λ h. (refl, omega arith, left_added no_calc set rest (plus h) h) in
+    let terms = sym (first_stands first set front after) in
+    let kinds = sym (same_kinds no_calc set front) in
+    let place = start_left (front_of no_calc (terminals_in rest)) rest in
+    (λ i. fault_or (none i) (total_of no_calc (value i) left))
+    ∙ sym (one_by_one no_calc f left.terms left.fault added)
+    ∙ (λ i. answer_of no_calc (terms i) (fault_at place (kinds i) after))
+    ∙ in_order no_calc place (first_term first set ++ front) after
