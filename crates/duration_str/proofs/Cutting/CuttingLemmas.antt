@@ -80,42 +80,41 @@ pub passes_none : (test : ℕ → Bool) (text : List ℕ) (place : ℕ) → Pass
 passes_none test text place = record { characters = []; between = record { cut = refl; bytes = omega arith }; all = refl }
 
 -- one run that passes after another
-pub passes_on : (test : ℕ → Bool) (text : List ℕ) (place at next : ℕ) → Passes test text place at → Passes test text at next → Passes test text place next
-passes_on test text place at next passed more =
-    let len = byte_len-append passed.characters more.characters in
-    record {
-      characters = passed.characters ++ more.characters;
-      between = record {
-        cut = rw append_assoc (rw more.between.cut at passed.between.cut);
-        bytes = omega (arith, len, passed.between.bytes, more.between.bytes);
-      };
-      all = list_all-append test passed.characters more.characters ∙ and_from _ _ passed.all more.all;
-    }
-
-pub passes_more : (test : ℕ → Bool) (text : List ℕ) (place at next c : ℕ) → Passes test text place at → StandsAt text at next c → test c ≡ true
+passes_on : {test : ℕ → Bool} {text : List ℕ} {place at next : ℕ} → Passes test text place at → Passes test text at next
     → Passes test text place next
-unfolding passes_on
-passes_more test text place at next c passed stands e = passes_on test text place at next passed (record {
-  characters = c ∷ [];
-  between = record { cut = stands.head; bytes = omega (arith, stands.bytes) };
-  all = rw e;
-})
+passes_on {test} passed more = record {
+  characters = passed.characters ++ more.characters;
+  between = record {
+    cut = rw append_assoc (rw more.between.cut at passed.between.cut);
+    bytes = rw byte_len-append (omega (arith, passed.between.bytes, more.between.bytes));
+  };
+  all = list_all-append test passed.characters more.characters ∙ and_from _ _ passed.all more.all;
+}
 
 -- characters that pass a test also pass a weaker one
-pub passes_weaker : (test weaker : ℕ → Bool) (text : List ℕ) (place next : ℕ) → ((c : ℕ) → test c ≡ true → weaker c ≡ true) → Passes test text place next
-    → Passes weaker text place next
-passes_weaker test weaker text place next follows passed =
-    record { characters = passed.characters; between = passed.between; all = all_weaker test weaker passed.characters follows passed.all }
+passes_weaker : {test : ℕ → Bool} {text : List ℕ} {place next : ℕ} (weaker : ℕ → Bool) → ((c : ℕ) → test c ≡ true → weaker c ≡ true)
+    → Passes test text place next → Passes weaker text place next
+passes_weaker {test} weaker follows passed = record {
+  characters = passed.characters;
+  between = passed.between;
+  all = all_weaker test weaker passed.characters follows passed.all;
+}
 
 -- the text stops if its head fails the test
 pub stops_at : (test : ℕ → Bool) (text : List ℕ) (place next c : ℕ) → StandsAt text place next c → test c ≡ false → Stops test (ahead text place)
 stops_at test text place next c stands e = rw stands.head e
 
 -- the head of what is left passes the test, and joins the run
-pub passes_head : (test : ℕ → Bool) (text left : List ℕ) (place at next : ℕ) (head : Option ℕ) (c : ℕ) → left ≡ text → Passes test text place at → head ≡ Some c
-    → ForSome head (StandsAt left at next) → test c ≡ true → Passes test text place next
+pub passes_head : (test : ℕ → Bool) (text left : List ℕ) (place at next : ℕ) (head : Option ℕ) (c : ℕ) → left ≡ text
+    → Passes test text place at → head ≡ Some c → ForSome head (StandsAt left at next) → test c ≡ true → Passes test text place next
+unfolding passes_on
 passes_head test text left place at next head c same passed is stands e =
-    passes_more test text place at next c passed (rw same at (stands c is)) e
+    let ahead = rw same at (stands c is) in
+    passes_on passed (record {
+      characters = c ∷ [];
+      between = record { cut = ahead.head; bytes = omega (arith, ahead.bytes) };
+      all = rw e;
+    })
 
 -- ---- values of digits and letters
 
@@ -134,7 +133,7 @@ digits_none text place = record { run = passes_none is_digit text place; number 
 pub digits_head : (text left : List ℕ) (place at next : ℕ) (head : Option ℕ) (c value value' : ℕ) → left ≡ text → TakesDigits text place at value
     → head ≡ Some c
     → ForSome head (StandsAt left at next) → is_digit c ≡ true → value' ≡ (value * 10 + (c - 48)) % 2 ^ 64 → TakesDigits text place next value'
-unfolding passes_head passes_more passes_on
+unfolding passes_head passes_on
 digits_head text left place at next head c value value' same taken is stands e more =
     let push = number_after-push 0 taken.run.characters c in
     let before = taken.number in
@@ -153,7 +152,7 @@ any-push test cs c = rw (list_any-append test cs, or-false (test c))
 pub letters_head : (text left : List ℕ) (place at next : ℕ) (head : Option ℕ) (c value value' : ℕ) (capital capital' : Bool) → left ≡ text
     → TakesLetters text place at value capital → head ≡ Some c → ForSome head (StandsAt left at next) → is_ascii_alphabetic c ≡ true
     → value' ≡ (value * 32 + c % 32) % 2 ^ 64 → capital' ≡ (capital || nat_lt c 97) → TakesLetters text place next value' capital'
-unfolding passes_head passes_more passes_on
+unfolding passes_head passes_on
 letters_head text left place at next head c value value' capital capital' same taken is stands e more or =
     let push = packed_after-push 0 taken.run.characters c in
     let before = taken.number in
@@ -169,16 +168,11 @@ length-le-byte_len : (cs : List ℕ) → length cs ≤ byte_len cs
 length-le-byte_len [] = omega arith
 length-le-byte_len (c ∷ cs) = let one = width_some c in let rest = length-le-byte_len cs in omega (arith, one, rest)
 
--- an upper bound on the number of characters
-pub between_count : (text : List ℕ) (place next n : ℕ) (cs : List ℕ) → Between text place next cs → next - place ≤ n → length cs ≤ n
-between_count text place next n cs between few = let len = length-le-byte_len cs in let bytes = between.bytes in omega (arith, len, bytes, few)
-
 -- the slice between two places has these characters
-pub chars_between : (text : List ℕ) (place next : ℕ) (cs slice : List ℕ) → Between text place next cs → slice ≡ slice_range text place next → IsUtf8 slice
+pub chars_between : {text cs slice : List ℕ} {place next : ℕ} → Between text place next cs → slice ≡ slice_range text place next → IsUtf8 slice
     → chars slice ≡ cs
-chars_between text place next cs slice between is utf8 =
-    let order : place ≤ next = omega (arith, between.bytes) in
-    let there : place + (next - place) ≡ next = omega (arith, order) in
+chars_between {text} {cs} {slice} {place} {next} between is utf8 =
+    let there : place + (next - place) ≡ next = omega (arith, between.bytes) in
     let parts : slice ++ drop next text ≡ drop place text =
     rw (is, ← there, ← drop-drop (next - place) place text, there) (take-append-drop (next - place) (drop place text)) in
     append_cancel_right (chars slice) cs (ahead text next) (sym (chars-append slice (drop next text) utf8) ∙ rw parts between.cut)
@@ -202,31 +196,25 @@ pub record TakesWord (o : Options) (text : List ℕ) (place next : ℕ) (unit : 
   pub named : unit ≡ unit_of_word o run.characters
 
 -- a word of at most 12 ASCII letters, without capitals under `lowercase`, identified by its packed number
-pub short_word : (o : Options) (text : List ℕ) (place next value : ℕ) (capital : Bool) (unit : Option TimeUnit) → TakesLetters text place next value capital
-    → (o.lowercase && capital) ≡ false → next - place ≤ 12 → unit ≡ unit_of_packed value → TakesWord o text place next unit
+pub short_word : {text : List ℕ} {place next value : ℕ} {capital : Bool} {unit : Option TimeUnit} (o : Options)
+    → TakesLetters text place next value capital → (o.lowercase && capital) ≡ false → next - place ≤ 12 → unit ≡ unit_of_packed value
+    → TakesWord o text place next unit
 unfolding passes_weaker
-short_word o text place next value capital unit taken folded short found =
+short_word {value = value} o taken folded short found =
     let cs = taken.run.characters in
-    let few : length cs ≤ 12 = between_count text place next 12 cs taken.run.between short in
+    let few : length cs ≤ 12 = omega (arith, length-le-byte_len cs, taken.run.between.bytes, short) in
     record {
-      run = passes_weaker is_ascii_alphabetic (is_unit_letter o) text place next (letter_of_ascii o) taken.run;
+      run = passes_weaker (is_unit_letter o) (letter_of_ascii o) taken.run;
       named = rw (found, exact cs value few taken.number, unit_by_number o cs (rw taken.capital at folded) taken.run.all);
     }
 
 -- a word by its slice: ASCII letters, then any unit letters
-pub long_word : (o : Options) (text : List ℕ) (place at next value : ℕ) (capital : Bool) (slice : List ℕ) (unit : Option TimeUnit)
-    → TakesLetters text place at value capital
-    → Passes (is_unit_letter o) text at next → slice ≡ slice_range text place next → IsUtf8 slice → unit ≡ unit_of_word o (chars slice)
-    → TakesWord o text place next unit
-long_word o text place at next value capital slice unit taken passed is utf8 found =
-    let run = passes_on (is_unit_letter o) text place at next (passes_weaker is_ascii_alphabetic (is_unit_letter o) text place at (letter_of_ascii o)
-    taken.run) passed in
-    record { run = run; named = rw (found, chars_between text place next run.characters slice run.between is utf8) }
-
--- a slice of the same text from the same place
-pub same_slice : (slice text text' : List ℕ) (start place next : ℕ) → slice ≡ slice_range text start next → text ≡ text' → start ≡ place
-    → slice ≡ slice_range text' place next
-same_slice slice text text' start place next is same there = rw (same, there) at is
+pub long_word : {o : Options} {text slice : List ℕ} {place at next value : ℕ} {capital : Bool} {unit : Option TimeUnit}
+    → TakesLetters text place at value capital → Passes (is_unit_letter o) text at next → slice ≡ slice_range text place next
+    → IsUtf8 slice → unit ≡ unit_of_word o (chars slice) → TakesWord o text place next unit
+long_word {o} taken passed is utf8 found =
+    let run = passes_on (passes_weaker (is_unit_letter o) (letter_of_ascii o) taken.run) passed in
+    record { run = run; named = rw (found, chars_between run.between is utf8) }
 
 -- ---- the first token that is left
 
@@ -237,14 +225,14 @@ blanks_no_token o at (b ∷ blanks) rest h =
     rw (parts.0, blanks_no_token o (at + width b) blanks rest parts.1, add_assoc)
 
 -- skipping blanks leaves the same tokens
-pub blanks_passed : (o : Options) (text : List ℕ) (place next : ℕ) → Passes is_blank text place next
+pub blanks_passed : {text : List ℕ} {place next : ℕ} (o : Options) → Passes is_blank text place next
     → tokens_from o place (ahead text place) ≡ tokens_from o next (ahead text next)
-blanks_passed o text place next blanks =
+blanks_passed {text} {place} {next} o blanks =
     rw (blanks.between.cut, blanks_no_token o place blanks.characters (ahead text next) blanks.all, ← blanks.between.bytes)
 
-pub token_taken : (o : Options) (text : List ℕ) (place next : ℕ) (cs : List ℕ) → Between text place next cs → IsLexeme o cs → EndsRun o cs (ahead text next)
+pub token_taken : {text cs : List ℕ} {place next : ℕ} (o : Options) → Between text place next cs → IsLexeme o cs → EndsRun o cs (ahead text next)
     → tokens_from o place (ahead text place) ≡ record { start = place; characters = cs } ∷ tokens_from o next (ahead text next)
-token_taken o text place next cs between is_lexeme ends =
+token_taken {text} {cs} {place} {next} o between is_lexeme ends =
     let step : place + 0 + byte_len cs ≡ next = omega (arith, between.bytes) in
     rw (between.cut, tokens_step o place [] cs (ahead text next) refl is_lexeme ends, step, add-zero place)
 

@@ -28,71 +28,53 @@ pub record StandsToken (o : Options) (text : List ℕ) (place next : ℕ) (termi
   pub ends : EndsRun o characters (ahead text next)
   pub is_terminal : terminal ≡ terminal_of o characters
 
--- if the character ahead passes the test, the run of characters that pass it is not empty
-some_passed : (test : ℕ → Bool) (text : List ℕ) (place next at c : ℕ) (cs : List ℕ) → Between text place next cs → Stops test (ahead text next)
-    → StandsAt text place at c → test c ≡ true
-    → cs ≡ [] → ⊥
-some_passed test text place next at c cs between stops stands e none =
-    let same : ahead text next ≡ c ∷ ahead text at = sym (rw none at between.cut) ∙ stands.head in
-    cc (rw same at stops)
+-- A run of characters that pass the test ends before the text stops, if none that passes it is of one run with one that
+-- fails it.
+run_ends : (o : Options) (test : ℕ → Bool) → ((c d : ℕ) → test c ≡ true → test d ≡ false → are_of_one_run o c d ≡ false)
+    → (c : ℕ) (rest : List ℕ) → test c ≡ true → Stops test rest → goes_on o c rest ≡ false
+run_ends o test apart c [] e stops = refl
+run_ends o test apart c (d ∷ rest) e stops = apart c d e stops
 
--- a run of digits ends before a character that is not a digit
-digits_end : (o : Options) (c : ℕ) (rest : List ℕ) → is_digit c ≡ true → Stops is_digit rest → goes_on o c rest ≡ false
-digits_end o c [] e stops = refl
-digits_end o c (d ∷ rest) e stops = rw (e, stops, digit-not_letter o c e) refl
-
-letters_end : (o : Options) (c : ℕ) (rest : List ℕ) → is_unit_letter o c ≡ true → Stops (is_unit_letter o) rest → goes_on o c rest ≡ false
-letters_end o c [] e stops = refl
-letters_end o c (d ∷ rest) e stops = rw (letter-not_digit o c e, e, stops) refl
-
-digits_mean : (o : Options) (c : ℕ) (cs : List ℕ) → IsTrue (list_all is_digit (c ∷ cs)) → terminal_of o (c ∷ cs) ≡ number (number_of (c ∷ cs))
-digits_mean o c cs all = rw all
-
-letters_mean : (o : Options) (c : ℕ) (cs : List ℕ) → IsTrue (list_all (is_unit_letter o) (c ∷ cs)) → terminal_of o (c ∷ cs) ≡ word (unit_of_word o (c ∷ cs))
-letters_mean o c cs all =
-    let first : is_digit c ≡ false = letter-not_digit o c (and_parts (is_unit_letter o c) (list_all (is_unit_letter o) cs) all).0 in
-    rw (first, all) refl
-
--- A run of characters that pass the test is a token, if such runs are lexemes that stand for `meaning`.
-run_stands : (o : Options) (test : ℕ → Bool) (meaning : List ℕ → Terminal) (text : List ℕ) (place next at c : ℕ) (cs : List ℕ)
-    → Between text place next cs → IsTrue (list_all test cs) → Stops test (ahead text next) → StandsAt text place at c → test c ≡ true
+-- Such a run is a token, if it is a lexeme that stands for `meaning`.
+run_stands : {text cs : List ℕ} {place next at c : ℕ} (o : Options) (test : ℕ → Bool) (meaning : List ℕ → Terminal)
+    → ((c d : ℕ) → test c ≡ true → test d ≡ false → are_of_one_run o c d ≡ false)
     → ((d : ℕ) (ds : List ℕ) → IsTrue (list_all test (d ∷ ds)) → IsLexeme o (d ∷ ds) × (terminal_of o (d ∷ ds) ≡ meaning (d ∷ ds)))
-    → ((d : ℕ) (rest : List ℕ) → test d ≡ true → Stops test rest → goes_on o d rest ≡ false)
+    → Between text place next cs → IsTrue (list_all test cs) → Stops test (ahead text next) → StandsAt text place at c → test c ≡ true
     → (0 < length cs) × StandsToken o text place next (meaning cs)
-run_stands o test meaning text place next at c [] between all stops stands e lexeme ends =
-    absurd (some_passed test text place next at c [] between stops stands e refl)
-run_stands o test meaning text place next at c (d ∷ cs) between all stops stands e lexeme ends = (
+run_stands {cs = []} o test meaning apart lexeme between all stops stands e =
+    let same = sym between.cut ∙ stands.head in
+    absurd (cc (rw same at stops))
+run_stands {cs = d ∷ cs} o test meaning apart lexeme between all stops stands e = (
   omega arith,
   record {
     characters = d ∷ cs;
     between = between;
     is_lexeme = (lexeme d cs all).0;
-    ends = ends d (ahead text next) (and_parts (test d) (list_all test cs) all).0 stops;
+    ends = run_ends o test apart d _ (and_parts (test d) (list_all test cs) all).0 stops;
     is_terminal = sym (lexeme d cs all).1;
   },
 )
 
-pub number_stands : (o : Options) (text : List ℕ) (place next at c : ℕ) (run : Passes is_digit text place next) → Stops is_digit (ahead text next)
-    → StandsAt text place at c → is_digit c ≡ true
+pub number_stands : {text : List ℕ} {place next at c : ℕ} (o : Options) (run : Passes is_digit text place next)
+    → Stops is_digit (ahead text next) → StandsAt text place at c → is_digit c ≡ true
     → IsNumber run.characters × StandsToken o text place next (number (number_of run.characters))
-number_stands o text place next at c run stops stands e =
-    let token = run_stands o is_digit (λ cs. number (number_of cs)) text place next at c run.characters run.between run.all stops stands e
-    (λ d ds all. (digits_are_lexeme o d ds all, digits_mean o d ds all)) (digits_end o) in
+number_stands o run stops stands e =
+    let token = run_stands o is_digit (λ cs. number (number_of cs)) (λ c d p q. rw (p, q, digit-not_letter o c p))
+    (λ d ds all. (digits_are_lexeme o d ds all, rw all)) run.between run.all stops stands e in
     ((token.0, run.all), token.1)
 
-pub word_stands : (o : Options) (text : List ℕ) (place next at c : ℕ) (unit : Option TimeUnit) → TakesWord o text place next unit
-    → Stops (is_unit_letter o) (ahead text next)
-    → StandsAt text place at c → is_unit_letter o c ≡ true → StandsToken o text place next (word unit)
-word_stands o text place next at c unit taken stops stands e =
-    let run = taken.run in
-    rw taken.named (run_stands o (is_unit_letter o) (λ cs. word (unit_of_word o cs)) text place next at c run.characters run.between run.all stops stands e
-    (λ d ds all. (letters_are_lexeme o d ds all, letters_mean o d ds all)) (letters_end o)).1
+pub word_stands : {text : List ℕ} {place next at c : ℕ} {unit : Option TimeUnit} (o : Options) → TakesWord o text place next unit
+    → Stops (is_unit_letter o) (ahead text next) → StandsAt text place at c → is_unit_letter o c ≡ true
+    → StandsToken o text place next (word unit)
+word_stands o taken stops stands e =
+    rw taken.named (run_stands o (is_unit_letter o) (λ cs. word (unit_of_word o cs)) (λ c d p q. rw (letter-not_digit o c p, p, q))
+    (λ d ds all. (letters_are_lexeme o d ds all, rw (letter-not_digit o d (and_parts (is_unit_letter o d) _ all).0, all)))
+    taken.run.between taken.run.all stops stands e).1
 
 -- an operator, or a character of no other class
-pub sign_stands : (o : Options) (text : List ℕ) (place next c : ℕ) → StandsAt text place next c → is_blank c ≡ false → is_digit c ≡ false
-    → is_unit_letter o c ≡ false
-    → StandsToken o text place next (operator_or_other (operator_of c))
-sign_stands o text place next c stands b e f = record {
+pub sign_stands : {text : List ℕ} {place next c : ℕ} (o : Options) → StandsAt text place next c → is_blank c ≡ false → is_digit c ≡ false
+    → is_unit_letter o c ≡ false → StandsToken o text place next (operator_or_other (operator_of c))
+sign_stands {text} {next = next} {c = c} o stands b e f = record {
   characters = c ∷ [];
   between = record { cut = stands.head; bytes = rw add-zero stands.bytes };
   is_lexeme = (b, refl);

@@ -21,7 +21,7 @@ use Rattle.duration_str.specs.Internal.Sorts.{sort_of}
 use Rattle.duration_str.specs.Internal.Numbers.{u64_from}
 use Rattle.duration_str.specs.Tokenizer.{source, options_of, place_of, left, what_of, KeepsInput, YieldsNextToken}
 use Rattle.duration_str.specs.Internal.Tokenizer.{IsAhead, LooksAhead, IsSign, TakesToken, TakesTokenWith, TakesNumber}
-use Rattle.duration_str.proofs.Cutting.CuttingLemmas.{TakesWord, chars_between, long_word, same_slice, blanks_passed, token_taken, place_at_end}
+use Rattle.duration_str.proofs.Cutting.CuttingLemmas.{TakesWord, chars_between, long_word, blanks_passed, token_taken, place_at_end}
 use Rattle.duration_str.proofs.Cutting.SortLemmas.{StandsToken, number_stands, word_stands, sign_stands, digit_of_sort, letter_of_sort, sign_of_sort, first_token}
 use Rattle.duration_str.proofs.Cutting.TerminalLemmas.{sign_sorts}
 
@@ -32,8 +32,8 @@ pub keeps_on : (s m t : Tokens) → KeepsInput s m → KeepsInput m t → KeepsI
 keeps_on s m t kept later = record { text = later.text ∙ kept.text; options = later.options ∙ kept.options }
 
 -- the tokens that are left after a step, in terms of the source and the options before it
-left_same : (s t : Tokens) → KeepsInput s t → left t ≡ tokens_from (options_of s) (place_of t) (ahead (source s) (place_of t))
-left_same s t kept = rw (kept.options, kept.text)
+left_same : {s t : Tokens} → KeepsInput s t → left t ≡ tokens_from (options_of s) (place_of t) (ahead (source s) (place_of t))
+left_same kept = rw (kept.options, kept.text)
 
 -- ---- what is ahead
 
@@ -44,13 +44,10 @@ fewer_ahead s t c kept past is =
     simp (kept.text, (past c is).head) (omega arith)
 
 -- skipping the blanks from s to t
-pub looks_ahead : (s t : Tokens) (sort : Option Sort) → KeepsInput s t → Passes is_blank (source s) (place_of s) (place_of t) → IsAhead t sort
+pub looks_ahead : {s t : Tokens} (sort : Option Sort) → KeepsInput s t → Passes is_blank (source s) (place_of s) (place_of t) → IsAhead t sort
     → LooksAhead s t sort
-looks_ahead s t sort kept blanks ahead = record {
-  kept = kept;
-  same_left = rw (left_same s t kept, blanks_passed (options_of s) (source s) (place_of s) (place_of t) blanks);
-  ahead = ahead;
-}
+looks_ahead {s} sort kept blanks ahead =
+    record { kept = kept; same_left = rw (left_same kept, blanks_passed (options_of s) blanks); ahead = ahead }
 
 pub none_left : (s : Tokens) → IsAhead s None → (left s ≡ []) × (place_of s ≡ length (source s))
 none_left s end =
@@ -77,15 +74,20 @@ letter_ahead s c h is =
 
 -- ---- the next token
 
-takes_token : (s t : Tokens) (terminal : Terminal) → KeepsInput s t → StandsToken (options_of s) (source s) (place_of s) (place_of t) terminal
-    → TakesToken s t terminal
-takes_token s t terminal kept token = record {
+takes_token : {s t : Tokens} {terminal : Terminal} → KeepsInput s t
+    → StandsToken (options_of s) (source s) (place_of s) (place_of t) terminal → TakesToken s t terminal
+takes_token {s} kept token = record {
   characters = token.characters;
   kept = kept;
-  first = rw (token_taken (options_of s) (source s) (place_of s) (place_of t) token.characters token.between token.is_lexeme token.ends, left_same s t kept);
+  first = rw (token_taken (options_of s) token.between token.is_lexeme token.ends, left_same kept);
   between = token.between;
   is_terminal = token.is_terminal;
 }
+
+-- a slice of the same text from the same place
+same_slice : {s t : Tokens} {slice : List ℕ} {start : ℕ} → KeepsInput s t → start ≡ place_of s → slice ≡ slice_range (source t) start (place_of t)
+    → slice ≡ slice_range (source s) (place_of s) (place_of t)
+same_slice kept there is = simp (kept.text, there) at is
 
 -- The slice from s to t is the number ahead, and `low` is its value modulo 2^64.
 pub takes_number : (s t : Tokens) (low start : ℕ) (slice : List ℕ) → IsAhead s (Some Number) → KeepsInput s t
@@ -93,49 +95,43 @@ pub takes_number : (s t : Tokens) (low start : ℕ) (slice : List ℕ) → IsAhe
     → slice ≡ slice_range (source t) start (place_of t) → IsUtf8 slice
     → IsNumber (chars slice) × (low ≡ number_of (chars slice) % 2 ^ 64) × TakesNumber s t (u64_from (number_of (chars slice)))
 takes_number s t low start slice h kept taken stops there is utf8 =
-    let same = chars_between (source s) (place_of s) (place_of t) taken.run.characters slice taken.run.between
-    (same_slice slice (source t) (source s) start (place_of s) (place_of t) is kept.text there) utf8 in
-    let token = number_stands (options_of s) (source s) (place_of s) (place_of t) s.eye.next h.character taken.run
-    (simp kept.text at stops) (s.some h.character h.is_head)
-    (digit_of_sort (options_of s) h.character h.is_sort) in (
+    let same = chars_between taken.run.between (same_slice kept there is) utf8 in
+    let digit = digit_of_sort (options_of s) h.character h.is_sort in
+    let token = number_stands (options_of s) taken.run (simp kept.text at stops) (s.some h.character h.is_head) digit in (
       rw same token.0,
       rw same taken.number,
-      record { n = number_of taken.run.characters; token = takes_token s t _ kept token.1; is_value = rw same },
+      record { n = number_of taken.run.characters; token = takes_token kept token.1; is_value = rw same },
     )
 
-pub takes_word : (s t : Tokens) (unit : Option TimeUnit) → IsAhead s (Some Word) → KeepsInput s t
+pub takes_word : {s t : Tokens} {unit : Option TimeUnit} → IsAhead s (Some Word) → KeepsInput s t
     → TakesWord (options_of s) (source s) (place_of s) (place_of t) unit → Stops (is_unit_letter (options_of s)) (ahead (source t) (place_of t))
     → TakesToken s t (word unit)
-takes_word s t unit h kept taken stops =
-    takes_token s t (word unit) kept
-    (word_stands (options_of s) (source s) (place_of s) (place_of t) s.eye.next h.character unit taken
-    (simp kept.text at stops) (s.some h.character h.is_head) (letter_of_sort (options_of s) h.character h.is_sort))
+takes_word {s} h kept taken stops =
+    let letter = letter_of_sort (options_of s) h.character h.is_sort in
+    takes_token kept (word_stands (options_of s) taken (simp kept.text at stops) (s.some h.character h.is_head) letter)
 
 -- a word by its slice: ASCII letters from s to m, then any unit letters up to t
-pub takes_long_word : (s m t : Tokens) (value start : ℕ) (capital : Bool) (slice : List ℕ) (unit : Option TimeUnit) → IsAhead s (Some Word) → KeepsInput s m
-    → TakesLetters (source s) (place_of s) (place_of m) value capital → KeepsInput m t
-    → Passes (is_unit_letter (options_of m)) (source m) (place_of m) (place_of t) → Stops (is_unit_letter (options_of m)) (ahead (source t) (place_of t))
+pub takes_long_word : {s m t : Tokens} {value start : ℕ} {capital : Bool} {slice : List ℕ} {unit : Option TimeUnit} → IsAhead s (Some Word)
+    → KeepsInput s m → TakesLetters (source s) (place_of s) (place_of m) value capital → KeepsInput m t
+    → Passes (is_unit_letter (options_of m)) (source m) (place_of m) (place_of t)
+    → Stops (is_unit_letter (options_of m)) (ahead (source t) (place_of t))
     → start ≡ place_of s → slice ≡ slice_range (source t) start (place_of t) → IsUtf8 slice → unit ≡ unit_of_word (options_of t) (chars slice)
     → TakesToken s t (word unit)
-takes_long_word s m t value start capital slice unit h kept letters later passed stops there is utf8 found =
-    let run = rw (kept.options, kept.text) at passed in
+takes_long_word {s} {m} {t} h kept letters later passed stops there is utf8 found =
     let all = keeps_on s m t kept later in
-    takes_word s t unit h all
-    (long_word (options_of s) (source s) (place_of s) (place_of m) (place_of t) value capital slice unit letters run
-    (same_slice slice (source t) (source s) start (place_of s) (place_of t) is all.text there) utf8
-    (rw all.options at found))
-    (simp kept.options at stops)
+    let word = long_word letters (rw (kept.options, kept.text) at passed) (same_slice all there is) utf8 (rw all.options at found) in
+    takes_word h all word (simp kept.options at stops)
 
 -- taking the single character ahead
-pub takes_sign : (s t : Tokens) (sort : Sort) → IsSign sort → IsAhead s (Some sort) → KeepsInput s t
+pub takes_sign : {s t : Tokens} (sort : Sort) → IsSign sort → IsAhead s (Some sort) → KeepsInput s t
     → ((c : ℕ) → s.head ≡ Some c → StandsAt (source s) (place_of s) (place_of t) c)
     → TakesTokenWith s t (λ terminal. sort ≡ sort_of terminal)
-takes_sign s t sort sign h kept past =
+takes_sign {s} sort sign h kept past =
     let c = h.character in
     let (no_digit, no_letter, sort_is) = sign_of_sort (options_of s) c sort sign h.is_sort in
     record {
       terminal = operator_or_other (operator_of c);
-      token = takes_token s t _ kept (sign_stands (options_of s) (source s) (place_of s) (place_of t) c (past c h.is_head) h.not_blank no_digit no_letter);
+      token = takes_token kept (sign_stands (options_of s) (past c h.is_head) h.not_blank no_digit no_letter);
       has = sort_is ∙ sign_sorts (operator_of c);
     }
 
@@ -149,13 +145,11 @@ other_what other e = refl
 other_what _ e = absurd cc
 
 -- the token that was taken is the next one
-pub takes_terminal : (s m t : Tokens) (x : RustToken) (terminal : Terminal) → KeepsInput s m → left m ≡ left s → TakesToken m t terminal
+pub takes_terminal : {s m t : Tokens} {terminal : Terminal} (x : RustToken) → KeepsInput s m → left m ≡ left s → TakesToken m t terminal
     → x.start ≡ place_of m → x.text.now ≡ slice_range (source t) x.start (place_of t) → IsUtf8 x.text.now → x.what ≡ what_of terminal
-    → IsCharBoundary (source m) (place_of m)
-    → IsCharBoundary (source t) (place_of t) → YieldsNextToken s (Some x) t
-takes_terminal s m t x terminal kept same taken there is utf8 sort before boundary =
-    let cs : chars x.text.now ≡ taken.characters = chars_between (source m) (place_of m) (place_of t) taken.characters x.text.now taken.between
-    (simp (taken.kept.text, there) at is) utf8 in
+    → IsCharBoundary (source m) (place_of m) → IsCharBoundary (source t) (place_of t) → YieldsNextToken s (Some x) t
+takes_terminal {s} {m} {t} x kept same taken there is utf8 sort before boundary =
+    let cs = chars_between taken.between (same_slice taken.kept there is) utf8 in
     let order : x.start ≤ place_of t = omega (arith, taken.between.bytes, there) in
     let len : length x.text.now ≡ place_of t - x.start =
     ap length is ∙ length-take-le (place_of t - x.start) (drop x.start (source t)) (simp length-drop (omega (arith, boundary.0, order))) in

@@ -7,12 +7,12 @@ pub returns-in_err-first : goal.returns-in_err-first
 returns-in_err-first c =
     let m = c.skip_blanks.new.self in
     let e = c.skip_blanks.ensures in
-    looks_ahead c.args.self.now m _ e.kept e.blanks (subst (IsAhead m) (sym c.from_residual.ensures) (c.in_err-first.was {u = tt}))
+    looks_ahead _ e.kept e.blanks (subst (IsAhead m) (sym c.from_residual.ensures) (c.in_err-first.was {u = tt}))
 
 pub returns : goal.returns
 returns c =
     let m = c.skip_blanks.new.self in
     let e = c.skip_blanks.ensures in
     let head = c.in_ok-first.was {u = tt} in
-    looks_ahead c.args.self.now m _ e.kept e.blanks
+    looks_ahead _ e.kept e.blanks
     (record { character = c.in_ok-first.first; is_head = head; not_blank = e.stops c.in_ok-first.first head; is_sort = c.sort_at.ensures })

@@ -8,4 +8,4 @@ returns-clause-sign c sort h =
     let s = c.args.self.now in
     let e = c.advance.ensures in
     let sign = subst IsSign (one_sort s c.requires.sort sort c.requires.ahead h) c.requires.is_sign in
-    takes_sign s c.advance.new.self sort sign h e.kept e.past
+    takes_sign sort sign h e.kept e.past

@@ -21,25 +21,21 @@ returns-then-place-start-le-MOST_LETTERS c =
           (no_letter_of_ascii o w.in-Some.c (sym w.is_ascii-ended.ensures ∙ sym w.ended-is ∙ c.if-ended.true) (e.stops w.in-Some.c w.in-Some.is))
       | in-None w ↦ subst (Stops (is_unit_letter o)) (sym (t.none w.in-None.is)) tt
     ] in
-    takes_word s t c.unit_of_packed.result c.requires e.kept
-    (short_word o (source s) (place_of s) (place_of t) letters.packed letters.has_capital c.unit_of_packed.result e.letters
+    takes_word c.requires e.kept (short_word o e.letters
     (ap (λ o. o.lowercase && letters.has_capital) (sym e.kept.options) ∙ not-true _ (sym c.ignore_case.ensures ∙ c.if-ignore_case.true))
     (let h = c.if-place-start-le-MOST_LETTERS.true in omega (arith, h, c.place.ensures, c.place-start.ensures)) c.unit_of_packed.ensures)
     stops
 
 pub returns-in_err-unit : goal.returns-in_err-unit
 returns-in_err-unit c =
-    let m = c.take_ascii_letters-letters in
-    let t = c.skip_letters in
-    takes_long_word c.args.self.now m.new.self t.new.self m.result.packed c.place-start.result m.result.has_capital c.since.result.now _ c.requires
-    m.ensures.kept m.ensures.letters t.ensures.kept
-    t.ensures.letters t.ensures.stops c.place-start.ensures c.since.ensures c.since.utf8 (c.from_residual.ensures ∙ sym (c.in_err-unit.was {u = tt}) ∙
-    c.unit_by_name.ensures)
+    let m = c.take_ascii_letters-letters.ensures in
+    let t = c.skip_letters.ensures in
+    let unit = c.from_residual.ensures ∙ sym (c.in_err-unit.was {u = tt}) ∙ c.unit_by_name.ensures in
+    takes_long_word c.requires m.kept m.letters t.kept t.letters t.stops c.place-start.ensures c.since.ensures c.since.utf8 unit
 
 pub returns-in_ok-unit : goal.returns-in_ok-unit
 returns-in_ok-unit c =
-    let m = c.take_ascii_letters-letters in
-    let t = c.skip_letters in
-    takes_long_word c.args.self.now m.new.self t.new.self m.result.packed c.place-start.result m.result.has_capital c.since.result.now _ c.requires
-    m.ensures.kept m.ensures.letters t.ensures.kept
-    t.ensures.letters t.ensures.stops c.place-start.ensures c.since.ensures c.since.utf8 (sym (c.in_ok-unit.was {u = tt}) ∙ c.unit_by_name.ensures)
+    let m = c.take_ascii_letters-letters.ensures in
+    let t = c.skip_letters.ensures in
+    let unit = sym (c.in_ok-unit.was {u = tt}) ∙ c.unit_by_name.ensures in
+    takes_long_word c.requires m.kept m.letters t.kept t.letters t.stops c.place-start.ensures c.since.ensures c.since.utf8 unit

@@ -1,6 +1,7 @@
 use Rattle.std.proofs.Common.{◌∙◌, ap, sym, subst, arith, length}
 use Rattle.std.specs.Str.{IsCharBoundary}
 use Rattle.duration_str.specs.Tokenizer.{source}
+use Rattle.duration_str.specs.declared.token.Token.{Token}
 use Rattle.duration_str.proofs.Cutting.TokenizerLemmas.{none_left, takes_terminal}
 use Rattle.duration_str.proofs.token.TokensIterator.next.Goals as goal
 
@@ -28,9 +29,9 @@ returns-clause-steps c =
     let t = c.take_token-what.new.self in
     let e = c.sort_ahead.ensures in
     let taken = c.take_token-what.ensures in
-    takes_terminal c.args.self.now m t (record { start = c.place-start.result; text = c.since-text.result; what = c.take_token-what.result }) taken.terminal e.kept
-    e.same_left taken.token
-    c.place-start.ensures c.since-text.ensures c.since-text.utf8 taken.has m.eye.at_place t.eye.at_place
+    let x : Token = record { start = c.place-start.result; text = c.since-text.result; what = c.take_token-what.result } in
+    takes_terminal x e.kept e.same_left taken.token c.place-start.ensures c.since-text.ensures c.since-text.utf8 taken.has
+    m.eye.at_place t.eye.at_place
 
 pub returns-clause-goes : goal.returns-clause-goes
 returns-clause-goes c =
