@@ -19,13 +19,13 @@ use Rattle.duration_str.proofs.Cutting.TokenizerLemmas.{keeps_all, none_left, fi
 
 -- ---- What comes next
 
-same_rest : (s m : Tokens) (sort : Option Sort) → LooksAhead s m sort → rest_of m ≡ rest_of s
-same_rest s m sort look = (λ i. rest_from (look.kept.options i) (length (look.kept.text i)) (look.same_left i))
+same_rest : {s m : Tokens} {sort : Option Sort} → LooksAhead s m sort → rest_of m ≡ rest_of s
+same_rest look = (λ i. rest_from (look.kept.options i) (length (look.kept.text i)) (look.same_left i))
 
 -- At the end the whole source is cut.
 pub at_end : (s m : Tokens) → LooksAhead s m None → (rest_of s ≡ end_at (place_of m)) × (place_of m ≡ length (source m))
 at_end s m look =
-    let none = none_left m look.ahead in (rw (← same_rest s m None look, none.0, ← none.1), none.1)
+    let none = none_left m look.ahead in (rw (← same_rest look, none.0, ← none.1), none.1)
 
 -- The rest starts at this byte, with a terminal of this sort.
 abbrev pub StartsWith : Sort → ℕ → Rest → Type 0
@@ -40,15 +40,16 @@ by_terminal (word u) at rest more is = (u, more, is)
 by_terminal (operator op) at rest more is = (more, is)
 by_terminal other at rest more is = (more, is)
 
-pub starts : (s m : Tokens) (ahead : Option Sort) (sort : Sort) → LooksAhead s m ahead → ahead ≡ Some sort → StartsWith sort (place_of m) (rest_of s)
-starts s m ahead sort look is =
+pub starts : {s m : Tokens} {ahead : Option Sort} {sort : Sort} → LooksAhead s m ahead → ahead ≡ Some sort
+    → StartsWith sort (place_of m) (rest_of s)
+starts {s} {m} {sort = sort} look is =
     let (cs, rest, left_is, sort_is) = first_left m sort (rw is at look.ahead) in
-    let here = rw left_is at (sym (same_rest s m ahead look)) in
+    let here = rw left_is at (sym (same_rest look)) in
     rw sort_is (by_terminal (terminal_of (options_of m) cs) (place_of m) (rest_of s) _ here)
 
 -- With a number ahead, the rest starts with it.
 pub at_number : (s : Tokens) → IsAhead s (Some sorts.Number) → StartsWith sorts.Number (place_of s) (rest_of s)
-at_number s ahead = starts s s _ sorts.Number (record { kept = keeps_all s; same_left = refl; ahead = ahead }) refl
+at_number s ahead = starts {m = s} {sort = sorts.Number} (record { kept = keeps_all s; same_left = refl; ahead = ahead }) refl
 
 -- ---- A number
 
@@ -56,10 +57,10 @@ at_number s ahead = starts s s _ sorts.Number (record { kept = keeps_all s; same
 pub number_comes : (s m : Tokens) (sort : Option Sort) → LooksAhead s m sort
     → lacks_number (rest_of s) ≡ (if is_number sort then None else Some (Syntax (place_of m) (kinds_after false None)))
 number_comes s m None look = ap lacks_number (at_end s m look).0
-number_comes s m (Some sorts.Number) look = ap lacks_number (starts s m _ _ look refl).2
-number_comes s m (Some sorts.Word) look = ap lacks_number (starts s m _ _ look refl).2
-number_comes s m (Some (sorts.Operator op)) look = ap lacks_number (starts s m _ _ look refl).1
-number_comes s m (Some sorts.Other) look = ap lacks_number (starts s m _ _ look refl).1
+number_comes s m (Some sorts.Number) look = ap lacks_number (starts look refl).2
+number_comes s m (Some sorts.Word) look = ap lacks_number (starts look refl).2
+number_comes s m (Some (sorts.Operator op)) look = ap lacks_number (starts look refl).1
+number_comes s m (Some sorts.Other) look = ap lacks_number (starts look refl).1
 
 -- The only sort of numbers is `Number`.
 pub number_is : (sort : Option Sort) → is_number sort ≡ true → sort ≡ Some sorts.Number
@@ -69,29 +70,32 @@ number_is _ e = absurd cc
 -- ---- A unit or an operator that is left out, and an operator
 
 -- seconds before an operator, which is not taken
-pub unit_left_out : (s m : Tokens) (ahead : Option Sort) (op : CondUnit) → LooksAhead s m ahead → ahead ≡ Some (sorts.Operator op)
+pub unit_left_out : {s m : Tokens} {ahead : Option Sort} {op : CondUnit} → LooksAhead s m ahead → ahead ≡ Some (sorts.Operator op)
     → leaving (rest_of m) (Ok Second) ≡ unit_read false (rest_of s)
-unit_left_out s m ahead op look is = rw (same_rest s m ahead look, (starts s m ahead _ look is).1)
+unit_left_out look is = rw (same_rest look, (starts look is).1)
 
 -- plus before a number, which is not taken
-pub plus_left_out : (no_calc : Bool) (s m : Tokens) (ahead : Option Sort) → LooksAhead s m ahead → ahead ≡ Some sorts.Number
+pub plus_left_out : {s m : Tokens} {ahead : Option Sort} (no_calc : Bool) → LooksAhead s m ahead → ahead ≡ Some sorts.Number
     → leaving (rest_of m) (Ok (Some Plus)) ≡ operator_read no_calc (rest_of s)
-plus_left_out no_calc s m ahead look is = rw (same_rest s m ahead look, (starts s m ahead _ look is).2)
+plus_left_out no_calc look is = rw (same_rest look, (starts look is).2)
 
 operator_terminal : (terminal : Terminal) (op : CondUnit) → sorts.Operator op ≡ sort_of terminal → terminal ≡ operator op
 operator_terminal (operator next) op e = cc
 operator_terminal _ op e = absurd cc
 
-pub after_token : (s t : Tokens) (terminal : Terminal) → TakesToken s t terminal → rest_of s ≡ terminal_at (place_of s) terminal (rest_of t)
-after_token s t terminal taken =
+pub after_token : {s t : Tokens} {terminal : Terminal} → TakesToken s t terminal
+    → rest_of s ≡ terminal_at (place_of s) terminal (rest_of t)
+after_token {s} {t} taken =
     ap (rest_from (options_of s) (length (source s))) taken.first
-    ∙ (λ i. terminal_at (place_of s) (sym taken.is_terminal i) (rest_from (sym taken.kept.options i) (length (sym taken.kept.text i)) (left t)))
+    ∙ (λ i. terminal_at (place_of s) (sym taken.is_terminal i)
+    (rest_from (sym taken.kept.options i) (length (sym taken.kept.text i)) (left t)))
 
-pub operator_taken : (s m t : Tokens) (ahead : Option Sort) (op : CondUnit) → LooksAhead s m ahead → ahead ≡ Some (sorts.Operator op) → TakesSign m t
+pub operator_taken : {s m : Tokens} {ahead : Option Sort} {op : CondUnit} (t : Tokens) → LooksAhead s m ahead
+    → ahead ≡ Some (sorts.Operator op) → TakesSign m t
     → operator_read false (rest_of s) ≡ leaving (rest_of t) (fault_or (lacks_number (rest_of t)) (Ok (Some op)))
-operator_taken s m t ahead op look is takes =
+operator_taken {m = m} {op = op} t look is takes =
     let taken = takes (sorts.Operator op) (rw is at look.ahead) in
-    rw (← same_rest s m ahead look, after_token m t taken.terminal taken.token, operator_terminal taken.terminal op taken.has)
+    rw (← same_rest look, after_token taken.token, operator_terminal taken.terminal op taken.has)
 
 -- the operator that was read
 abbrev operator_of : Result (Read (Option CondUnit)) Cause → Option CondUnit
@@ -99,7 +103,8 @@ operator_of (Ok r) = r.item
 operator_of (Err cause) = None
 
 -- Under `no_calc` the only operator is a plus that is left out.
-pub plus_alone : (no_calc : Bool) (rest after : Rest) (op : CondUnit) → leaving after (Ok (Some op)) ≡ operator_read no_calc rest → IsTrue no_calc → op ≡ Plus
+pub plus_alone : (no_calc : Bool) (rest after : Rest) (op : CondUnit) → leaving after (Ok (Some op)) ≡ operator_read no_calc rest
+    → IsTrue no_calc → op ≡ Plus
 plus_alone no_calc (end_at at) after op e h = let none = ap operator_of e in absurd cc
 plus_alone no_calc (terminal_at at (number n) rest) after op e h = let same = ap operator_of e in cc
 plus_alone no_calc _ after op e h = absurd cc

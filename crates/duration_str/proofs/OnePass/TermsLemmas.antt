@@ -108,7 +108,7 @@ terms_read no_calc op at n rest = refl
 pub number_taken : (no_calc : Bool) (op : CondUnit) (s a : Tokens) (n : Option ℕ) (taken : TakesNumber s a n)
     (r : Result (Read TimeUnit) Cause) → r ≡ unit_read no_calc (rest_of a)
     → left_after no_calc op (rest_of s) ≡ after_number no_calc op taken.n r
-number_taken no_calc op s a n taken r is = rw (after_token s a _ taken.token, terms_read no_calc op (place_of s) taken.n (rest_of a), is)
+number_taken no_calc op s a n taken r is = rw (after_token taken.token, terms_read no_calc op (place_of s) taken.n (rest_of a), is)
 
 -- ---- Steps of the answer
 

@@ -1,6 +1,7 @@
 -- The result of reading everything from the start of a text is the text's answer.
-use Rattle.std.proofs.Common.{◌≡◌, ℕ, zero, suc, ◌<◌, List, [], ◌∷◌, Result, Err, map, length, IsUtf8, refl, arith}
+use Rattle.std.proofs.Common.{◌≡◌, ◌==◌, ℕ, zero, suc, ◌<◌, false, sym, List, [], ◌∷◌, Result, Err, map, length, IsUtf8, refl, arith}
 use Rattle.std.specs.Str.{chars}
+use Rattle.std.proofs.lemmas.Bool.{eqb-false}
 use Rattle.std.proofs.lemmas.Str.{chars-nil}
 use Rattle.duration_str.specs.declared.options.Options.{Options}
 use Rattle.duration_str.specs.declared.fault.Cause.{Cause}
@@ -32,18 +33,14 @@ nonempty_answer o (c ∷ text) h =
     let len = byte_len (c ∷ text) in
     rw (all_terminals o len tokens, same_start o (front_of o.no_calc (terminals_of o (c ∷ text))) len tokens)
 
-byte_positive : (n m : ℕ) → m ≡ n → (n ≡ 0 → ⊥) → 0 < m
-byte_positive zero m e h = absurd (h refl)
-byte_positive (suc n) m e h = omega (arith, e)
-
 -- The result of reading everything from the start of a text is the text's answer.
-pub text_answer : (o : Options) (bs : List ℕ) (terminals : Tokens) (r : Result ℕ Cause) → IsUtf8 bs → (length bs ≡ 0 → ⊥)
-    → source terminals ≡ bs → options_of terminals ≡ o → left terminals ≡ tokens_of o (chars bs)
-    → r ≡ answer_left o.no_calc [] (rest_of terminals) → answer o (chars bs) ≡ r
-text_answer o bs terminals r utf8 h text options tokens is =
+pub text_answer : (o : Options) (bs : List ℕ) (tokens : Tokens) (r : Result ℕ Cause) → IsUtf8 bs → false ≡ (length bs == 0)
+    → source tokens ≡ bs → options_of tokens ≡ o → left tokens ≡ tokens_of o (chars bs)
+    → r ≡ answer_left o.no_calc [] (rest_of tokens) → answer o (chars bs) ≡ r
+text_answer o bs tokens r utf8 filled text options all is =
     let count = byte_count bs utf8 in
-    let positive : 0 < byte_len (chars bs) = byte_positive (length bs) (byte_len (chars bs)) count h in
-    rw (nonempty_answer o (chars bs) positive, is, count, tokens, options, text)
+    let some = eqb-false (length bs) 0 (sym filled) in
+    rw (nonempty_answer o (chars bs) (omega (arith, count, some)), is, count, all, options, text)
 
 pub empty_answer : (o : Options) (bs : List ℕ) → length bs ≡ 0 → answer o (chars bs) ≡ Err Empty
 empty_answer o [] h = rw chars-nil
