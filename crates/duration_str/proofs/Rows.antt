@@ -1,21 +1,9 @@
 -- Worked examples, computed: what texts are read as, why others are refused, and what durations print as.
-use Rattle.std.specs.Prelude.{◌≡◌, ℕ, Bool, true, false, List, [], ◌∷◌, ◌++◌, Some, None, Ok, Err, refl, ⊤, length, flat_map, map, encode_utf8_all}
+use Rattle.std.proofs.Common.{◌≡◌, ℕ, Bool, true, false, List, [], ◌∷◌, ◌++◌, Some, None, Ok, Err, refl, length, flat_map, map, encode_utf8_all, codes}
+use Rattle.duration_str.proofs.Common.{⊤, Options, TimeUnit, Quarter, Plus, Star, Empty, Syntax, NumberTooLarge, Overflow, Mixed, Expected, off, row_of, units, unit_among, unit_of_word, unit_lengths, older_units, printed_counts, counts_of, max_printed_len, answer, fault_text}
 use Rattle.std.specs.Fmt.{digits}
 use Rattle.std.specs.Str.{chars}
-use lib.Chars.{codes}
 use lib.Utf8.{encode}
-use Rattle.duration_str.specs.declared.options.Options.{Options}
-use Rattle.duration_str.specs.declared.unit.TimeUnit.{TimeUnit}
-use Rattle.duration_str.specs.declared.unit.TimeUnit.TheVariants.{Quarter}
-use Rattle.duration_str.specs.declared.operator.CondUnit.TheVariants.{Plus, Star}
-use Rattle.duration_str.specs.declared.fault.Cause.TheVariants.{Empty, Syntax, NumberTooLarge, Overflow, Mixed}
-use Rattle.duration_str.specs.declared.fault.Expected.{Expected}
-use Rattle.duration_str.specs.Units.{off, row_of, units, unit_among, unit_of_word, unit_lengths}
-use Rattle.duration_str.specs.Older.{older_units}
-use Rattle.duration_str.specs.Printing.{printed_counts, counts_of}
-use Rattle.duration_str.specs.Internal.PrintedBytes.{max_printed_len}
-use Rattle.duration_str.specs.Answer.{answer}
-use Rattle.duration_str.specs.FaultText.{fault_text}
 
 abbrev with_no_calc : Options
 with_no_calc = record { no_calc = true; lowercase = false; cn_unit = false }

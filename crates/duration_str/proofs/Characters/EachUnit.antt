@@ -1,11 +1,6 @@
 -- A property that holds of each unit in the table holds of every unit.
 use Rattle.std.proofs.Common.{◌≡◌, Bool, true, List, [], ◌∷◌}
-use Rattle.std.proofs.lemmas.Bool.{and_parts}
-use Rattle.std.specs.Prelude.{⊤}
-use Rattle.std.specs.List.{list_all}
-use Rattle.duration_str.specs.declared.unit.TimeUnit.{TimeUnit}
-use Rattle.duration_str.specs.declared.unit.TimeUnit.TheVariants.{Year, Quarter, Month, Week, Day, Hour, Minute, Second, MilliSecond, MicroSecond, NanoSecond}
-use Rattle.duration_str.specs.Units.{units}
+use Rattle.duration_str.proofs.Common.{and_parts, ⊤, list_all, TimeUnit, Year, Quarter, Month, Week, Day, Hour, Minute, Second, MilliSecond, MicroSecond, NanoSecond, units}
 
 abbrev pub Each : (TimeUnit → Type 0) → List TimeUnit → Type 0
 Each P [] = ⊤

@@ -1,17 +1,10 @@
 -- Digits as std reads and writes them.
-use Rattle.std.proofs.Common.{◌≡◌, ℕ, ◌^◌, ◌<◌, length, Result, Ok, Err, Option, decimal, List, [], ◌∷◌, IsUtf8, IsTrue, sym, ◌∙◌, inl, inr, arith, rules}
-use Rattle.std.proofs.lemmas.Bool.{le-ltb, lt-ltb, cases_lt, cond-true}
-use Rattle.std.proofs.lemmas.Fmt.{IsAscii-from_digits, decimal_nonempty, digits_decimal, digits_value-decimal}
-use Rattle.std.proofs.lemmas.Str.{encodes-IsAscii, encodes-chars}
+use Rattle.std.proofs.Common.{◌≡◌, ℕ, ◌^◌, ◌<◌, length, Result, Ok, Err, Option, decimal, List, [], ◌∷◌, IsUtf8, IsTrue, sym, ◌∙◌, inl, inr, arith, rules, le-ltb, lt-ltb, chars, OkIff}
+use Rattle.duration_str.proofs.Common.{cases_lt, cond-true, decimal_nonempty, encodes-IsAscii, encodes-chars, list_all, Options, is_digit, IsNumber, number_after, number_of, number, terminal_of, u64_from}
+use Rattle.std.proofs.lemmas.Fmt.{IsAscii-from_digits, digits_decimal, digits_value-decimal}
 use Rattle.std.proofs.lemmas.Str.Parse.{IsNumeralModel, numerals_by_fold, parse_digits}
-use Rattle.std.specs.List.{list_all}
-use Rattle.std.specs.Str.{chars}
-use Rattle.std.specs.Result.{OkIff, result_ok}
+use Rattle.std.specs.Result.{result_ok}
 use Rattle.std.specs.Str.Parse.{ParsesUnsigned}
-use Rattle.duration_str.specs.declared.options.Options.{Options}
-use Rattle.duration_str.specs.Text.{is_digit, IsNumber, number_after, number_of}
-use Rattle.duration_str.specs.Grammar.{number, terminal_of}
-use Rattle.duration_str.specs.Internal.Numbers.{u64_from}
 
 -- Digits are tested and read as std does.
 pub decimal_digits : IsNumeralModel (λ ds. IsTrue (list_all is_digit ds)) (number_after 0)

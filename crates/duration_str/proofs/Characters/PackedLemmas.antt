@@ -1,20 +1,10 @@
 -- Packed names and their slots.
-use Rattle.std.proofs.Common.{◌≡◌, ℕ, zero, suc, ◌+◌, ◌*◌, ◌/◌, ◌%◌, ◌^◌, ◌<◌, ◌≤◌, Bool, true, false, leb, eqb, ◌&&◌, ◌||◌, List, [], ◌∷◌, map, length, get_or, Option, Some, None, refl, sym, ◌∙◌, arith, inl, inr, lit<, add-zero}
-use Rattle.std.proofs.Math.Nat.{pow-succ', mul-le-mul_right, mod-lt, pow-le-pow_right}
-use Rattle.std.proofs.lemmas.Bool.{cases_Bool, cases_lt, eq-eqb, eqb-true, and_parts, or_parts, and_from, false_from_ne_true}
-use Rattle.std.proofs.lemmas.Bool.Decides.{nat_tests}
-use Rattle.std.proofs.lemmas.Slice.Eq.{bytes_eq-Decides}
+use Rattle.std.proofs.Common.{◌≡◌, ℕ, zero, suc, ◌+◌, ◌*◌, ◌/◌, ◌%◌, ◌^◌, ◌<◌, ◌≤◌, Bool, true, false, leb, eqb, ◌&&◌, ◌||◌, List, [], ◌∷◌, map, length, get_or, Option, Some, None, refl, sym, ◌∙◌, arith, inl, inr, lit<, add-zero, mul-le-mul_right, mod-lt, eq-eqb, eqb-true, if◌then◌else◌, find, bytes_eq}
+use Rattle.duration_str.proofs.Common.{pow-succ', cases_Bool, cases_lt, and_parts, and_from, false_from_ne_true, nat_tests, bytes_eq-Decides, list_all, list_any, to_ascii_lowercase, is_ascii_alphabetic, is_ascii_uppercase, Options, TimeUnit, SPREAD, units, row_of, comparison_form, is_named, unit_of_word, packed_number_after, packed_number, packs_to}
+use Rattle.std.proofs.Math.Nat.{pow-le-pow_right}
+use Rattle.std.proofs.lemmas.Bool.{or_parts}
 use Rattle.std.proofs.lemmas.List.{get_or-map}
-use Rattle.std.specs.Prelude.{if◌then◌else◌}
-use Rattle.std.specs.List.{list_all, list_any, find}
-use Rattle.std.specs.Str.{bytes_eq}
-use Rattle.std.specs.Char.{to_ascii_lowercase, is_ascii_alphabetic, is_ascii_uppercase}
-use Rattle.duration_str.specs.declared.options.Options.{Options}
-use Rattle.duration_str.specs.declared.unit.TimeUnit.{TimeUnit}
-use Rattle.duration_str.specs.declared.packed.TheConstants.{SPREAD}
-use Rattle.duration_str.specs.Units.{units, row_of, comparison_form, is_named, unit_of_word}
-use Rattle.duration_str.specs.Internal.Cutting.{packed_number_after, packed_number}
-use Rattle.duration_str.specs.Internal.Packed.{packs_to, unit_of_packed}
+use Rattle.duration_str.specs.Internal.Packed.{unit_of_packed}
 use Rattle.duration_str.proofs.Characters.EachUnit.{each_unit}
 
 abbrev is_small_letter : ℕ → Bool

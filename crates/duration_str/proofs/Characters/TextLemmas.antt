@@ -1,16 +1,10 @@
 -- Characters and bytes: widths, and the character at a place.
-use Rattle.std.proofs.Common.{◌≡◌, ℕ, ◌+◌, ◌<◌, ◌≤◌, true, false, Option, None, Some, ◌&&◌, ◌⊎◌, inl, inr, List, [], ◌∷◌, ◌++◌, length, drop, get_or, IsUtf8, subst, arith, leb}
-use Rattle.std.proofs.lemmas.Bool.{cases_Bool, and_parts}
-use Rattle.std.proofs.lemmas.Bool.Decides.{nat_tests}
+use Rattle.std.proofs.Common.{◌≡◌, ℕ, ◌+◌, ◌<◌, ◌≤◌, true, false, Option, None, Some, ◌&&◌, ◌⊎◌, inl, inr, List, [], ◌∷◌, ◌++◌, length, drop, get_or, IsUtf8, subst, arith, leb, encode_utf8, MatchOption, option_to_list, IsCharBoundary, chars}
+use Rattle.duration_str.proofs.Common.{cases_Bool, and_parts, nat_tests, chars-nil, encode_ascii, scalars-chars, IsUtf8-drop, scalar, scalars, width, byte_len, ahead, StandsAt}
 use Rattle.std.proofs.lemmas.List.{drop_more, drop_all, nil_from_length}
-use Rattle.std.proofs.lemmas.Str.{chars-nil, encode_ascii, len_utf8_ascii, len_utf8_bounds, scalars-chars, IsUtf8-drop, IsUtf8-past_char, IsCharBoundary-past_char, chars_past_char, drop_past_char}
-use Rattle.std.specs.Prelude.{encode_utf8}
+use Rattle.std.proofs.lemmas.Str.{len_utf8_ascii, len_utf8_bounds, IsUtf8-past_char, IsCharBoundary-past_char, chars_past_char, drop_past_char}
 use Rattle.std.specs.Char.{len_utf8}
-use Rattle.std.specs.Option.{MatchOption, option_to_list}
-use Rattle.std.specs.Str.{IsCharBoundary, chars}
-use lib.Utf8.{scalar, scalars, scalar_cases}
-use Rattle.duration_str.specs.Text.{width, byte_len}
-use Rattle.duration_str.specs.Internal.Cutting.{ahead, StandsAt}
+use lib.Utf8.{scalar_cases}
 
 not_surrogate : (c : ℕ) → (c < 55296) ⊎ ((57344 ≤ c) × (c < 1114112)) → (leb 55296 c && leb c 57343) ≡ false
 not_surrogate c (inl h) = grind (arith, nat_tests)

@@ -1,21 +1,8 @@
 -- Words and names, as bytes and as characters, and their ASCII capitals.
-use Rattle.std.proofs.Common.{◌≡◌, ℕ, ◌<◌, ◌≤◌, Bool, true, ltb, eqb, not, ◌||◌, ◌&&◌, Option, Some, List, [], ◌∷◌, ◌++◌, map, IsUtf8, refl, ap, ◌∙◌, arith, inl, inr}
-use Rattle.std.specs.List.{list_any, list_all, find}
-use Rattle.std.specs.Option.{ForSome}
-use Rattle.std.specs.Str.{bytes_eq, chars}
-use Rattle.std.specs.Char.{to_ascii_lowercase}
-use Rattle.std.proofs.lemmas.Slice.Eq.{bytes_eq-Decides}
-use Rattle.std.proofs.lemmas.Str.{encodes_same, encodes-chars, encode_ascii}
-use Rattle.std.proofs.lemmas.Bool.{cases_Bool, le-ltb, cases_lt, and_parts, or_cases, eqb-true}
-use Rattle.std.proofs.lemmas.Bool.Decides.{nat_tests, same_from_decides}
-use Rattle.std.proofs.lemmas.List.{map-append}
-use Rattle.std.proofs.lemmas.List.Folds.{list_any-append}
-use denote.Ref.{Bor}
-use lib.Utf8.{encode, encodes}
-use Rattle.duration_str.specs.declared.options.Options.{Options}
-use Rattle.duration_str.specs.declared.unit.TimeUnit.{TimeUnit}
-use Rattle.duration_str.specs.Units.{units, row_of, nanos_of, comparison_form, is_named, unit_among, unit_of_word}
-use Rattle.duration_str.specs.Internal.UnitTable.{AreEncoded}
+use Rattle.std.proofs.Common.{◌≡◌, ℕ, ◌<◌, ◌≤◌, Bool, true, ltb, eqb, not, ◌||◌, ◌&&◌, Option, Some, List, [], ◌∷◌, ◌++◌, map, IsUtf8, refl, ap, ◌∙◌, arith, inl, inr, find, bytes_eq, chars, le-ltb, eqb-true, Bor}
+use Rattle.duration_str.proofs.Common.{list_any, list_all, ForSome, to_ascii_lowercase, bytes_eq-Decides, encodes-chars, encode_ascii, cases_Bool, cases_lt, and_parts, or_cases, nat_tests, same_from_decides, map-append, list_any-append, encodes, Options, TimeUnit, units, row_of, nanos_of, comparison_form, is_named, unit_among, unit_of_word, AreEncoded}
+use Rattle.std.proofs.lemmas.Str.{encodes_same}
+use lib.Utf8.{encode}
 use Rattle.duration_str.proofs.Characters.EachUnit.{each_unit, all_units}
 
 -- ---- ASCII capitals in UTF-8

@@ -1,31 +1,14 @@
 -- The steps of cutting, in terms of a text, the byte up to which it is cut, and the looks.
-use Rattle.std.proofs.Common.{◌≡◌, ℕ, ◌+◌, ◌-◌, ◌*◌, ◌%◌, ◌<◌, ◌≤◌, ◌^◌, Bool, true, false, List, [], ◌∷◌, ◌++◌, length, take, drop, Option, Some, None, IsUtf8, refl, ap, sym, ◌∙◌, arith}
-use Rattle.std.specs.Prelude.{nat_lt, ◌&&◌, ◌||◌, is_some, IsSome, IfSome, slice_range, if◌then◌else◌}
-use Rattle.std.specs.List.{list_any, list_all}
-use Rattle.std.specs.Char.{is_ascii_alphabetic, is_ascii_uppercase}
-use Rattle.std.proofs.lemmas.Bool.{and_from, and_parts}
-use Rattle.std.proofs.lemmas.List.Folds.{list_any-append, list_all-append}
-use Rattle.std.specs.Option.{ForSome}
-use Rattle.std.specs.Str.{IsCharBoundary, chars}
-use Rattle.std.proofs.lemmas.Str.{length-le-encodes, encodes-chars, chars-append, IsUtf8-take, IsUtf8-drop}
-use Rattle.std.proofs.lemmas.List.{take-append-drop, drop-drop, append_cancel_right}
+use Rattle.std.proofs.Common.{◌≡◌, ℕ, ◌+◌, ◌-◌, ◌*◌, ◌%◌, ◌<◌, ◌≤◌, ◌^◌, Bool, true, false, List, [], ◌∷◌, ◌++◌, length, take, drop, Option, Some, None, IsUtf8, refl, ap, sym, ◌∙◌, arith, nat_lt, ◌&&◌, ◌||◌, is_some, IsSome, IfSome, slice_range, if◌then◌else◌, IsCharBoundary, chars, take-append-drop, drop-drop, add_assoc, add-zero, length-append, append_assoc, length-drop, lt-ltb}
+use Rattle.duration_str.proofs.Common.{list_any, list_all, is_ascii_alphabetic, is_ascii_uppercase, and_from, and_parts, list_any-append, list_all-append, ForSome, encodes-chars, chars-append, IsUtf8-take, IsUtf8-drop, encodes, Options, TimeUnit, tokens_from, IsLexeme, EndsRun, width, byte_len, is_blank, IsBlank, is_digit, is_unit_letter, number_after, number_of, IsNumber, unit_of_word, u64_from, unit_of_packed, ahead, StandsAt, Between, Passes, Stops, TakesDigits, TakesLetters, packed_number_after}
+use Rattle.std.proofs.lemmas.Str.{length-le-encodes}
+use Rattle.std.proofs.lemmas.List.{append_cancel_right}
 use Rattle.std.proofs.Math.Bool.{or-false}
-use Rattle.std.proofs.Common.{add_assoc, add-zero, length-append, append_assoc, length-drop}
-use lib.Utf8.{encodes}
-use Rattle.duration_str.specs.declared.options.Options.{Options}
-use Rattle.duration_str.specs.declared.unit.TimeUnit.{TimeUnit}
-use Rattle.duration_str.specs.Tokens.{tokens_from, IsLexeme, EndsRun}
 use Rattle.duration_str.proofs.Cutting.TokenLemmas.{tokens_step}
-use Rattle.duration_str.specs.Text.{width, byte_len, is_blank, IsBlank, is_digit, is_unit_letter, number_after, number_of, IsNumber}
-use Rattle.duration_str.specs.Units.{unit_of_word}
-use Rattle.duration_str.specs.Internal.Numbers.{u64_from}
-use Rattle.duration_str.specs.Internal.Packed.{unit_of_packed}
-use Rattle.duration_str.specs.Internal.Cutting.{ahead, StandsAt, Between, Passes, Stops, TakesDigits, TakesLetters, packed_number_after}
 use Rattle.duration_str.proofs.Characters.CharacterLemmas.{all_weaker, letter_of_ascii, capital_below}
 use Rattle.duration_str.proofs.Characters.TextLemmas.{width_some, byte_len-append}
 use Rattle.duration_str.proofs.Characters.NumberLemmas.{decimal_digits}
 use Rattle.std.proofs.lemmas.Str.Parse.{digits_value_short}
-use Rattle.std.proofs.lemmas.Bool.{lt-ltb}
 use Rattle.duration_str.proofs.Characters.PackedLemmas.{exact, unit_by_number}
 
 -- ---- how many times a character was looked at

@@ -1,16 +1,7 @@
 -- A token is found by cutting from a character before it.
-use Rattle.std.proofs.Common.{◌≡◌, ℕ, ◌+◌, ◌-◌, ◌<◌, ◌≤◌, ◌==◌, inl, inr, true, false, List, [], ◌∷◌, ◌++◌, map, length, drop, take, Option, Some, None, IsUtf8, slice_range, arith, refl, sym, ap, ◌∙◌}
-use Rattle.std.proofs.lemmas.Bool.{cases_Bool}
-use Rattle.std.proofs.lemmas.Bool.Decides.{nat_tests}
-use Rattle.std.proofs.lemmas.List.{take-append-drop, length-take-le, drop-drop}
-use Rattle.std.proofs.lemmas.Str.{chars-append, IsUtf8-take}
-use denote.Ref.{Bor}
-use Rattle.std.specs.Option.{option_map}
-use Rattle.std.specs.Str.{chars, IsCharBoundary}
-use Rattle.duration_str.specs.declared.options.Options.{Options}
-use Rattle.duration_str.specs.Text.{width, is_blank, byte_len}
-use Rattle.duration_str.specs.Tokens.{Token, goes_on, join, tokens_from, tokens_of}
-use Rattle.duration_str.specs.Faults.{token_at, IsSliceOf}
+use Rattle.std.proofs.Common.{◌≡◌, ℕ, ◌+◌, ◌-◌, ◌<◌, ◌≤◌, ◌==◌, inl, inr, true, false, List, [], ◌∷◌, ◌++◌, map, length, drop, take, Option, Some, None, IsUtf8, slice_range, arith, refl, sym, ap, ◌∙◌, take-append-drop, length-take-le, drop-drop, Bor, option_map, chars, IsCharBoundary}
+use Rattle.duration_str.proofs.Common.{cases_Bool, nat_tests, chars-append, IsUtf8-take, Options, width, is_blank, byte_len, goes_on, tokens_from, tokens_of, token_at, IsSliceOf}
+use Rattle.duration_str.specs.Tokens.{Token, join}
 use Rattle.duration_str.proofs.Characters.CharacterLemmas.{run-not_blank}
 use Rattle.duration_str.proofs.Characters.TextLemmas.{width_some}
 use Rattle.duration_str.proofs.OnePass.PlaceLemmas.{byte_count}

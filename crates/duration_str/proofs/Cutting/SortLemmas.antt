@@ -1,23 +1,10 @@
 -- Tokens by their first character.
-use Rattle.std.proofs.Common.{◌≡◌, ℕ, ◌+◌, Bool, true, false, ◌&&◌, ◌||◌, List, [], ◌∷◌, ◌++◌, length, ◌<◌, inl, inr, Option, Some, None, refl, sym, ap, ◌∙◌, add-zero, arith}
-use Rattle.std.proofs.lemmas.Bool.{cases_Bool, and_parts}
-use Rattle.std.specs.Prelude.{IsTrue, if◌then◌else◌}
-use Rattle.std.specs.List.{list_all}
-use Rattle.duration_str.specs.declared.options.Options.{Options}
-use Rattle.duration_str.specs.declared.unit.TimeUnit.{TimeUnit}
-use Rattle.duration_str.specs.declared.operator.CondUnit.{CondUnit}
-use Rattle.duration_str.specs.declared.token.Sort.{Sort}
-use Rattle.duration_str.specs.declared.token.Sort.TheVariants.{Number, Word}
-use Rattle.duration_str.specs.Text.{byte_len, is_blank, is_digit, is_unit_letter, operator_of, number_of, IsBlank, IsNumber}
-use Rattle.duration_str.specs.Units.{unit_of_word}
-use Rattle.duration_str.specs.Grammar.{Terminal, number, word, operator_or_other, terminal_of}
-use Rattle.duration_str.specs.Tokens.{EndsRun, Token, are_of_one_run, goes_on, IsLexeme, AreTokens, tokens_from}
-use Rattle.duration_str.specs.Internal.Cutting.{ahead, StandsAt, Between, Passes, Stops}
-use Rattle.duration_str.specs.Internal.Sorts.{sign_sort, sort_at, sort_of}
-use Rattle.duration_str.specs.Internal.Tokenizer.{is_number, IsSign}
+use Rattle.std.proofs.Common.{◌≡◌, ℕ, ◌+◌, Bool, true, false, List, [], ◌∷◌, ◌++◌, length, ◌<◌, Option, Some, None, refl, sym, ap, ◌∙◌, add-zero, arith, IsTrue, if◌then◌else◌}
+use Rattle.duration_str.proofs.Common.{and_parts, list_all, Options, TimeUnit, CondUnit, Sort, Number, Word, byte_len, is_blank, is_digit, is_unit_letter, operator_of, number_of, IsBlank, IsNumber, unit_of_word, Terminal, number, word, operator_or_other, terminal_of, EndsRun, are_of_one_run, goes_on, IsLexeme, AreTokens, tokens_from, ahead, StandsAt, Between, Passes, Stops, sign_sort, sort_at, sort_of, is_number, IsSign}
+use Rattle.duration_str.specs.Tokens.{Token}
 use Rattle.duration_str.proofs.Characters.CharacterLemmas.{digit-not_letter, letter-not_digit}
 use Rattle.duration_str.proofs.Cutting.TokenLemmas.{tokens_are}
-use Rattle.duration_str.proofs.Cutting.TerminalLemmas.{digits_are_lexeme, letters_are_lexeme, no_run, sign_sorts, lexeme_sort}
+use Rattle.duration_str.proofs.Cutting.TerminalLemmas.{digits_are_lexeme, letters_are_lexeme, no_run, lexeme_sort}
 use Rattle.duration_str.proofs.Cutting.CuttingLemmas.{TakesWord}
 
 -- The characters from `place` to `next` are a token, as long as possible, that stands for this terminal.

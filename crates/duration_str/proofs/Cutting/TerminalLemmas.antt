@@ -1,14 +1,7 @@
 -- The possible terminals of a list of characters, and the sort of a lexeme's terminal.
-use Rattle.std.proofs.Common.{◌≡◌, ℕ, Bool, true, false, ◌&&◌, ◌||◌, inl, inr, List, [], ◌∷◌, Option, Some, None, IsTrue, if◌then◌else◌, refl, sym, ◌∙◌, arith}
-use Rattle.std.proofs.lemmas.Bool.{cases_Bool, and_parts, and_from, or_cases, or_right}
-use Rattle.std.specs.List.{list_all}
-use Rattle.duration_str.specs.declared.options.Options.{Options}
-use Rattle.duration_str.specs.declared.operator.CondUnit.{CondUnit}
-use Rattle.duration_str.specs.Text.{is_blank, is_digit, is_unit_letter, operator_of, number_of}
-use Rattle.duration_str.specs.Units.{unit_of_word}
-use Rattle.duration_str.specs.Tokens.{are_of_one_run, goes_on, IsLexeme}
-use Rattle.duration_str.specs.Grammar.{Terminal, number, word, operator, other, terminal_of, sign_terminal, operator_or_other}
-use Rattle.duration_str.specs.Internal.Sorts.{sign_sort, sort_at, sort_of}
+use Rattle.std.proofs.Common.{◌≡◌, ℕ, Bool, true, false, ◌&&◌, ◌||◌, inl, inr, List, [], ◌∷◌, Option, Some, None, IsTrue, if◌then◌else◌, refl, arith}
+use Rattle.duration_str.proofs.Common.{cases_Bool, and_parts, and_from, or_cases, list_all, Options, CondUnit, is_blank, is_digit, is_unit_letter, operator_of, number_of, unit_of_word, are_of_one_run, goes_on, IsLexeme, Terminal, number, word, operator, other, terminal_of, sign_terminal, operator_or_other, sign_sort, sort_at, sort_of}
+use Rattle.std.proofs.lemmas.Bool.{or_right}
 use Rattle.duration_str.proofs.Characters.CharacterLemmas.{all_weaker, digit-not_blank, letter-not_blank, digit-not_letter, letter-not_digit}
 
 -- A property of characters and their terminal holds if it holds in five cases: no characters, digits, unit letters, an

@@ -1,10 +1,7 @@
 -- `tokens_from` gives the tokens of a text, and a text has no others.
 use Rattle.std.proofs.Common.{◌≡◌, ℕ, ◌+◌, Bool, true, false, List, [], ◌∷◌, ◌++◌, IsTrue, if◌then◌else◌, arith, refl, sym, ◌∙◌, add_assoc, add-zero}
-use Rattle.std.proofs.lemmas.Bool.{and_parts, and_from}
-use Rattle.std.specs.List.{list_all}
-use Rattle.duration_str.specs.declared.options.Options.{Options}
-use Rattle.duration_str.specs.Text.{width, is_blank, IsBlank, byte_len}
-use Rattle.duration_str.specs.Tokens.{Token, are_of_one_run, goes_on, IsLexeme, EndsRun, IsNextToken, AreTokens, join, tokens_from}
+use Rattle.duration_str.proofs.Common.{and_parts, and_from, list_all, Options, width, is_blank, IsBlank, byte_len, are_of_one_run, goes_on, IsLexeme, EndsRun, IsNextToken, AreTokens, tokens_from}
+use Rattle.duration_str.specs.Tokens.{Token, join}
 use Rattle.duration_str.proofs.Characters.CharacterLemmas.{same_run, run-not_blank}
 
 -- The list is empty, or its first character fails the test.

@@ -1,29 +1,13 @@
 -- The steps of `Tokens`: what is ahead, and the next token.
-use Rattle.std.proofs.Common.{Bool, ◌≡◌, ℕ, ◌-◌, ◌<◌, ◌%◌, ◌^◌, ◌≤◌, drop, length-drop, arith, true, List, [], ◌∷◌, length, Option, Some, None, IsUtf8, refl, ap, ◌∙◌}
-use Rattle.std.specs.Prelude.{slice_range}
-use Rattle.std.specs.Option.{ForSome}
-use Rattle.std.specs.Str.{IsCharBoundary, chars}
-use Rattle.std.proofs.lemmas.List.{length-take-le}
-use Rattle.std.proofs.lemmas.Str.{IsUtf8-had}
-use Rattle.duration_str.specs.declared.unit.TimeUnit.{TimeUnit}
-use Rattle.duration_str.specs.declared.operator.CondUnit.{CondUnit}
-use Rattle.duration_str.specs.declared.token.What.TheVariants as whats
-use Rattle.duration_str.specs.declared.token.Sort.{Sort}
-use Rattle.duration_str.specs.declared.token.Sort.TheVariants.{Number, Word, Operator, Other}
+use Rattle.std.proofs.Common.{Bool, ◌≡◌, ℕ, ◌-◌, ◌<◌, ◌%◌, ◌^◌, ◌≤◌, drop, length-drop, arith, true, List, [], ◌∷◌, length, Option, Some, None, IsUtf8, refl, ap, ◌∙◌, slice_range, IsCharBoundary, chars, length-take-le}
+use Rattle.duration_str.proofs.Common.{ForSome, IsUtf8-had, TimeUnit, CondUnit, Sort, Number, Word, Operator, Other, Tokens, Terminal, word, operator, other, operator_or_other, terminal_of, is_blank, is_digit, is_unit_letter, operator_of, number_of, IsNumber, unit_of_word, tokens_from, ahead, StandsAt, Passes, Stops, TakesDigits, TakesLetters, sort_of, u64_from, source, options_of, left, what_of, KeepsInput, YieldsNextToken, IsAhead, LooksAhead, IsSign, TakesToken, TakesTokenWith, TakesNumber}
 use Rattle.duration_str.specs.declared.token.Token.{Token as RustToken}
-use Rattle.duration_str.specs.declared.token.Tokens.{Tokens}
-use Rattle.duration_str.specs.Grammar.{Terminal, word, operator, other, operator_or_other, terminal_of}
-use Rattle.duration_str.specs.Text.{is_blank, is_digit, is_unit_letter, operator_of, number_of, IsNumber}
-use Rattle.duration_str.specs.Units.{unit_of_word}
-use Rattle.duration_str.specs.Tokens.{Token, tokens_from}
-use Rattle.duration_str.specs.Internal.Cutting.{ahead, StandsAt, Passes, Stops, TakesDigits, TakesLetters}
-use Rattle.duration_str.specs.Internal.Sorts.{sort_of}
-use Rattle.duration_str.specs.Internal.Numbers.{u64_from}
-use Rattle.duration_str.specs.Tokenizer.{source, options_of, place_of, left, what_of, KeepsInput, YieldsNextToken}
-use Rattle.duration_str.specs.Internal.Tokenizer.{IsAhead, LooksAhead, IsSign, TakesToken, TakesTokenWith, TakesNumber}
+use Rattle.duration_str.specs.Tokens.{Token}
+use Rattle.duration_str.specs.Tokenizer.{place_of}
 use Rattle.duration_str.proofs.Cutting.CuttingLemmas.{TakesWord, chars_between, long_word, blanks_passed, token_taken, place_at_end}
 use Rattle.duration_str.proofs.Cutting.SortLemmas.{StandsToken, number_stands, word_stands, sign_stands, digit_of_sort, letter_of_sort, sign_of_sort, first_token}
 use Rattle.duration_str.proofs.Cutting.TerminalLemmas.{sign_sorts}
+use Rattle.duration_str.specs.declared.token.What.TheVariants as whats
 
 pub keeps_all : (s : Tokens) → KeepsInput s s
 keeps_all s = record { text = refl; options = refl }

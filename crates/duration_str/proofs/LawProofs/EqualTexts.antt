@@ -1,12 +1,6 @@
 -- Two durations print the same text exactly if they are equal.
 use Rattle.std.proofs.Common.{◌≡◌, ℕ, List, sym, ap, ◌∙◌}
-use Rattle.std.specs.Duration.{FitsDuration}
-use Rattle.duration_str.specs.Units.{off, unit_lengths}
-use Rattle.duration_str.specs.Grammar.{Terminal}
-use Rattle.duration_str.specs.Place.{terminals_of}
-use Rattle.duration_str.specs.Value.{sum_of, terms_of}
-use Rattle.duration_str.specs.Printing.{IsPrinted, printed_counts, counts_of}
-use Rattle.duration_str.specs.Laws.{EqualTexts}
+use Rattle.duration_str.proofs.Common.{FitsDuration, off, unit_lengths, Terminal, terminals_of, sum_of, terms_of, IsPrinted, printed_counts, counts_of, EqualTexts}
 use Rattle.duration_str.proofs.Sentences.SpellingLemmas.{sentence_terminals}
 use Rattle.duration_str.proofs.Printer.PrintingLemmas.{duration_lexemes, counts_are, printed_is_sum, duration_sum}
 

@@ -1,9 +1,6 @@
 -- Without operators `no_calc` changes neither what is accepted nor its value.
-use Rattle.std.proofs.Common.{ℕ, true, false, not, List, [], ◌∷◌, map, Some, is_some, sym, ap, ◌∙◌}
-use Rattle.std.proofs.lemmas.Bool.{true≢false, and_parts}
-use Rattle.duration_str.specs.declared.options.Options.{Options}
-use Rattle.duration_str.specs.Grammar.{Terminal, number, word, operator, terminal_of, IsSentence}
-use Rattle.duration_str.specs.Laws.{NoCalcAgrees, HasNoOperator, is_operator}
+use Rattle.std.proofs.Common.{ℕ, true, false, not, List, [], ◌∷◌, map, Some, is_some, sym, ap, ◌∙◌, true≢false}
+use Rattle.duration_str.proofs.Common.{and_parts, Options, Terminal, number, word, operator, terminal_of, IsSentence, NoCalcAgrees, HasNoOperator, is_operator}
 use Rattle.duration_str.proofs.Cutting.TerminalLemmas.{terminal_cases}
 use Rattle.duration_str.proofs.Sentences.SpellingLemmas.{EachPasses, lexemes_pass}
 

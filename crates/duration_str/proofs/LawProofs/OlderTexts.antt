@@ -1,17 +1,6 @@
 -- The law `older_texts`: a sentence over the units without the quarter is a sentence over all units.
-use Rattle.std.proofs.Common.{◌≡◌, ℕ, Bool, true, false, List, [], ◌∷◌, map, Option, Some, None, IsTrue, if◌then◌else◌, refl, sym, ap, ap₂, subst, ◌∙◌}
-use Rattle.std.proofs.lemmas.Bool.{true≢false, and_parts}
-use Rattle.duration_str.specs.declared.options.Options.{Options}
-use Rattle.duration_str.specs.declared.unit.TimeUnit.{TimeUnit}
-use Rattle.duration_str.specs.Text.{number_of}
-use Rattle.duration_str.specs.Units.{unit_among, unit_of_word}
-use Rattle.duration_str.specs.Grammar.{Terminal, number, word, sign_terminal, terminal_among, terminal_of, IsSentence, IsSentenceOf}
-use Rattle.duration_str.specs.Answer.{kinds_after, allows}
-use Rattle.duration_str.specs.declared.fault.Cause.{Cause}
-use Rattle.duration_str.specs.Value.{Evaluates, terms_of, value_of}
-use Rattle.duration_str.specs.Reading.{IsRead, IsRefusedAt, IsRefused}
-use Rattle.duration_str.specs.Older.{older_units, older_terminals, WasSentenceOf, WasRead, WasRefused}
-use Rattle.duration_str.specs.Laws.{OlderTexts}
+use Rattle.std.proofs.Common.{◌≡◌, ℕ, Bool, true, false, List, [], ◌∷◌, map, Option, Some, None, IsTrue, if◌then◌else◌, refl, sym, ap, ap₂, subst, ◌∙◌, true≢false}
+use Rattle.duration_str.proofs.Common.{and_parts, Options, TimeUnit, number_of, unit_among, unit_of_word, Terminal, number, word, sign_terminal, terminal_among, terminal_of, IsSentence, IsSentenceOf, kinds_after, allows, Cause, Evaluates, terms_of, value_of, IsRead, IsRefusedAt, IsRefused, older_units, older_terminals, WasSentenceOf, WasRead, WasRefused, OlderTexts}
 use Rattle.duration_str.proofs.Characters.UnitLemmas.{found_among_all}
 use Rattle.duration_str.proofs.Sentences.AnswerLemmas.{sentence_refused}
 use Rattle.duration_str.proofs.Sentences.FrontLemmas.{AreAllowed, sentence_allowed}

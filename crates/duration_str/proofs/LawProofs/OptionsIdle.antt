@@ -1,19 +1,7 @@
 -- `lowercase` changes nothing without ASCII capitals, and `cn_unit` nothing without Chinese characters.
-use Rattle.std.proofs.Common.{◌≡◌, ℕ, ◌+◌, ◌<◌, ◌⊎◌, inl, inr, Bool, true, false, not, ◌&&◌, ◌||◌, ◌==◌, ◌↔◌, List, [], ◌∷◌, map, IsTrue, if◌then◌else◌, bytes_eq, arith, refl, sym}
-use Rattle.std.proofs.lemmas.Bool.{cases_Bool, and_parts, and_from, not-true, eqb-true, or_from}
-use Rattle.std.proofs.lemmas.Bool.Decides.{nat_tests}
-use Rattle.std.specs.Char.{is_ascii_uppercase, to_ascii_lowercase}
-use Rattle.std.specs.List.{list_all, list_any, find}
-use Rattle.duration_str.specs.declared.options.Options.{Options}
-use Rattle.duration_str.specs.declared.unit.TimeUnit.{TimeUnit}
-use Rattle.duration_str.specs.declared.fault.Cause.{Cause}
-use Rattle.duration_str.specs.Text.{width, is_unit_letter, is_chinese}
-use Rattle.duration_str.specs.Units.{row_of, units, comparison_form, unit_of_word}
-use Rattle.duration_str.specs.Grammar.{terminal_of}
-use Rattle.duration_str.specs.Tokens.{goes_on, tokens_from, tokens_of}
-use Rattle.duration_str.specs.Place.{terminals_of}
-use Rattle.duration_str.specs.Reading.{IsRead, IsRefused}
-use Rattle.duration_str.specs.Laws.{OptionsIdle, HasNoCapital, HasNoChinese}
+use Rattle.std.proofs.Common.{◌≡◌, ℕ, ◌+◌, ◌<◌, ◌⊎◌, inl, inr, Bool, true, false, not, ◌&&◌, ◌||◌, ◌==◌, ◌↔◌, List, [], ◌∷◌, map, IsTrue, if◌then◌else◌, bytes_eq, arith, refl, sym, eqb-true, find}
+use Rattle.duration_str.proofs.Common.{cases_Bool, and_parts, and_from, not-true, nat_tests, is_ascii_uppercase, to_ascii_lowercase, list_all, list_any, Options, TimeUnit, Cause, width, is_unit_letter, is_chinese, row_of, units, comparison_form, unit_of_word, terminal_of, goes_on, tokens_from, tokens_of, terminals_of, IsRead, IsRefused, OptionsIdle, HasNoCapital, HasNoChinese}
+use Rattle.std.proofs.lemmas.Bool.{or_from}
 use Rattle.duration_str.proofs.Sentences.SpellingLemmas.{tokens_spell, EachPasses, lexemes_pass}
 use Rattle.duration_str.proofs.Sentences.AnswerLemmas.{read_terminals, terminals_read}
 

@@ -1,10 +1,6 @@
 -- The table says what can follow the beginning of a sentence, and finds the front.
-use Rattle.std.proofs.Common.{◌≡◌, Bool, true, ◌≢◌, List, [], ◌∷◌, Option, Some, None, IsTrue, sym, ◌∙◌}
-use Rattle.std.proofs.lemmas.Bool.{true≢false}
-use Rattle.duration_str.specs.declared.operator.CondUnit.{CondUnit}
-use Rattle.duration_str.specs.Grammar.{Terminal, operator}
-use Rattle.duration_str.specs.Answer.{kinds_after, allows, last_of}
-use Rattle.duration_str.specs.Laws.{PlaceAndKinds}
+use Rattle.std.proofs.Common.{◌≡◌, Bool, true, ◌≢◌, List, [], ◌∷◌, Option, Some, None, IsTrue, sym, ◌∙◌, true≢false}
+use Rattle.duration_str.proofs.Common.{CondUnit, Terminal, operator, kinds_after, allows, last_of, PlaceAndKinds}
 use Rattle.duration_str.proofs.Sentences.FrontLemmas.{AreAllowed, begins_allowed, kinds_by_table, no_operators, table_front, one_front}
 
 allowed_no_operator : (no_calc : Bool) (last : Option Terminal) (t : Terminal) (op : CondUnit) → no_calc ≡ true

@@ -1,16 +1,6 @@
 -- A printed text is read back below 2^64 nanoseconds, and otherwise overflows.
-use Rattle.std.proofs.Common.{◌≡◌, ℕ, ◌+◌, ◌*◌, ◌/◌, ◌^◌, ◌≤◌, ◌<◌, Bool, true, false, ◌==◌, List, [], ◌∷◌, map, drop, Some, None, arith, sym, ap, subst, ◌∙◌}
-use Rattle.std.proofs.lemmas.Bool.{ne_eqb, lt-ltb, le-ltb}
-use Rattle.std.specs.Duration.{FitsDuration}
-use Rattle.duration_str.specs.declared.options.Options.{Options}
-use Rattle.duration_str.specs.declared.unit.TimeUnit.TheVariants.{Year}
-use Rattle.duration_str.specs.declared.fault.Cause.TheVariants.{Overflow}
-use Rattle.duration_str.specs.Units.{units, nanos_of, unit_lengths}
-use Rattle.duration_str.specs.Grammar.{Terminal, number, word, terminal_of}
-use Rattle.duration_str.specs.Value.{sum_of, terms_of}
-use Rattle.duration_str.specs.Reading.{early_fault, IsRead, early, IsRefused}
-use Rattle.duration_str.specs.Printing.{IsPrinted, counts_of}
-use Rattle.duration_str.specs.Laws.{ReadsBack}
+use Rattle.std.proofs.Common.{◌≡◌, ℕ, ◌+◌, ◌*◌, ◌/◌, ◌^◌, ◌≤◌, ◌<◌, Bool, true, false, ◌==◌, List, [], ◌∷◌, map, drop, Some, None, arith, sym, ap, subst, ◌∙◌, ne_eqb, lt-ltb, le-ltb}
+use Rattle.duration_str.proofs.Common.{FitsDuration, Options, Year, Overflow, units, nanos_of, unit_lengths, Terminal, number, word, terminal_of, sum_of, terms_of, early_fault, IsRead, early, IsRefused, IsPrinted, counts_of, ReadsBack}
 use Rattle.duration_str.proofs.Sentences.AnswerLemmas.{sentence_refused}
 use Rattle.duration_str.proofs.Sentences.SumReadings.{terms_of_lexemes, sum_read, EachFits, sum_fits_each, sum_overflows}
 use Rattle.duration_str.proofs.Printer.PrintingLemmas.{kept, terminals, duration_lexemes, terminals_of_duration, printed_is_sum, duration_sum}

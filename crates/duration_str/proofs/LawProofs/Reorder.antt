@@ -1,8 +1,6 @@
 -- Sums with the same values of terms, each equally often, are equal.
-use Rattle.std.proofs.Common.{◌≡◌, ℕ, ◌+◌, ◌≤◌, inl, inr, ◌==◌, List, [], ◌∷◌, map, if◌then◌else◌, arith, refl, ◌∙◌}
-use Rattle.std.proofs.lemmas.Bool.{cases_Bool, eqb-true, eq-eqb, cond-true}
-use Rattle.duration_str.specs.Value.{Term, value_of_term, sum_of}
-use Rattle.duration_str.specs.Laws.{Reorder, times_in}
+use Rattle.std.proofs.Common.{◌≡◌, ℕ, ◌+◌, ◌≤◌, inl, inr, ◌==◌, List, [], ◌∷◌, map, if◌then◌else◌, arith, refl, ◌∙◌, eqb-true, eq-eqb}
+use Rattle.duration_str.proofs.Common.{cases_Bool, cond-true, Term, value_of_term, sum_of, Reorder, times_in}
 use Rattle.duration_str.proofs.Sentences.AnswerLemmas.{read_below}
 use Rattle.duration_str.proofs.Sentences.SumReadings.{terms_of_lexemes, sum_read, read_sum}
 

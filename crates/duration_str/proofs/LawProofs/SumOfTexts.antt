@@ -1,17 +1,6 @@
 -- Two accepted texts without `*`, joined by a plus, have the sum of their values, or overflow.
-use Rattle.std.proofs.Common.{◌≡◌, ℕ, ◌+◌, Bool, true, false, not, ◌==◌, List, [], ◌∷◌, ◌++◌, map, Option, Some, None, codes, arith, refl, ◌∙◌, append_assoc}
-use Rattle.std.proofs.lemmas.Bool.{and_parts, and_from}
-use Rattle.std.proofs.lemmas.Bool.Decides.{nat_tests}
-use Rattle.std.proofs.lemmas.List.{map-append}
-use Rattle.std.proofs.lemmas.List.Folds.{list_all-append}
-use Rattle.duration_str.specs.declared.options.Options.{Options}
-use Rattle.duration_str.specs.declared.operator.CondUnit.{CondUnit}
-use Rattle.duration_str.specs.declared.operator.CondUnit.TheVariants.{Plus}
-use Rattle.duration_str.specs.Text.{IsBlank, operator_of}
-use Rattle.duration_str.specs.Grammar.{Terminal, number, word, operator, terminal_of, IsSentence, Spells}
-use Rattle.duration_str.specs.Value.{AllPlus, Term, sum_of, terms_of, terms_after}
-use Rattle.duration_str.specs.Reading.{IsRead}
-use Rattle.duration_str.specs.Laws.{SumOfTexts, HasNoStar}
+use Rattle.std.proofs.Common.{◌≡◌, ℕ, ◌+◌, Bool, true, false, not, ◌==◌, List, [], ◌∷◌, ◌++◌, map, Some, codes, arith, refl, ◌∙◌, append_assoc}
+use Rattle.duration_str.proofs.Common.{and_parts, and_from, nat_tests, map-append, list_all-append, Options, CondUnit, Plus, IsBlank, operator_of, Terminal, number, word, operator, terminal_of, IsSentence, Spells, AllPlus, Term, sum_of, terms_of, terms_after, IsRead, SumOfTexts, HasNoStar}
 use Rattle.duration_str.proofs.Cutting.TerminalLemmas.{terminal_cases}
 use Rattle.duration_str.proofs.Sentences.SpellingLemmas.{EachPasses, lexemes_pass}
 use Rattle.duration_str.proofs.Sentences.SumLemmas.{sum-append}

@@ -1,11 +1,6 @@
 -- A product of two terms is accepted exactly if both terms and their product fit, and so is the exchanged product.
 use Rattle.std.proofs.Common.{◌≡◌, ℕ, ◌*◌, ◌/◌, ◌^◌, ◌<◌, List, [], ◌∷◌, map, Some, arith, refl, mul-div_cancel, mul_comm}
-use Rattle.duration_str.specs.declared.options.Options.{Options}
-use Rattle.duration_str.specs.declared.operator.CondUnit.TheVariants.{Star}
-use Rattle.duration_str.specs.Grammar.{terminal_of, IsSentenceOf}
-use Rattle.duration_str.specs.Value.{Term, value_of_term, terms_of, value_of, second, Evaluates}
-use Rattle.duration_str.specs.Reading.{IsRead}
-use Rattle.duration_str.specs.Laws.{TwoFactors}
+use Rattle.duration_str.proofs.Common.{Options, Star, terminal_of, IsSentenceOf, Term, value_of_term, terms_of, value_of, second, Evaluates, IsRead, TwoFactors}
 use Rattle.duration_str.proofs.Sentences.FaultLemmas.{no_fault}
 use Rattle.duration_str.proofs.Sentences.AnswerLemmas.{read_sentence}
 

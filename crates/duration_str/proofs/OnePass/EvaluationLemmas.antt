@@ -1,17 +1,9 @@
 -- Combining the later terms one by one gives their faults in the order of the whole list.
-use Rattle.std.proofs.Common.{◌≡◌, ℕ, ◌+◌, ◌*◌, ◌^◌, ◌<◌, Bool, true, false, inl, inr, List, [], ◌∷◌, ◌++◌, Option, Some, None, Result, Ok, IsTrue, if◌then◌else◌, unwrap_or, refl, ap, ◌∙◌, arith, append_assoc, append-nil}
-use Rattle.std.specs.Option.{ok_or}
+use Rattle.std.proofs.Common.{◌≡◌, ℕ, ◌+◌, ◌*◌, ◌^◌, ◌<◌, Bool, true, false, inl, inr, List, [], ◌∷◌, ◌++◌, Option, Some, None, Result, Ok, IsTrue, if◌then◌else◌, unwrap_or, refl, ap, ◌∙◌, arith, append_assoc, append-nil, ok_or, lt-ltb, le-ltb}
+use Rattle.duration_str.proofs.Common.{cases_Bool, cases_lt, CondUnit, Plus, Star, Cause, Overflow, Mixed, Term, value_of_term, sum_of, later_total, combination, value_of, fits, or_else, unless, term_fault, later_fault, evaluation_fault, is_same_operator, u64_from, term_value, first_fault, running_fault, fault_or, nothing_of, before_operator, at_once}
 use Rattle.std.specs.Result.{result_err}
-use Rattle.std.proofs.lemmas.Bool.{cases_Bool, cases_lt, lt-ltb, le-ltb}
 use Rattle.std.proofs.lemmas.List.Sums.{fold-append}
-use Rattle.duration_str.specs.declared.operator.CondUnit.{CondUnit}
-use Rattle.duration_str.specs.declared.operator.CondUnit.TheVariants.{Plus, Star}
-use Rattle.duration_str.specs.declared.fault.Cause.{Cause}
-use Rattle.duration_str.specs.declared.fault.Cause.TheVariants.{Overflow, Mixed}
-use Rattle.duration_str.specs.Value.{Term, value_of_term, sum_of, later_total, combination, value_of, fits, or_else, unless, term_fault, later_fault, evaluation_fault, is_same_operator}
-use Rattle.duration_str.specs.Internal.Numbers.{u64_from, term_value}
-use Rattle.duration_str.specs.Reading.{first_fault, running_fault}
-use Rattle.duration_str.specs.Internal.Rest.{fault_or, join, nothing_of, before_operator, at_once}
+use Rattle.duration_str.specs.Internal.Rest.{join}
 use Rattle.duration_str.proofs.Sentences.FaultLemmas.{no_fault, is_same_operator-true}
 use Rattle.duration_str.proofs.Sentences.SumLemmas.{AreAdded, sum-append, later_none, running_below, value_is_sum}
 use Rattle.duration_str.proofs.Sentences.AnswerLemmas.{later_value}

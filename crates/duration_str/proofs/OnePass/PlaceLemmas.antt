@@ -1,22 +1,9 @@
 -- The place of a fault is a character boundary of the text.
-use Rattle.std.proofs.Common.{◌≡◌, ℕ, zero, suc, ◌+◌, ◌-◌, ◌≤◌, Bool, true, false, inl, inr, List, [], ◌∷◌, ◌++◌, length, take, drop, Option, Some, None, Result, Ok, Err, IsUtf8, refl, ap, sym, subst, ◌∙◌, arith, append_assoc, length-append}
-use Rattle.std.specs.Option.{ForSome}
-use Rattle.std.specs.Str.{IsCharBoundary, chars}
-use Rattle.std.proofs.lemmas.Str.{IsCharBoundary-start, IsCharBoundary-end, IsCharBoundary-at_seam, IsUtf8-take, length-encode, encodes-append, encodes-chars, scalars-chars, chars-append}
-use Rattle.std.proofs.lemmas.List.{take-append-drop, length-take-le}
-use Rattle.std.proofs.lemmas.Bool.{cases_Bool, and_parts}
+use Rattle.std.proofs.Common.{◌≡◌, ℕ, zero, suc, ◌+◌, ◌-◌, ◌≤◌, Bool, true, false, inl, inr, List, [], ◌∷◌, ◌++◌, length, take, drop, Option, Some, None, Result, Ok, Err, IsUtf8, refl, ap, sym, subst, ◌∙◌, arith, append_assoc, length-append, IsCharBoundary, chars, take-append-drop, length-take-le}
+use Rattle.duration_str.proofs.Common.{ForSome, IsUtf8-take, encodes-append, encodes-chars, scalars-chars, chars-append, cases_Bool, and_parts, scalar, scalars, encodes, encode, Options, CondUnit, Cause, byte_len, Terminal, AreTokens, tokens_of, start_after, terminals_of, Term, or_else, unless, terms_of, term_fault, later_fault, evaluation_fault, complete_terms, place_after, first_fault, running_fault, early_fault, late_fault, is_whole, late_answer, answer_after, answer, front_of}
+use Rattle.std.proofs.lemmas.Str.{IsCharBoundary-start, IsCharBoundary-end, IsCharBoundary-at_seam, length-encode}
 use Rattle.std.proofs.Math.Seq.{take-append-add}
-use lib.Utf8.{scalar, scalars, encodes, encode}
-use Rattle.duration_str.specs.declared.options.Options.{Options}
-use Rattle.duration_str.specs.declared.operator.CondUnit.{CondUnit}
-use Rattle.duration_str.specs.declared.fault.Cause.{Cause}
-use Rattle.duration_str.specs.Text.{byte_len}
-use Rattle.duration_str.specs.Grammar.{Terminal}
-use Rattle.duration_str.specs.Tokens.{Token, AreTokens, tokens_of}
-use Rattle.duration_str.specs.Place.{start_after, terminals_of}
-use Rattle.duration_str.specs.Value.{Term, or_else, unless, terms_of, term_fault, later_fault, evaluation_fault}
-use Rattle.duration_str.specs.Reading.{complete_terms, place_after, first_fault, running_fault, early_fault, late_fault}
-use Rattle.duration_str.specs.Answer.{is_whole, late_answer, answer_after, answer, front_of}
+use Rattle.duration_str.specs.Tokens.{Token}
 use Rattle.duration_str.specs.Faults.{place_of}
 use Rattle.duration_str.proofs.Characters.TextLemmas.{width-scalar, byte_len-append}
 use Rattle.duration_str.proofs.Cutting.TokenLemmas.{tokens_are}

@@ -1,21 +1,9 @@
 -- The reader's steps: what comes next, by the sort ahead, and what is left after it.
 use Rattle.std.proofs.Common.{◌≡◌, ℕ, Bool, true, false, length, Option, Some, None, Result, Ok, Err, IsTrue, refl, sym, ap, ◌∙◌, if◌then◌else◌}
-use Rattle.duration_str.specs.declared.unit.TimeUnit.{TimeUnit}
-use Rattle.duration_str.specs.declared.unit.TimeUnit.TheVariants.{Second}
-use Rattle.duration_str.specs.declared.operator.CondUnit.{CondUnit}
-use Rattle.duration_str.specs.declared.operator.CondUnit.TheVariants.{Plus}
-use Rattle.duration_str.specs.declared.fault.Cause.{Cause}
-use Rattle.duration_str.specs.declared.fault.Cause.TheVariants.{Syntax}
-use Rattle.duration_str.specs.declared.token.Sort.{Sort}
-use Rattle.duration_str.specs.declared.token.Sort.TheVariants as sorts
-use Rattle.duration_str.specs.declared.token.Tokens.{Tokens}
-use Rattle.duration_str.specs.Grammar.{Terminal, number, word, operator, other, terminal_of}
-use Rattle.duration_str.specs.Answer.{kinds_after}
-use Rattle.duration_str.specs.Internal.Sorts.{sort_of}
-use Rattle.duration_str.specs.Tokenizer.{source, options_of, place_of, left}
-use Rattle.duration_str.specs.Internal.Tokenizer.{IsAhead, LooksAhead, is_number, TakesToken, TakesSign}
-use Rattle.duration_str.specs.Internal.Rest.{Rest, terminal_at, end_at, rest_from, rest_of, lacks_number, fault_or, Read, leaving, unit_read, operator_read}
+use Rattle.duration_str.proofs.Common.{TimeUnit, Second, CondUnit, Plus, Cause, Syntax, Sort, Tokens, Terminal, number, word, operator, other, terminal_of, kinds_after, sort_of, source, options_of, left, IsAhead, LooksAhead, is_number, TakesToken, TakesSign, Rest, terminal_at, end_at, rest_from, rest_of, lacks_number, fault_or, Read, leaving, unit_read, operator_read}
+use Rattle.duration_str.specs.Tokenizer.{place_of}
 use Rattle.duration_str.proofs.Cutting.TokenizerLemmas.{keeps_all, none_left, first_left}
+use Rattle.duration_str.specs.declared.token.Sort.TheVariants as sorts
 
 -- ---- What comes next
 

@@ -1,25 +1,8 @@
 -- The terms that are left while a text is read, and the answer that they give.
 use Rattle.std.proofs.Common.{◌≡◌, ℕ, ◌^◌, ◌<◌, Bool, true, false, List, [], ◌∷◌, ◌++◌, length, take, drop, Option, Some, None, Result, Ok, Err, if◌then◌else◌, unwrap_or, IsTrue, refl, sym, ap, subst, ◌∙◌, arith}
-use Rattle.std.proofs.lemmas.Bool.{true≢false}
-use Rattle.duration_str.specs.declared.unit.TimeUnit.{TimeUnit}
-use Rattle.duration_str.specs.declared.unit.TimeUnit.TheVariants.{NanoSecond}
-use Rattle.duration_str.specs.declared.operator.CondUnit.{CondUnit}
-use Rattle.duration_str.specs.declared.operator.CondUnit.TheVariants.{Plus, Star}
-use Rattle.duration_str.specs.declared.fault.Cause.{Cause}
-use Rattle.duration_str.specs.declared.fault.Cause.TheVariants.{Syntax}
-use Rattle.duration_str.specs.declared.fault.Expected.{Expected}
-use Rattle.duration_str.specs.declared.token.Sort.TheVariants.{Number}
-use Rattle.duration_str.specs.declared.token.Tokens.{Tokens}
-use Rattle.duration_str.specs.Units.{nanos_of}
-use Rattle.duration_str.specs.Grammar.{Terminal, number, word, operator, other}
-use Rattle.duration_str.specs.Value.{AllPlus, Term, second, value_of_term, term_fault, terms_of, terms_after, unless, value_of}
-use Rattle.duration_str.specs.Internal.Numbers.{u64_from, term_value}
-use Rattle.duration_str.specs.Terms.{term_of}
-use Rattle.duration_str.specs.Reading.{without_last_number, complete, late_fault}
-use Rattle.duration_str.specs.Answer.{late_answer, answer_after, answer_at, kinds_after, last_of, front_of}
+use Rattle.duration_str.proofs.Common.{TimeUnit, NanoSecond, CondUnit, Plus, Star, Cause, Syntax, Expected, Number, Tokens, nanos_of, Terminal, number, word, operator, AllPlus, Term, second, value_of_term, terms_of, terms_after, unless, value_of, term_value, term_of, without_last_number, complete, late_fault, late_answer, answer_after, answer_at, kinds_after, last_of, front_of, IsAhead, TakesNumber, Rest, terminal_at, rest_of, start_left, terminals_in, Read, leaving, unit_read, operator_read, answer_left, first_term, fault_or, nothing_of, before_operator, at_once}
 use Rattle.duration_str.specs.Tokenizer.{place_of}
-use Rattle.duration_str.specs.Internal.Tokenizer.{IsAhead, TakesNumber}
-use Rattle.duration_str.specs.Internal.Rest.{Rest, terminal_at, rest_of, start_left, terminals_in, Read, leaving, unit_read, operator_read, answer_left, first_term, fault_or, join, nothing_of, before_operator, at_once}
+use Rattle.duration_str.specs.Internal.Rest.{join}
 use Rattle.duration_str.proofs.Sentences.FaultLemmas.{term_below_no_fault}
 use Rattle.duration_str.proofs.Sentences.FrontLemmas.{begins_allowed, table_front}
 use Rattle.duration_str.proofs.Sentences.SumLemmas.{AreAdded, terms_added}

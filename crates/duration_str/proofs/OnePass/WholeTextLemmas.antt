@@ -1,19 +1,8 @@
 -- The result of reading everything from the start of a text is the text's answer.
-use Rattle.std.proofs.Common.{◌≡◌, ◌==◌, ℕ, zero, suc, ◌<◌, false, sym, List, [], ◌∷◌, Result, Err, map, length, IsUtf8, refl, arith}
-use Rattle.std.specs.Str.{chars}
+use Rattle.std.proofs.Common.{◌≡◌, ◌==◌, ℕ, zero, suc, ◌<◌, false, sym, List, [], ◌∷◌, Result, Err, map, length, IsUtf8, refl, arith, chars}
+use Rattle.duration_str.proofs.Common.{chars-nil, Options, Cause, Empty, Tokens, byte_len, terminal_of, tokens_of, lexemes_of, start_after, terminals_of, answer, front_of, rest_from, rest_of, start_left, terminals_in, answer_left, source, options_of, left}
 use Rattle.std.proofs.lemmas.Bool.{eqb-false}
-use Rattle.std.proofs.lemmas.Str.{chars-nil}
-use Rattle.duration_str.specs.declared.options.Options.{Options}
-use Rattle.duration_str.specs.declared.fault.Cause.{Cause}
-use Rattle.duration_str.specs.declared.fault.Cause.TheVariants.{Empty}
-use Rattle.duration_str.specs.declared.token.Tokens.{Tokens}
-use Rattle.duration_str.specs.Text.{byte_len}
-use Rattle.duration_str.specs.Grammar.{terminal_of}
-use Rattle.duration_str.specs.Tokens.{Token, tokens_of, lexemes_of}
-use Rattle.duration_str.specs.Place.{start_after, terminals_of}
-use Rattle.duration_str.specs.Answer.{answer, front_of}
-use Rattle.duration_str.specs.Internal.Rest.{rest_from, rest_of, start_left, terminals_in, answer_left}
-use Rattle.duration_str.specs.Tokenizer.{source, options_of, left}
+use Rattle.duration_str.specs.Tokens.{Token}
 use Rattle.duration_str.proofs.OnePass.PlaceLemmas.{byte_count}
 
 all_terminals : (o : Options) (len : ℕ) (tokens : List Token) → terminals_in (rest_from o len tokens) ≡ map (terminal_of o) (lexemes_of tokens)

@@ -1,18 +1,9 @@
 -- The bytes built unit by unit are the UTF-8 of the printed text.
-use Rattle.std.proofs.Common.{◌≡◌, ℕ, ◌+◌, ◌*◌, ◌/◌, ◌%◌, ◌^◌, ◌<◌, ◌≤◌, ◌==◌, false, List, [], ◌∷◌, ◌++◌, length, take, map, decimal, encode_utf8_all, refl, ap, sym, ◌∙◌, inl, inr, arith, length-append, append_assoc, append-nil, eq-zero-or-pos, lit<}
-use Rattle.std.specs.List.{flat_map}
-use lib.Chars.{codes}
-use Rattle.std.specs.Str.{IsUtf8}
-use Rattle.std.proofs.Math.Nat.{div-le_self, mod-le}
-use Rattle.std.proofs.lemmas.Bool.Decides.{nat_tests}
+use Rattle.std.proofs.Common.{◌≡◌, ℕ, ◌+◌, ◌*◌, ◌/◌, ◌%◌, ◌^◌, ◌<◌, ◌≤◌, ◌==◌, false, List, [], ◌∷◌, ◌++◌, length, take, map, decimal, encode_utf8_all, refl, ap, sym, ◌∙◌, inl, inr, arith, length-append, append_assoc, append-nil, eq-zero-or-pos, lit<, flat_map, codes, IsUtf8, div-le_self, length-take-le}
+use Rattle.duration_str.proofs.Common.{nat_tests, encodes-append, encodes-IsAscii, TimeUnit, Year, Second, units, row_of, nanos_of, unit_lengths, printed_parts, printed_counts, spaced, counts_of, with_space, with_part, with_parts, units_below_year}
+use Rattle.std.proofs.Math.Nat.{mod-le}
 use Rattle.std.proofs.lemmas.Fmt.{IsAscii-decimal_wide, decimal_by_steps_wide}
-use Rattle.std.proofs.lemmas.List.{length-take-le}
-use Rattle.std.proofs.lemmas.Str.{encodes-append, encodes-IsAscii, IsUtf8-append, IsUtf8-from_ascii, IsUtf8-nil}
-use Rattle.duration_str.specs.declared.unit.TimeUnit.{TimeUnit}
-use Rattle.duration_str.specs.declared.unit.TimeUnit.TheVariants.{Year, Second}
-use Rattle.duration_str.specs.Units.{units, row_of, nanos_of, unit_lengths}
-use Rattle.duration_str.specs.Printing.{printed_parts, printed_counts, spaced, counts_of}
-use Rattle.duration_str.specs.Internal.PrintedBytes.{with_space, with_part, with_parts, units_below_year}
+use Rattle.std.proofs.lemmas.Str.{IsUtf8-append, IsUtf8-from_ascii, IsUtf8-nil}
 use Rattle.duration_str.proofs.Characters.NameLemmas.{scalar_name}
 
 with_part_none : (bytes : List ℕ) (u : TimeUnit) (count : ℕ) → count ≡ 0 → with_part bytes u count ≡ bytes

@@ -1,16 +1,6 @@
 -- A printed text is spelled by a sum whose total is the duration.
-use Rattle.std.proofs.Common.{◌≡◌, ℕ, ◌%◌, ◌^◌, ◌<◌, inl, inr, Bool, true, false, ◌==◌, List, [], ◌∷◌, ◌++◌, map, drop, Some, if◌then◌else◌, decimal, codes, arith, refl, append_assoc}
-use Rattle.std.proofs.lemmas.Bool.{cases_Bool, eqb-true}
-use Rattle.std.proofs.lemmas.Fmt.{decimal_digit}
-use Rattle.std.specs.List.{flat_map}
-use Rattle.std.specs.Duration.{FitsDuration}
-use Rattle.duration_str.specs.declared.options.Options.{Options}
-use Rattle.duration_str.specs.declared.unit.TimeUnit.{TimeUnit}
-use Rattle.duration_str.specs.declared.unit.TimeUnit.TheVariants.{Year, Second}
-use Rattle.duration_str.specs.Units.{row_of, units, nanos_of, unit_lengths}
-use Rattle.duration_str.specs.Grammar.{Terminal, number, word, terminal_of, IsSentence, Spells}
-use Rattle.duration_str.specs.Value.{AllPlus, sum_of, terms_of}
-use Rattle.duration_str.specs.Printing.{weighted_sum, IsPrinted, counts_of, printed_parts, spaced, printed_counts}
+use Rattle.std.proofs.Common.{◌≡◌, ℕ, ◌%◌, ◌^◌, ◌<◌, inl, inr, Bool, true, false, ◌==◌, List, [], ◌∷◌, ◌++◌, map, drop, Some, if◌then◌else◌, decimal, codes, arith, refl, append_assoc, eqb-true, flat_map}
+use Rattle.duration_str.proofs.Common.{cases_Bool, decimal_digit, FitsDuration, Options, TimeUnit, Year, Second, row_of, units, nanos_of, unit_lengths, Terminal, number, word, terminal_of, IsSentence, Spells, AllPlus, sum_of, terms_of, weighted_sum, IsPrinted, counts_of, printed_parts, spaced, printed_counts}
 use Rattle.duration_str.proofs.Characters.NumberLemmas.{decimal_terminal}
 use Rattle.duration_str.proofs.LawProofs.GreatestBreakdown.{one_greatest, greatest_breakdown_holds}
 use Rattle.duration_str.proofs.Sentences.SumReadings.{IsSumOf, terms_of_lexemes}

@@ -1,13 +1,7 @@
 -- The result of a call, in terms of the sentences of the text.
-use Rattle.std.proofs.Common.{ℕ, List, Result, Ok, Err, IfOk, IfErr, IsOk, ◌≡◌, ◌^◌, ◌<◌, ◌∙◌, refl, sym}
-use Rattle.std.specs.Duration.{as_nanos}
+use Rattle.std.proofs.Common.{ℕ, List, Result, Ok, Err, IfOk, IfErr, IsOk, ◌≡◌, ◌^◌, ◌<◌, ◌∙◌, refl, sym, chars}
+use Rattle.duration_str.proofs.Common.{as_nanos, Options, Fault, answer, IsAnswered, ParsesText, IsRead, IsRefused}
 use Rattle.std.specs.declared.time.Duration.{Duration}
-use Rattle.std.specs.Str.{chars}
-use Rattle.duration_str.specs.declared.options.Options.{Options}
-use Rattle.duration_str.specs.declared.fault.Fault.{Fault}
-use Rattle.duration_str.specs.Answer.{answer}
-use Rattle.duration_str.specs.Results.{IsAnswered, ParsesText}
-use Rattle.duration_str.specs.Reading.{IsRead, IsRefused}
 use Rattle.duration_str.proofs.Sentences.AnswerLemmas.{is_answer_holds}
 
 module _ (o : Options) (bytes : List ℕ) where

@@ -1,10 +1,6 @@
 -- When there is no fault, and when there is a fault of this cause: sets of equivalences for `simp`.
-use Rattle.std.proofs.Common.{◌≡◌, ℕ, ◌^◌, ◌≤◌, ◌<◌, ◌⊎◌, ◌↔◌, inl, inr, Bool, true, false, Option, Some, None, arith, refl}
-use Rattle.std.proofs.lemmas.Bool.{lt-ltb, ltb-true, le-ltb, ltb-false}
-use Rattle.duration_str.specs.declared.operator.CondUnit.{CondUnit}
-use Rattle.duration_str.specs.declared.operator.CondUnit.TheVariants.{Plus, Star}
-use Rattle.duration_str.specs.declared.fault.Cause.{Cause}
-use Rattle.duration_str.specs.Value.{Term, value_of_term, fits, or_else, unless, term_fault, is_same_operator}
+use Rattle.std.proofs.Common.{◌≡◌, ℕ, ◌^◌, ◌≤◌, ◌<◌, ◌⊎◌, ◌↔◌, inl, inr, Bool, true, false, Option, Some, None, arith, refl, lt-ltb, ltb-true, le-ltb, ltb-false}
+use Rattle.duration_str.proofs.Common.{CondUnit, Plus, Star, Cause, Term, value_of_term, fits, or_else, unless, term_fault, is_same_operator}
 
 pub or_else-none : (a b : Option Cause) → (or_else a b ≡ None) ↔ ((a ≡ None) × (b ≡ None))
 or_else-none None b = (λ h. (refl, h), λ h. h.1)

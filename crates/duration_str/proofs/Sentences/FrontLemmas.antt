@@ -1,15 +1,7 @@
 -- Sentences in terms of the table of what may follow a terminal, and the front of a list of terminals.
-use Rattle.std.proofs.Common.{◌≡◌, ℕ, suc, zero, ◌≤◌, Bool, true, false, ◌↔◌, inl, inr, List, [], ◌∷◌, ◌++◌, Option, Some, None, take, drop, length, IsTrue, arith, refl, sym, ap, ◌∙◌, zero-le, le_antisymm, suc-le-suc, le_of_suc-le-suc}
-use Rattle.std.proofs.lemmas.Bool.Decides.{same_from_decides}
-use Rattle.std.proofs.lemmas.Bool.{cases_Bool, true≢false, not_from_false, not-true, not_from_true, and_from, and_parts}
-use Rattle.std.proofs.lemmas.List.{take-append-drop, take_at, drop_at, length-append}
-use Rattle.duration_str.specs.declared.unit.TimeUnit.TheVariants.{Second}
-use Rattle.duration_str.specs.declared.operator.CondUnit.{CondUnit}
-use Rattle.duration_str.specs.declared.operator.CondUnit.TheVariants.{Plus}
-use Rattle.duration_str.specs.declared.fault.Expected.{Expected}
-use Rattle.duration_str.specs.Grammar.{Terminal, number, word, operator, other, IsSentence}
-use Rattle.duration_str.specs.Place.{BeginsSentence, CanFollow, IsFront}
-use Rattle.duration_str.specs.Answer.{kinds_after, allows, last_of, front_after, front_of}
+use Rattle.std.proofs.Common.{◌≡◌, ℕ, suc, zero, ◌≤◌, Bool, true, false, ◌↔◌, inl, inr, List, [], ◌∷◌, ◌++◌, Option, Some, None, take, drop, length, IsTrue, arith, refl, sym, ap, ◌∙◌, zero-le, le_antisymm, suc-le-suc, le_of_suc-le-suc, take-append-drop, take_at, drop_at, length-append}
+use Rattle.duration_str.proofs.Common.{same_from_decides, cases_Bool, not-true, and_from, and_parts, Second, Plus, Expected, Terminal, number, word, operator, IsSentence, BeginsSentence, CanFollow, IsFront, kinds_after, allows, last_of, front_after, front_of}
+use Rattle.std.proofs.lemmas.Bool.{not_from_false, not_from_true}
 
 -- The table allows each terminal after the one before it, and the first one after `last`.
 abbrev pub AreAllowed : Bool → Option Terminal → List Terminal → Type 0

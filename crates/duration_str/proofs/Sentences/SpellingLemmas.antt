@@ -1,16 +1,7 @@
 -- A sentence spells a text exactly if its lexemes are those of the text's tokens.
 use Rattle.std.proofs.Common.{◌≡◌, ℕ, ◌+◌, Bool, true, false, List, [], ◌∷◌, ◌++◌, map, Option, Some, None, IsTrue, refl, sym, ◌∙◌}
-use Rattle.std.proofs.lemmas.Bool.{and_parts, false_from_ne_true}
-use Rattle.std.proofs.lemmas.List.Folds.{list_all-append}
-use Rattle.std.specs.List.{list_all}
-use Rattle.duration_str.specs.declared.options.Options.{Options}
-use Rattle.duration_str.specs.declared.fault.Expected.{Expected}
-use Rattle.duration_str.specs.Text.{is_blank, IsBlank, byte_len}
-use Rattle.duration_str.specs.Grammar.{Terminal, number, word, operator, other, terminal_of, IsSentenceOf, Spells}
-use Rattle.duration_str.specs.Tokens.{Token, are_of_one_run, goes_on, IsLexeme, EndsRun, AreTokens, tokens_of, lexemes_of}
-use Rattle.duration_str.specs.Place.{terminals_of}
-use Rattle.duration_str.specs.Answer.{kinds_after, allows}
-use Rattle.duration_str.specs.Internal.Sorts.{sort_of}
+use Rattle.duration_str.proofs.Common.{and_parts, false_from_ne_true, list_all-append, list_all, Options, Expected, is_blank, IsBlank, byte_len, Terminal, number, word, operator, other, terminal_of, IsSentenceOf, Spells, are_of_one_run, goes_on, IsLexeme, EndsRun, AreTokens, tokens_of, lexemes_of, terminals_of, kinds_after, allows, sort_of}
+use Rattle.duration_str.specs.Tokens.{Token}
 use Rattle.duration_str.proofs.Characters.CharacterLemmas.{operator-not_blank, run-not_blank}
 use Rattle.duration_str.proofs.Cutting.TokenLemmas.{tokens_once, tokens_are}
 use Rattle.duration_str.proofs.Cutting.TerminalLemmas.{terminal_cases, digits_are_lexeme, letters_are_lexeme, lexeme_sort, run_sort}

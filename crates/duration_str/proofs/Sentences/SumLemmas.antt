@@ -1,15 +1,6 @@
 -- Terms that are added evaluate exactly if their sum is below 2^64, and the sum is their value.
-use Rattle.std.proofs.Common.{◌≡◌, ◌+◌, ◌^◌, ◌≤◌, ◌<◌, Bool, true, leb, List, [], ◌∷◌, ◌++◌, length, Some, None, arith, refl, ap, append_assoc, append-nil}
-use Rattle.std.specs.List.{list_all}
-use Rattle.std.proofs.lemmas.Bool.{leb-true}
-use Rattle.duration_str.specs.declared.unit.TimeUnit.{TimeUnit}
-use Rattle.duration_str.specs.declared.operator.CondUnit.{CondUnit}
-use Rattle.duration_str.specs.declared.operator.CondUnit.TheVariants.{Plus}
-use Rattle.duration_str.specs.declared.fault.Cause.TheVariants.{Overflow}
-use Rattle.duration_str.specs.Units.{nanos_of}
-use Rattle.duration_str.specs.Grammar.{Terminal, number, word, operator, IsSentence}
-use Rattle.duration_str.specs.Value.{AllPlus, Term, value_of_term, sum_of, later_total, total_of, value_of, terms_of, terms_after, fits, unless, or_else, later_fault, evaluation_fault, is_same_operator, Evaluates}
-use Rattle.duration_str.specs.Reading.{running_fault, place_after}
+use Rattle.std.proofs.Common.{◌≡◌, ◌+◌, ◌^◌, ◌≤◌, ◌<◌, Bool, true, leb, List, [], ◌∷◌, ◌++◌, length, Some, None, arith, refl, ap, append_assoc, append-nil, leb-true}
+use Rattle.duration_str.proofs.Common.{list_all, TimeUnit, CondUnit, Plus, Overflow, nanos_of, Terminal, number, word, operator, IsSentence, AllPlus, Term, value_of_term, sum_of, later_total, total_of, value_of, terms_of, terms_after, fits, unless, or_else, later_fault, evaluation_fault, is_same_operator, Evaluates, running_fault, place_after}
 use Rattle.duration_str.proofs.Sentences.FaultLemmas.{no_fault, term_below_no_fault}
 use Rattle.duration_str.proofs.Characters.EachUnit.{all_units}
 

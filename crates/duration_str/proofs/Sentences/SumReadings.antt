@@ -1,12 +1,6 @@
 -- A text that a sum spells is read as the sum if it is below 2^64, and otherwise refused as an overflow.
-use Rattle.std.proofs.Common.{◌≡◌, ℕ, ◌^◌, ◌≤◌, ◌<◌, ◌⊎◌, inl, inr, Bool, true, false, List, [], ◌∷◌, ◌++◌, map, length, Some, None, arith, refl, sym, ap, subst, ◌∙◌, append_assoc, append-nil}
-use Rattle.std.proofs.lemmas.Bool.{cases_lt, lt-ltb, le-ltb}
-use Rattle.duration_str.specs.declared.options.Options.{Options}
-use Rattle.duration_str.specs.declared.operator.CondUnit.TheVariants.{Plus}
-use Rattle.duration_str.specs.declared.fault.Cause.TheVariants.{Overflow}
-use Rattle.duration_str.specs.Grammar.{Terminal, terminal_of, IsSentence, IsSentenceOf}
-use Rattle.duration_str.specs.Value.{AllPlus, Term, terms_of, value_of, value_of_term, sum_of, later_fault, evaluation_fault}
-use Rattle.duration_str.specs.Reading.{first_fault, running_fault, place_after, late_fault, IsRead, IsRefusedAt, early, late, IsRefused}
+use Rattle.std.proofs.Common.{◌≡◌, ℕ, ◌^◌, ◌≤◌, ◌<◌, ◌⊎◌, inl, inr, Bool, true, false, List, [], ◌∷◌, ◌++◌, map, length, Some, None, arith, refl, sym, ap, subst, ◌∙◌, append_assoc, append-nil, lt-ltb, le-ltb}
+use Rattle.duration_str.proofs.Common.{cases_lt, Options, Plus, Overflow, Terminal, terminal_of, IsSentence, IsSentenceOf, AllPlus, Term, terms_of, value_of, value_of_term, sum_of, later_fault, evaluation_fault, first_fault, running_fault, place_after, late_fault, IsRead, IsRefusedAt, early, late, IsRefused}
 use Rattle.duration_str.proofs.Sentences.FaultLemmas.{is_same_operator-true, term_below_no_fault}
 use Rattle.duration_str.proofs.Sentences.SumLemmas.{AreAdded, terms_added, has_terms, fault_of_sum, below_evaluate, value_is_sum}
 use Rattle.duration_str.proofs.Sentences.AnswerLemmas.{read_sentence, sentence_refused}

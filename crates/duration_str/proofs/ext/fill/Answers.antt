@@ -1,5 +1,5 @@
 use Rattle.std.proofs.Common.{take, arith, sym, ap, ◌∙◌}
-use Rattle.std.specs.Duration.{as_nanos}
+use Rattle.duration_str.proofs.Common.{as_nanos}
 use Rattle.duration_str.specs.Internal.PrintedBytes.{digits}
 use Rattle.duration_str.proofs.Printer.PrintedBytesLemmas.{ended, ended_take, printed_from_seconds, IsUtf8-printed}
 use Rattle.duration_str.proofs.ext.fill.Goals as goal

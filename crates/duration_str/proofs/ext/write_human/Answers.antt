@@ -1,8 +1,5 @@
 use Rattle.std.proofs.Common.{sym, ◌∙◌}
-use Rattle.std.proofs.lemmas.Str.{chars_from_encodes}
-use Rattle.std.specs.Duration.{as_nanos}
-use Rattle.duration_str.specs.Printing.{printed_counts, counts_of}
-use Rattle.duration_str.specs.Units.{unit_lengths}
+use Rattle.duration_str.proofs.Common.{chars_from_encodes, as_nanos, printed_counts, counts_of, unit_lengths}
 use Rattle.duration_str.proofs.LawProofs.GreatestBreakdown.{greatest_breakdown_holds}
 use Rattle.duration_str.proofs.ext.write_human.Goals as goal
 

@@ -1,5 +1,5 @@
 use Rattle.std.proofs.Common.{subst}
-use Rattle.duration_str.specs.Results.{ParsesText}
+use Rattle.duration_str.proofs.Common.{ParsesText}
 use Rattle.duration_str.proofs.Sentences.AnsweredLemmas.{parses_text}
 use Rattle.duration_str.proofs.parser.parse.Goals as goal
 

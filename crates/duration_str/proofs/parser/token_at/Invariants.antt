@@ -1,6 +1,5 @@
 use Rattle.std.proofs.Common.{◌≡◌, length}
-use Rattle.duration_str.specs.Faults.{token_at}
-use Rattle.duration_str.specs.Tokenizer.{source, left}
+use Rattle.duration_str.proofs.Common.{token_at, source, left}
 use Rattle.duration_str.proofs.parser.token_at.Given as goal
 
 abbrev pub invariant-loop-token : goal.invariant-loop-token

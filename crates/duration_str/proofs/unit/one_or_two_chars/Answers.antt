@@ -1,6 +1,5 @@
-use Rattle.std.proofs.Common.{◌∷◌, sym, ap, ◌∙◌}
+use Rattle.std.proofs.Common.{◌∷◌, sym, ap, ◌∙◌, option_to_list}
 use Rattle.std.proofs.lemmas.Option.{same_Some}
-use Rattle.std.specs.Option.{option_to_list}
 use Rattle.duration_str.proofs.Characters.TextLemmas.{one_or_two_chars}
 use Rattle.duration_str.proofs.unit.one_or_two_chars.Goals as goal
 

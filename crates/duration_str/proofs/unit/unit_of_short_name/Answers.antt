@@ -1,6 +1,4 @@
-use Rattle.std.proofs.Common.{◌∷◌, refl}
-use Rattle.std.specs.Option.{option_to_list}
-use Rattle.std.specs.Str.{chars}
+use Rattle.std.proofs.Common.{◌∷◌, refl, option_to_list, chars}
 use Rattle.duration_str.proofs.Characters.UnitLemmas.{unit_of_letters}
 use Rattle.duration_str.proofs.unit.unit_of_short_name.Goals as goal
 

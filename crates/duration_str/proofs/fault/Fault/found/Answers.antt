@@ -1,8 +1,6 @@
-use Rattle.std.proofs.Common.{◌≡◌, ℕ, ◌-◌, ◌∙◌, List, drop, IsUtf8, rules, arith, ap, subst₂}
-use Rattle.std.specs.Str.{chars}
-use Rattle.duration_str.specs.Faults.{token_at, IsSliceOf}
-use Rattle.duration_str.specs.Tokens.{Token, tokens_of}
-use Rattle.duration_str.specs.Tokenizer.{source, left}
+use Rattle.std.proofs.Common.{◌≡◌, ℕ, ◌-◌, ◌∙◌, List, drop, IsUtf8, rules, arith, ap, subst₂, chars}
+use Rattle.duration_str.proofs.Common.{token_at, IsSliceOf, tokens_of, source, left}
+use Rattle.duration_str.specs.Tokens.{Token}
 use Rattle.duration_str.proofs.Cutting.FoundLemmas.{slice_found}
 use Rattle.duration_str.proofs.fault.Fault.found.Goals as goal
 

@@ -1,6 +1,5 @@
 use Rattle.std.proofs.Common.{◌∙◌, ap, sym, subst, arith}
-use Rattle.std.proofs.lemmas.Str.{IsUtf8-had}
-use Rattle.duration_str.specs.Internal.Cutting.{StandsAt}
+use Rattle.duration_str.proofs.Common.{IsUtf8-had, StandsAt}
 use Rattle.duration_str.proofs.Cutting.CuttingLemmas.{counted_past, looks_fit, stands_same}
 use Rattle.duration_str.proofs.token.Tokens.advance.Goals as goal
 

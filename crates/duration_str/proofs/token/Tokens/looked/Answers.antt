@@ -1,6 +1,5 @@
-use Rattle.std.proofs.Common.{◌≤◌, subst, sym, length, take}
-use Rattle.std.specs.Str.{chars}
-use Rattle.std.proofs.lemmas.Str.{IsUtf8-had}
+use Rattle.std.proofs.Common.{◌≤◌, subst, sym, length, take, chars}
+use Rattle.duration_str.proofs.Common.{IsUtf8-had}
 use Rattle.duration_str.proofs.Cutting.CuttingLemmas.{looks_most, looks_least}
 use Rattle.duration_str.proofs.token.Tokens.looked.Goals as goal
 

@@ -1,5 +1,5 @@
 use Rattle.std.proofs.Common.{subst, sym}
-use Rattle.duration_str.specs.Internal.Tokenizer.{IsAhead}
+use Rattle.duration_str.proofs.Common.{IsAhead}
 use Rattle.duration_str.proofs.Cutting.TokenizerLemmas.{looks_ahead}
 use Rattle.duration_str.proofs.token.Tokens.sort_ahead.Goals as goal
 

@@ -1,5 +1,5 @@
 use Rattle.std.proofs.Common.{subst}
-use Rattle.duration_str.specs.Internal.Tokenizer.{IsSign}
+use Rattle.duration_str.proofs.Common.{IsSign}
 use Rattle.duration_str.proofs.Cutting.TokenizerLemmas.{one_sort, takes_sign}
 use Rattle.duration_str.proofs.token.Tokens.take_sign.Goals as goal
 

@@ -1,6 +1,5 @@
 use Rattle.std.proofs.Common.{Some, subst}
-use Rattle.duration_str.specs.declared.token.Sort.{Sort}
-use Rattle.duration_str.specs.Internal.Tokenizer.{IsAhead}
+use Rattle.duration_str.proofs.Common.{Sort, IsAhead}
 use Rattle.duration_str.proofs.Cutting.TokenizerLemmas.{sign_what, other_what}
 use Rattle.duration_str.proofs.token.Tokens.take_token.Goals as goal
 

@@ -1,8 +1,6 @@
 use Rattle.std.proofs.Common.{◌∙◌, ◌&&◌, ap, sym, subst, arith}
-use Rattle.std.proofs.lemmas.Bool.{not-true}
-use Rattle.duration_str.specs.Text.{is_unit_letter}
-use Rattle.duration_str.specs.Internal.Cutting.{ahead, Stops}
-use Rattle.duration_str.specs.Tokenizer.{source, options_of, place_of}
+use Rattle.duration_str.proofs.Common.{not-true, is_unit_letter, ahead, Stops, source, options_of}
+use Rattle.duration_str.specs.Tokenizer.{place_of}
 use Rattle.duration_str.proofs.Characters.CharacterLemmas.{no_letter_of_ascii}
 use Rattle.duration_str.proofs.Cutting.CuttingLemmas.{short_word, stops_at}
 use Rattle.duration_str.proofs.Cutting.TokenizerLemmas.{takes_word, takes_long_word}

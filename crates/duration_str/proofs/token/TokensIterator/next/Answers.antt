@@ -1,6 +1,5 @@
-use Rattle.std.proofs.Common.{◌∙◌, ap, sym, subst, arith, length}
-use Rattle.std.specs.Str.{IsCharBoundary}
-use Rattle.duration_str.specs.Tokenizer.{source}
+use Rattle.std.proofs.Common.{◌∙◌, ap, sym, subst, arith, length, IsCharBoundary}
+use Rattle.duration_str.proofs.Common.{source}
 use Rattle.duration_str.specs.declared.token.Token.{Token}
 use Rattle.duration_str.proofs.Cutting.TokenizerLemmas.{none_left, takes_terminal}
 use Rattle.duration_str.proofs.token.TokensIterator.next.Goals as goal
