@@ -9,50 +9,51 @@ use Rattle.duration_str.proofs.Sentences.FrontLemmas.{AreAllowed, sentence_allow
 abbrev terminal_by : Bool → Bool → List ℕ → Option TimeUnit → Terminal
 terminal_by digits letters w unit = if digits then number (number_of w) else if letters then word unit else sign_terminal w
 
-same_word : (o : Options) (last : Option Terminal) (w : List ℕ) (found : Option TimeUnit) → unit_among older_units o w ≡ found
-    → IsTrue (allows (kinds_after o.no_calc last) (word found)) → found ≡ unit_of_word o w
-same_word o last w (Some u) e a = sym (found_among_all o w older_units u e)
-same_word o last w None e a = absurd (true≢false (sym (and_parts (kinds_after o.no_calc last).unit_word false a).1))
+module _ (o : Options) where
+  same_word : (last : Option Terminal) (w : List ℕ) (found : Option TimeUnit) → unit_among older_units o w ≡ found
+      → IsTrue (allows (kinds_after o.no_calc last) (word found)) → found ≡ unit_of_word o w
+  same_word last w (Some u) e a = sym (found_among_all o w older_units u e)
+  same_word last w None e a = cc (and_parts (kinds_after o.no_calc last).unit_word false a).1
 
-same_by : (o : Options) (last : Option Terminal) (w : List ℕ) (digits letters : Bool)
-    → IsTrue (allows (kinds_after o.no_calc last) (terminal_by digits letters w (unit_among older_units o w)))
-    → terminal_by digits letters w (unit_among older_units o w) ≡ terminal_by digits letters w (unit_of_word o w)
-same_by o last w true letters a = refl
-same_by o last w false true a = ap word (same_word o last w _ refl a)
-same_by o last w false false a = refl
+  same_by : (last : Option Terminal) (w : List ℕ) (digits letters : Bool)
+      → IsTrue (allows (kinds_after o.no_calc last) (terminal_by digits letters w (unit_among older_units o w)))
+      → terminal_by digits letters w (unit_among older_units o w) ≡ terminal_by digits letters w (unit_of_word o w)
+  same_by last w true letters a = refl
+  same_by last w false true a = ap word (same_word last w _ refl a)
+  same_by last w false false a = refl
 
--- a lexeme that the table allows where it is has the same terminal as before
-same_terminal : (o : Options) (last : Option Terminal) (w : List ℕ) → IsTrue (allows (kinds_after o.no_calc last) (terminal_among older_units o w))
-    → terminal_among older_units o w ≡ terminal_of o w
-same_terminal o last [] a = refl
-same_terminal o last (c ∷ cs) a = same_by o last (c ∷ cs) _ _ a
+  -- a lexeme that the table allows where it is has the same terminal as before
+  same_terminal : (last : Option Terminal) (w : List ℕ) → IsTrue (allows (kinds_after o.no_calc last) (terminal_among older_units o w))
+      → terminal_among older_units o w ≡ terminal_of o w
+  same_terminal last [] a = refl
+  same_terminal last (c ∷ cs) a = same_by last (c ∷ cs) _ _ a
 
-same_terminals : (o : Options) (last : Option Terminal) (lexemes : List (List ℕ)) → AreAllowed o.no_calc last (older_terminals o lexemes)
-    → older_terminals o lexemes ≡ map (terminal_of o) lexemes
-same_terminals o last [] a = refl
-same_terminals o last (w ∷ lexemes) a = ap₂ ◌∷◌ (same_terminal o last w a.0) (same_terminals o (Some (terminal_among older_units o w)) lexemes a.1)
+  same_terminals : (last : Option Terminal) (lexemes : List (List ℕ)) → AreAllowed o.no_calc last (older_terminals o lexemes)
+      → older_terminals o lexemes ≡ map (terminal_of o) lexemes
+  same_terminals last [] a = refl
+  same_terminals last (w ∷ lexemes) a =
+      ap₂ ◌∷◌ (same_terminal last w a.0) (same_terminals (Some (terminal_among older_units o w)) lexemes a.1)
 
-older_same : (o : Options) (lexemes : List (List ℕ)) (text : List ℕ) → WasSentenceOf o lexemes text → older_terminals o lexemes ≡ map (terminal_of o) lexemes
-older_same o lexemes text was =
-    same_terminals o None lexemes (sentence_allowed o.no_calc (older_terminals o lexemes) was.sentence)
+  older_same : (lexemes : List (List ℕ)) (text : List ℕ) → WasSentenceOf o lexemes text
+      → older_terminals o lexemes ≡ map (terminal_of o) lexemes
+  older_same lexemes text was = same_terminals None lexemes (sentence_allowed o.no_calc (older_terminals o lexemes) was.sentence)
 
-older_sentence : (o : Options) (lexemes : List (List ℕ)) (text : List ℕ) → WasSentenceOf o lexemes text → IsSentenceOf o lexemes text
-older_sentence o lexemes text was = (subst (IsSentence o.no_calc) (older_same o lexemes text was) was.sentence, was.spells)
+  older_sentence : (lexemes : List (List ℕ)) (text : List ℕ) → WasSentenceOf o lexemes text → IsSentenceOf o lexemes text
+  older_sentence lexemes text was = (rw (← older_same lexemes text was) was.sentence, was.spells)
 
-older_value : (o : Options) (text : List ℕ) (nanos : ℕ) → WasRead o text nanos → IsRead o text nanos
-older_value o text nanos was =
-    let same = older_same o was.lexemes text was.spells in record {
-      lexemes = was.lexemes;
-      spells = older_sentence o was.lexemes text was.spells;
-      evaluates = subst (λ (terminals : List Terminal). Evaluates (terms_of terminals)) same was.evaluates;
-      value = ap (λ terminals. value_of (terms_of terminals)) (sym same) ∙ was.value;
-    }
+  older_value : (text : List ℕ) (nanos : ℕ) → WasRead o text nanos → IsRead o text nanos
+  older_value text nanos was =
+      let same = older_same was.lexemes text was.spells in record {
+        lexemes = was.lexemes;
+        spells = older_sentence was.lexemes text was.spells;
+        evaluates = rw (← same) was.evaluates;
+        value = rw (← same) was.value;
+      }
 
-older_cause : (o : Options) (text : List ℕ) (cause : Cause) → WasRefused o text cause → IsRefused o text cause
-older_cause o text cause was =
-    sentence_refused o text was.lexemes cause (older_sentence o was.lexemes text was.spells)
-    (λ place. subst (λ (terminals : List Terminal). IsRefusedAt o.no_calc place terminals [] cause)
-    (older_same o was.lexemes text was.spells) (was.refused place))
+  older_cause : (text : List ℕ) (cause : Cause) → WasRefused o text cause → IsRefused o text cause
+  older_cause text cause was =
+      let same = older_same was.lexemes text was.spells in
+      sentence_refused o text was.lexemes cause (older_sentence was.lexemes text was.spells) (λ place. rw (← same) (was.refused place))
 
 pub older_texts_hold : OlderTexts
 older_texts_hold = record { terminals = older_same; sentence = older_sentence; value = older_value; cause = older_cause }

@@ -13,16 +13,15 @@ record AreAlike (o p : Options) (text : List ℕ) : Type 0 where
   tokens : tokens_of o text ≡ tokens_of p text
   terminals : terminals_of o text ≡ terminals_of p text
 
-alike_back : (o p : Options) (text : List ℕ) → AreAlike o p text → AreAlike p o text
-alike_back o p text h = record { grammar = sym h.grammar; tokens = sym h.tokens; terminals = sym h.terminals }
+alike_back : {o p : Options} {text : List ℕ} → AreAlike o p text → AreAlike p o text
+alike_back h = record { grammar = sym h.grammar; tokens = sym h.tokens; terminals = sym h.terminals }
 
-read_alike : (o p : Options) (text : List ℕ) (nanos : ℕ) → AreAlike o p text → IsRead o text nanos → IsRead p text nanos
-read_alike o p text nanos h r =
-    terminals_read p text nanos (rw (h.grammar, h.terminals) at (read_terminals r))
+read_alike : {o p : Options} {text : List ℕ} (nanos : ℕ) → AreAlike o p text → IsRead o text nanos → IsRead p text nanos
+read_alike {p = p} {text = text} nanos h r = terminals_read p text nanos (rw (h.grammar, h.terminals) at (read_terminals r))
 
-refused_alike : (o p : Options) (text : List ℕ) (cause : Cause) → AreAlike o p text → IsRefused o text cause → IsRefused p text cause
-refused_alike o p [] cause h r = r
-refused_alike o p (c ∷ text) cause h r = (r.0, r.1, rw (h.grammar, h.terminals) at r.2, rw (h.grammar, h.tokens) at r.3)
+refused_alike : {o p : Options} (text : List ℕ) (cause : Cause) → AreAlike o p text → IsRefused o text cause → IsRefused p text cause
+refused_alike [] cause h r = r
+refused_alike (c ∷ text) cause h r = (r.0, r.1, rw (h.grammar, h.terminals) at r.2, rw (h.grammar, h.tokens) at r.3)
 
 -- ---- Options that agree on characters and words give the same tokens and terminals
 
@@ -31,41 +30,38 @@ record Agree (test : ℕ → Bool) (o p : Options) : Type 0 where
   letter : (c : ℕ) → test c ≡ true → is_unit_letter o c ≡ is_unit_letter p c
   unit : (w : List ℕ) → IsTrue (list_all test w) → unit_of_word o w ≡ unit_of_word p w
 
-goes_on_alike : (test : ℕ → Bool) (o p : Options) (c : ℕ) (text : List ℕ) → Agree test o p → IsTrue (list_all test (c ∷ text))
-    → goes_on o c text ≡ goes_on p c text
-goes_on_alike test o p c [] same h = refl
-goes_on_alike test o p c (d ∷ text) same h =
-    let rest = and_parts _ _ (and_parts _ _ h).1 in rw (same.letter c (and_parts _ _ h).0, same.letter d rest.0)
+module _ (test : ℕ → Bool) (o p : Options) (same : Agree test o p) where
+  goes_on_alike : (c : ℕ) (text : List ℕ) → IsTrue (list_all test (c ∷ text)) → goes_on o c text ≡ goes_on p c text
+  goes_on_alike c [] h = refl
+  goes_on_alike c (d ∷ text) h =
+      let (first, more) = and_parts (test c) (list_all test (d ∷ text)) h in
+      rw (same.letter c first, same.letter d (and_parts _ _ more).0)
 
-tokens_alike : (test : ℕ → Bool) (o p : Options) (at : ℕ) (text : List ℕ) → Agree test o p → IsTrue (list_all test text)
-    → tokens_from o at text ≡ tokens_from p at text
-tokens_alike test o p at [] same h = refl
-tokens_alike test o p at (c ∷ text) same h =
-    let parts = and_parts _ _ h in rw (goes_on_alike test o p c text same h, tokens_alike test o p (at + width c) text same parts.1)
+  tokens_alike : (at : ℕ) (text : List ℕ) → IsTrue (list_all test text) → tokens_from o at text ≡ tokens_from p at text
+  tokens_alike at [] h = refl
+  tokens_alike at (c ∷ text) h =
+      let parts = and_parts _ _ h in rw (goes_on_alike c text h, tokens_alike (at + width c) text parts.1)
 
-letters_alike : (test : ℕ → Bool) (o p : Options) (w : List ℕ) → Agree test o p → IsTrue (list_all test w)
-    → list_all (is_unit_letter o) w ≡ list_all (is_unit_letter p) w
-letters_alike test o p [] same h = refl
-letters_alike test o p (c ∷ w) same h = let parts = and_parts _ _ h in rw (same.letter c parts.0, letters_alike test o p w same parts.1)
+  letters_alike : (w : List ℕ) → IsTrue (list_all test w) → list_all (is_unit_letter o) w ≡ list_all (is_unit_letter p) w
+  letters_alike [] h = refl
+  letters_alike (c ∷ w) h = let parts = and_parts _ _ h in rw (same.letter c parts.0, letters_alike w parts.1)
 
-terminal_alike : (test : ℕ → Bool) (o p : Options) (w : List ℕ) → Agree test o p → IsTrue (list_all test w) → terminal_of o w ≡ terminal_of p w
-terminal_alike test o p [] same h = refl
-terminal_alike test o p (c ∷ cs) same h = rw (letters_alike test o p (c ∷ cs) same h, same.unit (c ∷ cs) h)
+  terminal_alike : (w : List ℕ) → IsTrue (list_all test w) → terminal_of o w ≡ terminal_of p w
+  terminal_alike [] h = refl
+  terminal_alike (c ∷ cs) h = rw (letters_alike (c ∷ cs) h, same.unit (c ∷ cs) h)
 
-lexemes_alike : (test : ℕ → Bool) (o p : Options) (lexemes : List (List ℕ)) → Agree test o p → EachPasses test lexemes
-    → map (terminal_of o) lexemes ≡ map (terminal_of p) lexemes
-lexemes_alike test o p [] same h = refl
-lexemes_alike test o p (w ∷ lexemes) same h = rw (terminal_alike test o p w same h.0, lexemes_alike test o p lexemes same h.1)
+  lexemes_alike : (lexemes : List (List ℕ)) → EachPasses test lexemes → map (terminal_of o) lexemes ≡ map (terminal_of p) lexemes
+  lexemes_alike [] h = refl
+  lexemes_alike (w ∷ lexemes) h = rw (terminal_alike w h.0, lexemes_alike lexemes h.1)
 
-agree_alike : (test : ℕ → Bool) (o p : Options) (text : List ℕ) → o.no_calc ≡ p.no_calc → Agree test o p → IsTrue (list_all test text)
-    → AreAlike o p text
-agree_alike test o p text grammar same h =
-    let tokens = tokens_alike test o p 0 text same h in
-    record {
-      grammar = grammar;
-      tokens = tokens;
-      terminals = rw (← tokens) (lexemes_alike test o p _ same (lexemes_pass test _ text h (tokens_spell o text)));
-    }
+  agree_alike : (text : List ℕ) → o.no_calc ≡ p.no_calc → IsTrue (list_all test text) → AreAlike o p text
+  agree_alike text grammar h =
+      let tokens = tokens_alike 0 text h in
+      record {
+        grammar = grammar;
+        tokens = tokens;
+        terminals = rw (← tokens) (lexemes_alike _ (lexemes_pass test _ text h (tokens_spell o text)));
+      }
 
 -- ---- ASCII capitals
 
@@ -76,10 +72,10 @@ all_lower : (w : List ℕ) → HasNoCapital w → map to_ascii_lowercase w ≡ w
 all_lower [] h = refl
 all_lower (c ∷ w) h = let parts = and_parts _ _ h in rw (lower_same c parts.0, all_lower w parts.1)
 
-lowercase_alike : (o : Options) (text : List ℕ) → HasNoCapital text → AreAlike (record o { lowercase = true }) (record o { lowercase = false }) text
+lowercase_alike : (o : Options) (text : List ℕ) → HasNoCapital text
+    → AreAlike (record o { lowercase = true }) (record o { lowercase = false }) text
 lowercase_alike o text h =
-    agree_alike (λ c. not (is_ascii_uppercase c)) (record o { lowercase = true }) (record o { lowercase = false }) text refl
-    (record { letter = λ c e. refl; unit = λ w e. rw (all_lower w e) }) h
+    agree_alike (λ c. not (is_ascii_uppercase c)) _ _ (record { letter = λ c e. refl; unit = λ w e. rw (all_lower w e) }) text refl h
 
 -- ---- Chinese characters
 
@@ -144,23 +140,23 @@ cn_unit_unit : (o : Options) (w : List ℕ) → HasNoChinese w
     → unit_of_word (record o { cn_unit = true }) w ≡ unit_of_word (record o { cn_unit = false }) w
 cn_unit_unit o w h = find_alike (comparison_form o w) units (no_chinese_name (comparison_form o w) units (form_not_chinese o.lowercase w h) refl)
 
-cn_unit_alike : (o : Options) (text : List ℕ) → HasNoChinese text → AreAlike (record o { cn_unit = true }) (record o { cn_unit = false }) text
+cn_unit_alike : (o : Options) (text : List ℕ) → HasNoChinese text
+    → AreAlike (record o { cn_unit = true }) (record o { cn_unit = false }) text
 cn_unit_alike o text h =
-    agree_alike (λ c. not (is_chinese c)) (record o { cn_unit = true }) (record o { cn_unit = false }) text refl
-    (record { letter = chinese_letter o; unit = cn_unit_unit o }) h
+    agree_alike (λ c. not (is_chinese c)) _ _ (record { letter = chinese_letter o; unit = cn_unit_unit o }) text refl h
 
 -- ---- The law
 
-same_value : (o p : Options) (text : List ℕ) (nanos : ℕ) → AreAlike o p text → (IsRead o text nanos ↔ IsRead p text nanos)
-same_value o p text nanos h = (read_alike o p text nanos h, read_alike p o text nanos (alike_back o p text h))
+same_value : {o p : Options} {text : List ℕ} (nanos : ℕ) → AreAlike o p text → (IsRead o text nanos ↔ IsRead p text nanos)
+same_value nanos h = (read_alike nanos h, read_alike nanos (alike_back h))
 
-same_cause : (o p : Options) (text : List ℕ) (cause : Cause) → AreAlike o p text → (IsRefused o text cause ↔ IsRefused p text cause)
-same_cause o p text cause h = (refused_alike o p text cause h, refused_alike p o text cause (alike_back o p text h))
+same_cause : {o p : Options} {text : List ℕ} (cause : Cause) → AreAlike o p text → (IsRefused o text cause ↔ IsRefused p text cause)
+same_cause cause h = (refused_alike _ cause h, refused_alike _ cause (alike_back h))
 
 pub options_idle_holds : OptionsIdle
 options_idle_holds = record {
-  lowercase_value = λ o text nanos h. same_value _ _ text nanos (lowercase_alike o text h);
-  lowercase_cause = λ o text cause h. same_cause _ _ text cause (lowercase_alike o text h);
-  cn_unit_value = λ o text nanos h. same_value _ _ text nanos (cn_unit_alike o text h);
-  cn_unit_cause = λ o text cause h. same_cause _ _ text cause (cn_unit_alike o text h);
+  lowercase_value = λ o text nanos h. same_value nanos (lowercase_alike o text h);
+  lowercase_cause = λ o text cause h. same_cause cause (lowercase_alike o text h);
+  cn_unit_value = λ o text nanos h. same_value nanos (cn_unit_alike o text h);
+  cn_unit_cause = λ o text cause h. same_cause cause (cn_unit_alike o text h);
 }
