@@ -118,8 +118,10 @@ pub record NoCalcRows : Type 0 where
   pub no_calc-plus_after_number : answer with_no_calc (codes "1+2") ≡ Err (Syntax 1 after_number-no_calc)
   pub no_calc-plus_after_unit : answer with_no_calc (codes "1m+2") ≡ Err (Syntax 2 after_unit-no_calc)
   pub no_calc-minus_after_number : answer with_no_calc (codes "0m3-5") ≡ Err (Syntax 3 after_number-no_calc)
-  pub no_calc-number_stands_not : answer with_no_calc (codes "99999999999999999999+1") ≡ Err (Syntax 20 after_number-no_calc)
-  pub no_calc-first_term_before_syntax : answer with_no_calc (codes "99999999999999999999m+1") ≡ Err (NumberTooLarge (Some 0))
+  pub no_calc-number_stands_not : answer with_no_calc (codes "99999999999999999999+1")
+      ≡ Err (Syntax 20 after_number-no_calc)
+  pub no_calc-first_term_before_syntax : answer with_no_calc (codes "99999999999999999999m+1")
+      ≡ Err (NumberTooLarge (Some 0))
   pub no_calc-sum_before_word : answer with_no_calc (codes "580y 580y x") ≡ Err (Overflow None)
   pub no_calc-sum_before_plus : answer with_no_calc (codes "580y 580y+1") ≡ Err (Overflow None)
   pub no_calc-sum_before_minus : answer with_no_calc (codes "580y 580y-") ≡ Err (Overflow None)
@@ -188,7 +190,8 @@ abbrev greatest_duration : List ℕ
 greatest_duration = codes "584942417355y 3w 5d 7h 15s 999ms 999µs 999ns"
 
 pub overflows-first : (no_calc lowercase cn_unit : Bool)
-    → answer (record { no_calc = no_calc; lowercase = lowercase; cn_unit = cn_unit }) first_that_overflows ≡ Err (Overflow None)
+    → answer (record { no_calc = no_calc; lowercase = lowercase; cn_unit = cn_unit }) first_that_overflows
+    ≡ Err (Overflow None)
 overflows-first true true true = refl
 overflows-first true true false = refl
 overflows-first true false true = refl

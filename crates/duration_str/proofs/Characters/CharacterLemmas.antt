@@ -4,7 +4,8 @@ use Rattle.duration_str.proofs.Common.{cases_Bool, false_from_ne_true, or_cases,
 use Rattle.std.specs.Char.{is_ascii}
 
 -- Characters that pass a test also pass a weaker one.
-pub all_weaker : (p q : ℕ → Bool) (cs : List ℕ) → ((c : ℕ) → p c ≡ true → q c ≡ true) → IsTrue (list_all p cs) → IsTrue (list_all q cs)
+pub all_weaker : (p q : ℕ → Bool) (cs : List ℕ) → ((c : ℕ) → p c ≡ true → q c ≡ true) → IsTrue (list_all p cs)
+    → IsTrue (list_all q cs)
 all_weaker p q [] weaker h = refl
 all_weaker p q (c ∷ cs) weaker h = and_from _ _ (weaker c (and_parts _ _ h).0) (all_weaker p q cs weaker (and_parts _ _ h).1)
 
@@ -44,7 +45,8 @@ pub letter_of_ascii : (o : Options) (c : ℕ) → is_ascii_alphabetic c ≡ true
 letter_of_ascii o c e = rw e refl
 
 -- an ASCII character that is not a letter is not a unit letter
-pub no_letter_of_ascii : (o : Options) (c : ℕ) → is_ascii c ≡ true → is_ascii_alphabetic c ≡ false → is_unit_letter o c ≡ false
+pub no_letter_of_ascii : (o : Options) (c : ℕ) → is_ascii c ≡ true → is_ascii_alphabetic c ≡ false
+    → is_unit_letter o c ≡ false
 no_letter_of_ascii o c small e = grind (arith, nat_tests)
 
 pub ascii_letter : (o : Options) (c : ℕ) → is_unit_letter o c ≡ true → is_ascii c ≡ true → is_ascii_alphabetic c ≡ true

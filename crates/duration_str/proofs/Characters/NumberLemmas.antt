@@ -10,7 +10,8 @@ use Rattle.std.specs.Str.Parse.{ParsesUnsigned}
 pub decimal_digits : IsNumeralModel (λ ds. IsTrue (list_all is_digit ds)) (number_after 0)
 decimal_digits = numerals_by_fold _ (search rules) number_after (search rules)
 
-ok_u64 : {E : Type 0} (r : Result ℕ E) (n len : ℕ) → 0 < len → OkIff r ((0 < len) × (n < 2 ^ 64)) n → result_ok r ≡ u64_from n
+ok_u64 : {E : Type 0} (r : Result ℕ E) (n len : ℕ) → 0 < len → OkIff r ((0 < len) × (n < 2 ^ 64)) n
+    → result_ok r ≡ u64_from n
 ok_u64 (Ok x) n len some h = rw (lt-ltb n _ h.0.1, h.1)
 ok_u64 (Err e) n len some h = elim (cases_lt n (2 ^ 64)) [ inl below ↦ absurd (h (some, below)) | inr above ↦ rw (le-ltb n _ above) ]
 
@@ -22,7 +23,8 @@ parsed_u64 bs r parsed utf8 digits parses is =
     let same : bs ≡ chars bs = sym (encodes-chars bs utf8) ∙ own in
     is ∙ ok_u64 r _ (length (chars bs)) digits.0 (parse_digits decimal_digits 64 (chars bs) r (rw same at parses) digits.1)
 
-digits_terminal : (o : Options) (digits : List ℕ) → 0 < length digits → IsTrue (list_all is_digit digits) → terminal_of o digits ≡ number (number_of digits)
+digits_terminal : (o : Options) (digits : List ℕ) → 0 < length digits → IsTrue (list_all is_digit digits)
+    → terminal_of o digits ≡ number (number_of digits)
 digits_terminal o [] some h = absurd (omega arith)
 digits_terminal o (c ∷ cs) some h = cond-true _ _ _ h
 

@@ -64,7 +64,8 @@ same_letters m n (x ∷ xs) (y ∷ ys) ex ey len e =
     let first : x ≡ y = omega (arith, rest.0, rx, ry) in
     (omega (arith, rest.0, first), (λ i. first i ∷ rest.1 i))
 
-packed_same : (xs ys : List ℕ) → are_small xs ≡ true → are_small ys ≡ true → packed_number xs ≡ packed_number ys → xs ≡ ys
+packed_same : (xs ys : List ℕ) → are_small xs ≡ true → are_small ys ≡ true → packed_number xs ≡ packed_number ys
+    → xs ≡ ys
 packed_same xs ys ex ey e = elim (cases_lt (length xs) (length ys)) [
   | inl lt ↦ absurd (omega (arith, shorter xs ys ey lt, e))
   | inr ge ↦ elim (cases_lt (length ys) (length xs)) [
@@ -75,7 +76,8 @@ packed_same xs ys ex ey e = elim (cases_lt (length xs) (length ys)) [
 
 -- ---- a word in small letters
 
-lower_letter : (c : ℕ) → is_ascii_alphabetic c ≡ true → (is_small_letter (to_ascii_lowercase c) ≡ true) × (to_ascii_lowercase c % 32 ≡ c % 32)
+lower_letter : (c : ℕ) → is_ascii_alphabetic c ≡ true
+    → (is_small_letter (to_ascii_lowercase c) ≡ true) × (to_ascii_lowercase c % 32 ≡ c % 32)
 lower_letter c e = (grind (arith, nat_tests), grind (arith, nat_tests))
 
 lower_small : (w : List ℕ) → list_all is_ascii_alphabetic w ≡ true → are_small (map to_ascii_lowercase w) ≡ true
@@ -84,7 +86,8 @@ lower_small (c ∷ cs) e =
     let b = and_parts (is_ascii_alphabetic c) (list_all is_ascii_alphabetic cs) e in
     and_from _ _ (lower_letter c b.0).0 (lower_small cs b.1)
 
-lower_packed : (n : ℕ) (w : List ℕ) → list_all is_ascii_alphabetic w ≡ true → packed_number_after n (map to_ascii_lowercase w) ≡ packed_number_after n w
+lower_packed : (n : ℕ) (w : List ℕ) → list_all is_ascii_alphabetic w ≡ true
+    → packed_number_after n (map to_ascii_lowercase w) ≡ packed_number_after n w
 lower_packed n [] e = refl
 lower_packed n (c ∷ cs) e =
     let b = and_parts (is_ascii_alphabetic c) (list_all is_ascii_alphabetic cs) e in
@@ -103,7 +106,8 @@ name_test v name small = elim (cases_Bool (bytes_eq v name)) [
       cc ((bytes_eq-Decides v name).1 e))))
 ]
 
-names_test : (v : List ℕ) (names : List (List ℕ)) → are_small v ≡ true → list_any (bytes_eq v) names ≡ list_any (packs_to (packed_number v)) names
+names_test : (v : List ℕ) (names : List (List ℕ)) → are_small v ≡ true
+    → list_any (bytes_eq v) names ≡ list_any (packs_to (packed_number v)) names
 names_test v [] small = refl
 names_test v (name ∷ names) small = rw (name_test v name small, names_test v names small)
 
@@ -122,11 +126,12 @@ no_capital : (w : List ℕ) → list_any is_ascii_uppercase w ≡ false → map 
 no_capital [] e = refl
 no_capital (c ∷ w) e = let parts = or_parts (is_ascii_uppercase c) (list_any is_ascii_uppercase w) e in rw (small_same c parts.0, no_capital w parts.1)
 
-form_lower : (o : Options) (w : List ℕ) → (o.lowercase && list_any is_ascii_uppercase w) ≡ false → comparison_form o w ≡ map to_ascii_lowercase w
+form_lower : (o : Options) (w : List ℕ) → (o.lowercase && list_any is_ascii_uppercase w) ≡ false
+    → comparison_form o w ≡ map to_ascii_lowercase w
 form_lower o w e = elim (cases_Bool o.lowercase) [ inl on ↦ rw (on, no_capital w (rw on at e)) | inr off ↦ rw off ]
 
-named_by_number : (o : Options) (w : List ℕ) (u : TimeUnit) → (o.lowercase && list_any is_ascii_uppercase w) ≡ false → list_all is_ascii_alphabetic w ≡ true
-    → is_named o w u ≡ list_any (packs_to (packed_number w)) (row_of u).names
+named_by_number : (o : Options) (w : List ℕ) (u : TimeUnit) → (o.lowercase && list_any is_ascii_uppercase w) ≡ false
+    → list_all is_ascii_alphabetic w ≡ true → is_named o w u ≡ list_any (packs_to (packed_number w)) (row_of u).names
 named_by_number o w u folded letters =
     let v = map to_ascii_lowercase w in
     let small = lower_small w letters in
@@ -134,8 +139,8 @@ named_by_number o w u folded letters =
     (ascii_alone _ o.cn_unit _ (no_chinese (packed_number w) u))
 
 -- the unit that a word of ASCII letters names, without capitals under `lowercase`
-pub unit_by_number : (o : Options) (w : List ℕ) → (o.lowercase && list_any is_ascii_uppercase w) ≡ false → list_all is_ascii_alphabetic w ≡ true
-    → unit_of_word o w ≡ unit_of_packed (packed_number w)
+pub unit_by_number : (o : Options) (w : List ℕ) → (o.lowercase && list_any is_ascii_uppercase w) ≡ false
+    → list_all is_ascii_alphabetic w ≡ true → unit_of_word o w ≡ unit_of_packed (packed_number w)
 unfolding unit_of_packed
 unit_by_number o w folded letters = simp (λ (u : TimeUnit). named_by_number o w u folded letters)
 
@@ -150,7 +155,8 @@ found_from i [] = []
 found_from i (e ∷ es) = (if eqb (slot e.0) i then unit_of_packed e.0 else Some e.1) ∷ found_from (i + 1) es
 
 found_at : (es : List (ℕ × TimeUnit)) (i j : ℕ) (d : ℕ × TimeUnit) → j < length es
-    → get_or (found_from i es) j None ≡ (if eqb (slot (get_or es j d).0) (i + j) then unit_of_packed (get_or es j d).0 else Some (get_or es j d).1)
+    → get_or (found_from i es) j None
+    ≡ (if eqb (slot (get_or es j d).0) (i + j) then unit_of_packed (get_or es j d).0 else Some (get_or es j d).1)
 found_at [] i j d lt = absurd (omega (arith, lt))
 found_at (e ∷ es) i zero d lt = rw add-zero
 found_at (e ∷ es) i (suc j) d lt =
@@ -158,9 +164,10 @@ found_at (e ∷ es) i (suc j) d lt =
     rw next (found_at es (i + 1) j d (omega (arith, lt)))
 
 -- if the number in the slot is the one searched for, its unit is found
-pub slot_found : (table : List (ℕ × TimeUnit)) (n : ℕ) (d : ℕ × TimeUnit) → length table ≡ 64 → found_from 0 table ≡ map (λ e. Some e.1) table → n < 2 ^ 64
-    → (get_or table (slot n) d).0 ≡ n → Some (get_or table (slot n) d).1 ≡ unit_of_packed n
-slot_found table n d len right small key =
+pub slot_found : (table : List (ℕ × TimeUnit)) (d : ℕ × TimeUnit) (n : ℕ) → length table ≡ 64
+    → found_from 0 table ≡ map (λ e. Some e.1) table → n < 2 ^ 64 → (get_or table (slot n) d).0 ≡ n
+    → Some (get_or table (slot n) d).1 ≡ unit_of_packed n
+slot_found table d n len right small key =
     let within : slot n < length table = omega (arith, len) in
     let at = found_at table 0 (slot n) d within in
     let says = get_or-map (λ (e : ℕ × TimeUnit). Some e.1) table (slot n) d None within in
@@ -174,33 +181,32 @@ is_kept table d name = if are_small name then eqb (get_or table (slot (packed_nu
 abbrev pub are_kept : List (ℕ × TimeUnit) → (ℕ × TimeUnit) → List TimeUnit → Bool
 are_kept table d us = list_all (λ u. list_all (is_kept table d) (row_of u).names) us
 
-not_it : (table : List (ℕ × TimeUnit)) (d : ℕ × TimeUnit) (name : List ℕ) (n : ℕ) → is_kept table d name ≡ true
-    → ((get_or table (slot n) d).0 ≡ n → ⊥) → packs_to n name ≡ false
-not_it table d name n kept differs = elim (cases_Bool (are_small name)) [
-  | inl small ↦ rw small (false_from_ne_true (eqb (packed_number name) n) (λ e.
-      let is = eqb-true (packed_number name) n e in
-      differs (rw is at (eqb-true _ _ (rw small at kept)))))
-  | inr other ↦ rw other
-]
+module _ (table : List (ℕ × TimeUnit)) (d : ℕ × TimeUnit) where
+  not_it : (name : List ℕ) (n : ℕ) → is_kept table d name ≡ true
+      → ((get_or table (slot n) d).0 ≡ n → ⊥) → packs_to n name ≡ false
+  not_it name n kept differs = elim (cases_Bool (are_small name)) [
+    | inl small ↦ rw small (false_from_ne_true (eqb (packed_number name) n) (λ e.
+        let is = eqb-true (packed_number name) n e in
+        differs (rw is at (eqb-true _ _ (rw small at kept)))))
+    | inr other ↦ rw other
+  ]
 
-none_of_names : (table : List (ℕ × TimeUnit)) (d : ℕ × TimeUnit) (names : List (List ℕ)) (n : ℕ) → list_all (is_kept table d) names ≡ true
-    → ((get_or table (slot n) d).0 ≡ n → ⊥)
-    → list_any (packs_to n) names ≡ false
-none_of_names table d [] n kept differs = refl
-none_of_names table d (name ∷ names) n kept differs =
-    let b = and_parts (is_kept table d name) (list_all (is_kept table d) names) kept in
-    rw (not_it table d name n b.0 differs) (none_of_names table d names n b.1 differs)
+  none_of_names : (names : List (List ℕ)) (n : ℕ) → list_all (is_kept table d) names ≡ true
+      → ((get_or table (slot n) d).0 ≡ n → ⊥) → list_any (packs_to n) names ≡ false
+  none_of_names [] n kept differs = refl
+  none_of_names (name ∷ names) n kept differs =
+      let b = and_parts (is_kept table d name) (list_all (is_kept table d) names) kept in
+      rw (not_it name n b.0 differs) (none_of_names names n b.1 differs)
 
-none_of_units : (table : List (ℕ × TimeUnit)) (d : ℕ × TimeUnit) (us : List TimeUnit) (n : ℕ) → are_kept table d us ≡ true
-    → ((get_or table (slot n) d).0 ≡ n → ⊥)
-    → None ≡ find (λ u. list_any (packs_to n) (row_of u).names) us
-none_of_units table d [] n kept differs = refl
-none_of_units table d (u ∷ us) n kept differs =
-    let b = and_parts (list_all (is_kept table d) (row_of u).names) (are_kept table d us) kept in
-    rw (none_of_names table d (row_of u).names n b.0 differs) (none_of_units table d us n b.1 differs)
+  none_of_units : (us : List TimeUnit) (n : ℕ) → are_kept table d us ≡ true → ((get_or table (slot n) d).0 ≡ n → ⊥)
+      → None ≡ find (λ u. list_any (packs_to n) (row_of u).names) us
+  none_of_units [] n kept differs = refl
+  none_of_units (u ∷ us) n kept differs =
+      let b = and_parts (list_all (is_kept table d) (row_of u).names) (are_kept table d us) kept in
+      rw (none_of_names (row_of u).names n b.0 differs) (none_of_units us n b.1 differs)
 
--- if the number in the slot is another one, no name has the number searched for
-pub slot_empty : (table : List (ℕ × TimeUnit)) (n : ℕ) (d : ℕ × TimeUnit) → are_kept table d units ≡ true
-    → ((get_or table (slot n) d).0 ≡ n → ⊥) → None ≡ unit_of_packed n
-unfolding unit_of_packed
-slot_empty table n d kept differs = none_of_units table d units n kept differs
+  -- if the number in the slot is another one, no name has the number searched for
+  pub slot_empty : (n : ℕ) → are_kept table d units ≡ true
+      → ((get_or table (slot n) d).0 ≡ n → ⊥) → None ≡ unit_of_packed n
+  unfolding unit_of_packed
+  slot_empty n kept differs = none_of_units units n kept differs

@@ -15,15 +15,12 @@ pub width-scalar : (c : ℕ) → scalar c ≡ true → width c ≡ len_utf8 c
 width-scalar c e = rw (not_surrogate c (scalar_cases c e))
 
 -- the character whose UTF-8 is at a place
-pub stands_char : (text rest : List ℕ) (place c : ℕ) → IsUtf8 (drop place text) → drop place text ≡ encode_utf8 c ++ rest
-    → StandsAt text place (place + len_utf8 c) c
+pub stands_char : (text rest : List ℕ) (place c : ℕ) → IsUtf8 (drop place text)
+    → drop place text ≡ encode_utf8 c ++ rest → StandsAt text place (place + len_utf8 c) c
 stands_char text rest place c utf8 begins =
     let all : ahead text place ≡ c ∷ chars rest = chars_past_char (drop place text) rest c utf8 begins in
     let is_char : scalar c ≡ true = (and_parts (scalar c) (scalars (chars rest)) (rw all at (scalars-chars (drop place text) utf8))).0 in
-    record {
-      head = rw (all, drop_past_char text rest place c begins);
-      bytes = rw (width-scalar c is_char);
-    }
+    record { head = rw (all, drop_past_char text rest place c begins); bytes = rw (width-scalar c is_char) }
 
 -- an ASCII byte at a place is the UTF-8 of its character
 ascii_begins : (text : List ℕ) (place b : ℕ) → place < length text → b ≡ get_or text place 0 → b < 128
@@ -36,8 +33,8 @@ pub end_ahead : (text : List ℕ) (place : ℕ) → length text ≤ place → ah
 end_ahead text place end = rw (drop_all place text end) chars-nil
 
 -- an ASCII character at a place, and the place after it
-pub ascii_stands : (text : List ℕ) (place b : ℕ) → IsUtf8 text → IsCharBoundary text place → place < length text → b ≡ get_or text place 0 → b < 128
-    → StandsAt text place (place + 1) b × IsCharBoundary text (place + 1)
+pub ascii_stands : (text : List ℕ) (place b : ℕ) → IsUtf8 text → IsCharBoundary text place → place < length text
+    → b ≡ get_or text place 0 → b < 128 → StandsAt text place (place + 1) b × IsCharBoundary text (place + 1)
 ascii_stands text place b utf8 boundary inside is small =
     let ahead_utf8 = IsUtf8-drop text place utf8 boundary in
     let begins = ascii_begins text place b inside is small in
@@ -47,15 +44,17 @@ ascii_stands text place b utf8 boundary inside is small =
     )
 
 -- the characters of a text of which one step of an iterator leaves nothing
-last_chars : (X : Type 0) (rest after : List ℕ) (r : Option ℕ) → IsUtf8 rest → MatchOption r ((length rest ≡ 0) × X) (λ c. rest ≡ encode_utf8 c ++ after)
-    → length after ≡ 0 → chars rest ≡ option_to_list r
+last_chars : (X : Type 0) (rest after : List ℕ) (r : Option ℕ) → IsUtf8 rest
+    → MatchOption r ((length rest ≡ 0) × X) (λ c. rest ≡ encode_utf8 c ++ after) → length after ≡ 0
+    → chars rest ≡ option_to_list r
 last_chars X rest after None utf8 step end = rw (nil_from_length rest step.0) chars-nil
 last_chars X rest after (Some c) utf8 step end =
     rw (chars_past_char rest after c utf8 step, nil_from_length after end, chars-nil)
 
 -- the characters of a text that two steps of an iterator pass
-pub one_or_two_chars : (X : Type 0) (text rest after : List ℕ) (first : ℕ) (second : Option ℕ) → IsUtf8 text → text ≡ encode_utf8 first ++ rest
-    → MatchOption second ((length rest ≡ 0) × X) (λ c. rest ≡ encode_utf8 c ++ after) → length after ≡ 0 → chars text ≡ first ∷ option_to_list second
+pub one_or_two_chars : (X : Type 0) (text rest after : List ℕ) (first : ℕ) (second : Option ℕ) → IsUtf8 text
+    → text ≡ encode_utf8 first ++ rest → MatchOption second ((length rest ≡ 0) × X) (λ c. rest ≡ encode_utf8 c ++ after)
+    → length after ≡ 0 → chars text ≡ first ∷ option_to_list second
 one_or_two_chars X text rest after first second utf8 begins step end =
     rw (chars_past_char text rest first utf8 begins, last_chars X rest after second (IsUtf8-past_char text rest first utf8 begins) step end)
 

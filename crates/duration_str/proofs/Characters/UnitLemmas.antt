@@ -66,7 +66,8 @@ bytes_eq-encodes v w =
 
 -- a word can be compared with a name by their bytes
 name_test : (o : Options) (word name : List ℕ) → IsUtf8 word → is_small name ≡ true
-    → bytes_eq (comparison_form o word) (comparison_form o (encodes name)) ≡ bytes_eq (comparison_form o (chars word)) name
+    → bytes_eq (comparison_form o word) (comparison_form o (encodes name))
+    ≡ bytes_eq (comparison_form o (chars word)) name
 name_test o word name utf8 small =
     let bytes = rw (encodes-chars word utf8) at (comparison_form-encodes o (chars word)) in
     rw (bytes, comparison_form-encodes o name, small_form o name small) (bytes_eq-encodes (comparison_form o (chars word)) name)
@@ -79,7 +80,8 @@ names_test o word (name ∷ names) utf8 small =
     let parts = and_parts (is_small name) (list_all is_small names) small in
     rw (name_test o word name utf8 parts.0, names_test o word names utf8 parts.1)
 
-any_now : (test : List ℕ → Bool) (texts : List (Bor (List ℕ))) → list_any (λ text. test text.now) texts ≡ list_any test (map (λ text. text.now) texts)
+any_now : (test : List ℕ → Bool) (texts : List (Bor (List ℕ)))
+    → list_any (λ text. test text.now) texts ≡ list_any test (map (λ text. text.now) texts)
 any_now test [] = refl
 any_now test (text ∷ texts) = rw (any_now test texts)
 
@@ -93,7 +95,8 @@ any_name o word texts names r utf8 encoded small is =
     is ∙ rw (any_now test texts, encoded) (names_test o word names utf8 small)
 
 -- the names in the table have no ASCII capitals
-names_small : (u : TimeUnit) → (list_all is_small (row_of u).names ≡ true) × (list_all is_small (row_of u).chinese ≡ true)
+names_small : (u : TimeUnit)
+    → (list_all is_small (row_of u).names ≡ true) × (list_all is_small (row_of u).chinese ≡ true)
 names_small = each_unit (λ u. (list_all is_small (row_of u).names ≡ true) × (list_all is_small (row_of u).chinese ≡ true)) assumption
 
 -- the word is among the unit's names
@@ -145,12 +148,13 @@ shared w (x ∷ xs) ys h k apart =
 named_among_all : (a cn ch : Bool) → (a || (cn && ch)) ≡ true → (a || ch) ≡ true
 named_among_all a cn ch h = grind arith
 
-among_all : (o : Options) (w : List ℕ) (u : TimeUnit) → is_named o w u ≡ true → list_any (bytes_eq (comparison_form o w)) (all_names u) ≡ true
+among_all : (o : Options) (w : List ℕ) (u : TimeUnit) → is_named o w u ≡ true
+    → list_any (bytes_eq (comparison_form o w)) (all_names u) ≡ true
 among_all o w u h = list_any-append (bytes_eq (comparison_form o w)) (row_of u).names (row_of u).chinese ∙ named_among_all _ o.cn_unit _ h
 
 -- a word that is spelled like a name without capitals has none
-spelled_form : (o : Options) (w : List ℕ) (names : List (List ℕ)) → list_all is_small names ≡ true → list_any (bytes_eq w) names ≡ true
-    → comparison_form o w ≡ w
+spelled_form : (o : Options) (w : List ℕ) (names : List (List ℕ)) → list_all is_small names ≡ true
+    → list_any (bytes_eq w) names ≡ true → comparison_form o w ≡ w
 spelled_form o w [] small h = cc
 spelled_form o w (name ∷ names) small h =
     let parts = and_parts (is_small name) (list_all is_small names) small in
@@ -162,47 +166,51 @@ spelled_form o w (name ∷ names) small h =
 all_names_small : (u : TimeUnit) → list_all is_small (all_names u) ≡ true
 all_names_small = each_unit (λ u. list_all is_small (all_names u) ≡ true) assumption
 
--- A word that names a unit under `lowercase` names it without, too.
-named_in_any_case : (o : Options) (w : List ℕ) (u : TimeUnit) → is_named (record o { lowercase = true }) w u ≡ true → is_named o w u ≡ true
-named_in_any_case o w u h =
-    rw (spelled_form o w (all_names u) (all_names_small u) (among_all (record o { lowercase = true }) w u h)) h
+module _ (o : Options) where
+  -- A word that names a unit under `lowercase` names it without, too.
+  named_in_any_case : (w : List ℕ) (u : TimeUnit) → is_named (record o { lowercase = true }) w u ≡ true
+      → is_named o w u ≡ true
+  named_in_any_case w u h =
+      rw (spelled_form o w (all_names u) (all_names_small u) (among_all (record o { lowercase = true }) w u h)) h
 
-one_unit : (o : Options) (w : List ℕ) (u v : TimeUnit) → is_named o w u ≡ true → is_named o w v ≡ true → u ≡ v
-one_unit o w u v h k = elim (or_cases (eqb (nanos_of u) (nanos_of v)) (are_apart u v) (all_apart u v)) [
-  | inl same ↦ same_length u v (eqb-true (nanos_of u) (nanos_of v) same)
-  | inr apart ↦ absurd (shared (comparison_form o w) (all_names u) (all_names v) (among_all o w u h) (among_all o w v k) apart)
-]
-
--- a unit found among some units is named by the word
-found_named : (o : Options) (w : List ℕ) (us : List TimeUnit) (u : TimeUnit) → unit_among us o w ≡ Some u → is_named o w u ≡ true
-found_named o w [] u h = cc
-found_named o w (v ∷ us) u h = elim (cases_Bool (is_named o w v)) [
-  | inl e ↦ let same : v ≡ u = cc (rw e at h) in rw same at e
-  | inr e ↦ found_named o w us u (rw e at h)
-]
-
--- A unit of the list that the word names is found, since the word names no other.
-found_only : (o : Options) (w : List ℕ) (us : List TimeUnit) (u : TimeUnit) → is_named o w u ≡ true
-    → list_any (λ v. eqb (nanos_of v) (nanos_of u)) us ≡ true → unit_among us o w ≡ Some u
-found_only o w [] u h there = cc
-found_only o w (v ∷ us) u h there = elim (cases_Bool (is_named o w v)) [
-  | inl e ↦ rw (e, one_unit o w v u e h)
-  | inr e ↦ elim (or_cases (eqb (nanos_of v) (nanos_of u)) _ there) [
-    | inl same ↦ cc (rw (same_length v u (eqb-true (nanos_of v) (nanos_of u) same), h) at e)
-    | inr later ↦ rw e (found_only o w us u h later)
+  one_unit : (w : List ℕ) (u v : TimeUnit) → is_named o w u ≡ true → is_named o w v ≡ true → u ≡ v
+  one_unit w u v h k = elim (or_cases (eqb (nanos_of u) (nanos_of v)) (are_apart u v) (all_apart u v)) [
+    | inl same ↦ same_length u v (eqb-true (nanos_of u) (nanos_of v) same)
+    | inr apart ↦ absurd (shared (comparison_form o w) (all_names u) (all_names v) (among_all o w u h) (among_all o w v k) apart)
   ]
-]
 
--- the unit that a word names
-pub named_unit : (o : Options) (w : List ℕ) (u : TimeUnit) → is_named o w u ≡ true → unit_of_word o w ≡ Some u
-named_unit o w u h = found_only o w units u h (all_units (λ u. list_any (λ v. eqb (nanos_of v) (nanos_of u)) units) refl u)
+  -- a unit found among some units is named by the word
+  found_named : (w : List ℕ) (us : List TimeUnit) (u : TimeUnit) → unit_among us o w ≡ Some u → is_named o w u ≡ true
+  found_named w [] u h = cc
+  found_named w (v ∷ us) u h = elim (cases_Bool (is_named o w v)) [
+    | inl e ↦ let same : v ≡ u = cc (rw e at h) in rw same at e
+    | inr e ↦ found_named w us u (rw e at h)
+  ]
 
--- the unit that a word names with these letters, under `lowercase` too
-pub unit_of_letters : (o : Options) (w letters : List ℕ) (r : Option TimeUnit) → w ≡ letters
-    → ForSome r (λ u. is_named (record o { lowercase = true }) letters u ≡ true) → ForSome r (λ u. unit_of_word o w ≡ Some u)
-unit_of_letters o w letters r spelled named u is =
-    rw spelled (named_unit o letters u (named_in_any_case o letters u (named u is)))
+  -- A unit of the list that the word names is found, since the word names no other.
+  found_only : (w : List ℕ) (us : List TimeUnit) (u : TimeUnit) → is_named o w u ≡ true
+      → list_any (λ v. eqb (nanos_of v) (nanos_of u)) us ≡ true → unit_among us o w ≡ Some u
+  found_only w [] u h there = cc
+  found_only w (v ∷ us) u h there = elim (cases_Bool (is_named o w v)) [
+    | inl e ↦ rw (e, one_unit w v u e h)
+    | inr e ↦ elim (or_cases (eqb (nanos_of v) (nanos_of u)) _ there) [
+      | inl same ↦ cc (rw (same_length v u (eqb-true (nanos_of v) (nanos_of u) same), h) at e)
+      | inr later ↦ rw e (found_only w us u h later)
+    ]
+  ]
 
--- A unit found among some units is found among all.
-pub found_among_all : (o : Options) (w : List ℕ) (us : List TimeUnit) (u : TimeUnit) → unit_among us o w ≡ Some u → unit_of_word o w ≡ Some u
-found_among_all o w us u h = named_unit o w u (found_named o w us u h)
+  -- the unit that a word names
+  pub named_unit : (w : List ℕ) (u : TimeUnit) → is_named o w u ≡ true → unit_of_word o w ≡ Some u
+  named_unit w u h = found_only w units u h (all_units (λ u. list_any (λ v. eqb (nanos_of v) (nanos_of u)) units) refl u)
+
+  -- the unit that a word names with these letters, under `lowercase` too
+  pub unit_of_letters : (w letters : List ℕ) (r : Option TimeUnit) → w ≡ letters
+      → ForSome r (λ u. is_named (record o { lowercase = true }) letters u ≡ true)
+      → ForSome r (λ u. unit_of_word o w ≡ Some u)
+  unit_of_letters w letters r spelled named u is =
+      rw spelled (named_unit letters u (named_in_any_case letters u (named u is)))
+
+  -- A unit found among some units is found among all.
+  pub found_among_all : (w : List ℕ) (us : List TimeUnit) (u : TimeUnit) → unit_among us o w ≡ Some u
+      → unit_of_word o w ≡ Some u
+  found_among_all w us u h = named_unit w u (found_named w us u h)

@@ -14,33 +14,35 @@ elsewhere : (place at : ℕ) (cs : List ℕ) (tokens : List Token) → at < plac
     → token_at place (record { start = at; characters = cs } ∷ tokens) ≡ token_at place tokens
 elsewhere place at cs tokens before = let no : (at == place) ≡ false = grind (arith, nat_tests) in rw no refl
 
-without_joined : (o : Options) (at place c : ℕ) (text : List ℕ) → at + width c < place → goes_on o c text ≡ true
-    → token_at place (join at c (tokens_from o (at + width c) text)) ≡ token_at place (tokens_from o (at + width c) text)
-without_joined o at place c [] before e = cc e
-without_joined o at place c (d ∷ more) before e =
-    let (cs, rest, is, _) = first_token o (at + width c) d more (run-not_blank o c d e) in
-    rw is (elsewhere place at (c ∷ cs) rest (omega (arith, before)) ∙ sym (elsewhere place (at + width c) cs rest before))
+module _ (o : Options) where
+  without_joined : (at place c : ℕ) (text : List ℕ) → at + width c < place → goes_on o c text ≡ true
+      → token_at place (join at c (tokens_from o (at + width c) text))
+      ≡ token_at place (tokens_from o (at + width c) text)
+  without_joined at place c [] before e = cc e
+  without_joined at place c (d ∷ more) before e =
+      let (cs, rest, is, _) = first_token o (at + width c) d more (run-not_blank o c d e) in
+      rw is (elsewhere place at (c ∷ cs) rest (omega (arith, before)) ∙ sym (elsewhere place (at + width c) cs rest before))
 
--- The token at the place is found without a character that ends before it.
-without_first : (o : Options) (at place c : ℕ) (text : List ℕ) → at + width c < place
-    → token_at place (tokens_from o at (c ∷ text)) ≡ token_at place (tokens_from o (at + width c) text)
-without_first o at place c text before = elim (cases_Bool (is_blank c)) [
-  | inl blank ↦ rw blank
-  | inr solid ↦ elim (cases_Bool (goes_on o c text)) [
-    | inl more ↦ rw (solid, more) (without_joined o at place c text before more)
-    | inr alone ↦ rw (solid, alone) (elsewhere place at (c ∷ []) (tokens_from o (at + width c) text) (omega (arith, before)))
+  -- The token at the place is found without a character that ends before it.
+  without_first : (at place c : ℕ) (text : List ℕ) → at + width c < place
+      → token_at place (tokens_from o at (c ∷ text)) ≡ token_at place (tokens_from o (at + width c) text)
+  without_first at place c text before = elim (cases_Bool (is_blank c)) [
+    | inl blank ↦ rw blank
+    | inr solid ↦ elim (cases_Bool (goes_on o c text)) [
+      | inl more ↦ rw (solid, more) (without_joined at place c text before more)
+      | inr alone ↦ rw (solid, alone) (elsewhere place at (c ∷ []) (tokens_from o (at + width c) text) (omega (arith, before)))
+    ]
   ]
-]
 
--- The same for some first characters.
-without_front : (o : Options) (at place : ℕ) (front text : List ℕ) → (0 < byte_len front → at + byte_len front < place)
-    → token_at place (tokens_from o at (front ++ text)) ≡ token_at place (tokens_from o (at + byte_len front) text)
-without_front o at place [] text before = ap (λ (n : ℕ). token_at place (tokens_from o n text)) (omega arith)
-without_front o at place (c ∷ front) text before =
-    let some : 0 < width c + byte_len front = omega (arith, width_some c) in
-    without_first o at place c (front ++ text) (omega (arith, before some))
-    ∙ without_front o (at + width c) place front text (λ _. omega (arith, before some))
-    ∙ ap (λ (n : ℕ). token_at place (tokens_from o n text)) (omega arith)
+  -- The same for some first characters.
+  without_front : (at place : ℕ) (front text : List ℕ) → (0 < byte_len front → at + byte_len front < place)
+      → token_at place (tokens_from o at (front ++ text)) ≡ token_at place (tokens_from o (at + byte_len front) text)
+  without_front at place [] text before = ap (λ (n : ℕ). token_at place (tokens_from o n text)) (omega arith)
+  without_front at place (c ∷ front) text before =
+      let some : 0 < width c + byte_len front = omega (arith, width_some c) in
+      without_first at place c (front ++ text) (omega (arith, before some))
+      ∙ without_front (at + width c) place front text (λ _. omega (arith, before some))
+      ∙ ap (λ (n : ℕ). token_at place (tokens_from o n text)) (omega arith)
 
 -- ---- Tokens so many bytes later
 
@@ -48,12 +50,14 @@ without_front o at place (c ∷ front) text before =
 abbrev later_token : ℕ → Token → Token
 later_token by token = record { start = by + token.start; characters = token.characters }
 
-join_later : (by at c : ℕ) (tokens : List Token) → join (by + at) c (map (later_token by) tokens) ≡ map (later_token by) (join at c tokens)
+join_later : (by at c : ℕ) (tokens : List Token)
+    → join (by + at) c (map (later_token by) tokens) ≡ map (later_token by) (join at c tokens)
 join_later by at c [] = refl
 join_later by at c (token ∷ tokens) = refl
 
 -- The tokens of a text that starts later.
-tokens_later : (o : Options) (by at : ℕ) (text : List ℕ) → tokens_from o (by + at) text ≡ map (later_token by) (tokens_from o at text)
+tokens_later : (o : Options) (by at : ℕ) (text : List ℕ)
+    → tokens_from o (by + at) text ≡ map (later_token by) (tokens_from o at text)
 tokens_later o by at [] = refl
 tokens_later o by at (c ∷ text) =
     let moved : by + at + width c ≡ by + (at + width c) = omega arith in
@@ -67,7 +71,8 @@ tokens_later o by at (c ∷ text) =
     ]
 
 -- A token is found in the same way among later ones.
-found_later : (by place : ℕ) (tokens : List Token) → token_at (by + place) (map (later_token by) tokens) ≡ option_map (later_token by) (token_at place tokens)
+found_later : (by place : ℕ) (tokens : List Token)
+    → token_at (by + place) (map (later_token by) tokens) ≡ option_map (later_token by) (token_at place tokens)
 found_later by place [] = refl
 found_later by place (token ∷ tokens) =
     let same : (by + token.start == by + place) ≡ (token.start == place) = grind (arith, nat_tests) in
@@ -75,8 +80,10 @@ found_later by place (token ∷ tokens) =
 
 -- ---- The token at the place, cut from a boundary before it
 
-found_after : (o : Options) (bs : List ℕ) (from place : ℕ) → IsUtf8 bs → IsCharBoundary bs from → from ≤ place → (0 < from → from < place)
-    → token_at place (tokens_of o (chars bs)) ≡ option_map (later_token from) (token_at (place - from) (tokens_of o (chars (drop from bs))))
+found_after : (o : Options) (bs : List ℕ) (from place : ℕ) → IsUtf8 bs → IsCharBoundary bs from → from ≤ place
+    → (0 < from → from < place)
+    → token_at place (tokens_of o (chars bs))
+    ≡ option_map (later_token from) (token_at (place - from) (tokens_of o (chars (drop from bs))))
 found_after o bs from place utf8 boundary within before =
     let front = chars (take from bs) in
     let text = chars (drop from bs) in
@@ -89,13 +96,14 @@ found_after o bs from place utf8 boundary within before =
     found
 
 -- The slice of a text from a boundary on is one of the text.
-slice_after : (bs : List ℕ) (from start n : ℕ) → slice_range (drop from bs) start (start + n) ≡ slice_range bs (from + start) (from + start + n)
+slice_after : (bs : List ℕ) (from start n : ℕ)
+    → slice_range (drop from bs) start (start + n) ≡ slice_range bs (from + start) (from + start + n)
 slice_after bs from start n =
     let same : start + n - start ≡ from + start + n - (from + start) = omega arith in
     rw (same, drop-drop start from bs)
 
-pub slice_found : (o : Options) (bs : List ℕ) (from place : ℕ) (slice : Option (Bor (List ℕ))) → IsUtf8 bs → IsCharBoundary bs from
-    → from ≤ place → (0 < from → from < place)
+pub slice_found : (o : Options) (bs : List ℕ) (from place : ℕ) (slice : Option (Bor (List ℕ))) → IsUtf8 bs
+    → IsCharBoundary bs from → from ≤ place → (0 < from → from < place)
     → IsSliceOf (drop from bs) (token_at (place - from) (tokens_of o (chars (drop from bs)))) slice
     → IsSliceOf bs (token_at place (tokens_of o (chars bs))) slice
 slice_found o bs from place None utf8 boundary within before none =

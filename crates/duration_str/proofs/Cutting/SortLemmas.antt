@@ -50,17 +50,18 @@ number_stands o run stops stands e =
     (λ d ds all. (digits_are_lexeme o d ds all, rw all)) run.between run.all stops stands e in
     ((token.0, run.all), token.1)
 
-pub word_stands : {text : List ℕ} {place next at c : ℕ} {unit : Option TimeUnit} (o : Options) → TakesWord o text place next unit
-    → Stops (is_unit_letter o) (ahead text next) → StandsAt text place at c → is_unit_letter o c ≡ true
-    → StandsToken o text place next (word unit)
+pub word_stands : {text : List ℕ} {place next at c : ℕ} {unit : Option TimeUnit} (o : Options)
+    → TakesWord o text place next unit → Stops (is_unit_letter o) (ahead text next) → StandsAt text place at c
+    → is_unit_letter o c ≡ true → StandsToken o text place next (word unit)
 word_stands o taken stops stands e =
     rw taken.named (run_stands o (is_unit_letter o) (λ cs. word (unit_of_word o cs)) (λ c d p q. rw (letter-not_digit o c p, p, q))
     (λ d ds all. (letters_are_lexeme o d ds all, rw (letter-not_digit o d (and_parts (is_unit_letter o d) _ all).0, all)))
     taken.run.between taken.run.all stops stands e).1
 
 -- an operator, or a character of no other class
-pub sign_stands : {text : List ℕ} {place next c : ℕ} (o : Options) → StandsAt text place next c → is_blank c ≡ false → is_digit c ≡ false
-    → is_unit_letter o c ≡ false → StandsToken o text place next (operator_or_other (operator_of c))
+pub sign_stands : {text : List ℕ} {place next c : ℕ} (o : Options) → StandsAt text place next c → is_blank c ≡ false
+    → is_digit c ≡ false → is_unit_letter o c ≡ false
+    → StandsToken o text place next (operator_or_other (operator_of c))
 sign_stands {text} {next = next} {c = c} o stands b e f = record {
   characters = c ∷ [];
   between = record { cut = stands.head; bytes = rw add-zero stands.bytes };
@@ -89,21 +90,22 @@ sign_by true l op sign = absurd sign
 sign_by false true op sign = absurd sign
 sign_by false false op sign = (refl, refl)
 
--- A token is a number exactly if its first character is a digit.
-pub digit_sort : (o : Options) (c : ℕ) → is_digit c ≡ is_number (Some (sort_at o c))
-digit_sort o c = number_by (is_digit c) (is_unit_letter o c) (operator_of c)
+module _ (o : Options) where
+  -- A token is a number exactly if its first character is a digit.
+  pub digit_sort : (c : ℕ) → is_digit c ≡ is_number (Some (sort_at o c))
+  digit_sort c = number_by (is_digit c) (is_unit_letter o c) (operator_of c)
 
-pub digit_of_sort : (o : Options) (c : ℕ) → Number ≡ sort_at o c → is_digit c ≡ true
-digit_of_sort o c is = rw (← is) at (digit_sort o c)
+  pub digit_of_sort : (c : ℕ) → Number ≡ sort_at o c → is_digit c ≡ true
+  digit_of_sort c is = rw (← is) at (digit_sort c)
 
-pub letter_of_sort : (o : Options) (c : ℕ) → Word ≡ sort_at o c → is_unit_letter o c ≡ true
-letter_of_sort o c is = word_by (is_digit c) (is_unit_letter o c) (operator_of c) is
+  pub letter_of_sort : (c : ℕ) → Word ≡ sort_at o c → is_unit_letter o c ≡ true
+  letter_of_sort c is = word_by (is_digit c) (is_unit_letter o c) (operator_of c) is
 
-pub sign_of_sort : (o : Options) (c : ℕ) (sort : Sort) → IsSign sort → sort ≡ sort_at o c
-    → (is_digit c ≡ false) × (is_unit_letter o c ≡ false) × (sort ≡ sign_sort (operator_of c))
-sign_of_sort o c sort sign is =
-    let none = sign_by (is_digit c) (is_unit_letter o c) (operator_of c) (rw is at sign) in
-    (none.0, none.1, rw (none.0, none.1) at is)
+  pub sign_of_sort : (c : ℕ) (sort : Sort) → IsSign sort → sort ≡ sort_at o c
+      → (is_digit c ≡ false) × (is_unit_letter o c ≡ false) × (sort ≡ sign_sort (operator_of c))
+  sign_of_sort c sort sign is =
+      let none = sign_by (is_digit c) (is_unit_letter o c) (operator_of c) (rw is at sign) in
+      (none.0, none.1, rw (none.0, none.1) at is)
 
 -- ---- the token that starts with a character
 
@@ -113,15 +115,16 @@ pub first_token : (o : Options) (at c : ℕ) (text : List ℕ) → is_blank c �
     (sort_at o c ≡ sort_of (terminal_of o cs))
 first_token o at c text e = of_tokens (tokens_from o at (c ∷ text)) (tokens_are o at (c ∷ text))
   where
-    begins : (start : ℕ) (blanks cs rest : List ℕ) → IsBlank blanks → c ∷ text ≡ blanks ++ (cs ++ rest) → start ≡ at + byte_len blanks → IsLexeme o cs
-        → (start ≡ at) × (sort_at o c ≡ sort_of (terminal_of o cs))
+    begins : (start : ℕ) (blanks cs rest : List ℕ) → IsBlank blanks → c ∷ text ≡ blanks ++ (cs ++ rest)
+        → start ≡ at + byte_len blanks → IsLexeme o cs → (start ≡ at) × (sort_at o c ≡ sort_of (terminal_of o cs))
     begins start (b ∷ blanks) cs rest hb parts there p = cc (and_parts (is_blank b) _ hb).0
     begins start [] [] rest hb parts there p = absurd p
     begins start [] (d ∷ cs) rest hb parts there p =
         let heads : c ≡ d = cc in (rw add-zero at there, rw heads (lexeme_sort o d cs p))
 
     of_tokens : (ps : List Token) → AreTokens o at (c ∷ text) ps
-        → (cs : List ℕ) × (rest : List Token) × (ps ≡ record { start = at; characters = cs } ∷ rest) × (sort_at o c ≡ sort_of (terminal_of o cs))
+        → (cs : List ℕ) × (rest : List Token) × (ps ≡ record { start = at; characters = cs } ∷ rest)
+        × (sort_at o c ≡ sort_of (terminal_of o cs))
     of_tokens [] a = cc (e, (and_parts (is_blank c) _ a).0)
     of_tokens (p ∷ ps) a =
         let b = begins p.start a.1.blanks p.characters a.0 a.1.blank a.1.parts a.1.start a.1.is_lexeme in

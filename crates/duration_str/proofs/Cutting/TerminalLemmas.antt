@@ -31,23 +31,25 @@ terminal_cases o P none digits letters sign rest (c ∷ cs) = by_tests cs _ _ re
 
 -- ---- Runs of digits and of unit letters
 
--- A run of characters that pass a test is a lexeme, if no blank passes it and any two that pass it are of one run.
-run_is_lexeme : (o : Options) (test : ℕ → Bool) → ((c : ℕ) → test c ≡ true → is_blank c ≡ false)
-    → ((c d : ℕ) → test c ≡ true → test d ≡ true → are_of_one_run o c d ≡ true)
-    → (c : ℕ) (cs : List ℕ) → IsTrue (list_all test (c ∷ cs)) → IsLexeme o (c ∷ cs)
-run_is_lexeme o test solid of_run c cs h =
-    let (first, rest) = and_parts (test c) (list_all test cs) h in
-    (solid c first, all_weaker test (are_of_one_run o c) cs (λ d e. of_run c d first e) rest)
+module _ (o : Options) where
+  -- A run of characters that pass a test is a lexeme, if no blank passes it and any two that pass it are of one run.
+  run_is_lexeme : (test : ℕ → Bool) → ((c : ℕ) → test c ≡ true → is_blank c ≡ false)
+      → ((c d : ℕ) → test c ≡ true → test d ≡ true → are_of_one_run o c d ≡ true)
+      → (c : ℕ) (cs : List ℕ) → IsTrue (list_all test (c ∷ cs)) → IsLexeme o (c ∷ cs)
+  run_is_lexeme test solid of_run c cs h =
+      let (first, rest) = and_parts (test c) (list_all test cs) h in
+      (solid c first, all_weaker test (are_of_one_run o c) cs (λ d e. of_run c d first e) rest)
 
-pub digits_are_lexeme : (o : Options) (c : ℕ) (cs : List ℕ) → IsTrue (list_all is_digit (c ∷ cs)) → IsLexeme o (c ∷ cs)
-digits_are_lexeme o = run_is_lexeme o is_digit digit-not_blank (λ c d e f. rw (e, f))
+  pub digits_are_lexeme : (c : ℕ) (cs : List ℕ) → IsTrue (list_all is_digit (c ∷ cs)) → IsLexeme o (c ∷ cs)
+  digits_are_lexeme = run_is_lexeme is_digit digit-not_blank (λ c d e f. rw (e, f))
 
-pub letters_are_lexeme : (o : Options) (c : ℕ) (cs : List ℕ) → IsTrue (list_all (is_unit_letter o) (c ∷ cs)) → IsLexeme o (c ∷ cs)
-letters_are_lexeme o = run_is_lexeme o (is_unit_letter o) (letter-not_blank o) (λ c d e f. or_right _ _ (and_from _ _ e f))
+  pub letters_are_lexeme : (c : ℕ) (cs : List ℕ) → IsTrue (list_all (is_unit_letter o) (c ∷ cs)) → IsLexeme o (c ∷ cs)
+  letters_are_lexeme = run_is_lexeme (is_unit_letter o) (letter-not_blank o) (λ c d e f. or_right _ _ (and_from _ _ e f))
 
 -- ---- The sort of a lexeme
 
-pub no_run : (o : Options) (c : ℕ) (rest : List ℕ) → is_digit c ≡ false → is_unit_letter o c ≡ false → goes_on o c rest ≡ false
+pub no_run : (o : Options) (c : ℕ) (rest : List ℕ) → is_digit c ≡ false → is_unit_letter o c ≡ false
+    → goes_on o c rest ≡ false
 no_run o c [] e f = refl
 no_run o c (d ∷ rest) e f = rw (e, f) refl
 
@@ -55,8 +57,8 @@ pub sign_sorts : (op : Option CondUnit) → sign_sort op ≡ sort_of (operator_o
 sign_sorts None = refl
 sign_sorts (Some op) = refl
 
-sign_alone : (o : Options) (c : ℕ) (ds : List ℕ) → is_digit c ≡ false → is_unit_letter o c ≡ false → IsTrue (list_all (are_of_one_run o c) ds)
-    → sort_at o c ≡ sort_of (terminal_of o (c ∷ ds))
+sign_alone : (o : Options) (c : ℕ) (ds : List ℕ) → is_digit c ≡ false → is_unit_letter o c ≡ false
+    → IsTrue (list_all (are_of_one_run o c) ds) → sort_at o c ≡ sort_of (terminal_of o (c ∷ ds))
 sign_alone o c [] e f all = rw (e, f) (sign_sorts (operator_of c))
 sign_alone o c (d ∷ ds) e f all = cc (no_run o c (d ∷ ds) e f, (and_parts (are_of_one_run o c d) _ all).0)
 
@@ -67,7 +69,8 @@ right_false : (a b p q : Bool) → p ≡ false → ((a && b) || (p && q)) ≡ tr
 right_false a b p q e h = grind arith
 
 -- The first character of a lexeme determines the sort of its terminal.
-pub lexeme_sort : (o : Options) (c : ℕ) (cs : List ℕ) → IsLexeme o (c ∷ cs) → sort_at o c ≡ sort_of (terminal_of o (c ∷ cs))
+pub lexeme_sort : (o : Options) (c : ℕ) (cs : List ℕ) → IsLexeme o (c ∷ cs)
+    → sort_at o c ≡ sort_of (terminal_of o (c ∷ cs))
 lexeme_sort o c cs p = elim (cases_Bool (is_digit c)) [
   | inl e ↦ rw (e, all_weaker _ is_digit cs (λ d. right_false _ _ _ _ (digit-not_letter o c e)) p.1)
   | inr e ↦ elim (cases_Bool (is_unit_letter o c)) [

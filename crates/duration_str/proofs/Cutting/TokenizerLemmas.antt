@@ -16,20 +16,22 @@ pub keeps_on : (s m t : Tokens) → KeepsInput s m → KeepsInput m t → KeepsI
 keeps_on s m t kept later = record { text = later.text ∙ kept.text; options = later.options ∙ kept.options }
 
 -- the tokens that are left after a step, in terms of the source and the options before it
-left_same : {s t : Tokens} → KeepsInput s t → left t ≡ tokens_from (options_of s) (place_of t) (ahead (source s) (place_of t))
+left_same : {s t : Tokens} → KeepsInput s t
+    → left t ≡ tokens_from (options_of s) (place_of t) (ahead (source s) (place_of t))
 left_same kept = rw (kept.options, kept.text)
 
 -- ---- what is ahead
 
 -- Past the character ahead, fewer are ahead.
-pub fewer_ahead : (s t : Tokens) (c : ℕ) → KeepsInput s t → ForSome s.head (StandsAt (source s) (place_of s) (place_of t)) → s.head ≡ Some c
+pub fewer_ahead : (s t : Tokens) (c : ℕ) → KeepsInput s t
+    → ForSome s.head (StandsAt (source s) (place_of s) (place_of t)) → s.head ≡ Some c
     → length (ahead (source t) (place_of t)) < length (ahead (source s) (place_of s))
 fewer_ahead s t c kept past is =
     simp (kept.text, (past c is).head) (omega arith)
 
 -- skipping the blanks from s to t
-pub looks_ahead : {s t : Tokens} (sort : Option Sort) → KeepsInput s t → Passes is_blank (source s) (place_of s) (place_of t) → IsAhead t sort
-    → LooksAhead s t sort
+pub looks_ahead : {s t : Tokens} (sort : Option Sort) → KeepsInput s t
+    → Passes is_blank (source s) (place_of s) (place_of t) → IsAhead t sort → LooksAhead s t sort
 looks_ahead {s} sort kept blanks ahead =
     record { kept = kept; same_left = rw (left_same kept, blanks_passed (options_of s) blanks); ahead = ahead }
 
@@ -39,7 +41,8 @@ none_left s end =
 
 -- The first token that is left starts at the place, and its terminal has the sort ahead.
 pub first_left : (s : Tokens) (sort : Sort) → IsAhead s (Some sort)
-    → (cs : List ℕ) × (rest : List Token) × (left s ≡ record { start = place_of s; characters = cs } ∷ rest) × (sort ≡ sort_of (terminal_of (options_of s) cs))
+    → (cs : List ℕ) × (rest : List Token) × (left s ≡ record { start = place_of s; characters = cs } ∷ rest)
+    × (sort ≡ sort_of (terminal_of (options_of s) cs))
 first_left s sort h =
     let stands : StandsAt (source s) (place_of s) s.eye.next h.character = s.some h.character h.is_head in
     let (cs, rest, is, sort_is) = first_token (options_of s) (place_of s) h.character (ahead (source s) s.eye.next) h.not_blank in
@@ -51,7 +54,8 @@ one_sort s a b h k =
     rw (h.is_sort, k.is_sort, same)
 
 -- a word starts with a unit letter
-pub letter_ahead : (s : Tokens) (c : ℕ) → IsAhead s (Some Word) → s.head ≡ Some c → is_unit_letter (options_of s) c ≡ true
+pub letter_ahead : (s : Tokens) (c : ℕ) → IsAhead s (Some Word) → s.head ≡ Some c
+    → is_unit_letter (options_of s) c ≡ true
 letter_ahead s c h is =
     let same : h.character ≡ c = cc (h.is_head) in
     rw (← same) (letter_of_sort (options_of s) h.character h.is_sort)
@@ -69,15 +73,16 @@ takes_token {s} kept token = record {
 }
 
 -- a slice of the same text from the same place
-same_slice : {s t : Tokens} {slice : List ℕ} {start : ℕ} → KeepsInput s t → start ≡ place_of s → slice ≡ slice_range (source t) start (place_of t)
-    → slice ≡ slice_range (source s) (place_of s) (place_of t)
+same_slice : {s t : Tokens} {slice : List ℕ} {start : ℕ} → KeepsInput s t → start ≡ place_of s
+    → slice ≡ slice_range (source t) start (place_of t) → slice ≡ slice_range (source s) (place_of s) (place_of t)
 same_slice kept there is = simp (kept.text, there) at is
 
 -- The slice from s to t is the number ahead, and `low` is its value modulo 2^64.
 pub takes_number : (s t : Tokens) (low start : ℕ) (slice : List ℕ) → IsAhead s (Some Number) → KeepsInput s t
-    → TakesDigits (source s) (place_of s) (place_of t) low → Stops is_digit (ahead (source t) (place_of t)) → start ≡ place_of s
-    → slice ≡ slice_range (source t) start (place_of t) → IsUtf8 slice
-    → IsNumber (chars slice) × (low ≡ number_of (chars slice) % 2 ^ 64) × TakesNumber s t (u64_from (number_of (chars slice)))
+    → TakesDigits (source s) (place_of s) (place_of t) low → Stops is_digit (ahead (source t) (place_of t))
+    → start ≡ place_of s → slice ≡ slice_range (source t) start (place_of t) → IsUtf8 slice
+    → IsNumber (chars slice) × (low ≡ number_of (chars slice) % 2 ^ 64)
+    × TakesNumber s t (u64_from (number_of (chars slice)))
 takes_number s t low start slice h kept taken stops there is utf8 =
     let same = chars_between taken.run.between (same_slice kept there is) utf8 in
     let digit = digit_of_sort (options_of s) h.character h.is_sort in
@@ -88,19 +93,19 @@ takes_number s t low start slice h kept taken stops there is utf8 =
     )
 
 pub takes_word : {s t : Tokens} {unit : Option TimeUnit} → IsAhead s (Some Word) → KeepsInput s t
-    → TakesWord (options_of s) (source s) (place_of s) (place_of t) unit → Stops (is_unit_letter (options_of s)) (ahead (source t) (place_of t))
-    → TakesToken s t (word unit)
+    → TakesWord (options_of s) (source s) (place_of s) (place_of t) unit
+    → Stops (is_unit_letter (options_of s)) (ahead (source t) (place_of t)) → TakesToken s t (word unit)
 takes_word {s} h kept taken stops =
     let letter = letter_of_sort (options_of s) h.character h.is_sort in
     takes_token kept (word_stands (options_of s) taken (simp kept.text at stops) (s.some h.character h.is_head) letter)
 
 -- a word by its slice: ASCII letters from s to m, then any unit letters up to t
-pub takes_long_word : {s m t : Tokens} {value start : ℕ} {capital : Bool} {slice : List ℕ} {unit : Option TimeUnit} → IsAhead s (Some Word)
-    → KeepsInput s m → TakesLetters (source s) (place_of s) (place_of m) value capital → KeepsInput m t
-    → Passes (is_unit_letter (options_of m)) (source m) (place_of m) (place_of t)
-    → Stops (is_unit_letter (options_of m)) (ahead (source t) (place_of t))
-    → start ≡ place_of s → slice ≡ slice_range (source t) start (place_of t) → IsUtf8 slice → unit ≡ unit_of_word (options_of t) (chars slice)
-    → TakesToken s t (word unit)
+pub takes_long_word : {s m t : Tokens} {value start : ℕ} {capital : Bool} {slice : List ℕ} {unit : Option TimeUnit}
+    → IsAhead s (Some Word) → KeepsInput s m → TakesLetters (source s) (place_of s) (place_of m) value capital
+    → KeepsInput m t → Passes (is_unit_letter (options_of m)) (source m) (place_of m) (place_of t)
+    → Stops (is_unit_letter (options_of m)) (ahead (source t) (place_of t)) → start ≡ place_of s
+    → slice ≡ slice_range (source t) start (place_of t) → IsUtf8 slice
+    → unit ≡ unit_of_word (options_of t) (chars slice) → TakesToken s t (word unit)
 takes_long_word {s} {m} {t} h kept letters later passed stops there is utf8 found =
     let all = keeps_on s m t kept later in
     let word = long_word letters (rw (kept.options, kept.text) at passed) (same_slice all there is) utf8 (rw all.options at found) in
@@ -120,7 +125,8 @@ takes_sign {s} sort sign h kept past =
     }
 
 -- the terminal of a single character, given its sort
-pub sign_what : (terminal : Terminal) (op : CondUnit) → Operator op ≡ sort_of terminal → whats.Operator op ≡ what_of terminal
+pub sign_what : (terminal : Terminal) (op : CondUnit) → Operator op ≡ sort_of terminal
+    → whats.Operator op ≡ what_of terminal
 sign_what (operator next) op e = cc
 sign_what _ op e = absurd cc
 
@@ -129,9 +135,10 @@ other_what other e = refl
 other_what _ e = absurd cc
 
 -- the token that was taken is the next one
-pub takes_terminal : {s m t : Tokens} {terminal : Terminal} (x : RustToken) → KeepsInput s m → left m ≡ left s → TakesToken m t terminal
-    → x.start ≡ place_of m → x.text.now ≡ slice_range (source t) x.start (place_of t) → IsUtf8 x.text.now → x.what ≡ what_of terminal
-    → IsCharBoundary (source m) (place_of m) → IsCharBoundary (source t) (place_of t) → YieldsNextToken s (Some x) t
+pub takes_terminal : {s m t : Tokens} {terminal : Terminal} (x : RustToken) → KeepsInput s m → left m ≡ left s
+    → TakesToken m t terminal → x.start ≡ place_of m → x.text.now ≡ slice_range (source t) x.start (place_of t)
+    → IsUtf8 x.text.now → x.what ≡ what_of terminal → IsCharBoundary (source m) (place_of m)
+    → IsCharBoundary (source t) (place_of t) → YieldsNextToken s (Some x) t
 takes_terminal {s} {m} {t} x kept same taken there is utf8 sort before boundary =
     let cs = chars_between taken.between (same_slice taken.kept there is) utf8 in
     let order : x.start ≤ place_of t = omega (arith, taken.between.bytes, there) in

@@ -5,7 +5,8 @@ use Rattle.duration_str.proofs.Sentences.SpellingLemmas.{sentence_terminals}
 use Rattle.duration_str.proofs.Printer.PrintingLemmas.{duration_lexemes, counts_are, printed_is_sum, duration_sum}
 
 -- A printed text determines its duration: it is the sum of its terms.
-printed_sum : (nanos : ℕ) (text : List ℕ) → FitsDuration nanos → IsPrinted nanos text → sum_of (terms_of (terminals_of off text)) ≡ nanos
+printed_sum : (nanos : ℕ) (text : List ℕ) → FitsDuration nanos → IsPrinted nanos text
+    → sum_of (terms_of (terminals_of off text)) ≡ nanos
 printed_sum nanos text h p =
     ap (λ (ts : List Terminal). sum_of (terms_of ts)) (sym (sentence_terminals off text (duration_lexemes nanos) (printed_is_sum off nanos text h p).sentence))
     ∙ duration_sum off nanos h

@@ -9,7 +9,8 @@ EndInOne (l ∷ []) = l ≡ 1
 EndInOne (l ∷ m ∷ lengths) = (1 ≤ l) × EndInOne (m ∷ lengths)
 
 -- The counts times their lengths add up to the duration.
-counts_whole : (lengths : List ℕ) (nanos : ℕ) → EndInOne lengths → weighted_sum lengths (counts_of lengths nanos) ≡ nanos
+counts_whole : (lengths : List ℕ) (nanos : ℕ) → EndInOne lengths
+    → weighted_sum lengths (counts_of lengths nanos) ≡ nanos
 counts_whole [] nanos h = absurd h
 counts_whole (l ∷ []) nanos h = rw h (omega arith)
 counts_whole (l ∷ m ∷ lengths) nanos h =
@@ -39,8 +40,7 @@ only_count n l nanos h e =
 
 -- A list is compared with the counts by its first count, then by the others.
 by_first : (x n nanos : ℕ) (others counts : List ℕ) → 1 ≤ x → (rest : ℕ) → n * x + rest ≡ nanos
-    → (rest ≡ nanos % x → (others ≡ counts) ⊎ IsBefore others counts)
-    → (n < nanos / x) ⊎ (nanos / x ≤ n)
+    → (rest ≡ nanos % x → (others ≡ counts) ⊎ IsBefore others counts) → (n < nanos / x) ⊎ (nanos / x ≤ n)
     → (n ∷ others ≡ nanos / x ∷ counts) ⊎ IsBefore (n ∷ others) (nanos / x ∷ counts)
 by_first x n nanos others counts h rest e more (inl less) = inr (inl less)
 by_first x n nanos others counts h rest e more (inr up) =
@@ -49,7 +49,8 @@ by_first x n nanos others counts h rest e more (inr up) =
     elim (more (rest_same n x rest nanos e same)) [ inl s ↦ inl cc | inr before ↦ inr (inr (same, before)) ]
 
 counts_greatest : (lengths : List ℕ) (nanos : ℕ) (others : List ℕ) → EndInOne lengths → length others ≡ length lengths
-    → weighted_sum lengths others ≡ nanos → (others ≡ counts_of lengths nanos) ⊎ IsBefore others (counts_of lengths nanos)
+    → weighted_sum lengths others ≡ nanos
+    → (others ≡ counts_of lengths nanos) ⊎ IsBefore others (counts_of lengths nanos)
 counts_greatest [] nanos others h l e = absurd h
 counts_greatest (x ∷ lengths) nanos [] h l e = absurd (omega arith)
 counts_greatest (x ∷ []) nanos (n ∷ m ∷ others) h l e = absurd (omega arith)

@@ -23,13 +23,14 @@ module _ (o : Options) where
   same_by last w false false a = refl
 
   -- a lexeme that the table allows where it is has the same terminal as before
-  same_terminal : (last : Option Terminal) (w : List ℕ) → IsTrue (allows (kinds_after o.no_calc last) (terminal_among older_units o w))
+  same_terminal : (last : Option Terminal) (w : List ℕ)
+      → IsTrue (allows (kinds_after o.no_calc last) (terminal_among older_units o w))
       → terminal_among older_units o w ≡ terminal_of o w
   same_terminal last [] a = refl
   same_terminal last (c ∷ cs) a = same_by last (c ∷ cs) _ _ a
 
-  same_terminals : (last : Option Terminal) (lexemes : List (List ℕ)) → AreAllowed o.no_calc last (older_terminals o lexemes)
-      → older_terminals o lexemes ≡ map (terminal_of o) lexemes
+  same_terminals : (last : Option Terminal) (lexemes : List (List ℕ))
+      → AreAllowed o.no_calc last (older_terminals o lexemes) → older_terminals o lexemes ≡ map (terminal_of o) lexemes
   same_terminals last [] a = refl
   same_terminals last (w ∷ lexemes) a =
       ap₂ ◌∷◌ (same_terminal last w a.0) (same_terminals (Some (terminal_among older_units o w)) lexemes a.1)
@@ -38,7 +39,8 @@ module _ (o : Options) where
       → older_terminals o lexemes ≡ map (terminal_of o) lexemes
   older_same lexemes text was = same_terminals None lexemes (sentence_allowed o.no_calc (older_terminals o lexemes) was.sentence)
 
-  older_sentence : (lexemes : List (List ℕ)) (text : List ℕ) → WasSentenceOf o lexemes text → IsSentenceOf o lexemes text
+  older_sentence : (lexemes : List (List ℕ)) (text : List ℕ) → WasSentenceOf o lexemes text
+      → IsSentenceOf o lexemes text
   older_sentence lexemes text was = (rw (← older_same lexemes text was) was.sentence, was.spells)
 
   older_value : (text : List ℕ) (nanos : ℕ) → WasRead o text nanos → IsRead o text nanos

@@ -19,7 +19,8 @@ alike_back h = record { grammar = sym h.grammar; tokens = sym h.tokens; terminal
 read_alike : {o p : Options} {text : List ℕ} (nanos : ℕ) → AreAlike o p text → IsRead o text nanos → IsRead p text nanos
 read_alike {p = p} {text = text} nanos h r = terminals_read p text nanos (rw (h.grammar, h.terminals) at (read_terminals r))
 
-refused_alike : {o p : Options} (text : List ℕ) (cause : Cause) → AreAlike o p text → IsRefused o text cause → IsRefused p text cause
+refused_alike : {o p : Options} (text : List ℕ) (cause : Cause) → AreAlike o p text → IsRefused o text cause
+    → IsRefused p text cause
 refused_alike [] cause h r = r
 refused_alike (c ∷ text) cause h r = (r.0, r.1, rw (h.grammar, h.terminals) at r.2, rw (h.grammar, h.tokens) at r.3)
 
@@ -42,7 +43,8 @@ module _ (test : ℕ → Bool) (o p : Options) (same : Agree test o p) where
   tokens_alike at (c ∷ text) h =
       let parts = and_parts _ _ h in rw (goes_on_alike c text h, tokens_alike (at + width c) text parts.1)
 
-  letters_alike : (w : List ℕ) → IsTrue (list_all test w) → list_all (is_unit_letter o) w ≡ list_all (is_unit_letter p) w
+  letters_alike : (w : List ℕ) → IsTrue (list_all test w)
+      → list_all (is_unit_letter o) w ≡ list_all (is_unit_letter p) w
   letters_alike [] h = refl
   letters_alike (c ∷ w) h = let parts = and_parts _ _ h in rw (same.letter c parts.0, letters_alike w parts.1)
 
@@ -50,7 +52,8 @@ module _ (test : ℕ → Bool) (o p : Options) (same : Agree test o p) where
   terminal_alike [] h = refl
   terminal_alike (c ∷ cs) h = rw (letters_alike (c ∷ cs) h, same.unit (c ∷ cs) h)
 
-  lexemes_alike : (lexemes : List (List ℕ)) → EachPasses test lexemes → map (terminal_of o) lexemes ≡ map (terminal_of p) lexemes
+  lexemes_alike : (lexemes : List (List ℕ)) → EachPasses test lexemes
+      → map (terminal_of o) lexemes ≡ map (terminal_of p) lexemes
   lexemes_alike [] h = refl
   lexemes_alike (w ∷ lexemes) h = rw (terminal_alike w h.0, lexemes_alike lexemes h.1)
 
@@ -99,7 +102,8 @@ all_lower_not_chinese : (w : List ℕ) → HasNoChinese w → HasNoChinese (map 
 all_lower_not_chinese [] h = refl
 all_lower_not_chinese (c ∷ w) h = and_from _ _ (lower_not_chinese c (and_parts _ _ h).0) (all_lower_not_chinese w (and_parts _ _ h).1)
 
-form_not_chinese : (lowercase : Bool) (w : List ℕ) → HasNoChinese w → HasNoChinese (if lowercase then w else map to_ascii_lowercase w)
+form_not_chinese : (lowercase : Bool) (w : List ℕ) → HasNoChinese w
+    → HasNoChinese (if lowercase then w else map to_ascii_lowercase w)
 form_not_chinese true w h = h
 form_not_chinese false w h = all_lower_not_chinese w h
 
@@ -114,7 +118,8 @@ other_name [] (d ∷ ds) h k = refl
 other_name (f ∷ fs) [] h k = refl
 other_name (f ∷ fs) (d ∷ ds) h k = elim (cases_Bool (f == d)) [ inl e ↦ cc (rw (eqb-true f d e, k) at h) | inr e ↦ rw e ]
 
-other_names : (w : List ℕ) (names : List (List ℕ)) → HasNoChinese w → IsTrue (list_all begins_chinese names) → list_any (bytes_eq w) names ≡ false
+other_names : (w : List ℕ) (names : List (List ℕ)) → HasNoChinese w → IsTrue (list_all begins_chinese names)
+    → list_any (bytes_eq w) names ≡ false
 other_names w [] h k = refl
 other_names w (name ∷ names) h k = or_from _ _ (other_name w name h (and_parts _ _ k).0) (other_names w names h (and_parts _ _ k).1)
 
@@ -123,8 +128,8 @@ abbrev NamesNoChinese : List ℕ → List TimeUnit → Type 0
 NamesNoChinese w [] = Unit {0}
 NamesNoChinese w (u ∷ us) = (list_any (bytes_eq w) (row_of u).chinese ≡ false) × NamesNoChinese w us
 
-no_chinese_name : (w : List ℕ) (us : List TimeUnit) → HasNoChinese w → IsTrue (list_all (λ u. list_all begins_chinese (row_of u).chinese) us)
-    → NamesNoChinese w us
+no_chinese_name : (w : List ℕ) (us : List TimeUnit) → HasNoChinese w
+    → IsTrue (list_all (λ u. list_all begins_chinese (row_of u).chinese) us) → NamesNoChinese w us
 no_chinese_name w [] h k = tt
 no_chinese_name w (u ∷ us) h k =
     let parts = and_parts (list_all begins_chinese (row_of u).chinese) (list_all (λ v. list_all begins_chinese (row_of v).chinese) us) k in
@@ -147,10 +152,12 @@ cn_unit_alike o text h =
 
 -- ---- The law
 
-same_value : {o p : Options} {text : List ℕ} (nanos : ℕ) → AreAlike o p text → (IsRead o text nanos ↔ IsRead p text nanos)
+same_value : {o p : Options} {text : List ℕ} (nanos : ℕ) → AreAlike o p text
+    → (IsRead o text nanos ↔ IsRead p text nanos)
 same_value nanos h = (read_alike nanos h, read_alike nanos (alike_back h))
 
-same_cause : {o p : Options} {text : List ℕ} (cause : Cause) → AreAlike o p text → (IsRefused o text cause ↔ IsRefused p text cause)
+same_cause : {o p : Options} {text : List ℕ} (cause : Cause) → AreAlike o p text
+    → (IsRefused o text cause ↔ IsRefused p text cause)
 same_cause cause h = (refused_alike _ cause h, refused_alike _ cause (alike_back h))
 
 pub options_idle_holds : OptionsIdle

@@ -8,8 +8,9 @@ allowed_no_operator : (no_calc : Bool) (last : Option Terminal) (t : Terminal) (
 allowed_no_operator no_calc last (operator other_op) op e h = λ q. true≢false (sym h ∙ no_operators no_calc last e)
 allowed_no_operator no_calc last _ op e h = λ q. cc
 
-no_operator_last : (no_calc : Bool) (last : Option Terminal) (terminals : List Terminal) (op : CondUnit) → no_calc ≡ true
-    → last ≢ Some (operator op) → AreAllowed no_calc last terminals → last_of last terminals ≢ Some (operator op)
+no_operator_last : (no_calc : Bool) (last : Option Terminal) (terminals : List Terminal) (op : CondUnit)
+    → no_calc ≡ true → last ≢ Some (operator op) → AreAllowed no_calc last terminals
+    → last_of last terminals ≢ Some (operator op)
 no_operator_last no_calc last [] op e n h = n
 no_operator_last no_calc last (t ∷ terminals) op e n h = no_operator_last no_calc (Some t) terminals op e (allowed_no_operator no_calc last t op e h.0) h.1
 

@@ -23,8 +23,8 @@ reads_below o nanos text h p =
     let within : FitsDuration nanos = omega arith in
     sum_read o (duration_lexemes nanos) text nanos (printed_is_sum o nanos text within p) (duration_sum o nanos within) h
 
-overflows_above : (o : Options) (nanos : ℕ) (text : List ℕ) → 2 ^ 64 ≤ nanos → nanos < 585 * nanos_of Year → IsPrinted nanos text
-    → IsRefused o text (Overflow None)
+overflows_above : (o : Options) (nanos : ℕ) (text : List ℕ) → 2 ^ 64 ≤ nanos → nanos < 585 * nanos_of Year
+    → IsPrinted nanos text → IsRefused o text (Overflow None)
 overflows_above o nanos text low high p =
     let within : FitsDuration nanos = omega arith in
     let lexemes : List (List ℕ) = duration_lexemes nanos in
@@ -42,8 +42,8 @@ first_overflows : (no_calc : Bool) (n : ℕ) (rest : List Terminal) → n < 2 ^ 
 first_overflows false n rest small large = rw (lt-ltb n _ small, le-ltb (n * nanos_of Year) _ large)
 first_overflows true n rest small large = rw (lt-ltb n _ small, le-ltb (n * nanos_of Year) _ large)
 
-overflows_far_above : (o : Options) (nanos : ℕ) (text : List ℕ) → 585 * nanos_of Year ≤ nanos → FitsDuration nanos → IsPrinted nanos text
-    → IsRefused o text (Overflow (Some 0))
+overflows_far_above : (o : Options) (nanos : ℕ) (text : List ℕ) → 585 * nanos_of Year ≤ nanos → FitsDuration nanos
+    → IsPrinted nanos text → IsRefused o text (Overflow (Some 0))
 overflows_far_above o nanos text low high p =
     let terminals = sym (years_first o nanos high (omega arith)) in
     let fault = first_overflows o.no_calc (years nanos) (after_years nanos) (omega arith) (omega arith) in

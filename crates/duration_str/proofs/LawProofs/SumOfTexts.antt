@@ -9,7 +9,8 @@ use Rattle.duration_str.proofs.Sentences.SumReadings.{IsSumOf, terms_of_lexemes,
 
 -- ---- The joined lexemes spell the joined text
 
-pub spells_after_blanks : (lexemes : List (List ℕ)) (s t : List ℕ) → IsBlank s → Spells lexemes t → Spells lexemes (s ++ t)
+pub spells_after_blanks : (lexemes : List (List ℕ)) (s t : List ℕ) → IsBlank s → Spells lexemes t
+    → Spells lexemes (s ++ t)
 spells_after_blanks [] s t h k = list_all-append _ s t ∙ and_from _ _ h k
 spells_after_blanks (w ∷ lexemes) s t h k = (
   s ++ k.0,
@@ -35,11 +36,13 @@ pub plus_terminal : (o : Options) → terminal_of o (codes "+") ≡ operator Plu
 plus_terminal o = at o.no_calc o.lowercase o.cn_unit
   where
     at : (no_calc lowercase cn_unit : Bool)
-        → terminal_of (record { no_calc = no_calc; lowercase = lowercase; cn_unit = cn_unit }) (codes "+") ≡ operator Plus
+        → terminal_of (record { no_calc = no_calc; lowercase = lowercase; cn_unit = cn_unit }) (codes "+")
+        ≡ operator Plus
     at no_calc lowercase true = refl
     at no_calc lowercase false = refl
 
-both_sentence : (xs ys : List Terminal) → IsSentence false xs → IsSentence false ys → IsSentence false (xs ++ operator Plus ∷ ys)
+both_sentence : (xs ys : List Terminal) → IsSentence false xs → IsSentence false ys
+    → IsSentence false (xs ++ operator Plus ∷ ys)
 both_sentence (number n ∷ []) ys s t = (refl, t)
 both_sentence (number n ∷ operator next ∷ more) ys s t = (refl, both_sentence more ys s.1 t)
 both_sentence (number n ∷ word (Some u) ∷ []) ys s t = (refl, t)
@@ -61,20 +64,23 @@ both_terms op _ ys s = absurd s
 no_star_plus : (c : ℕ) (op : CondUnit) → not (c == 42) ≡ true → operator_of c ≡ Some op → op ≡ Plus
 no_star_plus c op h e = grind (arith, nat_tests)
 
-plus_terminal_first : (o : Options) (terminals : List Terminal) → AllPlus terminals → (w : List ℕ) → HasNoStar w → AllPlus (terminal_of o w ∷ terminals)
-plus_terminal_first o terminals h = terminal_cases o (λ w t. HasNoStar w → AllPlus (t ∷ terminals))
-    (λ plain. h) (λ c cs digits plain. h) (λ c cs letters plain. h)
-    (λ c op _ _ sign plain. (no_star_plus c op (and_parts (not (c == 42)) _ plain).0 sign, h)) (λ c cs _ _ plain. h)
+module _ (o : Options) where
+  plus_terminal_first : (terminals : List Terminal) → AllPlus terminals → (w : List ℕ) → HasNoStar w
+      → AllPlus (terminal_of o w ∷ terminals)
+  plus_terminal_first terminals h = terminal_cases o (λ w t. HasNoStar w → AllPlus (t ∷ terminals))
+      (λ plain. h) (λ c cs digits plain. h) (λ c cs letters plain. h)
+      (λ c op _ _ sign plain. (no_star_plus c op (and_parts (not (c == 42)) _ plain).0 sign, h)) (λ c cs _ _ plain. h)
 
-lexemes_plus : (o : Options) (lexemes : List (List ℕ)) → EachPasses (λ c. not (c == 42)) lexemes → AllPlus (map (terminal_of o) lexemes)
-lexemes_plus o [] h = tt
-lexemes_plus o (w ∷ lexemes) h = plus_terminal_first o (map (terminal_of o) lexemes) (lexemes_plus o lexemes h.1) w h.0
+  lexemes_plus : (lexemes : List (List ℕ)) → EachPasses (λ c. not (c == 42)) lexemes
+      → AllPlus (map (terminal_of o) lexemes)
+  lexemes_plus [] h = tt
+  lexemes_plus (w ∷ lexemes) h = plus_terminal_first (map (terminal_of o) lexemes) (lexemes_plus lexemes h.1) w h.0
 
-read_is_sum : (o : Options) (text : List ℕ) (nanos : ℕ) → HasNoStar text → (r : IsRead o text nanos) → IsSumOf o r.lexemes text
-read_is_sum o text nanos plain r = record {
-  sentence = r.spells;
-  plus = lexemes_plus o r.lexemes (lexemes_pass (λ c. not (c == 42)) r.lexemes text plain r.spells.1);
-}
+  read_is_sum : (text : List ℕ) (nanos : ℕ) → HasNoStar text → (r : IsRead o text nanos) → IsSumOf o r.lexemes text
+  read_is_sum text nanos plain r = record {
+    sentence = r.spells;
+    plus = lexemes_plus r.lexemes (lexemes_pass (λ c. not (c == 42)) r.lexemes text plain r.spells.1);
+  }
 
 both_plus : (xs ys : List Terminal) → AllPlus xs → AllPlus ys → AllPlus (xs ++ operator Plus ∷ ys)
 both_plus [] ys h k = (refl, k)
@@ -91,12 +97,13 @@ abbrev joined_lexemes : List (List ℕ) → List (List ℕ) → List (List ℕ)
 joined_lexemes lexemes others = (lexemes ++ codes "+" ∷ []) ++ others
 
 joined_terminals : (o : Options) (lexemes others : List (List ℕ))
-    → map (terminal_of o) (joined_lexemes lexemes others) ≡ map (terminal_of o) lexemes ++ operator Plus ∷ map (terminal_of o) others
+    → map (terminal_of o) (joined_lexemes lexemes others)
+    ≡ map (terminal_of o) lexemes ++ operator Plus ∷ map (terminal_of o) others
 joined_terminals o lexemes others =
     rw (append_assoc lexemes, map-append (terminal_of o) lexemes, plus_terminal o)
 
-combination_is_sum : (o : Options) (a b : List ℕ) (lexemes others : List (List ℕ)) → o.no_calc ≡ false → IsSumOf o lexemes a → IsSumOf o others b
-    → IsSumOf o (joined_lexemes lexemes others) (a ++ codes "+" ++ b)
+combination_is_sum : (o : Options) (a b : List ℕ) (lexemes others : List (List ℕ)) → o.no_calc ≡ false
+    → IsSumOf o lexemes a → IsSumOf o others b → IsSumOf o (joined_lexemes lexemes others) (a ++ codes "+" ++ b)
 combination_is_sum o a b lexemes others calc s t =
     let xs : List Terminal = map (terminal_of o) lexemes in
     let ys : List Terminal = map (terminal_of o) others in
@@ -122,8 +129,8 @@ record IsJoined (o : Options) (text : List ℕ) (nanos : ℕ) : Type 0 where
   total : sum_of (terms_of_lexemes o lexemes) ≡ nanos
   each : EachFits (terms_of_lexemes o lexemes)
 
-reads_joined : (o : Options) (a b : List ℕ) (m n : ℕ) → o.no_calc ≡ false → HasNoStar a → HasNoStar b → IsRead o a m → IsRead o b n
-    → IsJoined o (a ++ codes "+" ++ b) (m + n)
+reads_joined : (o : Options) (a b : List ℕ) (m n : ℕ) → o.no_calc ≡ false → HasNoStar a → HasNoStar b → IsRead o a m
+    → IsRead o b n → IsJoined o (a ++ codes "+" ++ b) (m + n)
 reads_joined o a b m n calc plain_a plain_b r q =
     let s : IsSumOf o r.lexemes a = read_is_sum o a m plain_a r in
     let t : IsSumOf o q.lexemes b = read_is_sum o b n plain_b q in

@@ -43,14 +43,16 @@ fit_evaluates t u e f = (
 product_value : (t u : Term) → u.operator ≡ Star → value_of (t ∷ u ∷ []) ≡ Some (product_with t u)
 product_value t u e = rw (e, one_step (value_of_term u))
 
-read_product : (o : Options) (text : List ℕ) (lexemes : List (List ℕ)) (t u : Term) (nanos : ℕ) → IsSentenceOf o lexemes text
-    → terms_of (map (terminal_of o) lexemes) ≡ t ∷ u ∷ [] → u.operator ≡ Star → IsRead o text nanos → FitBoth t u × (nanos ≡ product_with t u)
+read_product : (o : Options) (text : List ℕ) (lexemes : List (List ℕ)) (t u : Term) (nanos : ℕ)
+    → IsSentenceOf o lexemes text → terms_of (map (terminal_of o) lexemes) ≡ t ∷ u ∷ [] → u.operator ≡ Star
+    → IsRead o text nanos → FitBoth t u × (nanos ≡ product_with t u)
 read_product o text lexemes t u nanos s terms e r =
     let read = read_sentence lexemes s r in
     (evaluates_fit t u e (rw terms at read.evaluates), cc (rw terms at read.value, product_value t u e))
 
-product_read : (o : Options) (text : List ℕ) (lexemes : List (List ℕ)) (t u : Term) (nanos : ℕ) → IsSentenceOf o lexemes text
-    → terms_of (map (terminal_of o) lexemes) ≡ t ∷ u ∷ [] → u.operator ≡ Star → FitBoth t u → nanos ≡ product_with t u → IsRead o text nanos
+product_read : (o : Options) (text : List ℕ) (lexemes : List (List ℕ)) (t u : Term) (nanos : ℕ)
+    → IsSentenceOf o lexemes text → terms_of (map (terminal_of o) lexemes) ≡ t ∷ u ∷ [] → u.operator ≡ Star
+    → FitBoth t u → nanos ≡ product_with t u → IsRead o text nanos
 product_read o text lexemes t u nanos s terms e f v = record {
   lexemes = lexemes;
   spells = s;

@@ -28,11 +28,13 @@ fault_or-or_else : (a b : Option Cause) (r : Result ℕ Cause) → fault_or (or_
 fault_or-or_else None b r = refl
 fault_or-or_else (Some cause) b r = refl
 
-join-fault_left : (set : CondUnit) (a : Option Cause) (x y : Result ℕ Cause) → join set (fault_or a x) y ≡ fault_or a (join set x y)
+join-fault_left : (set : CondUnit) (a : Option Cause) (x y : Result ℕ Cause)
+    → join set (fault_or a x) y ≡ fault_or a (join set x y)
 join-fault_left set None x y = refl
 join-fault_left set (Some cause) x y = refl
 
-join-fault_right : (set : CondUnit) (x : ℕ) (a : Option Cause) (y : Result ℕ Cause) → join set (Ok x) (fault_or a y) ≡ fault_or a (join set (Ok x) y)
+join-fault_right : (set : CondUnit) (x : ℕ) (a : Option Cause) (y : Result ℕ Cause)
+    → join set (Ok x) (fault_or a y) ≡ fault_or a (join set (Ok x) y)
 join-fault_right set x None y = refl
 join-fault_right set x (Some cause) y = refl
 
@@ -40,7 +42,8 @@ ok_or-fits : (n : ℕ) → ok_or (u64_from n) (Overflow None) ≡ fault_or (unle
 ok_or-fits n = elim (cases_Bool (fits n)) [ inl e ↦ rw e | inr e ↦ rw e ]
 
 before_operator-fault : (set next : CondUnit) (a : Option Cause) (x : ℕ)
-    → before_operator set (fault_or a (Ok x)) next ≡ fault_or a (fault_or (unless (is_same_operator set next) (Mixed set next)) (Ok x))
+    → before_operator set (fault_or a (Ok x)) next
+    ≡ fault_or a (fault_or (unless (is_same_operator set next) (Mixed set next)) (Ok x))
 before_operator-fault set next (Some cause) x = refl
 before_operator-fault set next None x = elim (cases_Bool (is_same_operator set next)) [ inl e ↦ rw e | inr e ↦ rw e ]
 
@@ -63,7 +66,8 @@ abbrev value_by : CondUnit → List Term → Result ℕ Cause
 value_by set later = fault_or (later_fault set [] later) (Ok (later_total set later))
 
 -- The value of a term, or its fault, as `term_value` gives it.
-pub term_told : (place : Option ℕ) (t : Term) → term_value place (u64_from t.number) t.length ≡ fault_or (term_fault place t) (Ok (value_of_term t))
+pub term_told : (place : Option ℕ) (t : Term)
+    → term_value place (u64_from t.number) t.length ≡ fault_or (term_fault place t) (Ok (value_of_term t))
 term_told place t = elim (cases_Bool (fits t.number)) [
   | inl number ↦ elim (cases_Bool (fits (value_of_term t))) [ inl value ↦ rw (number, value) | inr value ↦ rw (number, value) ]
   | inr number ↦ rw number
@@ -84,7 +88,8 @@ together-push Star before t = rw fold-append
 
 -- One more term is combined if its operator is the one that was set.
 one_more : (set : CondUnit) (before : List Term) (t : Term)
-    → join set (before_operator set (value_by set before) t.operator) (term_value None (u64_from t.number) t.length) ≡ value_by set (before ++ t ∷ [])
+    → join set (before_operator set (value_by set before) t.operator) (term_value None (u64_from t.number) t.length)
+    ≡ value_by set (before ++ t ∷ [])
 one_more set before t = simp (in_order, term_told None t, later_append set [] before (t ∷ []), together-push set before t)
 
 -- ---- All terms, one by one
@@ -103,7 +108,8 @@ answer_after_first no_calc first [] syntax = fault_or syntax (Ok first)
 answer_after_first no_calc first (t ∷ terms) syntax = answer_with no_calc first t.operator (Ok (nothing_of t.operator)) (t ∷ terms) syntax
 
 default_left : (first : ℕ) (set : CondUnit) (before later : List Term) (syntax : Option Cause)
-    → answer_with false first set (value_by set before) later syntax ≡ fault_or syntax (join set (Ok first) (value_by set (before ++ later)))
+    → answer_with false first set (value_by set before) later syntax
+    ≡ fault_or syntax (join set (Ok first) (value_by set (before ++ later)))
 default_left first set before [] syntax = rw append-nil
 default_left first set before (t ∷ later) syntax =
     rw (one_more set before t, default_left first set (before ++ t ∷ []) later syntax, append_assoc before (t ∷ []) later)
@@ -118,15 +124,18 @@ sum_told first sum None = elim (cases_lt sum (2 ^ 64)) [
 ]
 
 -- Under `no_calc` the fault of one more term, or of the sum, is reported at once.
-checked_sum : (f : Term) (before : List Term) (t : Term) → t.operator ≡ Plus → AreAdded (f ∷ before) → sum_of (f ∷ before) < 2 ^ 64
-    → running_fault (f ∷ before) (t ∷ []) ≡ result_err (join Plus (Ok (value_of_term f)) (value_by Plus (before ++ t ∷ [])))
+checked_sum : (f : Term) (before : List Term) (t : Term) → t.operator ≡ Plus → AreAdded (f ∷ before)
+    → sum_of (f ∷ before) < 2 ^ 64
+    → running_fault (f ∷ before) (t ∷ [])
+    ≡ result_err (join Plus (Ok (value_of_term f)) (value_by Plus (before ++ t ∷ [])))
 checked_sum f before t plus a h =
     let same = (is_same_operator-true Plus t.operator).1 plus in
     rw (later_append Plus [] before (t ∷ []), later_none [] before a.2 (omega arith), same)
     (sum_told (value_of_term f) (sum_of (before ++ t ∷ [])) (term_fault None t))
 
 -- Results after a fault are equal if they are without it.
-unless_fault : (fault : Option Cause) (x y : Result ℕ Cause) → (fault ≡ None → x ≡ y) → fault_or fault x ≡ fault_or fault y
+unless_fault : (fault : Option Cause) (x y : Result ℕ Cause) → (fault ≡ None → x ≡ y)
+    → fault_or fault x ≡ fault_or fault y
 unless_fault None x y h = h refl
 unless_fault (Some cause) x y h = refl
 
@@ -152,7 +161,8 @@ no_calc_left f before (t ∷ later) syntax h a b =
     rw (no_calc_left f next later syntax below (added_push (f ∷ before) t later a b) b.2, append_assoc)))
 
 -- The first value combined with that of all later terms has the fault and the value of the whole list.
-whole_value : (f u : Term) (later : List Term) → join u.operator (Ok (value_of_term f)) (value_by u.operator (u ∷ later))
+whole_value : (f u : Term) (later : List Term)
+    → join u.operator (Ok (value_of_term f)) (value_by u.operator (u ∷ later))
     ≡ fault_or (evaluation_fault (f ∷ u ∷ later)) (Ok (unwrap_or (value_of (f ∷ u ∷ later)) 0))
 whole_value f u later =
     let fault = later_fault u.operator [] (u ∷ later) in
@@ -164,7 +174,8 @@ nothing_is Plus = refl
 nothing_is Star = refl
 
 default_answer : (f : Term) (later : List Term) (syntax : Option Cause)
-    → answer_of false (f ∷ later) syntax ≡ fault_or (term_fault (Some 0) f) (answer_after_first false (value_of_term f) later syntax)
+    → answer_of false (f ∷ later) syntax
+    ≡ fault_or (term_fault (Some 0) f) (answer_after_first false (value_of_term f) later syntax)
 default_answer f [] syntax = refl
 default_answer f (u ∷ later) syntax =
     rw (nothing_is u.operator, default_left (value_of_term f) u.operator [] (u ∷ later) syntax, whole_value f u later)
@@ -181,14 +192,17 @@ no_calc_after f (u ∷ later) syntax a h =
     rw (value_is_sum (f ∷ u ∷ later) (omega arith) a, later_none [] (u ∷ later) a.2 (omega arith), lt-ltb (sum_of (f ∷ u ∷ later)) _ below)))
 
 no_calc_answer : (f : Term) (later : List Term) (syntax : Option Cause) → AreAdded (f ∷ later)
-    → answer_of true (f ∷ later) syntax ≡ fault_or (term_fault (Some 0) f) (answer_after_first true (value_of_term f) later syntax)
+    → answer_of true (f ∷ later) syntax
+    ≡ fault_or (term_fault (Some 0) f) (answer_after_first true (value_of_term f) later syntax)
 no_calc_answer f later syntax a = rw (fault_or-or_else (term_fault (Some 0) f)) (unless_fault (term_fault (Some 0) f) _ _ (λ e.
     let below = simp no_fault at e in
     let own : sum_of (f ∷ []) < 2 ^ 64 = omega arith in
     rw (lt-ltb (sum_of (f ∷ [])) _ own) (no_calc_after f later syntax a own)))
 
 -- The answer to terms is the answer of reading them one by one.
-pub one_by_one : (no_calc : Bool) (f : Term) (later : List Term) (syntax : Option Cause) → (IsTrue no_calc → AreAdded (f ∷ later))
-    → answer_of no_calc (f ∷ later) syntax ≡ fault_or (term_fault (Some 0) f) (answer_after_first no_calc (value_of_term f) later syntax)
+pub one_by_one : (no_calc : Bool) (f : Term) (later : List Term) (syntax : Option Cause)
+    → (IsTrue no_calc → AreAdded (f ∷ later))
+    → answer_of no_calc (f ∷ later) syntax
+    ≡ fault_or (term_fault (Some 0) f) (answer_after_first no_calc (value_of_term f) later syntax)
 one_by_one false f later syntax added = default_answer f later syntax
 one_by_one true f later syntax added = no_calc_answer f later syntax (added refl)

@@ -73,12 +73,13 @@ module _ (P : ℕ → Type 0) where
   late_stands true terminals = tt
   late_stands false terminals = evaluation_stands (terms_of terminals)
 
-  late_answer_stands : (fault : Option Cause) (terminals : List Terminal) → FaultStands P fault → AnswerStands P (late_answer fault terminals)
+  late_answer_stands : (fault : Option Cause) (terminals : List Terminal) → FaultStands P fault
+      → AnswerStands P (late_answer fault terminals)
   late_answer_stands None terminals h = tt
   late_answer_stands (Some cause) terminals h = h
 
-  answer_after_stands : (no_calc : Bool) (place : ℕ) (front rest : List Terminal) (fault : Option Cause) → FaultStands P fault → P place
-      → AnswerStands P (answer_after no_calc place front rest fault)
+  answer_after_stands : (no_calc : Bool) (place : ℕ) (front rest : List Terminal) (fault : Option Cause)
+      → FaultStands P fault → P place → AnswerStands P (answer_after no_calc place front rest fault)
   answer_after_stands no_calc place front rest (Some cause) h k = h
   answer_after_stands no_calc place front rest None h k = elim (cases_Bool (is_whole no_calc front rest)) [
     | inl e ↦ rw e (late_answer_stands (late_fault no_calc front) front (late_stands no_calc front))
@@ -91,7 +92,8 @@ module _ (P : ℕ → Type 0) where
   start_among (suc n) len [] h k = h
   start_among (suc n) len (p ∷ tokens) h k = start_among n len tokens h k.1
 
-  answer_stands : (o : Options) (text : List ℕ) → P 0 → P (byte_len text) → AllStart P (tokens_of o text) → AnswerStands P (answer o text)
+  answer_stands : (o : Options) (text : List ℕ) → P 0 → P (byte_len text) → AllStart P (tokens_of o text)
+      → AnswerStands P (answer o text)
   answer_stands o [] h k l = no_place
   answer_stands o (c ∷ text) h k l =
       let terminals = terminals_of o (c ∷ text) in
@@ -126,8 +128,8 @@ seam bs xs ys utf8 e =
     rw (encoded_len xs parts.0) (IsCharBoundary-at_seam bs (encodes xs) (encodes ys) whole (ys, (parts.1, refl)))
 
 -- The characters `xs` come before those with these tokens.
-all_start : (o : Options) (bs xs cs : List ℕ) (at : ℕ) (tokens : List Token) → IsUtf8 bs → chars bs ≡ xs ++ cs → at ≡ byte_len xs
-    → AreTokens o at cs tokens → AllStart (IsCharBoundary bs) tokens
+all_start : (o : Options) (bs xs cs : List ℕ) (at : ℕ) (tokens : List Token) → IsUtf8 bs → chars bs ≡ xs ++ cs
+    → at ≡ byte_len xs → AreTokens o at cs tokens → AllStart (IsCharBoundary bs) tokens
 all_start o bs xs cs at [] utf8 e w a = tt
 all_start o bs xs cs at (p ∷ tokens) utf8 e w a =
     let rest = a.0 in
@@ -141,7 +143,8 @@ all_start o bs xs cs at (p ∷ tokens) utf8 e w a =
     )
 
 -- The place of the answer's fault is a character boundary.
-pub fault_placed : (o : Options) (bs : List ℕ) (c : Cause) → IsUtf8 bs → answer o (chars bs) ≡ Err c → ForSome (place_of c) (IsCharBoundary bs)
+pub fault_placed : (o : Options) (bs : List ℕ) (c : Cause) → IsUtf8 bs → answer o (chars bs) ≡ Err c
+    → ForSome (place_of c) (IsCharBoundary bs)
 fault_placed o bs c utf8 e =
     rw e at (answer_stands (IsCharBoundary bs) o (chars bs) (IsCharBoundary-start bs utf8) (rw (byte_count bs utf8) (IsCharBoundary-end bs))
     (all_start o bs [] (chars bs) 0 (tokens_of o (chars bs)) utf8 refl refl (tokens_are o 0 (chars bs))))

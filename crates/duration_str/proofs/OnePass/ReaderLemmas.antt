@@ -22,7 +22,8 @@ StartsWith sorts.Word at rest = (u : Option TimeUnit) × (more : Rest) × (rest 
 StartsWith (sorts.Operator op) at rest = (more : Rest) × (rest ≡ terminal_at at (operator op) more)
 StartsWith sorts.Other at rest = (more : Rest) × (rest ≡ terminal_at at other more)
 
-by_terminal : (terminal : Terminal) (at : ℕ) (rest more : Rest) → rest ≡ terminal_at at terminal more → StartsWith (sort_of terminal) at rest
+by_terminal : (terminal : Terminal) (at : ℕ) (rest more : Rest) → rest ≡ terminal_at at terminal more
+    → StartsWith (sort_of terminal) at rest
 by_terminal (number n) at rest more is = (n, more, is)
 by_terminal (word u) at rest more is = (u, more, is)
 by_terminal (operator op) at rest more is = (more, is)
@@ -58,16 +59,17 @@ number_is _ e = absurd cc
 -- ---- A unit or an operator that is left out, and an operator
 
 -- seconds before an operator, which is not taken
-pub unit_left_out : {s m : Tokens} {ahead : Option Sort} {op : CondUnit} → LooksAhead s m ahead → ahead ≡ Some (sorts.Operator op)
-    → leaving (rest_of m) (Ok Second) ≡ unit_read false (rest_of s)
+pub unit_left_out : {s m : Tokens} {ahead : Option Sort} {op : CondUnit} → LooksAhead s m ahead
+    → ahead ≡ Some (sorts.Operator op) → leaving (rest_of m) (Ok Second) ≡ unit_read false (rest_of s)
 unit_left_out look is = rw (same_rest look, (starts look is).1)
 
 -- plus before a number, which is not taken
-pub plus_left_out : {s m : Tokens} {ahead : Option Sort} (no_calc : Bool) → LooksAhead s m ahead → ahead ≡ Some sorts.Number
-    → leaving (rest_of m) (Ok (Some Plus)) ≡ operator_read no_calc (rest_of s)
+pub plus_left_out : {s m : Tokens} {ahead : Option Sort} (no_calc : Bool) → LooksAhead s m ahead
+    → ahead ≡ Some sorts.Number → leaving (rest_of m) (Ok (Some Plus)) ≡ operator_read no_calc (rest_of s)
 plus_left_out no_calc look is = rw (same_rest look, (starts look is).2)
 
-operator_terminal : (terminal : Terminal) (op : CondUnit) → sorts.Operator op ≡ sort_of terminal → terminal ≡ operator op
+operator_terminal : (terminal : Terminal) (op : CondUnit) → sorts.Operator op ≡ sort_of terminal
+    → terminal ≡ operator op
 operator_terminal (operator next) op e = cc
 operator_terminal _ op e = absurd cc
 
@@ -91,8 +93,8 @@ operator_of (Ok r) = r.item
 operator_of (Err cause) = None
 
 -- Under `no_calc` the only operator is a plus that is left out.
-pub plus_alone : (no_calc : Bool) (rest after : Rest) (op : CondUnit) → leaving after (Ok (Some op)) ≡ operator_read no_calc rest
-    → IsTrue no_calc → op ≡ Plus
+pub plus_alone : (no_calc : Bool) (rest after : Rest) (op : CondUnit)
+    → leaving after (Ok (Some op)) ≡ operator_read no_calc rest → IsTrue no_calc → op ≡ Plus
 plus_alone no_calc (end_at at) after op e h = let none = ap operator_of e in absurd cc
 plus_alone no_calc (terminal_at at (number n) rest) after op e h = let same = ap operator_of e in cc
 plus_alone no_calc _ after op e h = absurd cc

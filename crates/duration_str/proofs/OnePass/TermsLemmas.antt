@@ -112,7 +112,8 @@ by_number no_calc f g op next s ahead terms none =
     let (n, rest, is) = at_number s ahead in
     rw (is, terms_read no_calc op (place_of s) n rest, terms_read no_calc next (place_of s) n rest) (by n (unit_read no_calc rest))
   where
-    by : (n : ℕ) (r : Result (Read TimeUnit) Cause) → f (after_number no_calc op n r) ≡ g (after_number no_calc next n r)
+    by : (n : ℕ) (r : Result (Read TimeUnit) Cause)
+        → f (after_number no_calc op n r) ≡ g (after_number no_calc next n r)
     by n (Ok r) = terms n r
     by n (Err cause) = none cause
 
@@ -197,7 +198,8 @@ complete_plus front [] a = a
 complete_plus front (terminal ∷ rest) a = without_last_plus front a
 
 -- Under `no_calc` all terms that are left are added.
-left_added : (no_calc : Bool) (op : CondUnit) (rest : Rest) → op ≡ Plus → IsTrue no_calc → AreAdded (left_after no_calc op rest).terms
+left_added : (no_calc : Bool) (op : CondUnit) (rest : Rest) → op ≡ Plus → IsTrue no_calc
+    → AreAdded (left_after no_calc op rest).terms
 left_added false op rest plus h = cc h
 left_added true op rest plus h =
     let front = front_in true rest in
@@ -225,15 +227,17 @@ fault_alone false cause = refl
 fault_alone true cause = refl
 
 -- The first unit cannot be read.
-pub first_unread : (no_calc : Bool) (s m a : Tokens) (n : Option ℕ) (cause : Cause) → rest_of m ≡ rest_of s → TakesNumber m a n
-    → Err cause ≡ unit_read no_calc (rest_of a) → Err cause ≡ answer_left no_calc [] (rest_of s)
+pub first_unread : (no_calc : Bool) (s m a : Tokens) (n : Option ℕ) (cause : Cause) → rest_of m ≡ rest_of s
+    → TakesNumber m a n → Err cause ≡ unit_read no_calc (rest_of a) → Err cause ≡ answer_left no_calc [] (rest_of s)
 first_unread no_calc s m a n cause same taken unit =
     rw (← same, ← from_start no_calc (rest_of m) _ (number_taken no_calc Plus m a n taken _ unit)) (fault_alone no_calc cause)
 
 -- The first term is read up to b, and has this value or fault.
 pub first_step : {m a : Tokens} {n : Option ℕ} {first : Result ℕ Cause} (no_calc : Bool) (s b : Tokens) (u : TimeUnit)
-    → rest_of m ≡ rest_of s → TakesNumber m a n → leaving (rest_of b) (Ok u) ≡ unit_read no_calc (rest_of a) → first ≡ term_value (Some 0) n (nanos_of u)
-    → answer_left no_calc [] (rest_of s) ≡ by_first no_calc first (after_unit no_calc (operator_read no_calc (rest_of b)))
+    → rest_of m ≡ rest_of s → TakesNumber m a n → leaving (rest_of b) (Ok u) ≡ unit_read no_calc (rest_of a)
+    → first ≡ term_value (Some 0) n (nanos_of u)
+    → answer_left no_calc [] (rest_of s)
+    ≡ by_first no_calc first (after_unit no_calc (operator_read no_calc (rest_of b)))
 first_step {m = m} {a = a} {n = n} no_calc s b u same taken unit is =
     let t = term_of taken.n u in
     let more = after_unit no_calc (operator_read no_calc (rest_of b)) in
@@ -243,7 +247,8 @@ first_step {m = m} {a = a} {n = n} no_calc s b u same taken unit is =
     rw (← same, ← from_start no_calc (rest_of m) _ read, is, taken.is_value, term_told (Some 0) t, by_first-fault no_calc, whole)
 
 first_stands : (first : ℕ) (set : CondUnit) (front rest : List Terminal)
-    → terms_of (complete (first_term first set ++ front) rest) ≡ term_of first NanoSecond ∷ terms_after set (complete front rest)
+    → terms_of (complete (first_term first set ++ front) rest)
+    ≡ term_of first NanoSecond ∷ terms_after set (complete front rest)
 first_stands first set front [] = refl
 first_stands first set front (terminal ∷ rest) = refl
 
@@ -253,7 +258,8 @@ same_kinds no_calc op [] = refl
 same_kinds no_calc op (terminal ∷ front) = refl
 
 -- A first term of this many nanoseconds can stand for the first value.
-pub from_later : (no_calc : Bool) (first : ℕ) (set : CondUnit) (rest : Rest) → first < 2 ^ 64 → (IsTrue no_calc → set ≡ Plus)
+pub from_later : (no_calc : Bool) (first : ℕ) (set : CondUnit) (rest : Rest) → first < 2 ^ 64
+    → (IsTrue no_calc → set ≡ Plus)
     → total_of no_calc first (left_after no_calc set rest) ≡ answer_left no_calc (first_term first set) rest
 from_later no_calc first set rest below plus =
     let front = front_in no_calc rest in

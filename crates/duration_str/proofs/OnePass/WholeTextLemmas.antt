@@ -5,17 +5,20 @@ use Rattle.std.proofs.lemmas.Bool.{eqb-false}
 use Rattle.duration_str.specs.Tokens.{Token}
 use Rattle.duration_str.proofs.OnePass.PlaceLemmas.{byte_count}
 
-all_terminals : (o : Options) (len : ℕ) (tokens : List Token) → terminals_in (rest_from o len tokens) ≡ map (terminal_of o) (lexemes_of tokens)
+all_terminals : (o : Options) (len : ℕ) (tokens : List Token)
+    → terminals_in (rest_from o len tokens) ≡ map (terminal_of o) (lexemes_of tokens)
 all_terminals o len [] = refl
 all_terminals o len (p ∷ tokens) = rw (all_terminals o len tokens)
 
-same_start : (o : Options) (n len : ℕ) (tokens : List Token) → start_left n (rest_from o len tokens) ≡ start_after n len tokens
+same_start : (o : Options) (n len : ℕ) (tokens : List Token)
+    → start_left n (rest_from o len tokens) ≡ start_after n len tokens
 same_start o zero len [] = refl
 same_start o (suc n) len [] = refl
 same_start o zero len (p ∷ tokens) = refl
 same_start o (suc n) len (p ∷ tokens) = same_start o n len tokens
 
-nonempty_answer : (o : Options) (text : List ℕ) → 0 < byte_len text → answer o text ≡ answer_left o.no_calc [] (rest_from o (byte_len text) (tokens_of o text))
+nonempty_answer : (o : Options) (text : List ℕ) → 0 < byte_len text
+    → answer o text ≡ answer_left o.no_calc [] (rest_from o (byte_len text) (tokens_of o text))
 nonempty_answer o [] h = absurd (omega arith)
 nonempty_answer o (c ∷ text) h =
     let tokens = tokens_of o (c ∷ text) in
@@ -23,8 +26,8 @@ nonempty_answer o (c ∷ text) h =
     rw (all_terminals o len tokens, same_start o (front_of o.no_calc (terminals_of o (c ∷ text))) len tokens)
 
 -- The result of reading everything from the start of a text is the text's answer.
-pub text_answer : (o : Options) (bs : List ℕ) (tokens : Tokens) (r : Result ℕ Cause) → IsUtf8 bs → false ≡ (length bs == 0)
-    → source tokens ≡ bs → options_of tokens ≡ o → left tokens ≡ tokens_of o (chars bs)
+pub text_answer : (o : Options) (bs : List ℕ) (tokens : Tokens) (r : Result ℕ Cause) → IsUtf8 bs
+    → false ≡ (length bs == 0) → source tokens ≡ bs → options_of tokens ≡ o → left tokens ≡ tokens_of o (chars bs)
     → r ≡ answer_left o.no_calc [] (rest_of tokens) → answer o (chars bs) ≡ r
 text_answer o bs tokens r utf8 filled text options all is =
     let count = byte_count bs utf8 in

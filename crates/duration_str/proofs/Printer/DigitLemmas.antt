@@ -12,8 +12,8 @@ pub length_step : (n : ℕ) → 10 ≤ n → n < 2 ^ 64 → length (decimal n) �
 length_step n low high = ap length (decimal_step n low high) ∙ length-append _ _
 
 -- The last digit after those of n / 10 gives the digits of n.
-pub put_last : (bytes before after : List ℕ) (n : ℕ) → after ≡ before ++ decimal (n % 10) → before ≡ bytes ++ decimal (n / 10) → 10 ≤ n → n < 2 ^ 64
-    → after ≡ bytes ++ decimal n
+pub put_last : (bytes before after : List ℕ) (n : ℕ) → after ≡ before ++ decimal (n % 10)
+    → before ≡ bytes ++ decimal (n / 10) → 10 ≤ n → n < 2 ^ 64 → after ≡ bytes ++ decimal n
 put_last bytes before after n last first low high =
     last ∙ ap (λ bs. bs ++ decimal (n % 10)) first ∙ append_assoc bytes (decimal (n / 10)) (decimal (n % 10))
     ∙ ap (λ digits. bytes ++ (decimal (n / 10) ++ digits)) (decimal_digit (n % 10) (omega arith))
@@ -30,7 +30,8 @@ below_power = decimal_by_steps (λ n ds. n < 10 ^ length ds) (λ n small. omega 
 greatest_fits : (u : TimeUnit) → greatest_count u < 2 ^ 64
 greatest_fits u = ltb-true (greatest_count u) (2 ^ 64) (all_units (λ v. ltb (greatest_count v) (2 ^ 64)) refl u)
 
-pub length_count : (u : TimeUnit) (count : ℕ) → count ≤ greatest_count u → length (decimal count) ≤ length (decimal (greatest_count u))
+pub length_count : (u : TimeUnit) (count : ℕ) → count ≤ greatest_count u
+    → length (decimal count) ≤ length (decimal (greatest_count u))
 length_count u count h =
     let fits = greatest_fits u in
     length-decimal-le (length (decimal (greatest_count u))) count (decimal_nonempty (greatest_count u) fits)

@@ -17,7 +17,8 @@ with_part_more bytes u count h = grind (arith, nat_tests)
 abbrev parts_of : List TimeUnit → ℕ → List (List ℕ)
 parts_of us nanos = printed_parts us (counts_of (map nanos_of us) nanos)
 
-parts_none : (u : TimeUnit) (us : List TimeUnit) (nanos : ℕ) → nanos / nanos_of u ≡ 0 → parts_of (u ∷ us) nanos ≡ parts_of us (nanos % nanos_of u)
+parts_none : (u : TimeUnit) (us : List TimeUnit) (nanos : ℕ) → nanos / nanos_of u ≡ 0
+    → parts_of (u ∷ us) nanos ≡ parts_of us (nanos % nanos_of u)
 parts_none u us nanos h = rw h
 
 parts_more : (u : TimeUnit) (us : List TimeUnit) (nanos : ℕ) → 0 < nanos / nanos_of u
@@ -43,7 +44,8 @@ smaller_mod nanos l h = omega (arith, mod-le nanos l)
 
 -- one more part after some bytes, and others after it
 more_after : (bytes : List ℕ) (n : ℕ) (name rest : List ℕ) → n < 10 ^ 64
-    → (with_space bytes ++ (decimal n ++ encode_utf8_all name)) ++ encode_utf8_all rest ≡ with_space bytes ++ encode_utf8_all ((decimal n ++ name) ++ rest)
+    → (with_space bytes ++ (decimal n ++ encode_utf8_all name)) ++ encode_utf8_all rest
+    ≡ with_space bytes ++ encode_utf8_all ((decimal n ++ name) ++ rest)
 more_after bytes n name rest h =
     append_assoc (with_space bytes) (decimal n ++ encode_utf8_all name) (encode_utf8_all rest)
     ∙ ap (λ bs. with_space bytes ++ bs) (sym (encode_part n name rest h))
@@ -88,7 +90,8 @@ some_decimal n h =
     decimal_by_steps_wide (λ n ds. 0 < length ds) (λ n small. lit< tt)
     (λ n ds big some. omega (arith, length-append ds ((48 + n % 10) ∷ []))) n h
 
-pub ended_units : (us : List TimeUnit) (nanos : ℕ) → nanos < 10 ^ 64 → ended (with_parts [] us nanos) ≡ encode_utf8_all (spaced (parts_of us nanos))
+pub ended_units : (us : List TimeUnit) (nanos : ℕ) → nanos < 10 ^ 64
+    → ended (with_parts [] us nanos) ≡ encode_utf8_all (spaced (parts_of us nanos))
 unfolding lib.Utf8.encode
 ended_units [] nanos h = refl
 ended_units (u ∷ us) nanos h =
@@ -111,7 +114,8 @@ ended_units (u ∷ us) nanos h =
 -- the years from whole seconds, then the rest in nanoseconds
 pub printed_from_seconds : (nanos secs subsec second year : ℕ) (years bytes : List ℕ) → nanos < 10 ^ 64
     → secs ≡ nanos / 1_000_000_000 → subsec ≡ nanos % 1_000_000_000 → second ≡ nanos_of Second → year ≡ nanos_of Year
-    → years ≡ with_part [] Year (secs / (year / second)) → bytes ≡ with_parts years units_below_year (secs % (year / second) * second + subsec)
+    → years ≡ with_part [] Year (secs / (year / second))
+    → bytes ≡ with_parts years units_below_year (secs % (year / second) * second + subsec)
     → ended bytes ≡ encode_utf8_all (printed_counts (counts_of unit_lengths nanos))
 printed_from_seconds nanos secs subsec second year years bytes h whole part is_second is_year first more =
     let count : secs / (year / second) ≡ nanos / nanos_of Year = rw (is_second, is_year) (omega arith) in
@@ -138,7 +142,8 @@ IsUtf8-part bytes u n h text =
           (IsUtf8-append (decimal n) (encode_utf8_all (row_of u).printed) (IsUtf8-from_ascii (decimal n) (IsAscii-decimal_wide n h)) (IsUtf8-name u)))
     ]
 
-IsUtf8-parts : (us : List TimeUnit) (bytes : List ℕ) (nanos : ℕ) → nanos < 10 ^ 64 → IsUtf8 bytes → IsUtf8 (with_parts bytes us nanos)
+IsUtf8-parts : (us : List TimeUnit) (bytes : List ℕ) (nanos : ℕ) → nanos < 10 ^ 64 → IsUtf8 bytes
+    → IsUtf8 (with_parts bytes us nanos)
 IsUtf8-parts [] bytes nanos h text = text
 IsUtf8-parts (u ∷ us) bytes nanos h text =
     IsUtf8-parts us (with_part bytes u (nanos / nanos_of u)) (nanos % nanos_of u) (smaller_mod nanos (nanos_of u) h)
@@ -149,5 +154,6 @@ unfolding lib.Utf8.encode
 IsUtf8-ended [] text = (codes "0s", (refl, refl))
 IsUtf8-ended (b ∷ bytes) text = text
 
-pub IsUtf8-printed : (nanos : ℕ) → nanos < 10 ^ 64 → IsUtf8 (encode_utf8_all (printed_counts (counts_of unit_lengths nanos)))
+pub IsUtf8-printed : (nanos : ℕ) → nanos < 10 ^ 64
+    → IsUtf8 (encode_utf8_all (printed_counts (counts_of unit_lengths nanos)))
 IsUtf8-printed nanos h = rw (← ended_units units nanos h) (IsUtf8-ended (with_parts [] units nanos) (IsUtf8-parts units [] nanos h IsUtf8-nil))

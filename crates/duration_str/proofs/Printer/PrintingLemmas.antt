@@ -55,7 +55,8 @@ pub printed_terminal : (o : Options) (u : TimeUnit) → terminal_of o (row_of u)
 printed_terminal o = at o.no_calc o.lowercase o.cn_unit
   where
     at : (no_calc lowercase cn_unit : Bool) (u : TimeUnit)
-        → terminal_of (record { no_calc = no_calc; lowercase = lowercase; cn_unit = cn_unit }) (row_of u).printed ≡ word (Some u)
+        → terminal_of (record { no_calc = no_calc; lowercase = lowercase; cn_unit = cn_unit }) (row_of u).printed
+        ≡ word (Some u)
     at no_calc true true Year = refl
     at no_calc true false Year = refl
     at no_calc false true Year = refl
@@ -83,7 +84,8 @@ counts_below : (lengths : List ℕ) (nanos : ℕ) → nanos < 2 ^ 64 → EachBel
 counts_below [] nanos h = tt
 counts_below (l ∷ lengths) nanos h = (omega arith, counts_below lengths (nanos % l) (omega arith))
 
-pub terminals_of_duration : (o : Options) (nanos : ℕ) → FitsDuration nanos → map (terminal_of o) (duration_lexemes nanos) ≡ terminals (printed nanos)
+pub terminals_of_duration : (o : Options) (nanos : ℕ) → FitsDuration nanos
+    → map (terminal_of o) (duration_lexemes nanos) ≡ terminals (printed nanos)
 terminals_of_duration o nanos h =
     terminals_or_zero o _ (terminals_kept o units (counts_of unit_lengths nanos)
     (omega arith, counts_below (drop 1 unit_lengths) (nanos % nanos_of Year) (omega arith)))
@@ -99,7 +101,8 @@ units_plus : (ps : List (ℕ × TimeUnit)) → AllPlus (terminals ps)
 units_plus [] = tt
 units_plus (p ∷ ps) = units_plus ps
 
-pub counts_are : (nanos : ℕ) (text : List ℕ) → IsPrinted nanos text → text ≡ printed_counts (counts_of unit_lengths nanos)
+pub counts_are : (nanos : ℕ) (text : List ℕ) → IsPrinted nanos text
+    → text ≡ printed_counts (counts_of unit_lengths nanos)
 counts_are nanos text p =
     let same = one_greatest unit_lengths nanos p.0 (counts_of unit_lengths nanos) p.1 (greatest_breakdown_holds nanos) in cc (p.2)
 
@@ -117,7 +120,8 @@ printed_is_sum o nanos text h p =
 
 -- ---- The total is the duration
 
-sum_kept : (us : List TimeUnit) (counts : List ℕ) → sum_of (terms_of (terminals (kept us counts))) ≡ weighted_sum (map nanos_of us) counts
+sum_kept : (us : List TimeUnit) (counts : List ℕ)
+    → sum_of (terms_of (terminals (kept us counts))) ≡ weighted_sum (map nanos_of us) counts
 sum_kept (u ∷ us) (n ∷ counts) = elim (cases_Bool (n == 0)) [
   | inl e ↦ let none = eqb-true n 0 e in rw (e, none) (omega (arith, sum_kept us counts))
   | inr e ↦ rw (e, sum_kept us counts)
@@ -129,7 +133,8 @@ sum_or_zero : (ps : List (ℕ × TimeUnit)) → sum_of (terms_of (terminals (or_
 sum_or_zero [] = refl
 sum_or_zero (p ∷ ps) = refl
 
-pub duration_sum : (o : Options) (nanos : ℕ) → FitsDuration nanos → sum_of (terms_of_lexemes o (duration_lexemes nanos)) ≡ nanos
+pub duration_sum : (o : Options) (nanos : ℕ) → FitsDuration nanos
+    → sum_of (terms_of_lexemes o (duration_lexemes nanos)) ≡ nanos
 duration_sum o nanos h =
     let counts : List ℕ = counts_of unit_lengths nanos in
     rw (terminals_of_duration o nanos h, sum_or_zero (kept units counts), sum_kept units counts) (greatest_breakdown_holds nanos).breakdown.whole

@@ -9,7 +9,8 @@ use Rattle.duration_str.proofs.Sentences.SumLemmas.{terms_added, has_terms, runn
 -- ---- The faults of a sentence
 
 -- Under `no_calc` the table allows no operator.
-pub allowed_plus : (last : Option Terminal) (terminals : List Terminal) → AreAllowed true last terminals → AllPlus terminals
+pub allowed_plus : (last : Option Terminal) (terminals : List Terminal) → AreAllowed true last terminals
+    → AllPlus terminals
 allowed_plus last [] h = tt
 allowed_plus last (number n ∷ terminals) h = allowed_plus (Some (number n)) terminals h.1
 allowed_plus last (word u ∷ terminals) h = allowed_plus (Some (word u)) terminals h.1
@@ -58,7 +59,8 @@ has_value_below (t ∷ u ∷ later) e =
 
 -- ---- Readings and refusals in terms of terminals
 
-sentence_front : (no_calc : Bool) (terminals : List Terminal) → IsSentence no_calc terminals → IsFront no_calc terminals terminals []
+sentence_front : (no_calc : Bool) (terminals : List Terminal) → IsSentence no_calc terminals
+    → IsFront no_calc terminals terminals []
 sentence_front no_calc terminals s = record {
   parts = sym (append-nil terminals);
   begins = ([], rw append-nil s);
@@ -71,7 +73,8 @@ pub record IsReadAs (no_calc : Bool) (terminals : List Terminal) (nanos : ℕ) :
   pub evaluates : Evaluates (terms_of terminals)
   pub value : value_of (terms_of terminals) ≡ Some nanos
 
-pub read_terminals : {o : Options} {text : List ℕ} {nanos : ℕ} → IsRead o text nanos → IsReadAs o.no_calc (terminals_of o text) nanos
+pub read_terminals : {o : Options} {text : List ℕ} {nanos : ℕ} → IsRead o text nanos
+    → IsReadAs o.no_calc (terminals_of o text) nanos
 read_terminals {o} {text} r =
     rw (← sentence_terminals o text r.lexemes r.spells) (record { sentence = r.spells.0; evaluates = r.evaluates; value = r.value })
 
@@ -79,7 +82,8 @@ pub read_sentence : {o : Options} {text : List ℕ} {nanos : ℕ} (lexemes : Lis
     → IsRead o text nanos → IsReadAs o.no_calc (map (terminal_of o) lexemes) nanos
 read_sentence {o} {text} lexemes s r = rw (sentence_terminals o text lexemes s) (read_terminals r)
 
-pub terminals_read : (o : Options) (text : List ℕ) (nanos : ℕ) → IsReadAs o.no_calc (terminals_of o text) nanos → IsRead o text nanos
+pub terminals_read : (o : Options) (text : List ℕ) (nanos : ℕ) → IsReadAs o.no_calc (terminals_of o text) nanos
+    → IsRead o text nanos
 terminals_read o text nanos r = record {
   lexemes = lexemes_of (tokens_of o text);
   spells = (r.sentence, tokens_spell o text);
@@ -97,8 +101,8 @@ one_value : {o : Options} {text : List ℕ} {m n : ℕ} → IsRead o text m → 
 one_value r s = cc ((read_terminals r).value, (read_terminals s).value)
 
 -- There is one cause for a front, its rest and the place of the rest.
-one_cause_at : {no_calc : Bool} {place : ℕ} {front rest : List Terminal} {c d : Cause} → IsRefusedAt no_calc place front rest c
-    → IsRefusedAt no_calc place front rest d → c ≡ d
+one_cause_at : {no_calc : Bool} {place : ℕ} {front rest : List Terminal} {c d : Cause}
+    → IsRefusedAt no_calc place front rest c → IsRefusedAt no_calc place front rest d → c ≡ d
 one_cause_at (early h) (early k) = cc
 one_cause_at (early h) (syntax_fault x e n f s) = cc
 one_cause_at (early h) (late e n f) = cc
@@ -109,8 +113,8 @@ one_cause_at (late e n f) (early k) = cc
 one_cause_at (late e n f) (syntax_fault x e' n' f' s') = absurd (n' n)
 one_cause_at (late e n f) (late e' n' f') = cc
 
-evaluates_not_refused : {no_calc : Bool} {place : ℕ} (terminals : List Terminal) (cause : Cause) → IsSentence no_calc terminals
-    → Evaluates (terms_of terminals) → IsRefusedAt no_calc place terminals [] cause → ⊥
+evaluates_not_refused : {no_calc : Bool} {place : ℕ} (terminals : List Terminal) (cause : Cause)
+    → IsSentence no_calc terminals → Evaluates (terms_of terminals) → IsRefusedAt no_calc place terminals [] cause → ⊥
 evaluates_not_refused {no_calc} terminals cause s e (early k) = cc ((evaluates_by no_calc terminals s).0 e).0
 evaluates_not_refused terminals cause s e (syntax_fault x k n f c) = n (rw append-nil s)
 evaluates_not_refused {no_calc} terminals cause s e (late k n f) =
@@ -125,32 +129,35 @@ place_free q s (syntax_fault x e n f c) = absurd (n (rw append-nil s))
 place_free q s (late e n f) = late e n f
 
 -- A text that a sentence spells is refused exactly if the terminals of the sentence are.
-pub refused_sentence : (o : Options) (text : List ℕ) (lexemes : List (List ℕ)) (cause : Cause) (place : ℕ) → IsSentenceOf o lexemes text
-    → IsRefused o text cause → IsRefusedAt o.no_calc place (map (terminal_of o) lexemes) [] cause
+pub refused_sentence : (o : Options) (text : List ℕ) (lexemes : List (List ℕ)) (cause : Cause) (place : ℕ)
+    → IsSentenceOf o lexemes text → IsRefused o text cause
+    → IsRefusedAt o.no_calc place (map (terminal_of o) lexemes) [] cause
 refused_sentence o [] lexemes cause place s h = absurd (empty_no_sentence o lexemes s)
 refused_sentence o (c ∷ text) lexemes cause place s h =
     let front = rw (← sentence_terminals o (c ∷ text) lexemes s) at h.2 in
     let same = one_front front (sentence_front o.no_calc (map (terminal_of o) lexemes) s.0) in
     place_free place s.0 (rw (same.0, same.1) at h.3)
 
-pub sentence_refused : (o : Options) (text : List ℕ) (lexemes : List (List ℕ)) (cause : Cause) → IsSentenceOf o lexemes text
-    → ((place : ℕ) → IsRefusedAt o.no_calc place (map (terminal_of o) lexemes) [] cause) → IsRefused o text cause
+pub sentence_refused : (o : Options) (text : List ℕ) (lexemes : List (List ℕ)) (cause : Cause)
+    → IsSentenceOf o lexemes text → ((place : ℕ) → IsRefusedAt o.no_calc place (map (terminal_of o) lexemes) [] cause)
+    → IsRefused o text cause
 sentence_refused o [] lexemes cause s h = absurd (empty_no_sentence o lexemes s)
 sentence_refused o (c ∷ text) lexemes cause s h =
     let terminals = terminals_of o (c ∷ text) in
     let same : map (terminal_of o) lexemes ≡ terminals = sentence_terminals o (c ∷ text) lexemes s in
     (terminals, [], sentence_front o.no_calc terminals (rw same at s.0), rw (← same) (h _))
 
-not_both : (o : Options) (text : List ℕ) (nanos : ℕ) (cause : Cause) → IsRead o text nanos → IsRefused o text cause → ⊥
-not_both o text nanos cause r h =
-    evaluates_not_refused (map (terminal_of o) r.lexemes) cause r.spells.0 r.evaluates
-    (refused_sentence o text r.lexemes cause 0 r.spells h)
+module _ (o : Options) where
+  not_both : (text : List ℕ) (nanos : ℕ) (cause : Cause) → IsRead o text nanos → IsRefused o text cause → ⊥
+  not_both text nanos cause r h =
+      evaluates_not_refused (map (terminal_of o) r.lexemes) cause r.spells.0 r.evaluates
+      (refused_sentence o text r.lexemes cause 0 r.spells h)
 
-one_cause : (o : Options) (text : List ℕ) (c d : Cause) → IsRefused o text c → IsRefused o text d → c ≡ d
-one_cause o [] c d h k = h ∙ sym k
-one_cause o (x ∷ text) c d h k =
-    let same = one_front k.2 h.2 in
-    one_cause_at h.3 (rw (same.0, same.1) at k.3)
+  one_cause : (text : List ℕ) (c d : Cause) → IsRefused o text c → IsRefused o text d → c ≡ d
+  one_cause [] c d h k = h ∙ sym k
+  one_cause (x ∷ text) c d h k =
+      let same = one_front k.2 h.2 in
+      one_cause_at h.3 (rw (same.0, same.1) at k.3)
 
 -- ---- The computed answer
 
@@ -217,12 +224,13 @@ some_answer : (o : Options) (text : List ℕ) (result : Result ℕ Cause) → Me
 some_answer o text (Ok nanos) h = inl (nanos, h)
 some_answer o text (Err cause) h = inr (cause, h)
 
-by_value : (o : Options) (text : List ℕ) (nanos : ℕ) → IsRead o text nanos → (result : Result ℕ Cause) → Means o text result → result ≡ Ok nanos
+by_value : (o : Options) (text : List ℕ) (nanos : ℕ) → IsRead o text nanos → (result : Result ℕ Cause)
+    → Means o text result → result ≡ Ok nanos
 by_value o text nanos r (Ok n) h = ap Ok (one_value h r)
 by_value o text nanos r (Err cause) h = absurd (not_both o text nanos cause r h)
 
-by_cause : (o : Options) (text : List ℕ) (cause : Cause) → IsRefused o text cause → (result : Result ℕ Cause) → Means o text result
-    → result ≡ Err cause
+by_cause : (o : Options) (text : List ℕ) (cause : Cause) → IsRefused o text cause → (result : Result ℕ Cause)
+    → Means o text result → result ≡ Err cause
 by_cause o text cause r (Ok n) h = absurd (not_both o text n cause h r)
 by_cause o text cause r (Err d) h = ap Err (one_cause o text d cause h r)
 

@@ -22,7 +22,8 @@ is_same_operator-true Star Plus = (λ h. cc, λ h. cc)
 -- There is no fault: each number is below 2^64, and each operator is the one that was set.
 pub ruleset no_fault = (or_else-none, unless-none, fits-true, is_same_operator-true)
 
-pub or_else-some : (a b : Option Cause) (cause : Cause) → (or_else a b ≡ Some cause) ↔ ((a ≡ Some cause) ⊎ ((a ≡ None) × (b ≡ Some cause)))
+pub or_else-some : (a b : Option Cause) (cause : Cause)
+    → (or_else a b ≡ Some cause) ↔ ((a ≡ Some cause) ⊎ ((a ≡ None) × (b ≡ Some cause)))
 or_else-some None b cause = (λ h. inr (refl, h), λ h. elim h [ inl e ↦ cc | inr e ↦ e.1 ])
 or_else-some (Some c) b cause = (λ h. inl h, λ h. elim h [ inl e ↦ e | inr e ↦ cc e.0 ])
 
@@ -36,5 +37,6 @@ fits-false n = (ltb-false n (2 ^ 64), le-ltb n (2 ^ 64))
 -- There is a fault, of this cause.
 pub ruleset some_fault = (or_else-some, unless-some, fits-false, no_fault)
 
-pub term_below_no_fault : (place : Option ℕ) (t : Term) → 1 ≤ t.length → value_of_term t < 2 ^ 64 → term_fault place t ≡ None
+pub term_below_no_fault : (place : Option ℕ) (t : Term) → 1 ≤ t.length → value_of_term t < 2 ^ 64
+    → term_fault place t ≡ None
 term_below_no_fault place t l h = simp no_fault (grind arith)

@@ -13,7 +13,8 @@ abbrev CanEnd : Bool → Option Terminal → List Terminal → Type 0
 CanEnd no_calc last terminals = IsTrue (kinds_after no_calc (last_of last terminals)).text_end
 
 -- Only one set of kinds can follow a front.
-pub one_expected : {no_calc : Bool} {front : List Terminal} {a b : Expected} → CanFollow no_calc front a → CanFollow no_calc front b → a ≡ b
+pub one_expected : {no_calc : Bool} {front : List Terminal} {a b : Expected} → CanFollow no_calc front a
+    → CanFollow no_calc front b → a ≡ b
 one_expected {a = a} {b = b} h k =
     let number_same = same_from_decides a.number b.number h.number_expected k.number_expected in
     let unit_same = same_from_decides a.unit_word b.unit_word h.unit_expected k.unit_expected in
@@ -39,7 +40,8 @@ module _ (no_calc : Bool) where
   first_allowed last [] more h = tt
   first_allowed last (t ∷ terminals) more h = (h.0, first_allowed (Some t) terminals more h.1)
 
-  pub begins_allowed : (terminals : List Terminal) → BeginsSentence no_calc terminals → AreAllowed no_calc None terminals
+  pub begins_allowed : (terminals : List Terminal) → BeginsSentence no_calc terminals
+      → AreAllowed no_calc None terminals
   begins_allowed terminals b = first_allowed None terminals b.0 (sentence_allowed (terminals ++ b.0) b.1)
 
   -- A number completes what does not end, and nothing has to follow the rest.
@@ -78,7 +80,8 @@ module _ (no_calc : Bool) where
   allowed_push last (s ∷ terminals) t h =
       let rest = allowed_push (Some s) terminals t h.1 in (λ k. (h.0, rest.0 k), λ k. rest.1 k.1)
 
-  pub ends_by_table : (front : List Terminal) → BeginsSentence no_calc front → (CanEnd no_calc None front ↔ IsSentence no_calc front)
+  pub ends_by_table : (front : List Terminal) → BeginsSentence no_calc front
+      → (CanEnd no_calc None front ↔ IsSentence no_calc front)
   ends_by_table front b = allowed_ends front (begins_allowed front b)
 
   follows_by_table : (front : List Terminal) (t : Terminal) → BeginsSentence no_calc front
@@ -121,7 +124,8 @@ module _ (no_calc : Bool) where
     | inr e ↦ rw e tt
   ]
 
-  pub front_within : (last : Option Terminal) (terminals : List Terminal) → front_after no_calc last terminals ≤ length terminals
+  pub front_within : (last : Option Terminal) (terminals : List Terminal)
+      → front_after no_calc last terminals ≤ length terminals
   front_within last [] = zero-le
   front_within last (t ∷ terminals) = elim (cases_Bool (allows (kinds_after no_calc last) t)) [
     | inl e ↦ rw e (suc-le-suc (front_within (Some t) terminals))
@@ -145,15 +149,15 @@ module _ (no_calc : Bool) where
 
 -- ---- There is one front
 
-front_length : {no_calc : Bool} {terminals a r b s : List Terminal} → IsFront no_calc terminals a r → IsFront no_calc terminals b s
-    → length a ≤ length b
+front_length : {no_calc : Bool} {terminals a r b s : List Terminal} → IsFront no_calc terminals a r
+    → IsFront no_calc terminals b s → length a ≤ length b
 front_length {terminals = terminals} {a = a} {r = r} h k =
     let within : length a ≤ length terminals = omega (arith, ap length h.parts, length-append a r) in
     let here : take (length a) terminals ≡ a = rw h.parts (take_at a r (length a) refl) in
     k.longest (length a) within (rw here h.begins)
 
-pub one_front : {no_calc : Bool} {terminals a r b s : List Terminal} → IsFront no_calc terminals a r → IsFront no_calc terminals b s
-    → (a ≡ b) × (r ≡ s)
+pub one_front : {no_calc : Bool} {terminals a r b s : List Terminal} → IsFront no_calc terminals a r
+    → IsFront no_calc terminals b s → (a ≡ b) × (r ≡ s)
 one_front {a = a} {r = r} {b = b} {s = s} h k =
     let same : length a ≡ length b = le_antisymm (front_length h k) (front_length k h) in
     let whole : a ++ r ≡ b ++ s = sym h.parts ∙ k.parts in (

@@ -8,84 +8,92 @@ use Rattle.duration_str.proofs.Cutting.TerminalLemmas.{terminal_cases, digits_ar
 use Rattle.duration_str.proofs.Sentences.FrontLemmas.{AreAllowed, sentence_allowed}
 
 -- Characters whose terminal is of an expected kind are a lexeme.
-allowed_is_lexeme : (o : Options) (expected : Expected) (w : List ℕ) → IsTrue (allows expected (terminal_of o w)) → IsLexeme o w
+allowed_is_lexeme : (o : Options) (expected : Expected) (w : List ℕ) → IsTrue (allows expected (terminal_of o w))
+    → IsLexeme o w
 allowed_is_lexeme o expected = terminal_cases o (λ w t. IsTrue (allows expected t) → IsLexeme o w)
     (λ h. cc) (λ c cs digits h. digits_are_lexeme o c cs digits) (λ c cs letters h. letters_are_lexeme o c cs letters)
     (λ c op _ _ sign h. (operator-not_blank c op sign, refl)) (λ c cs _ _ h. cc)
 
 -- The table allows no terminal after one of its own sort.
-sorts_apart : (no_calc : Bool) (s t : Terminal) → IsTrue (allows (kinds_after no_calc (Some s)) t) → sort_of s ≡ sort_of t → ⊥
+sorts_apart : (no_calc : Bool) (s t : Terminal) → IsTrue (allows (kinds_after no_calc (Some s)) t)
+    → sort_of s ≡ sort_of t → ⊥
 sorts_apart no_calc (number n) (number m) a e = cc
 sorts_apart no_calc (word u) (word v) a e = cc
 sorts_apart no_calc (operator op) (operator next) a e = cc
 sorts_apart no_calc other other a e = cc
 sorts_apart no_calc s t a e = cc
 
--- If the table allows the terminal of one lexeme after that of another, the two are not of one run.
-allowed_apart : (o : Options) (c : ℕ) (cs : List ℕ) (d : ℕ) (ds : List ℕ) → IsLexeme o (c ∷ cs) → IsLexeme o (d ∷ ds)
-    → IsTrue (allows (kinds_after o.no_calc (Some (terminal_of o (c ∷ cs)))) (terminal_of o (d ∷ ds))) → are_of_one_run o c d ≡ false
-allowed_apart o c cs d ds p q a = false_from_ne_true _ (λ run.
-    sorts_apart o.no_calc _ _ a (sym (lexeme_sort o c cs p) ∙ run_sort o c d run ∙ lexeme_sort o d ds q))
+module _ (o : Options) where
+  -- If the table allows the terminal of one lexeme after that of another, the two are not of one run.
+  allowed_apart : (c : ℕ) (cs : List ℕ) (d : ℕ) (ds : List ℕ) → IsLexeme o (c ∷ cs) → IsLexeme o (d ∷ ds)
+      → IsTrue (allows (kinds_after o.no_calc (Some (terminal_of o (c ∷ cs)))) (terminal_of o (d ∷ ds)))
+      → are_of_one_run o c d ≡ false
+  allowed_apart c cs d ds p q a = false_from_ne_true _ (λ run.
+      sorts_apart o.no_calc _ _ a (sym (lexeme_sort o c cs p) ∙ run_sort o c d run ∙ lexeme_sort o d ds q))
 
-stops_at_blank : (o : Options) (c d : ℕ) → is_blank d ≡ true → are_of_one_run o c d ≡ false
-stops_at_blank o c d e = false_from_ne_true _ (λ run. cc (run-not_blank o c d run))
+  stops_at_blank : (c d : ℕ) → is_blank d ≡ true → are_of_one_run o c d ≡ false
+  stops_at_blank c d e = false_from_ne_true _ (λ run. cc (run-not_blank o c d run))
 
-stops_before : (o : Options) (c : ℕ) (cs blanks w rest : List ℕ) → IsBlank blanks → IsLexeme o (c ∷ cs) → IsLexeme o w
-    → IsTrue (allows (kinds_after o.no_calc (Some (terminal_of o (c ∷ cs)))) (terminal_of o w)) → goes_on o c (blanks ++ (w ++ rest)) ≡ false
-stops_before o c cs (b ∷ blanks) w rest h p q a = stops_at_blank o c b (and_parts _ _ h).0
-stops_before o c cs [] [] rest h p q a = absurd q
-stops_before o c cs [] (d ∷ ds) rest h p q a = allowed_apart o c cs d ds p q a
+  stops_before : (c : ℕ) (cs blanks w rest : List ℕ) → IsBlank blanks → IsLexeme o (c ∷ cs) → IsLexeme o w
+      → IsTrue (allows (kinds_after o.no_calc (Some (terminal_of o (c ∷ cs)))) (terminal_of o w))
+      → goes_on o c (blanks ++ (w ++ rest)) ≡ false
+  stops_before c cs (b ∷ blanks) w rest h p q a = stops_at_blank c b (and_parts _ _ h).0
+  stops_before c cs [] [] rest h p q a = absurd q
+  stops_before c cs [] (d ∷ ds) rest h p q a = allowed_apart c cs d ds p q a
 
--- A run in a sentence ends where its lexeme ends.
-ends_in_sentence : (o : Options) (w rest : List ℕ) (ws : List (List ℕ)) → IsLexeme o w
-    → AreAllowed o.no_calc (Some (terminal_of o w)) (map (terminal_of o) ws) → Spells ws rest → EndsRun o w rest
-ends_in_sentence o [] rest ws p a s = tt
-ends_in_sentence o (c ∷ cs) [] [] p a s = refl
-ends_in_sentence o (c ∷ cs) (d ∷ rest) [] p a s = stops_at_blank o c d (and_parts _ _ s).0
-ends_in_sentence o (c ∷ cs) rest (v ∷ ws) p a s =
-    rw s.3 (stops_before o c cs s.0 v s.1 s.2 p (allowed_is_lexeme o (kinds_after o.no_calc (Some (terminal_of o (c ∷ cs)))) v a.0) a.0)
+  -- A run in a sentence ends where its lexeme ends.
+  ends_in_sentence : (w rest : List ℕ) (ws : List (List ℕ)) → IsLexeme o w
+      → AreAllowed o.no_calc (Some (terminal_of o w)) (map (terminal_of o) ws) → Spells ws rest → EndsRun o w rest
+  ends_in_sentence [] rest ws p a s = tt
+  ends_in_sentence (c ∷ cs) [] [] p a s = refl
+  ends_in_sentence (c ∷ cs) (d ∷ rest) [] p a s = stops_at_blank c d (and_parts _ _ s).0
+  ends_in_sentence (c ∷ cs) rest (v ∷ ws) p a s =
+      rw s.3 (stops_before c cs s.0 v s.1 s.2 p (allowed_is_lexeme o (kinds_after o.no_calc (Some (terminal_of o (c ∷ cs)))) v a.0) a.0)
 
--- The lexemes of a sentence that spells the text are the characters of its tokens.
-spelled_tokens : (o : Options) (at : ℕ) (last : Option Terminal) (lexemes : List (List ℕ)) (text : List ℕ)
-    → AreAllowed o.no_calc last (map (terminal_of o) lexemes) → Spells lexemes text
-    → (tokens : List Token) × AreTokens o at text tokens × (lexemes_of tokens ≡ lexemes)
-spelled_tokens o at last [] text a s = ([], s, refl)
-spelled_tokens o at last (w ∷ ws) text a s =
-    let start = at + byte_len s.0 in
-    let is_lexeme = allowed_is_lexeme o (kinds_after o.no_calc last) w a.0 in
-    let ends = ends_in_sentence o w s.1 ws is_lexeme a.1 s.4 in
-    let more = spelled_tokens o (start + byte_len w) (Some (terminal_of o w)) ws s.1 a.1 s.4 in (
-      record { start = start; characters = w } ∷ more.0,
-      (s.1, record { blanks = s.0; blank = s.2; parts = s.3; start = refl; is_lexeme = is_lexeme; ends = ends }, more.1),
-      rw more.2,
-    )
+  -- The lexemes of a sentence that spells the text are the characters of its tokens.
+  spelled_tokens : (at : ℕ) (last : Option Terminal) (lexemes : List (List ℕ)) (text : List ℕ)
+      → AreAllowed o.no_calc last (map (terminal_of o) lexemes) → Spells lexemes text
+      → (tokens : List Token) × AreTokens o at text tokens × (lexemes_of tokens ≡ lexemes)
+  spelled_tokens at last [] text a s = ([], s, refl)
+  spelled_tokens at last (w ∷ ws) text a s =
+      let start = at + byte_len s.0 in
+      let is_lexeme = allowed_is_lexeme o (kinds_after o.no_calc last) w a.0 in
+      let ends = ends_in_sentence w s.1 ws is_lexeme a.1 s.4 in
+      let more = spelled_tokens (start + byte_len w) (Some (terminal_of o w)) ws s.1 a.1 s.4 in (
+        record { start = start; characters = w } ∷ more.0,
+        (s.1, record { blanks = s.0; blank = s.2; parts = s.3; start = refl; is_lexeme = is_lexeme; ends = ends }, more.1),
+        rw more.2,
+      )
 
-pub tokens_spell_at : (o : Options) (at : ℕ) (text : List ℕ) (tokens : List Token) → AreTokens o at text tokens → Spells (lexemes_of tokens) text
-tokens_spell_at o at text [] h = h
-tokens_spell_at o at text (p ∷ tokens) h =
-    (h.1.blanks, h.0, h.1.blank, h.1.parts, tokens_spell_at o (p.start + byte_len p.characters) h.0 tokens h.2)
+  pub tokens_spell_at : (at : ℕ) (text : List ℕ) (tokens : List Token) → AreTokens o at text tokens
+      → Spells (lexemes_of tokens) text
+  tokens_spell_at at text [] h = h
+  tokens_spell_at at text (p ∷ tokens) h =
+      (h.1.blanks, h.0, h.1.blank, h.1.parts, tokens_spell_at (p.start + byte_len p.characters) h.0 tokens h.2)
 
-pub tokens_spell : (o : Options) (text : List ℕ) → Spells (lexemes_of (tokens_of o text)) text
-tokens_spell o text = tokens_spell_at o 0 text (tokens_of o text) (tokens_are o 0 text)
+  pub tokens_spell : (text : List ℕ) → Spells (lexemes_of (tokens_of o text)) text
+  tokens_spell text = tokens_spell_at 0 text (tokens_of o text) (tokens_are o 0 text)
 
-pub sentence_tokens : (o : Options) (text : List ℕ) (lexemes : List (List ℕ)) → IsSentenceOf o lexemes text → lexemes ≡ lexemes_of (tokens_of o text)
-sentence_tokens o text lexemes s =
-    let found = spelled_tokens o 0 None lexemes text (sentence_allowed o.no_calc (map (terminal_of o) lexemes) s.0) s.1 in
-    rw (← tokens_once o 0 text found.0 (tokens_of o text) found.1 (tokens_are o 0 text), found.2)
+  pub sentence_tokens : (text : List ℕ) (lexemes : List (List ℕ)) → IsSentenceOf o lexemes text
+      → lexemes ≡ lexemes_of (tokens_of o text)
+  sentence_tokens text lexemes s =
+      let found = spelled_tokens 0 None lexemes text (sentence_allowed o.no_calc (map (terminal_of o) lexemes) s.0) s.1 in
+      rw (← tokens_once o 0 text found.0 (tokens_of o text) found.1 (tokens_are o 0 text), found.2)
 
-pub sentence_terminals : (o : Options) (text : List ℕ) (lexemes : List (List ℕ)) → IsSentenceOf o lexemes text
-    → map (terminal_of o) lexemes ≡ terminals_of o text
-sentence_terminals o text lexemes s = rw (sentence_tokens o text lexemes s)
+  pub sentence_terminals : (text : List ℕ) (lexemes : List (List ℕ)) → IsSentenceOf o lexemes text
+      → map (terminal_of o) lexemes ≡ terminals_of o text
+  sentence_terminals text lexemes s = rw (sentence_tokens text lexemes s)
 
-pub empty_no_sentence : (o : Options) (lexemes : List (List ℕ)) → IsSentenceOf o lexemes [] → ⊥
-empty_no_sentence o lexemes s = rw (sentence_terminals o [] lexemes s) at s.0
+  pub empty_no_sentence : (lexemes : List (List ℕ)) → IsSentenceOf o lexemes [] → ⊥
+  empty_no_sentence lexemes s = rw (sentence_terminals [] lexemes s) at s.0
 
 -- All characters of each lexeme pass the test.
 abbrev pub EachPasses : (ℕ → Bool) → List (List ℕ) → Type 0
 EachPasses test [] = Unit {0}
 EachPasses test (w ∷ lexemes) = IsTrue (list_all test w) × EachPasses test lexemes
 
-pub lexemes_pass : (test : ℕ → Bool) (lexemes : List (List ℕ)) (text : List ℕ) → IsTrue (list_all test text) → Spells lexemes text → EachPasses test lexemes
+pub lexemes_pass : (test : ℕ → Bool) (lexemes : List (List ℕ)) (text : List ℕ) → IsTrue (list_all test text)
+    → Spells lexemes text → EachPasses test lexemes
 lexemes_pass test [] text h s = tt
 lexemes_pass test (w ∷ lexemes) text h s =
     let whole = rw (s.3, list_all-append, list_all-append) at h in

@@ -12,7 +12,8 @@ AreAdded (t ∷ terms) = (t.operator ≡ Plus) × (1 ≤ t.length) × AreAdded t
 unit_above_zero : (u : TimeUnit) → 1 ≤ nanos_of u
 unit_above_zero u = leb-true 1 (nanos_of u) (all_units (λ v. leb 1 (nanos_of v)) refl u)
 
-terms_added_after : (op : CondUnit) (terminals : List Terminal) → op ≡ Plus → AllPlus terminals → AreAdded (terms_after op terminals)
+terms_added_after : (op : CondUnit) (terminals : List Terminal) → op ≡ Plus → AllPlus terminals
+    → AreAdded (terms_after op terminals)
 terms_added_after op (number n ∷ word (Some u) ∷ more) e a = (e, unit_above_zero u, terms_added_after Plus more refl a)
 terms_added_after op (number n ∷ more) e a = (e, omega arith, terms_added_after Plus more refl a)
 terms_added_after op (operator next ∷ more) e a = terms_added_after next more a.0 a.1
@@ -21,7 +22,8 @@ terms_added_after op _ e a = tt
 pub terms_added : (terminals : List Terminal) → AllPlus terminals → AreAdded (terms_of terminals)
 terms_added terminals a = terms_added_after Plus terminals refl a
 
-pub has_terms : (no_calc : Bool) (terminals : List Terminal) → IsSentence no_calc terminals → 1 ≤ length (terms_of terminals)
+pub has_terms : (no_calc : Bool) (terminals : List Terminal) → IsSentence no_calc terminals
+    → 1 ≤ length (terms_of terminals)
 has_terms no_calc (number n ∷ []) h = omega arith
 has_terms no_calc (number n ∷ operator op ∷ more) h = omega arith
 has_terms no_calc (number n ∷ word (Some u) ∷ []) h = omega arith
@@ -35,13 +37,15 @@ sum-append (x ∷ xs) ys =
     let more : sum_of (xs ++ ys) ≡ sum_of xs + sum_of ys = sum-append xs ys in
     omega arith
 
-pub step_within : (before : List Term) (t : Term) (later : List Term) → sum_of (before ++ t ∷ []) ≤ sum_of (before ++ t ∷ later)
+pub step_within : (before : List Term) (t : Term) (later : List Term)
+    → sum_of (before ++ t ∷ []) ≤ sum_of (before ++ t ∷ later)
 step_within before t later = omega (arith, sum-append before (t ∷ []), sum-append before (t ∷ later))
 
 term_within : (before : List Term) (t : Term) → value_of_term t ≤ sum_of (before ++ t ∷ [])
 term_within before t = omega (arith, sum-append before (t ∷ []))
 
-pub later_none : (before terms : List Term) → AreAdded terms → sum_of (before ++ terms) < 2 ^ 64 → later_fault Plus before terms ≡ None
+pub later_none : (before terms : List Term) → AreAdded terms → sum_of (before ++ terms) < 2 ^ 64
+    → later_fault Plus before terms ≡ None
 later_none before [] a h = refl
 later_none before (t ∷ later) a h =
     let step = step_within before t later in
@@ -49,7 +53,8 @@ later_none before (t ∷ later) a h =
     let rest = later_none (before ++ t ∷ []) later a.2 (rw append_assoc h) in
     rw (term_below_no_fault None t a.1 (omega arith)) (simp no_fault (a.0, (refl, (omega arith, rest))))
 
-pub running_none : (before terms : List Term) → AreAdded terms → sum_of (before ++ terms) < 2 ^ 64 → running_fault before terms ≡ None
+pub running_none : (before terms : List Term) → AreAdded terms → sum_of (before ++ terms) < 2 ^ 64
+    → running_fault before terms ≡ None
 running_none before [] a h = refl
 running_none before (t ∷ later) a h =
     let step = step_within before t later in
@@ -57,7 +62,8 @@ running_none before (t ∷ later) a h =
     let rest = running_none (before ++ t ∷ []) later a.2 (rw append_assoc h) in
     rw (term_below_no_fault (place_after before) t a.1 (omega arith)) (simp no_fault (refl, (omega arith, rest)))
 
-pub running_below : (before terms : List Term) → sum_of before < 2 ^ 64 → running_fault before terms ≡ None → sum_of (before ++ terms) < 2 ^ 64
+pub running_below : (before terms : List Term) → sum_of before < 2 ^ 64 → running_fault before terms ≡ None
+    → sum_of (before ++ terms) < 2 ^ 64
 running_below before [] b h = rw append-nil b
 running_below before (t ∷ later) b h =
     let parts = simp no_fault at h in
@@ -67,7 +73,8 @@ pub running_none_below : (terms : List Term) → running_fault [] terms ≡ None
 running_none_below terms h = running_below [] terms (omega arith) h
 
 pub fault_of_sum : (t u : Term) (later : List Term) → u.operator ≡ Plus
-    → evaluation_fault (t ∷ u ∷ later) ≡ or_else (later_fault Plus [] (u ∷ later)) (unless (fits (sum_of (t ∷ u ∷ later))) (Overflow None))
+    → evaluation_fault (t ∷ u ∷ later)
+    ≡ or_else (later_fault Plus [] (u ∷ later)) (unless (fits (sum_of (t ∷ u ∷ later))) (Overflow None))
 fault_of_sum t u later e =
     ap (λ set. or_else (later_fault set [] (u ∷ later)) (unless (fits (total_of set t (later_total set (u ∷ later)))) (Overflow None))) e
 

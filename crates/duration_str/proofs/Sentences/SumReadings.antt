@@ -29,8 +29,8 @@ sum_read o lexemes text nanos s e h =
       value = value_is_sum terms some added ∙ ap Some e;
     }
 
-pub read_sum : (o : Options) (lexemes : List (List ℕ)) (text : List ℕ) (nanos : ℕ) → IsSumOf o lexemes text → IsRead o text nanos
-    → sum_of (terms_of_lexemes o lexemes) ≡ nanos
+pub read_sum : (o : Options) (lexemes : List (List ℕ)) (text : List ℕ) (nanos : ℕ) → IsSumOf o lexemes text
+    → IsRead o text nanos → sum_of (terms_of_lexemes o lexemes) ≡ nanos
 read_sum o lexemes text nanos s r =
     let terminals : List Terminal = map (terminal_of o) lexemes in
     let value : value_of (terms_of terminals) ≡ Some nanos = (read_sentence lexemes s.sentence r).value in
@@ -80,16 +80,18 @@ first_fits : (terms : List Term) → AreAdded terms → EachFits terms → first
 first_fits [] a f = refl
 first_fits (t ∷ terms) a f = term_below_no_fault (Some 0) t a.1 f.0
 
-terminals_overflow : (no_calc : Bool) (place : ℕ) (terminals : List Terminal) → IsSentence no_calc terminals → AreAdded (terms_of terminals)
-    → EachFits (terms_of terminals) → 2 ^ 64 ≤ sum_of (terms_of terminals) → IsRefusedAt no_calc place terminals [] (Overflow None)
+terminals_overflow : (no_calc : Bool) (place : ℕ) (terminals : List Terminal) → IsSentence no_calc terminals
+    → AreAdded (terms_of terminals) → EachFits (terms_of terminals) → 2 ^ 64 ≤ sum_of (terms_of terminals)
+    → IsRefusedAt no_calc place terminals [] (Overflow None)
 terminals_overflow false place terminals s a f h =
     let same : terminals ≡ terminals ++ [] = sym (append-nil terminals) in
     late (first_fits (terms_of terminals) a f) (subst (IsSentence false) same s)
     (subst (λ (ts : List Terminal). late_fault false ts ≡ Some (Overflow None)) same (added_overflow (terms_of terminals) a f h))
 terminals_overflow true place terminals s a f h = early (running_overflow [] (terms_of terminals) a f (omega arith) h)
 
-pub sum_overflows : (o : Options) (lexemes : List (List ℕ)) (text : List ℕ) → IsSumOf o lexemes text → EachFits (terms_of_lexemes o lexemes)
-    → 2 ^ 64 ≤ sum_of (terms_of_lexemes o lexemes) → IsRefused o text (Overflow None)
+pub sum_overflows : (o : Options) (lexemes : List (List ℕ)) (text : List ℕ) → IsSumOf o lexemes text
+    → EachFits (terms_of_lexemes o lexemes) → 2 ^ 64 ≤ sum_of (terms_of_lexemes o lexemes)
+    → IsRefused o text (Overflow None)
 sum_overflows o lexemes text s f h =
     let terminals : List Terminal = map (terminal_of o) lexemes in
     sentence_refused o text lexemes (Overflow None) s.sentence
