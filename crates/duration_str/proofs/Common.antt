@@ -15,7 +15,7 @@ pub use Rattle.std.specs.Option.{ForSome}
 pub use Rattle.std.specs.Prelude.{⊤}
 pub use lib.Utf8.{encode, encodes, scalar, scalars}
 pub use Rattle.duration_str.specs.declared.fault.Cause.{Cause}
-pub use Rattle.duration_str.specs.declared.fault.Cause.TheVariants.{Empty, Mixed, NumberTooLarge, Overflow, Syntax}
+pub use Rattle.duration_str.specs.declared.fault.Cause.TheVariants.{Empty, Mixed, NotText, NumberTooLarge, OutOfRange, Overflow, Syntax}
 pub use Rattle.duration_str.specs.declared.fault.Expected.{Expected}
 pub use Rattle.duration_str.specs.declared.fault.Fault.{Fault}
 pub use Rattle.duration_str.specs.declared.operator.CondUnit.{CondUnit}
@@ -30,9 +30,9 @@ pub use Rattle.duration_str.specs.declared.unit.TimeUnit.TheVariants.{Day, Hour,
 pub use Rattle.duration_str.specs.Answer.{allows, answer, answer_after, answer_at, front_after, front_of, is_whole, kinds_after, last_of, late_answer}
 pub use Rattle.duration_str.specs.FaultText.{fault_text}
 pub use Rattle.duration_str.specs.Faults.{IsSliceOf, token_at}
-pub use Rattle.duration_str.specs.Grammar.{IsSentence, IsSentenceOf, Spells, Terminal, number, operator, operator_or_other, other, sign_terminal, terminal_among, terminal_of, word}
+pub use Rattle.duration_str.specs.Grammar.{IsSentence, IsSentenceOf, Spells, Terminal, number, operator, operator_or_other, other, sign_terminal, terminal_by, terminal_of, word}
 pub use Rattle.duration_str.specs.Laws.{BlanksFree, EqualTexts, GreatestBreakdown, HasNoCapital, HasNoChinese, HasNoOperator, HasNoStar, IsAnswer, NoCalcAgrees, OlderTexts, OneAnswer, OneCut, OneSentence, OptionsIdle, PlaceAndKinds, ReadsBack, Reorder, SumOfTexts, TwoFactors, is_operator, times_in}
-pub use Rattle.duration_str.specs.Older.{WasRead, WasRefused, WasSentenceOf, older_terminals, older_units}
+pub use Rattle.duration_str.specs.Older.{WasRead, WasRefused, WasSentenceOf, older_nanos_of, older_row_of, older_terminals, older_terms, older_unit_of_word, older_units, sentence_fault, was_named}
 pub use Rattle.duration_str.specs.Place.{BeginsSentence, CanFollow, IsFront, start_after, terminals_of}
 pub use Rattle.duration_str.specs.Printing.{IsBefore, IsGreatestBreakdown, IsPrinted, counts_of, printed_counts, printed_parts, spaced, weighted_sum}
 pub use Rattle.duration_str.specs.Reading.{IsRead, IsRefused, IsRefusedAt, complete, complete_terms, early, early_fault, first_fault, late, late_fault, place_after, running_fault, syntax_fault, without_last_number}
@@ -41,8 +41,8 @@ pub use Rattle.duration_str.specs.Terms.{term_of}
 pub use Rattle.duration_str.specs.Text.{IsBlank, IsNumber, byte_len, is_blank, is_chinese, is_digit, is_unit_letter, number_after, number_of, operator_of, width}
 pub use Rattle.duration_str.specs.Tokenizer.{KeepsInput, YieldsNextToken, left, options_of, source, what_of}
 pub use Rattle.duration_str.specs.Tokens.{AreTokens, EndsRun, IsLexeme, IsNextToken, are_of_one_run, goes_on, lexemes_of, tokens_from, tokens_of}
-pub use Rattle.duration_str.specs.Units.{comparison_form, is_named, nanos_of, off, row_of, unit_among, unit_lengths, unit_of_word, units}
-pub use Rattle.duration_str.specs.Value.{AllPlus, Evaluates, Term, combination, evaluation_fault, fits, is_same_operator, later_fault, later_total, or_else, second, sum_of, term_fault, terms_after, terms_of, total_of, unless, value_of, value_of_term}
+pub use Rattle.duration_str.specs.Units.{UnitRow, comparison_form, is_named, nanos_of, off, row_of, unit_lengths, unit_of_word, units}
+pub use Rattle.duration_str.specs.Value.{AllPlus, Evaluates, Term, combination, evaluation_fault, fits, is_same_operator, later_fault, later_total, or_else, second, sum_of, term_fault, terms_after, terms_by, terms_of, total_of, unless, value_of, value_of_term}
 pub use Rattle.duration_str.specs.Internal.Cutting.{Between, Passes, StandsAt, Stops, TakesDigits, TakesLetters, ahead, packed_number, packed_number_after}
 pub use Rattle.duration_str.specs.Internal.Numbers.{term_value, u64_from}
 pub use Rattle.duration_str.specs.Internal.Packed.{packs_to, unit_of_packed}

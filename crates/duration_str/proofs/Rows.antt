@@ -1,6 +1,6 @@
 -- Worked examples, computed: what texts are read as, why others are refused, and what durations print as.
 use Rattle.std.proofs.Common.{◌≡◌, ℕ, Bool, true, false, List, [], ◌∷◌, ◌++◌, Some, None, Ok, Err, refl, length, flat_map, map, encode_utf8_all, codes}
-use Rattle.duration_str.proofs.Common.{⊤, Options, TimeUnit, Quarter, Plus, Star, Empty, Syntax, NumberTooLarge, Overflow, Mixed, Expected, off, row_of, units, unit_among, unit_of_word, unit_lengths, older_units, printed_counts, counts_of, max_printed_len, answer, fault_text}
+use Rattle.duration_str.proofs.Common.{⊤, Options, TimeUnit, Quarter, Plus, Star, Empty, Syntax, NumberTooLarge, Overflow, Mixed, Expected, off, row_of, units, unit_of_word, unit_lengths, older_units, older_unit_of_word, printed_counts, counts_of, max_printed_len, answer, fault_text}
 use Rattle.std.specs.Fmt.{digits}
 use Rattle.std.specs.Str.{chars}
 use lib.Utf8.{encode}
@@ -256,7 +256,7 @@ pub record TheQuarter : Type 0 where
   pub capital_quarter-lowercase_refused : answer with_lowercase (codes "1Q") ≡ Err (Syntax 1 after_number)
   pub longer_word_than_quarter-refused : answer off (codes "1qs") ≡ Err (Syntax 1 after_number)
   -- Before the quarter was added, its names named no unit, and there were 40 others.
-  pub quarter_was_no_unit : map (unit_among older_units off) (row_of Quarter).names ≡ None ∷ None ∷ None ∷ []
+  pub quarter_was_no_unit : map (older_unit_of_word off) (row_of Quarter).names ≡ None ∷ None ∷ None ∷ []
 
 pub the_quarter : TheQuarter
 the_quarter = assumption

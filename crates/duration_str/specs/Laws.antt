@@ -6,19 +6,20 @@ use Rattle.std.specs.Duration.{FitsDuration}
 use Rattle.duration_str.specs.declared.options.Options.{Options}
 use Rattle.duration_str.specs.declared.operator.CondUnit.{CondUnit}
 use Rattle.duration_str.specs.declared.operator.CondUnit.TheVariants.{Star}
+use Rattle.duration_str.specs.declared.unit.TimeUnit.{TimeUnit}
 use Rattle.duration_str.specs.declared.unit.TimeUnit.TheVariants.{Year}
 use Rattle.duration_str.specs.declared.fault.Cause.{Cause}
 use Rattle.duration_str.specs.declared.fault.Cause.TheVariants.{Overflow}
 use Rattle.duration_str.specs.declared.fault.Expected.{Expected}
 use Rattle.duration_str.specs.Text.{operator_of, is_chinese}
-use Rattle.duration_str.specs.Units.{unit_lengths, nanos_of}
+use Rattle.duration_str.specs.Units.{UnitRow, row_of, unit_lengths, nanos_of}
 use Rattle.duration_str.specs.Grammar.{Terminal, operator, IsSentence, IsSentenceOf, Spells, terminal_of}
 use Rattle.duration_str.specs.Tokens.{Token, tokens_of, lexemes_of, AreTokens}
 use Rattle.duration_str.specs.Place.{BeginsSentence, CanFollow, IsFront}
 use Rattle.duration_str.specs.Value.{AllPlus, Term, value_of_term, terms_of, second}
 use Rattle.duration_str.specs.Reading.{IsRead, IsRefused}
 use Rattle.duration_str.specs.Answer.{answer, kinds_after, last_of, front_of}
-use Rattle.duration_str.specs.Older.{older_terminals, WasSentenceOf, WasRead, WasRefused}
+use Rattle.duration_str.specs.Older.{older_row_of, older_terminals, WasSentenceOf, WasRead, WasRefused}
 use Rattle.duration_str.specs.Printing.{IsPrinted, IsGreatestBreakdown, counts_of}
 
 -- whether a character is `+` or `*`
@@ -149,9 +150,11 @@ pub record ReadsBack : Type 0 where
   pub far_above : (o : Options) (nanos : ℕ) (text : List ℕ) → 585 * nanos_of Year ≤ nanos → FitsDuration nanos → IsPrinted nanos text
       → IsRefused o text (Overflow (Some 0))
 
--- A sentence over the units without the quarter is a sentence over all units, with the same terminals. So a text that
--- was read is read as the same value, and one whose evaluation was refused is refused for the same cause.
+-- Each row of the table before the quarter is a row of today's. A sentence over those units is a sentence over all units,
+-- with the same terminals. So a text that was read is read as the same value, and one whose evaluation was refused is
+-- refused for the same cause.
 pub record OlderTexts : Type 0 where
+  pub rows : (u : TimeUnit) (row : UnitRow) → older_row_of u ≡ Some row → row_of u ≡ row
   pub terminals : (o : Options) (lexemes : List (List ℕ)) (text : List ℕ) → WasSentenceOf o lexemes text → older_terminals o lexemes ≡ map (terminal_of o) lexemes
   pub sentence : (o : Options) (lexemes : List (List ℕ)) (text : List ℕ) → WasSentenceOf o lexemes text → IsSentenceOf o lexemes text
   pub value : (o : Options) (text : List ℕ) (nanos : ℕ) → WasRead o text nanos → IsRead o text nanos

@@ -1,6 +1,7 @@
 -- The terms of a sentence, their value, and their faults.
 use Rattle.std.specs.Prelude.{◌≡◌, ℕ, ◌+◌, ◌*◌, ◌/◌, ◌^◌, Bool, true, false, List, [], ◌∷◌, ◌++◌, Option, Some, None, if◌then◌else◌, nat_lt}
 use Rattle.std.specs.List.{list_all, fold}
+use Rattle.duration_str.specs.declared.unit.TimeUnit.{TimeUnit}
 use Rattle.duration_str.specs.declared.unit.TimeUnit.TheVariants.{Second}
 use Rattle.duration_str.specs.declared.operator.CondUnit.{CondUnit}
 use Rattle.duration_str.specs.declared.operator.CondUnit.TheVariants.{Plus, Star}
@@ -19,16 +20,21 @@ pub record Term : Type 0 where
 abbrev pub value_of_term : Term → ℕ
 value_of_term t = t.number * t.length
 
--- the length of a unit that is left out
+-- the length of a second
 abbrev pub second : ℕ
 second = nanos_of Second
 
--- the terms after the operator `op`; an operator that is left out is plus
+-- the terms after the operator `op`, with these lengths of the units; an operator that is left out is plus, and a unit
+-- that is left out is the second
+abbrev pub terms_by : (TimeUnit → ℕ) → CondUnit → List Terminal → List Term
+terms_by length_of op (number n ∷ word (Some u) ∷ more) = record { operator = op; number = n; length = length_of u } ∷ terms_by length_of Plus more
+terms_by length_of op (number n ∷ more) = record { operator = op; number = n; length = length_of Second } ∷ terms_by length_of Plus more
+terms_by length_of op (operator next ∷ more) = terms_by length_of next more
+terms_by length_of op _ = []
+
+-- the terms after the operator `op`
 abbrev pub terms_after : CondUnit → List Terminal → List Term
-terms_after op (number n ∷ word (Some u) ∷ more) = record { operator = op; number = n; length = nanos_of u } ∷ terms_after Plus more
-terms_after op (number n ∷ more) = record { operator = op; number = n; length = second } ∷ terms_after Plus more
-terms_after op (operator next ∷ more) = terms_after next more
-terms_after op _ = []
+terms_after op terminals = terms_by nanos_of op terminals
 
 -- the terms of a sentence; the first one's operator is plus, and has no meaning
 abbrev pub terms_of : List Terminal → List Term

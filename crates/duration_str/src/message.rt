@@ -1,8 +1,9 @@
 //! The text of a fault, written to a buffer.
 //!
-//! A `Display` may fail for reasons that its contract does not name, so nothing can be promised of what it prints.
-ghost use Rattle.std.specs.Prelude.{◌≡◌, ◌≤◌, ◌-◌, ◌^◌, ◌++◌, min, length, take, replicate, decimal, encode_utf8_all};
-ghost use Rattle.duration_str.specs.FaultText.{fault_text, byte_text, caret_text, line_of};
+//! Beside `Display`, which may fail for reasons that its contract does not name, so that no contract can promise that it
+//! prints: here a text for which there is room is always written.
+ghost use Rattle.std.specs.Prelude.{◌≡◌, ◌≤◌, ◌-◌, ◌^◌, ◌++◌, IfSome, IsUtf8, min, length, take, replicate, decimal, encode_utf8_all};
+ghost use Rattle.duration_str.specs.FaultText.{EndsInsideLine, fault_text, byte_text, caret_text, line_of};
 ghost use Rattle.duration_str.specs.Internal.Layouts.{message_of};
 ghost use Rattle.duration_str.specs.Buffers.{IsInFront, IsWritten};
 
@@ -47,7 +48,8 @@ fn put_decimal(buffer: &mut [u8], at: usize, number: usize) -> Option<usize>
 
 /// Writes the place as a number, and the line.
 fn put_byte(buffer: &mut [u8], place: usize, line: &str) -> Option<usize>
-    ensures { IsInFront (byte_text place line.now) result buffer.new }
+    ensures bytes { IsInFront (byte_text place line.now) result buffer.new }
+    ensures utf8 { IfSome result (λ end. IsUtf8 (take end buffer.new)) }
 {
     let word = put(buffer, 0, b"byte ")?;
     let number = put_decimal(buffer, word, place)?;
@@ -57,7 +59,8 @@ fn put_byte(buffer: &mut [u8], place: usize, line: &str) -> Option<usize>
 
 /// Writes the text, a caret after this many spaces, and the line.
 fn put_caret(buffer: &mut [u8], text: &str, spaces: usize, line: &str) -> Option<usize>
-    ensures { IsInFront (caret_text text.now spaces line.now) result buffer.new }
+    ensures bytes { IsInFront (caret_text text.now spaces line.now) result buffer.new }
+    ensures utf8 { IfSome result (λ end. IsUtf8 (take end buffer.new)) }
 {
     let above = put(buffer, 0, text.as_bytes())?;
     let below = put(buffer, above, b"\n")?;
@@ -92,7 +95,8 @@ impl Layout {
 
     /// Writes a message with this layout, and returns where it ends; `None` if there is no room.
     fn put(self, buffer: &mut [u8], text: &str, line: &str) -> Option<usize>
-        ensures { IsInFront (message_of self text.now line.now) result buffer.new }
+        ensures bytes { IsInFront (message_of self text.now line.now) result buffer.new }
+        ensures utf8 { IfSome result (λ end. IsUtf8 (take end buffer.new)) }
     {
         match self {
             Layout::Line => put(buffer, 0, line.as_bytes()),
@@ -119,7 +123,9 @@ impl Cause {
     /// parse("3 + ").unwrap_err().cause().write_line(&mut buffer) // Some(15), and `buffer` starts: "expected number"
     /// ```
     pub fn write_line(self, buffer: &mut [u8]) -> Option<usize>
-        ensures { IsWritten (encode_utf8_all (line_of self)) buffer.old result buffer.new }
+        ensures bytes { IsWritten (encode_utf8_all (line_of self)) buffer.old result buffer.new }
+        ensures utf8 { IfSome result (λ end. IsUtf8 (take end buffer.new)) }
+        ensures one_line { IfSome result (λ end. EndsInsideLine (take end buffer.new)) }
     {
         put(buffer, 0, self.line().as_bytes())
     }
@@ -146,8 +152,10 @@ impl Fault<'_> {
     /// parse("").unwrap_err().write_message(&mut buffer) // Some(11), and `buffer` starts: "Empty input"
     /// ```
     pub fn write_message(&self, buffer: &mut [u8]) -> Option<usize>
-        ensures { IsWritten (fault_text self.now.text.now self.now.cause)
+        ensures bytes { IsWritten (fault_text self.now.text.now self.now.cause)
             buffer.old result buffer.new }
+        ensures utf8 { IfSome result (λ end. IsUtf8 (take end buffer.new)) }
+        ensures last_line { IfSome result (λ end. EndsInsideLine (take end buffer.new)) }
     {
         let layout = self.layout();
         let line = self.cause.line();

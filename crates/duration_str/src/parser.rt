@@ -3,7 +3,7 @@ ghost use Rattle.std.specs.Prelude.{◌≡◌, ℕ, ◌^◌, ◌<◌, ◌≤◌,
 ghost use Rattle.std.specs.Duration.{as_nanos};
 ghost use Rattle.std.specs.Str.{chars};
 ghost use Rattle.duration_str.specs.Answer.{answer};
-ghost use Rattle.duration_str.specs.Results.{IsAnswered, ParsesText, ReachesPlace};
+ghost use Rattle.duration_str.specs.Results.{IsAnswered, IsMissingAtEnd, ParsesText, ReachesPlace};
 ghost use Rattle.duration_str.specs.Faults.{IsSliceOf, found, token_at};
 ghost use Rattle.duration_str.specs.Tokenizer.{source, left};
 ghost use Rattle.duration_str.specs.Units.{off};
@@ -100,15 +100,15 @@ impl<'a> Fault<'a> {
     /// The token that starts at the place of a syntax fault, as a slice of the text.
     ///
     /// The text is cut under these options. `None` if no token starts at the place, and for every other cause. With the
-    /// options of the reading that is only at the end of the text, since a syntax fault is placed at the start of a
-    /// token if one is left.
+    /// options of the reading, a syntax fault has no token exactly if it is at the end of the text.
     ///
     /// ```text
     /// parse("3ms-2ms").unwrap_err().found(Options::off()) // Some("-")
     /// ```
     pub fn found(&self, o: Options) -> Option<&'a str>
-        ensures { IsSliceOf self.now.text.now
+        ensures token { IsSliceOf self.now.text.now
             (found o (chars self.now.text.now) self.now.cause) result }
+        ensures end { IsMissingAtEnd o self.now.text.now self.now.cause result }
     {
         let Cause::Syntax { place, .. } = self.cause else {
             return None;

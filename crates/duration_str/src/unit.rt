@@ -5,6 +5,7 @@ ghost use Rattle.std.specs.Option.{ForSome, option_to_list};
 ghost use Rattle.std.specs.Str.{bytes_eq, chars};
 ghost use Rattle.duration_str.specs.Text.{IsNumber, number_of};
 ghost use Rattle.duration_str.specs.declared.unit.TimeUnit.{TimeUnit};
+ghost use Rattle.duration_str.specs.declared.unit.TimeUnit.TheVariants.{Second};
 ghost use Rattle.duration_str.specs.Units.{nanos_of, row_of, comparison_form, is_named, unit_of_word};
 ghost use Rattle.duration_str.specs.Internal.UnitTable.{IsRow};
 ghost use Rattle.duration_str.specs.Internal.Numbers.{term_value};
@@ -17,7 +18,7 @@ pub use crate::options::Options;
 use std::fmt;
 
 /// A unit of time.
-#[derive(Clone, Copy, Debug, PartialEq, Eq, Default)]
+#[derive(Clone, Copy, Debug, PartialEq, Eq)]
 pub enum TimeUnit {
     /// 365 days.
     Year,
@@ -34,7 +35,6 @@ pub enum TimeUnit {
     /// 60 seconds.
     Minute,
     /// 1,000,000,000 nanoseconds.
-    #[default]
     Second,
     /// 1,000,000 nanoseconds.
     MilliSecond,
@@ -42,6 +42,15 @@ pub enum TimeUnit {
     MicroSecond,
     /// The smallest unit.
     NanoSecond,
+}
+
+/// The second, which a number without a unit counts.
+impl Default for TimeUnit {
+    ghost is_default = { λ unit. unit ≡ Second };
+
+    fn default() -> TimeUnit {
+        TimeUnit::Second
+    }
 }
 
 impl TimeUnit {

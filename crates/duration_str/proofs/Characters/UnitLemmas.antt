@@ -1,6 +1,6 @@
 -- Words and names, as bytes and as characters, and their ASCII capitals.
 use Rattle.std.proofs.Common.{◌≡◌, ℕ, ◌<◌, ◌≤◌, Bool, true, ltb, eqb, not, ◌||◌, ◌&&◌, Option, Some, List, [], ◌∷◌, ◌++◌, map, IsUtf8, refl, ap, ◌∙◌, arith, inl, inr, find, bytes_eq, chars, le-ltb, eqb-true, Bor}
-use Rattle.duration_str.proofs.Common.{list_any, list_all, ForSome, to_ascii_lowercase, bytes_eq-Decides, encodes-chars, encode_ascii, cases_Bool, cases_lt, and_parts, or_cases, nat_tests, same_from_decides, map-append, list_any-append, encodes, Options, TimeUnit, units, row_of, nanos_of, comparison_form, is_named, unit_among, unit_of_word, AreEncoded}
+use Rattle.duration_str.proofs.Common.{list_any, list_all, ForSome, to_ascii_lowercase, bytes_eq-Decides, encodes-chars, encode_ascii, cases_Bool, cases_lt, and_parts, or_cases, nat_tests, same_from_decides, map-append, list_any-append, encodes, Options, TimeUnit, units, row_of, nanos_of, comparison_form, is_named, unit_of_word, AreEncoded}
 use Rattle.std.proofs.lemmas.Str.{encodes_same}
 use lib.Utf8.{encode}
 use Rattle.duration_str.proofs.Characters.EachUnit.{each_unit, all_units}
@@ -179,17 +179,9 @@ module _ (o : Options) where
     | inr apart ↦ absurd (shared (comparison_form o w) (all_names u) (all_names v) (among_all o w u h) (among_all o w v k) apart)
   ]
 
-  -- a unit found among some units is named by the word
-  found_named : (w : List ℕ) (us : List TimeUnit) (u : TimeUnit) → unit_among us o w ≡ Some u → is_named o w u ≡ true
-  found_named w [] u h = cc
-  found_named w (v ∷ us) u h = elim (cases_Bool (is_named o w v)) [
-    | inl e ↦ let same : v ≡ u = cc (rw e at h) in rw same at e
-    | inr e ↦ found_named w us u (rw e at h)
-  ]
-
   -- A unit of the list that the word names is found, since the word names no other.
   found_only : (w : List ℕ) (us : List TimeUnit) (u : TimeUnit) → is_named o w u ≡ true
-      → list_any (λ v. eqb (nanos_of v) (nanos_of u)) us ≡ true → unit_among us o w ≡ Some u
+      → list_any (λ v. eqb (nanos_of v) (nanos_of u)) us ≡ true → find (is_named o w) us ≡ Some u
   found_only w [] u h there = cc
   found_only w (v ∷ us) u h there = elim (cases_Bool (is_named o w v)) [
     | inl e ↦ rw (e, one_unit w v u e h)
@@ -209,8 +201,3 @@ module _ (o : Options) where
       → ForSome r (λ u. unit_of_word o w ≡ Some u)
   unit_of_letters w letters r spelled named u is =
       rw spelled (named_unit letters u (named_in_any_case letters u (named u is)))
-
-  -- A unit found among some units is found among all.
-  pub found_among_all : (w : List ℕ) (us : List TimeUnit) (u : TimeUnit) → unit_among us o w ≡ Some u
-      → unit_of_word o w ≡ Some u
-  found_among_all w us u h = named_unit w u (found_named w us u h)

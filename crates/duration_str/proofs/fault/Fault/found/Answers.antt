@@ -2,10 +2,11 @@ use Rattle.std.proofs.Common.{◌≡◌, ℕ, ◌-◌, ◌∙◌, List, drop, Is
 use Rattle.duration_str.proofs.Common.{token_at, IsSliceOf, tokens_of, source, left}
 use Rattle.duration_str.specs.Tokens.{Token}
 use Rattle.duration_str.proofs.Cutting.FoundLemmas.{slice_found}
+use Rattle.duration_str.proofs.OnePass.EndLemmas.{missing_at_end}
 use Rattle.duration_str.proofs.fault.Fault.found.Goals as goal
 
-pub returns : goal.returns
-returns c =
+pub returns-clause-token : goal.returns-clause-token
+returns-clause-token c =
     let text = c.args.self.now.text.now in
     let from = c.floor_char_boundary-from.result in
     let floor = c.floor_char_boundary-from.ensures in
@@ -17,3 +18,6 @@ returns c =
     is_source is_left c.token_at.ensures in
     rw c.in-Syntax.is (slice_found c.args.o text from c.in-Syntax.place c.token_at.result utf8 floor.boundary
     (omega (arith, floor.bound)) (λ some. omega (arith, floor.bound, some)) cut)
+
+pub returns-clause-end : goal.returns-clause-end
+returns-clause-end c = missing_at_end c.args.o c.args.self.now.text.now c.args.self.now.cause c.token_at.result (search rules) (returns-clause-token c)
