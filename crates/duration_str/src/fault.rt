@@ -1,9 +1,10 @@
 //! Why a text is refused and where, shown with the text.
-ghost use Rattle.std.specs.Prelude.{◌≡◌, ◌≤◌, Some, replicate, encode_utf8_all};
+ghost use Rattle.std.specs.Prelude.{◌≡◌, ◌≤◌, None, Some, replicate, encode_utf8_all};
 ghost use Rattle.std.specs.Option.{ForSome};
+ghost use Rattle.std.specs.Fmt.{DisplaysOnOk, DisplaysStyledOnOk};
 ghost use Rattle.std.specs.Str.{IsCharBoundary};
 ghost use Rattle.duration_str.specs.Faults.{place_of};
-ghost use Rattle.duration_str.specs.FaultText.{chars_before, fault_text, line_of};
+ghost use Rattle.duration_str.specs.FaultText.{EndsInsideLine, chars_before, fault_text, line_of};
 ghost use Rattle.duration_str.specs.Internal.Layouts.{message_of};
 
 use crate::unit::CondUnit;
@@ -167,7 +168,13 @@ impl Fault<'_> {
 impl fmt::Display for Fault<'_> {
     ghost output = { λ fault. Some (fault_text fault.text.now fault.cause) };
 
-    fn fmt<W: fmt::Write>(&self, f: &mut fmt::Formatter<W>) -> fmt::Result {
+    #[tactic(auto, using(crate::proofs::Printer::MessageLemmas::text_ends))]
+    fn fmt<W: fmt::Write>(&self, f: &mut fmt::Formatter<W>) -> fmt::Result
+        ensures writes { DisplaysOnOk W.write_str_gives f.old result
+            (Some (fault_text self.now.text.now self.now.cause)) f.new }
+        ensures styled { DisplaysStyledOnOk W.write_str_gives f.old result None f.new }
+        ensures last_line { EndsInsideLine (fault_text self.now.text.now self.now.cause) }
+    {
         let text = self.text;
         let line = self.cause.line();
         match self.layout() {

@@ -1,7 +1,7 @@
 //! The message for an answer.
 //!
 //! An answer comes from a caller and can be anything, but every one gives one of these messages.
-ghost use Rattle.std.specs.Prelude.{◌≡◌, Some, None, IfSome, IfNone, IsUtf8, encode_utf8_all};
+ghost use Rattle.std.specs.Prelude.{◌≡◌, ◌≤◌, length, take, Some, None, IfSome, IfNone, IsUtf8, encode_utf8_all};
 ghost use Rattle.duration_str.specs.FaultText.{fault_text, line_of};
 ghost use Rattle.duration_str.specs.declared.fault.Cause.{Cause};
 ghost use Rattle.duration_str_c.specs.Told.{cause_told};
@@ -25,6 +25,7 @@ pub extern "C" fn duration_str_message(text: &[u8], answer: &Answer, buffer: &mu
         → ¬ (CanFault text.now cause)
         → IsShown (encode_utf8_all (line_of cause)) buffer.old result buffer.new }
     ensures nothing { cause_told answer.now ≡ None → (result ≡ 0) × (buffer.new ≡ buffer.old) }
+    ensures utf8 { result ≤ length buffer.new → IsUtf8 (take result buffer.new) }
 {
     let answer = *answer;
     let Some(cause) = answer.cause() else {
@@ -42,6 +43,7 @@ pub extern "C" fn duration_str_line(answer: &Answer, buffer: &mut [u8]) -> usize
     ensures line { (cause : Cause) → cause_told answer.now ≡ Some cause
         → IsShown (encode_utf8_all (line_of cause)) buffer.old result buffer.new }
     ensures nothing { cause_told answer.now ≡ None → (result ≡ 0) × (buffer.new ≡ buffer.old) }
+    ensures utf8 { result ≤ length buffer.new → IsUtf8 (take result buffer.new) }
 {
     let answer = *answer;
     match answer.cause() {
@@ -52,7 +54,9 @@ pub extern "C" fn duration_str_line(answer: &Answer, buffer: &mut [u8]) -> usize
 
 /// Writes the message if there is room, and returns its length in bytes.
 fn show_message(fault: &Fault<'_>, buffer: &mut [u8]) -> usize
-    ensures { IsShown (fault_text fault.now.text.now fault.now.cause) buffer.old result buffer.new }
+    ensures shown { IsShown (fault_text fault.now.text.now fault.now.cause)
+        buffer.old result buffer.new }
+    ensures utf8 { result ≤ length buffer.new → IsUtf8 (take result buffer.new) }
 {
     match fault.write_message(buffer) {
         Some(length) => length,
@@ -62,7 +66,8 @@ fn show_message(fault: &Fault<'_>, buffer: &mut [u8]) -> usize
 
 /// Writes the line of the cause if there is room, and returns its length in bytes.
 fn show_line(cause: Cause, buffer: &mut [u8]) -> usize
-    ensures { IsShown (encode_utf8_all (line_of cause)) buffer.old result buffer.new }
+    ensures shown { IsShown (encode_utf8_all (line_of cause)) buffer.old result buffer.new }
+    ensures utf8 { result ≤ length buffer.new → IsUtf8 (take result buffer.new) }
 {
     cause.write_line(buffer);
     cause.line_len()
