@@ -3,7 +3,6 @@ ghost use Rattle.std.specs.List.{AllByRecursion};
 ghost use Rattle.std.specs.Str.{chars};
 ghost use Rattle.uses.specs.Help.{IsOnlyAnswerTo};
 
-use crate::portable::OFF;
 use duration_str::laws::one_sentence;
 use duration_str::{Cause, Expected, Options};
 use std::time::Duration;
@@ -18,6 +17,12 @@ pub struct Example {
     /// The duration, or the cause of the refusal.
     pub answer: Result<Duration, Cause>,
 }
+
+const OFF: Options = Options {
+    no_calc: false,
+    lowercase: false,
+    cn_unit: false,
+};
 
 const NO_CALC: Options = Options {
     no_calc: true,

@@ -23,7 +23,8 @@ pub struct Stored {
 
 impl Stored {
     /// Reads the two texts under the options that they were stored with, and returns the fault of the first that is
-    /// refused. What an older version accepted is accepted, with the same values.
+    /// refused. What an older version accepted is accepted, with the same values, and what its evaluation refused is
+    /// refused for the same cause.
     ///
     /// ```text
     /// Stored::read("30", "1y 2mon", Options::off()) // 30 s and 425 days, as before
@@ -33,6 +34,9 @@ impl Stored {
             → WasRead o (chars retention.now) n
             → IsOkAnd result (λ s. (as_nanos s.timeout ≡ m) × (as_nanos s.retention ≡ n)) }
         ensures refused { (cause : AnyCause) → WasRefused o (chars timeout.now) cause
+            → IsErrAnd result (λ f. f.cause ≡ cause) }
+        ensures refused_later { (m : ℕ) (cause : AnyCause) → WasRead o (chars timeout.now) m
+            → WasRefused o (chars retention.now) cause
             → IsErrAnd result (λ f. f.cause ≡ cause) }
     {
         let timeout = match stored_duration(timeout, o) {

@@ -1,73 +1,34 @@
-// Texts that are read once, added and looked up.
+// What the callers answer, for texts whose meaning was worked out by hand.
 use super::*;
-use duration_str::{Cause, Options, TimeUnit, parse, parse_with};
-use std::process::Abort;
+use duration_str::{Cause, DError, Options, TimeUnit, parse, parse_with};
+use jiff::civil::{Date, DateTime};
+use jiff::{SignedDuration, Timestamp};
+use serde_json::{Value, json};
+use std::test::Fail;
 use std::time::Duration;
-
-/// The period of an accepted text without `*`.
-fn period<'a>(rt: &impl Abort, text: &'a str) -> Period<'a> {
-    let accepted = Accepted::read(text).ok().expect(rt, "an accepted text");
-    Period::new(accepted).expect(rt, "a text without a star")
-}
-
-#[test]
-fn keeps_what_was_read(rt: HostRuntime) {
-    let accepted = Accepted::read("1m*2").ok().expect(&rt, "an accepted text");
-    assert_eq!(rt; accepted.length(), Duration::from_secs(120));
-    assert_eq!(rt; accepted.read_again(), Duration::from_secs(120));
-    assert!(rt; Period::new(accepted).is_none());
-    let refused = Accepted::read("580y*2").err().map(|fault| fault.cause());
-    assert_eq!(rt; refused, Some(Cause::Overflow { place: None }));
-}
 
 #[test]
 fn totals_as_the_joined_text_is_read(rt: HostRuntime) {
-    let seconds = Duration::from_secs(65);
-    assert_eq!(rt;
-        period(&rt, "1m 2s").total(&period(&rt, "3")),
-        Some(seconds)
-    );
-    assert_eq!(rt; parse("1m 2s+3"), Ok(seconds));
     let off = Options::off();
-    assert_eq!(rt; total_of("1M 2s", "3", off), Some(seconds));
-    assert_eq!(rt;
-        total_of(
-            "1M 2s",
-            "3",
-            Options {
-                lowercase: true,
-                ..off
-            }
-        ),
-        None
-    );
-    assert_eq!(rt; total_of("1m*2", "3", off), None);
-    let long = period(&rt, "580y");
-    assert_eq!(rt; long.total(&long), None);
+    let lowercase = Options {
+        lowercase: true,
+        ..off
+    };
+    let greatest = Duration::new(18_446_744_073, 709_551_615);
+    for (text, other, o, total) in [
+        ("1M 2s", "3", off, Some(Duration::from_secs(65))),
+        ("1M 2s", "3", lowercase, None),
+        ("1m*2", "3", off, None),
+        ("580y", "580y", off, None),
+        ("18446744073709551615ns", "0", off, Some(greatest)),
+        ("18446744073709551615ns", "1ns", off, None),
+    ] {
+        assert_eq!(rt; total_of(text, other, o), total);
+    }
+    assert_eq!(rt; parse("1M 2s+3"), Ok(Duration::from_secs(65)));
+    assert_eq!(rt; parse("18446744073709551615ns+0"), Ok(greatest));
     let refused = parse("580y+580y").err().map(|fault| fault.cause());
     assert_eq!(rt; refused, Some(Cause::Overflow { place: None }));
-    let last = period(&rt, "18446744073709551615ns");
-    let greatest = Duration::new(18_446_744_073, 709_551_615);
-    assert_eq!(rt; last.total(&period(&rt, "0")), Some(greatest));
-    assert_eq!(rt; last.total(&period(&rt, "1ns")), None);
-}
-
-#[test]
-fn looks_up_without_reading(rt: HostRuntime) {
-    let table = Table::read("30s", "5m", "2h 30m")
-        .ok()
-        .expect(&rt, "a table");
-    for (key, secs) in [(Key::Connect, 30), (Key::Idle, 300), (Key::Session, 9_000)] {
-        assert_eq!(rt; table.get(key), Duration::from_secs(secs));
-    }
-    for (connect, idle, session, refused) in [
-        ("1x", "", "", "1x"),
-        ("1s", "1y-", "", "1y-"),
-        ("1s", "1y", " ", " "),
-    ] {
-        let fault = Table::read(connect, idle, session).err();
-        assert_eq!(rt; fault.map(|fault| fault.text()), Some(refused));
-    }
 }
 
 #[test]
@@ -133,20 +94,6 @@ fn scales_in_either_order(rt: HostRuntime) {
 }
 
 #[test]
-fn knows_what_is_portable(rt: HostRuntime) {
-    for (text, portable) in [
-        ("2h 37m", true),
-        ("1µs 3", true),
-        ("2h + 37m", false),
-        ("2h*3", false),
-        ("2H 37m", false),
-        ("2天", false),
-    ] {
-        assert_eq!(rt; is_portable(text), portable);
-    }
-}
-
-#[test]
 fn keeps_a_value_if_options_change(rt: HostRuntime) {
     let off = Options::off();
     let no_calc = Options {
@@ -199,19 +146,15 @@ fn keeps_what_was_stored(rt: HostRuntime) {
 }
 
 #[test]
-fn leaves_the_blanks_out(rt: HostRuntime) {
-    for (text, short) in [
-        ("3 m + 31 s", "3m+31s"),
-        (" 1\t\r\n2µs ", "12µs"),
-        ("3m", "3m"),
-        (" ", ""),
+fn reads_a_line_as_its_text(rt: HostRuntime) {
+    for (line, text) in [
+        ("90s\n", "90s"),
+        ("90s", "90s"),
+        ("90s\n\n", "90s\n"),
+        ("", ""),
     ] {
-        let mut buffer = [0u8; 8];
-        let end = compact(text, &mut buffer).expect(&rt, "enough room");
-        assert_eq!(rt; &buffer[..end], short.as_bytes());
-        assert_eq!(rt; compact("1 2 3", &mut buffer[..2]), None);
+        assert_eq!(rt; without_line_feed(line), text);
     }
-    assert_eq!(rt; parse("3 m + 31 s").ok(), parse("3m+31s").ok());
     let mut buffer = [0u8; 4];
     assert_eq!(rt; write_line("90s", &mut buffer), Some(4));
     assert_eq!(rt; &buffer, b"90s\n");
@@ -230,25 +173,6 @@ fn sorts_the_longest_first(rt: HostRuntime) {
     assert_eq!(rt; parts[0], part(3, TimeUnit::Minute));
     assert_eq!(rt; parts[1], part(13, TimeUnit::Second));
     assert_eq!(rt; parts[2], part(29, TimeUnit::MilliSecond));
-}
-
-#[test]
-fn writes_the_longest_first(rt: HostRuntime) {
-    let part = |number, unit| Part { number, unit };
-    let mut parts = [
-        part(29, TimeUnit::MilliSecond),
-        part(3, TimeUnit::Minute),
-        part(13, TimeUnit::Second),
-    ];
-    let mut buffer = [0u8; 13];
-    assert_eq!(rt; sorted(&mut parts, &mut buffer), Some(13));
-    assert_eq!(rt; &buffer, b"3min+13s+29ms");
-    assert_eq!(rt; parse("3min+13s+29ms").ok(), parse("29ms+3min+13s").ok());
-    assert_eq!(rt; sorted(&mut parts, &mut buffer[..12]), None);
-    assert_eq!(rt; sorted(&mut [], &mut buffer), None);
-    let mut one = [part(10, TimeUnit::MicroSecond)];
-    assert_eq!(rt; sorted(&mut one, &mut buffer), Some(5));
-    assert_eq!(rt; &buffer[..5], "10µs".as_bytes());
 }
 
 #[test]
@@ -288,4 +212,62 @@ fn knows_the_unit_of_a_stored_text(rt: HostRuntime) {
     ] {
         assert_eq!(rt; first_unit(text, Options::off()), unit);
     }
+}
+
+/// Whether the text moves the start of 1970 back to this date and time, and on to that one.
+fn moves(text: &str, back: DateTime, on: DateTime) -> bool {
+    let start = Timestamp::UNIX_EPOCH;
+    cut_off(start, text) == Ok(back)
+        && cut_off_day(start, text) == Ok(back.date())
+        && due(start, text) == Ok(on)
+        && due_day(start, text) == Ok(on.date())
+}
+
+/// Whether no date and time is this long after the moment.
+fn is_out_of_range(moment: Timestamp, text: &str) -> bool {
+    match due(moment, text) {
+        Ok(_) => false,
+        Err(fault) => fault.cause() == Cause::OutOfRange,
+    }
+}
+
+#[test]
+fn finds_the_cut_off_and_the_due_date(rt: HostRuntime) {
+    let midnight = |year, month, day| Date::constant(year, month, day).at(0, 0, 0, 0);
+    assert!(rt; moves("90d", midnight(1969, 10, 3), midnight(1970, 4, 1)));
+    assert!(rt; moves("1y", midnight(1969, 1, 1), midnight(1971, 1, 1)));
+    assert!(rt; is_out_of_range(Timestamp::MAX, "1ns"));
+    assert!(rt; !is_out_of_range(Timestamp::MAX, "0"));
+}
+
+#[test]
+fn prices_every_look(rt: HostRuntime) {
+    let off = Options::off();
+    assert_eq!(rt; price("3m 13s", 5, off), 30);
+    assert_eq!(rt; price("", 5, off), 0);
+    assert!(rt; (20..=30).contains(&price("1m 3-5", 5, off)));
+}
+
+#[test]
+fn subtracts_a_longer_duration(rt: HostRuntime) {
+    assert_eq!(rt; difference("1m", "90s"), Ok(SignedDuration::from_secs(-30)));
+    let refused = difference("1m", "x").err().map(|fault| fault.text());
+    assert_eq!(rt; refused, Some("x"));
+}
+
+#[test]
+fn hands_a_refusal_on(rt: HostRuntime) -> Result<(), Fail> {
+    let value = json!(in rt.alloc(); "1min+30")?;
+    assert_eq!(rt;
+        configured(&value, rt.alloc())?,
+        Ok(Duration::from_secs(90))
+    );
+    let value = json!(in rt.alloc(); "580y*2")?;
+    assert_eq!(rt; configured(&value, rt.alloc())?, Err(DError::OverflowError));
+    let line = String::from_str(rt.alloc(), "expect duration string, e.g: '1min+30'")?;
+    assert_eq!(rt;
+        configured(&Value::Null, rt.alloc())?,
+        Err(DError::ParseError(line))
+    );
+    Ok(())
 }
