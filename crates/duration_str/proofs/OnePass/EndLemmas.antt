@@ -1,17 +1,15 @@
 -- Of a syntax fault no token is found exactly if it stands at the end of the text.
-use Rattle.std.proofs.Common.{◌≡◌, ◌↔◌, ℕ, ◌+◌, ◌<◌, ◌==◌, Bool, true, false, List, [], ◌∷◌, length, Option, Some, None, is_some, Err, ap, IsUtf8, inl, inr, refl, arith}
+use Rattle.std.proofs.Common.{◌≡◌, ◌↔◌, ℕ, ◌+◌, ◌<◌, ◌==◌, true, false, List, [], ◌∷◌, length, Option, Some, None, is_some, ap, IsUtf8, inl, inr, refl, arith}
 use Rattle.std.specs.Prelude.{IsNone}
 use Rattle.std.proofs.lemmas.Bool.{cases_Bool, true≢false}
 use Rattle.std.proofs.lemmas.Bool.Decides.{nat_tests}
 use denote.Ref.{Bor}
 use Rattle.std.specs.Str.{chars}
 use Rattle.duration_str.specs.declared.options.Options.{Options}
-use Rattle.duration_str.specs.declared.fault.Expected.{Expected}
 use Rattle.duration_str.specs.declared.fault.Cause.{Cause}
 use Rattle.duration_str.specs.declared.fault.Cause.TheVariants.{Syntax}
 use Rattle.duration_str.specs.Text.{byte_len}
 use Rattle.duration_str.specs.Tokens.{Token, IsLexeme, AreTokens, tokens_of}
-use Rattle.duration_str.specs.Reading.{IsRefused}
 use Rattle.duration_str.specs.Faults.{token_at, found, IsSliceOf}
 use Rattle.duration_str.specs.Results.{IsMissingAtEnd}
 use Rattle.duration_str.proofs.Characters.TextLemmas.{width_some, byte_len-append}

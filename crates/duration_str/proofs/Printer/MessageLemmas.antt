@@ -1,5 +1,5 @@
 -- The text of a fault is UTF-8, and its last byte is no line feed.
-use Rattle.std.proofs.Common.{rules, ◌≡◌, ◌≢◌, ℕ, ◌<◌, ◌^◌, ◌∙◌, Bool, true, false, List, [], ◌∷◌, ◌++◌, Option, Some, None, IsUtf8, decimal, encode_utf8_all, replicate, take, inl, inr, refl, lit<}
+use Rattle.std.proofs.Common.{rules, ◌≡◌, ◌≢◌, ℕ, ◌<◌, ◌^◌, true, false, List, [], ◌∷◌, ◌++◌, Option, Some, None, IsUtf8, decimal, encode_utf8_all, replicate, take, inl, inr, refl, lit<}
 use Rattle.std.specs.Prelude.{IfSome}
 use Rattle.std.proofs.lemmas.Bool.{cases_Bool}
 use Rattle.std.proofs.lemmas.Fmt.{IsAscii-decimal}
@@ -13,7 +13,7 @@ use Rattle.duration_str.specs.declared.fault.Cause.{Cause}
 use Rattle.duration_str.specs.declared.fault.Cause.TheVariants.{Empty, Syntax, NumberTooLarge, Overflow, Mixed, OutOfRange, NotText}
 use Rattle.duration_str.specs.Buffers.{IsInFront}
 use Rattle.duration_str.specs.Faults.{place_of}
-use Rattle.duration_str.specs.FaultText.{EndsInsideLine, byte_text, caret_text, chars_before, has_line_feed, placed_text, fault_text, line_of}
+use Rattle.duration_str.specs.FaultText.{EndsInsideLine, byte_text, caret_text, has_line_feed, placed_text, fault_text, line_of}
 
 -- What holds of the bytes holds of the front of the buffer, if they are there.
 pub front_has : (P : List ℕ → Type 0) (bytes : List ℕ) (result : Option ℕ) (buffer : List ℕ) → P bytes → IsInFront bytes result buffer
