@@ -43,8 +43,8 @@ pub enum Cause {
 }
 
 impl Cause {
-    /// Byte offset of the fault: set for syntax faults, 0 for an oversized first term, otherwise `None`. It is at most
-    /// the length of the text.
+    /// Byte offset of the fault: set for syntax faults, 0 for an oversized first term, otherwise `None`. In a `Fault` it
+    /// is a character boundary within the text.
     ///
     /// ```text
     /// parse("1m 3-5").unwrap_err().cause().place() // Some(4)

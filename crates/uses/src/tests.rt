@@ -203,6 +203,28 @@ fn offers_what_can_follow(rt: HostRuntime) {
 }
 
 #[test]
+fn waits_for_what_is_missing(rt: HostRuntime) {
+    let off = Options::off();
+    for (text, unfinished) in [
+        ("1m +", true),
+        (" ", true),
+        ("1m -", false),
+        ("1m", false),
+        ("", false),
+    ] {
+        assert_eq!(rt; is_unfinished(text, off), unfinished);
+    }
+}
+
+#[test]
+fn ends_an_entry_with_its_line(rt: HostRuntime) {
+    let fault = parse("580y*2").err().expect(&rt, "an overflow");
+    let mut buffer = [0u8; 15];
+    assert_eq!(rt; log_entry(&fault, &mut buffer), Some("overflow error\n"));
+    assert_eq!(rt; log_entry(&fault, &mut buffer[..14]), None);
+}
+
+#[test]
 fn knows_the_unit_of_a_stored_text(rt: HostRuntime) {
     for (text, unit) in [
         ("90 min + 1h", Some(TimeUnit::Minute)),
