@@ -60,7 +60,8 @@ one_or_two_chars X text rest after first second utf8 begins step end =
 
 -- the width of a character is not 0
 pub width_some : (c : ℕ) → 1 ≤ width c
-width_some c = elim (cases_Bool (leb 55296 c && leb c 57343)) [ inl e ↦ rw e (omega arith) | inr e ↦ rw e (len_utf8_bounds c).0 ]
+width_some c =
+    elim (cases_Bool (leb 55296 c && leb c 57343)) [ inl e ↦ rw e (omega arith) | inr e ↦ rw e (len_utf8_bounds c).0 ]
 
 pub byte_len-append : (xs ys : List ℕ) → byte_len (xs ++ ys) ≡ byte_len xs + byte_len ys
 byte_len-append [] ys = omega arith

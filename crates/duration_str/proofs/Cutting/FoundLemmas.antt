@@ -30,7 +30,8 @@ module _ (o : Options) where
     | inl blank ↦ rw blank
     | inr solid ↦ elim (cases_Bool (goes_on o c text)) [
       | inl more ↦ rw (solid, more) (without_joined at place c text before more)
-      | inr alone ↦ rw (solid, alone) (elsewhere place at (c ∷ []) (tokens_from o (at + width c) text) (omega (arith, before)))
+      | inr alone ↦
+            rw (solid, alone) (elsewhere place at (c ∷ []) (tokens_from o (at + width c) text) (omega (arith, before)))
     ]
   ]
 
@@ -88,7 +89,8 @@ found_after o bs from place utf8 boundary within before =
     let front = chars (take from bs) in
     let text = chars (drop from bs) in
     let parts = rw take-append-drop at (chars-append (take from bs) (drop from bs) (IsUtf8-take bs from utf8 boundary)) in
-    let bytes : byte_len front ≡ from = rw (byte_count (take from bs) (IsUtf8-take bs from utf8 boundary)) (length-take-le from bs boundary.0) in
+    let bytes : byte_len front ≡ from =
+    rw (byte_count (take from bs) (IsUtf8-take bs from utf8 boundary)) (length-take-le from bs boundary.0) in
     let there : place ≡ from + (place - from) = omega (arith, within) in
     let start : 0 + byte_len front ≡ from + 0 = omega (arith, bytes) in
     let found = rw (← there) at (found_later from (place - from) (tokens_of o text)) in

@@ -44,7 +44,8 @@ module _ (o : Options) where
   digits_are_lexeme = run_is_lexeme is_digit digit-not_blank (λ c d e f. rw (e, f))
 
   pub letters_are_lexeme : (c : ℕ) (cs : List ℕ) → IsTrue (list_all (is_unit_letter o) (c ∷ cs)) → IsLexeme o (c ∷ cs)
-  letters_are_lexeme = run_is_lexeme (is_unit_letter o) (letter-not_blank o) (λ c d e f. or_right _ _ (and_from _ _ e f))
+  letters_are_lexeme =
+      run_is_lexeme (is_unit_letter o) (letter-not_blank o) (λ c d e f. or_right _ _ (and_from _ _ e f))
 
 -- ---- The sort of a lexeme
 

@@ -34,7 +34,8 @@ module _ (o : Options) where
   parts_once a b (c ∷ cs) (d ∷ ds) r s ha hb hc hd er es e =
       let blanks = parted_once is_blank a b (c ∷ (cs ++ r)) (d ∷ (ds ++ s)) ha hb hc.0 hd.0 e in
       let heads : c ≡ d = cc blanks.1 in
-      let run = parted_once (are_of_one_run o c) cs ds r s hc.1 (rw (← heads) at hd.1) (stops_at c r er) (stops_at c s (rw (← heads) at es))
+      let run = parted_once (are_of_one_run o c) cs ds r s hc.1 (rw (← heads) at hd.1) (stops_at c r er)
+      (stops_at c s (rw (← heads) at es))
       (cc blanks.1) in
       (blanks.0, cc run.0, run.1)
 
@@ -46,7 +47,8 @@ module _ (o : Options) where
   next_once : (at : ℕ) (text : List ℕ) (p q : Token) (r s : List ℕ) → IsNextToken o at text p r
       → IsNextToken o at text q s → (p ≡ q) × (r ≡ s)
   next_once at text p q r s h k =
-      let same = parts_once h.blanks k.blanks p.characters q.characters r s h.blank k.blank h.is_lexeme k.is_lexeme h.ends k.ends
+      let same = parts_once h.blanks k.blanks p.characters q.characters r s h.blank k.blank h.is_lexeme k.is_lexeme
+      h.ends k.ends
       (sym h.parts ∙ k.parts) in
       let starts : p.start ≡ q.start = rw (h.start, k.start, same.0) in
       (λ i. record { start = starts i; characters = same.1 i }, same.2)
@@ -96,7 +98,8 @@ module _ (o : Options) where
   all_of_run : (c d : ℕ) (cs : List ℕ) → are_of_one_run o c d ≡ true → IsTrue (list_all (are_of_one_run o d) cs)
       → IsTrue (list_all (are_of_one_run o c) cs)
   all_of_run c d [] h k = refl
-  all_of_run c d (e ∷ cs) h k = and_from _ _ (sym (same_run o c d e h) ∙ (and_parts _ _ k).0) (all_of_run c d cs h (and_parts _ _ k).1)
+  all_of_run c d (e ∷ cs) h k =
+      and_from _ _ (sym (same_run o c d e h) ∙ (and_parts _ _ k).0) (all_of_run c d cs h (and_parts _ _ k).1)
 
   ends_of_run : (c d : ℕ) (rest : List ℕ) → are_of_one_run o c d ≡ true → goes_on o d rest ≡ false
       → goes_on o c rest ≡ false
@@ -128,7 +131,8 @@ module _ (o : Options) where
         rw moved at more,
       )
 
-  in_front : (at c : ℕ) (text : List ℕ) (ps : List Token) (blank goes : Bool) → is_blank c ≡ blank → goes_on o c text ≡ goes
+  in_front : (at c : ℕ) (text : List ℕ) (ps : List Token) (blank goes : Bool) → is_blank c ≡ blank
+      → goes_on o c text ≡ goes
       → AreTokens o (at + width c) text ps
       → AreTokens o at (c ∷ text) (if blank then ps else if goes then join at c ps else record { start = at; characters = c ∷ [] } ∷ ps)
   in_front at c text ps true goes e g h = blank_in_front at c text ps e h
@@ -136,11 +140,13 @@ module _ (o : Options) where
   in_front at c [] ps false true e g h = cc g
   in_front at c (d ∷ text) [] false true e g h = cc ((and_parts (is_blank d) _ h).0, run-not_blank o c d g)
   in_front at c (d ∷ text) (p ∷ ps) false true e g h =
-      joined_in_front at c d text h.1.blanks p.characters h.0 p.start ps e g h.1.blank h.1.parts h.1.start h.1.is_lexeme h.1.ends h.2
+      joined_in_front at c d text h.1.blanks p.characters h.0 p.start ps e g h.1.blank h.1.parts h.1.start h.1.is_lexeme
+      h.1.ends h.2
 
   pub tokens_are : (at : ℕ) (text : List ℕ) → AreTokens o at text (tokens_from o at text)
   tokens_are at [] = refl
-  tokens_are at (c ∷ text) = in_front at c text (tokens_from o (at + width c) text) (is_blank c) (goes_on o c text) refl refl
+  tokens_are at (c ∷ text) =
+      in_front at c text (tokens_from o (at + width c) text) (is_blank c) (goes_on o c text) refl refl
       (tokens_are (at + width c) text)
 
   -- The tokens of a text are its first token and those of the rest.

@@ -1,13 +1,14 @@
 -- The law `older_texts`: a sentence over the units without the quarter is a sentence over all units.
-use Rattle.std.proofs.Common.{◌≡◌, ℕ, Bool, true, false, List, [], ◌∷◌, map, Option, Some, None, IsTrue, if◌then◌else◌, refl, sym, ap, ap₂, subst, ◌∙◌, true≢false}
-use Rattle.duration_str.proofs.Common.{and_parts, Options, TimeUnit, number_of, unit_among, unit_of_word, Terminal, number, word, sign_terminal, terminal_among, terminal_of, IsSentence, IsSentenceOf, kinds_after, allows, Cause, Evaluates, terms_of, value_of, IsRead, IsRefusedAt, IsRefused, older_units, older_terminals, WasSentenceOf, WasRead, WasRefused, OlderTexts}
+use Rattle.std.proofs.Common.{◌≡◌, ℕ, Bool, true, false, List, [], ◌∷◌, map, Option, Some, None, IsTrue, if◌then◌else◌, refl, sym, ap, ap₂}
+use Rattle.duration_str.proofs.Common.{and_parts, Options, TimeUnit, number_of, unit_among, unit_of_word, Terminal, number, word, sign_terminal, terminal_among, terminal_of, IsSentenceOf, kinds_after, allows, Cause, IsRead, IsRefused, older_units, older_terminals, WasSentenceOf, WasRead, WasRefused, OlderTexts}
 use Rattle.duration_str.proofs.Characters.UnitLemmas.{found_among_all}
 use Rattle.duration_str.proofs.Sentences.AnswerLemmas.{sentence_refused}
 use Rattle.duration_str.proofs.Sentences.FrontLemmas.{AreAllowed, sentence_allowed}
 
 -- the terminal of characters, given the two tests and the unit that they name
 abbrev terminal_by : Bool → Bool → List ℕ → Option TimeUnit → Terminal
-terminal_by digits letters w unit = if digits then number (number_of w) else if letters then word unit else sign_terminal w
+terminal_by digits letters w unit =
+    if digits then number (number_of w) else if letters then word unit else sign_terminal w
 
 module _ (o : Options) where
   same_word : (last : Option Terminal) (w : List ℕ) (found : Option TimeUnit) → unit_among older_units o w ≡ found
@@ -37,7 +38,8 @@ module _ (o : Options) where
 
   older_same : (lexemes : List (List ℕ)) (text : List ℕ) → WasSentenceOf o lexemes text
       → older_terminals o lexemes ≡ map (terminal_of o) lexemes
-  older_same lexemes text was = same_terminals None lexemes (sentence_allowed o.no_calc (older_terminals o lexemes) was.sentence)
+  older_same lexemes text was =
+      same_terminals None lexemes (sentence_allowed o.no_calc (older_terminals o lexemes) was.sentence)
 
   older_sentence : (lexemes : List (List ℕ)) (text : List ℕ) → WasSentenceOf o lexemes text
       → IsSentenceOf o lexemes text
@@ -55,7 +57,9 @@ module _ (o : Options) where
   older_cause : (text : List ℕ) (cause : Cause) → WasRefused o text cause → IsRefused o text cause
   older_cause text cause was =
       let same = older_same was.lexemes text was.spells in
-      sentence_refused o text was.lexemes cause (older_sentence was.lexemes text was.spells) (λ place. rw (← same) (was.refused place))
+      sentence_refused o text was.lexemes cause (older_sentence was.lexemes text was.spells)
+      (λ place. rw (← same) (was.refused place))
 
 pub older_texts_hold : OlderTexts
-older_texts_hold = record { terminals = older_same; sentence = older_sentence; value = older_value; cause = older_cause }
+older_texts_hold =
+    record { terminals = older_same; sentence = older_sentence; value = older_value; cause = older_cause }

@@ -63,7 +63,9 @@ grown_after (u ∷ us) bytes nanos h some =
     let n = nanos / nanos_of u in
     let rest = nanos % nanos_of u in
     elim (eq-zero-or-pos n) [
-      | inl z ↦ rw (with_part_none bytes u n z, parts_none u us nanos z) (grown_after us bytes rest (smaller_mod nanos (nanos_of u) h) some)
+      | inl z ↦
+            rw (with_part_none bytes u n z, parts_none u us nanos z)
+            (grown_after us bytes rest (smaller_mod nanos (nanos_of u) h) some)
       | inr more ↦
           let name = (row_of u).printed in
           let next = with_space bytes ++ (decimal n ++ encode_utf8_all name) in
@@ -71,7 +73,8 @@ grown_after (u ∷ us) bytes nanos h some =
           ap (λ bs. with_parts bs us rest) (with_part_more bytes u n more)
           ∙ grown_after us next rest (smaller_mod nanos (nanos_of u) h) longer
           ∙ more_after bytes n name (spaced_parts (parts_of us rest)) (smaller_div nanos (nanos_of u) h)
-          ∙ ap (λ bs. bs ++ encode_utf8_all ((decimal n ++ name) ++ spaced_parts (parts_of us rest))) (space_some bytes some)
+          ∙ ap (λ bs. bs ++ encode_utf8_all ((decimal n ++ name) ++ spaced_parts (parts_of us rest)))
+          (space_some bytes some)
           ∙ append_assoc bytes (32 ∷ []) (encode_utf8_all ((decimal n ++ name) ++ spaced_parts (parts_of us rest)))
           ∙ ap (λ ps. bytes ++ encode_utf8_all (spaced_parts ps)) (sym (parts_more u us nanos more))
     ]
@@ -98,13 +101,16 @@ ended_units (u ∷ us) nanos h =
     let n = nanos / nanos_of u in
     let rest = nanos % nanos_of u in
     elim (eq-zero-or-pos n) [
-      | inl z ↦ rw (with_part_none [] u n z, parts_none u us nanos z) (ended_units us rest (smaller_mod nanos (nanos_of u) h))
+      | inl z ↦
+            rw (with_part_none [] u n z, parts_none u us nanos z)
+            (ended_units us rest (smaller_mod nanos (nanos_of u) h))
       | inr more ↦
           let name = (row_of u).printed in
           let first = decimal n ++ encode_utf8_all name in
           let small = smaller_div nanos (nanos_of u) h in
           let some : 0 < length first = omega (arith, length-append (decimal n) (encode_utf8_all name), some_decimal n small) in
-          let grown = ap (λ bs. with_parts bs us rest) (with_part_more [] u n more) ∙ grown_after us first rest (smaller_mod nanos (nanos_of u) h) some in
+          let grown = ap (λ bs. with_parts bs us rest) (with_part_more [] u n more)
+          ∙ grown_after us first rest (smaller_mod nanos (nanos_of u) h) some in
           ap ended grown
           ∙ ended_some _ (omega (arith, length-append first (encode_utf8_all (spaced_parts (parts_of us rest))), some))
           ∙ more_after [] n name (spaced_parts (parts_of us rest)) small
@@ -119,7 +125,8 @@ pub printed_from_seconds : (nanos secs subsec second year : ℕ) (years bytes : 
     → ended bytes ≡ encode_utf8_all (printed_counts (counts_of unit_lengths nanos))
 printed_from_seconds nanos secs subsec second year years bytes h whole part is_second is_year first more =
     let count : secs / (year / second) ≡ nanos / nanos_of Year = rw (is_second, is_year) (omega arith) in
-    let rest : secs % (year / second) * second + subsec ≡ nanos % nanos_of Year = rw (is_second, is_year) (omega arith) in
+    let rest : secs % (year / second) * second + subsec ≡ nanos % nanos_of Year =
+    rw (is_second, is_year) (omega arith) in
     rw (more, first, count, rest) (ended_units units nanos h)
 
 pub ended_take : (end : ℕ) (buffer : List ℕ) → 0 < end → end ≤ length buffer → ended (take end buffer) ≡ take end buffer
@@ -156,4 +163,5 @@ IsUtf8-ended (b ∷ bytes) text = text
 
 pub IsUtf8-printed : (nanos : ℕ) → nanos < 10 ^ 64
     → IsUtf8 (encode_utf8_all (printed_counts (counts_of unit_lengths nanos)))
-IsUtf8-printed nanos h = rw (← ended_units units nanos h) (IsUtf8-ended (with_parts [] units nanos) (IsUtf8-parts units [] nanos h IsUtf8-nil))
+IsUtf8-printed nanos h =
+    rw (← ended_units units nanos h) (IsUtf8-ended (with_parts [] units nanos) (IsUtf8-parts units [] nanos h IsUtf8-nil))

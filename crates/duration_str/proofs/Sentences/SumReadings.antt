@@ -52,7 +52,8 @@ sum_fits_each (t ∷ terms) h = (omega arith, sum_fits_each terms (omega arith))
 pub running_overflow : (before terms : List Term) → AreAdded terms → EachFits terms → sum_of before < 2 ^ 64
     → 2 ^ 64 ≤ sum_of (before ++ terms) → running_fault before terms ≡ Some (Overflow None)
 running_overflow before [] a f b h = let e = append-nil before in absurd (omega (arith, rw e at h))
-running_overflow before (t ∷ later) a f b h = rw (term_below_no_fault (place_after before) t a.1 f.0) (elim (cases_lt (sum_of (before ++ t ∷ [])) (2 ^ 64)) [
+running_overflow before (t ∷ later) a f b h =
+    rw (term_below_no_fault (place_after before) t a.1 f.0) (elim (cases_lt (sum_of (before ++ t ∷ [])) (2 ^ 64)) [
   | inl below ↦
       let rest = running_overflow (before ++ t ∷ []) later a.2 f.1 below (rw append_assoc h) in
       rw (lt-ltb _ _ below, rest)
@@ -62,7 +63,9 @@ running_overflow before (t ∷ later) a f b h = rw (term_below_no_fault (place_a
 later_overflow : (before terms : List Term) → AreAdded terms → EachFits terms
     → (later_fault Plus before terms ≡ None) ⊎ (later_fault Plus before terms ≡ Some (Overflow None))
 later_overflow before [] a f = inl refl
-later_overflow before (t ∷ later) a f = rw ((is_same_operator-true Plus t.operator).1 a.0, term_below_no_fault None t a.1 f.0) (elim (cases_lt (sum_of (before ++ t ∷ [])) (2 ^ 64)) [
+later_overflow before (t ∷ later) a f =
+    rw ((is_same_operator-true Plus t.operator).1 a.0, term_below_no_fault None t a.1 f.0)
+    (elim (cases_lt (sum_of (before ++ t ∷ [])) (2 ^ 64)) [
   | inl below ↦ rw (lt-ltb _ _ below) (later_overflow (before ++ t ∷ []) later a.2 f.1)
   | inr above ↦ rw (le-ltb _ _ above) (inr refl)
 ])
