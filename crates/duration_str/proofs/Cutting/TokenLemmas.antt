@@ -134,7 +134,8 @@ module _ (o : Options) where
   in_front : (at c : ℕ) (text : List ℕ) (ps : List Token) (blank goes : Bool) → is_blank c ≡ blank
       → goes_on o c text ≡ goes
       → AreTokens o (at + width c) text ps
-      → AreTokens o at (c ∷ text) (if blank then ps else if goes then join at c ps else record { start = at; characters = c ∷ [] } ∷ ps)
+      → AreTokens o at (c ∷ text)
+      (if blank then ps else if goes then join at c ps else record { start = at; characters = c ∷ [] } ∷ ps)
   in_front at c text ps true goes e g h = blank_in_front at c text ps e h
   in_front at c text ps false false e g h = lone_in_front at c text ps e g h
   in_front at c [] ps false true e g h = cc g
@@ -155,4 +156,8 @@ module _ (o : Options) where
       ≡ record { start = at + byte_len blanks; characters = cs } ∷ tokens_from o (at + byte_len blanks + byte_len cs) rest
   tokens_step at blanks cs rest b p e =
       tokens_once at (blanks ++ (cs ++ rest)) _ _ (tokens_are at (blanks ++ (cs ++ rest)))
-      (rest, record { blanks = blanks; blank = b; parts = refl; start = refl; is_lexeme = p; ends = e }, tokens_are (at + byte_len blanks + byte_len cs) rest)
+      (
+        rest,
+        record { blanks = blanks; blank = b; parts = refl; start = refl; is_lexeme = p; ends = e },
+        tokens_are (at + byte_len blanks + byte_len cs) rest,
+      )

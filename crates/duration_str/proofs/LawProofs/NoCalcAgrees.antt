@@ -43,10 +43,11 @@ no_calc_agrees_holds o text nanos plain = (
     value = r.value;
   },
   λ r. let passes = lexemes_pass (λ c. not (is_operator c)) r.lexemes text plain r.spells.1 in
+      let plus = no_operator_terminals o r.lexemes passes in
       record {
         lexemes = r.lexemes;
         spells =
-            (sentence_for false true (map (terminal_of o) r.lexemes) (inl (no_operator_terminals o r.lexemes passes)) r.spells.0, r.spells.1);
+            (sentence_for false true (map (terminal_of o) r.lexemes) (inl plus) r.spells.0, r.spells.1);
         evaluates = r.evaluates;
         value = r.value;
       },

@@ -195,7 +195,8 @@ no_calc_after f (u ∷ later) syntax a h =
     ∙ no_calc_left f [] (u ∷ later) syntax h (a.0, a.1, tt) a.2 in
     rw start (unless_fault (running_fault (f ∷ []) (u ∷ later)) _ _ (λ e.
     let below = running_below (f ∷ []) (u ∷ later) h e in
-    rw (value_is_sum (f ∷ u ∷ later) (omega arith) a, later_none [] (u ∷ later) a.2 (omega arith), lt-ltb (sum_of (f ∷ u ∷ later)) _ below)))
+    let none = later_none [] (u ∷ later) a.2 (omega arith) in
+    rw (value_is_sum (f ∷ u ∷ later) (omega arith) a, none, lt-ltb (sum_of (f ∷ u ∷ later)) _ below)))
 
 no_calc_answer : (f : Term) (later : List Term) (syntax : Option Cause) → AreAdded (f ∷ later)
     → answer_of true (f ∷ later) syntax

@@ -81,7 +81,9 @@ terms_read no_calc op at n (terminal_at p (word (Some u)) (terminal_at q (number
     rw (with_unit op n u (front_in no_calc here) (after_in no_calc here))
 terms_read false op at n (terminal_at p (word (Some u)) (terminal_at q (operator next) (terminal_at r (number m) rest))) =
     let here = terminal_at r (number m) rest in
-    rw (with_unit op n u (operator next ∷ front_in false here) (after_in false here), at_operator Plus next (front_in false here) (after_in false here))
+    let front = front_in false here in
+    let after = after_in false here in
+    rw (with_unit op n u (operator next ∷ front) after, at_operator Plus next front after)
 terms_read false op at n (terminal_at p (operator next) (terminal_at q (number m) rest)) =
     let here = terminal_at q (number m) rest in
     rw (without_unit op next n (front_in false here) (after_in false here))
@@ -185,7 +187,8 @@ answer_told no_calc place front [] None =
 answer_told no_calc place front (terminal ∷ rest) None = refl
 
 in_order : (no_calc : Bool) (place : ℕ) (front rest : List Terminal)
-    → answer_of no_calc (terms_of (complete front rest)) (fault_at place (kinds_after no_calc (last_of None front)) rest) ≡ answer_at no_calc place front rest
+    → answer_of no_calc (terms_of (complete front rest)) (fault_at place (kinds_after no_calc (last_of None front)) rest)
+    ≡ answer_at no_calc place front rest
 in_order no_calc place front [] = answer_told no_calc place front [] _
 in_order no_calc place front (terminal ∷ rest) = answer_told no_calc place front (terminal ∷ rest) _
 

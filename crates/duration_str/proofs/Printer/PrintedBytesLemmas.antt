@@ -146,7 +146,8 @@ IsUtf8-part bytes u n h text =
       | inl z ↦ rw (with_part_none bytes u n z) text
       | inr more ↦ rw (with_part_more bytes u n more)
           (IsUtf8-append (with_space bytes) (decimal n ++ encode_utf8_all (row_of u).printed) (IsUtf8-space bytes text)
-          (IsUtf8-append (decimal n) (encode_utf8_all (row_of u).printed) (IsUtf8-from_ascii (decimal n) (IsAscii-decimal_wide n h)) (IsUtf8-name u)))
+          (IsUtf8-append (decimal n) (encode_utf8_all (row_of u).printed)
+          (IsUtf8-from_ascii (decimal n) (IsAscii-decimal_wide n h)) (IsUtf8-name u)))
     ]
 
 IsUtf8-parts : (us : List TimeUnit) (bytes : List ℕ) (nanos : ℕ) → nanos < 10 ^ 64 → IsUtf8 bytes

@@ -17,11 +17,12 @@ returns-then-place-start-le-MOST_LETTERS c =
     let stops : Stops (is_unit_letter o) (ahead (source t) (place_of t)) = elim c.match-self.branch [
       | in-Some w ↦
             stops_at (is_unit_letter o) (source t) (place_of t) t.eye.next w.in-Some.c (t.some w.in-Some.c w.in-Some.is)
-          (no_letter_of_ascii o w.in-Some.c (sym w.is_ascii-ended.ensures ∙ sym w.ended-is ∙ c.if-ended.true) (e.stops w.in-Some.c w.in-Some.is))
+          (no_letter_of_ascii o w.in-Some.c (sym w.is_ascii-ended.ensures ∙ sym w.ended-is ∙ c.if-ended.true)
+          (e.stops w.in-Some.c w.in-Some.is))
       | in-None w ↦ subst (Stops (is_unit_letter o)) (sym (t.none w.in-None.is)) tt
     ] in
     takes_word c.requires e.kept (short_word o e.letters
-    (ap (λ o. o.lowercase && letters.has_capital) (sym e.kept.options) ∙ not-true _ (sym c.ignore_case.ensures ∙ c.if-ignore_case.true))
+    (rw e.kept.options at (not-true _ (sym c.ignore_case.ensures ∙ c.if-ignore_case.true)))
     (let h = c.if-place-start-le-MOST_LETTERS.true in omega (arith, h, c.place.ensures, c.place-start.ensures))
     c.unit_of_packed.ensures)
     stops

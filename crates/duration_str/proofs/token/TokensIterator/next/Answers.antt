@@ -8,7 +8,8 @@ pub returns-in_err-sort-clause-steps : goal.returns-in_err-sort-clause-steps
 returns-in_err-sort-clause-steps c =
     let e = c.sort_ahead.ensures in
     let end = none_left c.sort_ahead.new.self (c.in_err-sort.ensures {u = tt}).ahead in
-    rw (c.from_residual.ensures) (record { first = (sym e.same_left ∙ end.0, end.0); kept = e.kept; token = tt; end = end.1 ∙ ap length e.kept.text })
+    let cut = end.1 ∙ ap length e.kept.text in
+    rw (c.from_residual.ensures) (record { first = (sym e.same_left ∙ end.0, end.0); kept = e.kept; token = tt; end = cut })
 
 pub since-text-requires-clause-order : goal.since-text-requires-clause-order
 since-text-requires-clause-order c =
