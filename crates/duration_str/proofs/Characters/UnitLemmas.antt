@@ -138,15 +138,15 @@ unit_by_length = each_unit (λ u. find (λ v. eqb (nanos_of v) (nanos_of u)) uni
 same_length : (u v : TimeUnit) → nanos_of u ≡ nanos_of v → u ≡ v
 same_length u v e = let found = rw e at (unit_by_length u) in cc (unit_by_length v)
 
--- a word in both lists is a name that they share
-shared : (w : List ℕ) (xs ys : List (List ℕ)) → list_any (bytes_eq w) xs ≡ true → list_any (bytes_eq w) ys ≡ true
-    → list_all (λ x. not (list_any (bytes_eq x) ys)) xs ≡ true → ⊥
-shared w [] ys h k apart = cc
-shared w (x ∷ xs) ys h k apart =
-    let parts = and_parts (not (list_any (bytes_eq x) ys)) (list_all (λ x. not (list_any (bytes_eq x) ys)) xs) apart in
-    elim (or_cases (bytes_eq w x) (list_any (bytes_eq w) xs) h) [
-      | inl is ↦ cc (rw (← (bytes_eq-Decides w x).0 is, k) at parts.0)
-      | inr later ↦ shared w xs ys later k parts.1
+-- A test that all names pass is passed by a word that is one of them.
+named_passes : (test : List ℕ → Bool) (w : List ℕ) (names : List (List ℕ)) → list_all test names ≡ true
+    → list_any (bytes_eq w) names ≡ true → test w ≡ true
+named_passes test w [] all h = cc
+named_passes test w (name ∷ names) all h =
+    let parts = and_parts (test name) (list_all test names) all in
+    elim (or_cases (bytes_eq w name) (list_any (bytes_eq w) names) h) [
+      | inl is ↦ rw ((bytes_eq-Decides w name).0 is) parts.0
+      | inr later ↦ named_passes test w names parts.1 later
     ]
 
 named_among_all : (a cn ch : Bool) → (a || (cn && ch)) ≡ true → (a || ch) ≡ true
@@ -158,17 +158,6 @@ among_all o w u h =
     list_any-append (bytes_eq (comparison_form o w)) (row_of u).names (row_of u).chinese
     ∙ named_among_all _ o.cn_unit _ h
 
--- a word that is spelled like a name without capitals has none
-spelled_form : (o : Options) (w : List ℕ) (names : List (List ℕ)) → list_all is_small names ≡ true
-    → list_any (bytes_eq w) names ≡ true → comparison_form o w ≡ w
-spelled_form o w [] small h = cc
-spelled_form o w (name ∷ names) small h =
-    let parts = and_parts (is_small name) (list_all is_small names) small in
-    elim (or_cases (bytes_eq w name) (list_any (bytes_eq w) names) h) [
-      | inl is ↦ rw ((bytes_eq-Decides w name).0 is) (small_form o name parts.0)
-      | inr later ↦ spelled_form o w names parts.1 later
-    ]
-
 all_names_small : (u : TimeUnit) → list_all is_small (all_names u) ≡ true
 all_names_small = each_unit (λ u. list_all is_small (all_names u) ≡ true) assumption
 
@@ -177,13 +166,15 @@ module _ (o : Options) where
   named_in_any_case : (w : List ℕ) (u : TimeUnit) → is_named (record o { lowercase = true }) w u ≡ true
       → is_named o w u ≡ true
   named_in_any_case w u h =
-      rw (spelled_form o w (all_names u) (all_names_small u) (among_all (record o { lowercase = true }) w u h)) h
+      let named = among_all (record o { lowercase = true }) w u h in
+      rw (small_form o w (named_passes is_small w (all_names u) (all_names_small u) named)) h
 
   one_unit : (w : List ℕ) (u v : TimeUnit) → is_named o w u ≡ true → is_named o w v ≡ true → u ≡ v
   one_unit w u v h k = elim (or_cases (eqb (nanos_of u) (nanos_of v)) (are_apart u v) (all_apart u v)) [
     | inl same ↦ same_length u v (eqb-true (nanos_of u) (nanos_of v) same)
     | inr apart ↦
-          absurd (shared (comparison_form o w) (all_names u) (all_names v) (among_all o w u h) (among_all o w v k) apart)
+        let other = λ (name : List ℕ). not (list_any (bytes_eq name) (all_names v)) in
+        cc (named_passes other (comparison_form o w) (all_names u) apart (among_all o w u h), among_all o w v k)
   ]
 
   -- a unit found among some units is named by the word

@@ -1,13 +1,8 @@
 -- `tokens_from` gives the tokens of a text, and a text has no others.
 use Rattle.std.proofs.Common.{◌≡◌, ℕ, ◌+◌, Bool, true, false, List, [], ◌∷◌, ◌++◌, IsTrue, if◌then◌else◌, arith, refl, sym, ◌∙◌, add_assoc, add-zero}
-use Rattle.duration_str.proofs.Common.{and_parts, and_from, list_all, Options, width, is_blank, IsBlank, byte_len, are_of_one_run, goes_on, IsLexeme, EndsRun, IsNextToken, AreTokens, tokens_from}
+use Rattle.duration_str.proofs.Common.{Stops, and_parts, and_from, list_all, Options, width, is_blank, IsBlank, byte_len, are_of_one_run, goes_on, IsLexeme, EndsRun, IsNextToken, AreTokens, tokens_from}
 use Rattle.duration_str.specs.Tokens.{Token, join}
 use Rattle.duration_str.proofs.Characters.CharacterLemmas.{same_run, run-not_blank}
-
--- The list is empty, or its first character fails the test.
-abbrev Stops : (ℕ → Bool) → List ℕ → Type 0
-Stops test [] = Unit {0}
-Stops test (c ∷ _) = test c ≡ false
 
 -- There is one way to split a list before its first character that fails a test.
 parted_once : (test : ℕ → Bool) (xs ys r s : List ℕ) → IsTrue (list_all test xs) → IsTrue (list_all test ys)
