@@ -25,8 +25,7 @@ stands_char text rest place c utf8 begins =
 -- an ASCII byte at a place is the UTF-8 of its character
 ascii_begins : (text : List ℕ) (place b : ℕ) → place < length text → b ≡ get_or text place 0 → b < 128
     → drop place text ≡ encode_utf8 b ++ drop (place + 1) text
-ascii_begins text place b inside is small =
-    rw (drop_more text place 0 inside, ← is, encode_ascii b small)
+ascii_begins text place b inside is small = rw (drop_more text place 0 inside, ← is, encode_ascii b small)
 
 -- nothing is ahead of the end
 pub end_ahead : (text : List ℕ) (place : ℕ) → length text ≤ place → ahead text place ≡ []

@@ -23,8 +23,7 @@ terminal_cases o P none digits letters sign rest (c ∷ cs) = by_tests cs _ _ re
 
     by_tests : (ds : List ℕ) (are_digits are_letters : Bool) → list_all is_digit (c ∷ ds) ≡ are_digits
         → list_all (is_unit_letter o) (c ∷ ds) ≡ are_letters
-        → P (c ∷ ds)
-        (if are_digits then number (number_of (c ∷ ds))
+        → P (c ∷ ds) (if are_digits then number (number_of (c ∷ ds))
         else if are_letters then word (unit_of_word o (c ∷ ds)) else sign_terminal (c ∷ ds))
     by_tests ds true are_letters d l = digits c ds d
     by_tests ds false true d l = letters c ds l

@@ -30,8 +30,7 @@ module _ (o : Options) where
       let blanks = parted_once is_blank a b (c ∷ (cs ++ r)) (d ∷ (ds ++ s)) ha hb hc.0 hd.0 e in
       let heads : c ≡ d = cc blanks.1 in
       let run = parted_once (are_of_one_run o c) cs ds r s hc.1 (rw (← heads) at hd.1) (stops_at c r er)
-      (stops_at c s (rw (← heads) at es))
-      (cc blanks.1) in
+      (stops_at c s (rw (← heads) at es)) (cc blanks.1) in
       (blanks.0, cc run.0, run.1)
 
   no_token : (blanks cs rest : List ℕ) → IsLexeme o cs → IsBlank (blanks ++ (cs ++ rest)) → ⊥
@@ -43,8 +42,7 @@ module _ (o : Options) where
       → IsNextToken o at text q s → (p ≡ q) × (r ≡ s)
   next_once at text p q r s h k =
       let same = parts_once h.blanks k.blanks p.characters q.characters r s h.blank k.blank h.is_lexeme k.is_lexeme
-      h.ends k.ends
-      (sym h.parts ∙ k.parts) in
+      h.ends k.ends (sym h.parts ∙ k.parts) in
       let starts : p.start ≡ q.start = rw (h.start, k.start, same.0) in
       (λ i. record { start = starts i; characters = same.1 i }, same.2)
 
@@ -79,14 +77,7 @@ module _ (o : Options) where
       → AreTokens o (at + width c) text ps → AreTokens o at (c ∷ text) (record { start = at; characters = c ∷ [] } ∷ ps)
   lone_in_front at c text ps e g h = (
     text,
-    record {
-      blanks = [];
-      blank = refl;
-      parts = refl;
-      start = rw add-zero;
-      is_lexeme = (e, refl);
-      ends = g;
-    },
+    record { blanks = []; blank = refl; parts = refl; start = rw add-zero; is_lexeme = (e, refl); ends = g },
     rw add-zero h,
   )
 

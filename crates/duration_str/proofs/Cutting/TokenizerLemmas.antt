@@ -26,8 +26,7 @@ left_same kept = rw (kept.options, kept.text)
 pub fewer_ahead : (s t : Tokens) (c : ℕ) → KeepsInput s t
     → ForSome s.head (StandsAt (source s) (place_of s) (place_of t)) → s.head ≡ Some c
     → length (ahead (source t) (place_of t)) < length (ahead (source s) (place_of s))
-fewer_ahead s t c kept past is =
-    simp (kept.text, (past c is).head) (omega arith)
+fewer_ahead s t c kept past is = simp (kept.text, (past c is).head) (omega arith)
 
 -- skipping the blanks from s to t
 pub looks_ahead : {s t : Tokens} (sort : Option Sort) → KeepsInput s t

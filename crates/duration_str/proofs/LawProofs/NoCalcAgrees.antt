@@ -46,8 +46,7 @@ no_calc_agrees_holds o text nanos plain = (
       let plus = no_operator_terminals o r.lexemes passes in
       record {
         lexemes = r.lexemes;
-        spells =
-            (sentence_for false true (map (terminal_of o) r.lexemes) (inl plus) r.spells.0, r.spells.1);
+        spells = (sentence_for false true (map (terminal_of o) r.lexemes) (inl plus) r.spells.0, r.spells.1);
         evaluates = r.evaluates;
         value = r.value;
       },

@@ -22,13 +22,7 @@ spells_after_blanks (w ∷ lexemes) s t h k = (
 
 pub spells_both : (xs ys : List (List ℕ)) (s t : List ℕ) → Spells xs s → Spells ys t → Spells (xs ++ ys) (s ++ t)
 spells_both [] ys s t h k = spells_after_blanks ys s t h k
-spells_both (x ∷ xs) ys s t h k = (
-  h.0,
-  h.1 ++ t,
-  h.2,
-  rw h.3 (simp append_assoc),
-  spells_both xs ys h.1 t h.4 k,
-)
+spells_both (x ∷ xs) ys s t h k = (h.0, h.1 ++ t, h.2, rw h.3 (simp append_assoc), spells_both xs ys h.1 t h.4 k)
 
 -- ---- They are a sentence, with the terms of both
 
@@ -99,8 +93,7 @@ joined_lexemes lexemes others = (lexemes ++ codes "+" ∷ []) ++ others
 joined_terminals : (o : Options) (lexemes others : List (List ℕ))
     → map (terminal_of o) (joined_lexemes lexemes others)
     ≡ map (terminal_of o) lexemes ++ operator Plus ∷ map (terminal_of o) others
-joined_terminals o lexemes others =
-    rw (append_assoc lexemes, map-append (terminal_of o) lexemes, plus_terminal o)
+joined_terminals o lexemes others = rw (append_assoc lexemes, map-append (terminal_of o) lexemes, plus_terminal o)
 
 combination_is_sum : (o : Options) (a b : List ℕ) (lexemes others : List (List ℕ)) → o.no_calc ≡ false
     → IsSumOf o lexemes a → IsSumOf o others b → IsSumOf o (joined_lexemes lexemes others) (a ++ codes "+" ++ b)

@@ -161,8 +161,7 @@ no_calc_left f before (t ∷ later) syntax h a b =
       ← checked_sum f before t b.0 a h,
       running_append (f ∷ before) (t ∷ []) later,
       fault_or-or_else fault (running_fault (f ∷ next) later),
-    )
-    (unless_fault fault _ _ (λ e.
+    ) (unless_fault fault _ _ (λ e.
     let below = running_below (f ∷ before) (t ∷ []) h e in
     rw (no_calc_left f next later syntax below (added_push (f ∷ before) t later a b) b.2, append_assoc)))
 

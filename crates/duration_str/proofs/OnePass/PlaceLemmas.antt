@@ -101,8 +101,7 @@ module _ (P : ℕ → Type 0) where
       let terminals = terminals_of o (c ∷ text) in
       let n = front_of o.no_calc terminals in
       answer_after_stands o.no_calc (start_after n (byte_len (c ∷ text)) (tokens_of o (c ∷ text))) (take n terminals)
-      (drop n terminals) _
-      (early_stands h o.no_calc (take n terminals) (drop n terminals))
+      (drop n terminals) _ (early_stands h o.no_calc (take n terminals) (drop n terminals))
       (start_among n (byte_len (c ∷ text)) (tokens_of o (c ∷ text)) k l)
 
 -- ---- Bytes and boundaries
