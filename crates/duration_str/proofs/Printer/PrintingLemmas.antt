@@ -33,10 +33,10 @@ duration_lexemes nanos = lexemes (printed nanos)
 
 -- ---- The lexemes spell the text
 
-abbrev part : ℕ × TimeUnit → List ℕ
+abbrev pub part : ℕ × TimeUnit → List ℕ
 part p = decimal p.0 ++ (row_of p.1).printed
 
-parts_kept : (us : List TimeUnit) (counts : List ℕ) → printed_parts us counts ≡ map part (kept us counts)
+pub parts_kept : (us : List TimeUnit) (counts : List ℕ) → printed_parts us counts ≡ map part (kept us counts)
 parts_kept (u ∷ us) (n ∷ counts) =
     elim (cases_Bool (n == 0)) [ inl e ↦ rw e (parts_kept us counts) | inr e ↦ rw (e, parts_kept us counts) ]
 parts_kept _ _ = refl
