@@ -1,6 +1,6 @@
 -- The bytes built unit by unit are the UTF-8 of the printed text.
-use Rattle.std.proofs.Common.{◌≡◌, ℕ, ◌+◌, ◌*◌, ◌/◌, ◌%◌, ◌^◌, ◌<◌, ◌≤◌, ◌==◌, false, List, [], ◌∷◌, ◌++◌, length, take, map, decimal, encode_utf8_all, refl, ap, sym, ◌∙◌, inl, inr, arith, length-append, append_assoc, append-nil, eq-zero-or-pos, lit<, flat_map, codes, IsUtf8, div-le_self, length-take-le}
-use Rattle.duration_str.proofs.Common.{cases_Bool, nat_tests, encodes-append, encodes-IsAscii, TimeUnit, Year, Second, units, row_of, nanos_of, unit_lengths, printed_parts, printed_counts, spaced, counts_of, with_space, with_part, with_parts, units_below_year}
+use Rattle.std.proofs.Common.{◌≡◌, ℕ, ◌+◌, ◌*◌, ◌/◌, ◌%◌, ◌^◌, ◌<◌, ◌≤◌, ◌==◌, List, [], ◌∷◌, ◌++◌, length, take, map, decimal, encode_utf8_all, refl, sym, inl, inr, arith, length-append, append_assoc, append-nil, lit<, flat_map, codes, IsUtf8, div-le_self, length-take-le}
+use Rattle.duration_str.proofs.Common.{cases_Bool, encodes-append, encodes-IsAscii, TimeUnit, Year, Second, units, row_of, nanos_of, unit_lengths, printed_counts, spaced, counts_of, with_space, with_part, with_parts, units_below_year}
 use Rattle.std.proofs.Math.Nat.{mod-le}
 use Rattle.std.proofs.lemmas.Fmt.{IsAscii-decimal_wide, decimal_by_steps_wide}
 use Rattle.std.proofs.lemmas.Str.{IsUtf8-append, IsUtf8-from_ascii, IsUtf8-nil}

@@ -1,4 +1,4 @@
-use Rattle.std.proofs.Common.{◌∙◌, ◌&&◌, ap, sym, subst, arith}
+use Rattle.std.proofs.Common.{◌∙◌, sym, subst, arith}
 use Rattle.duration_str.proofs.Common.{not-true, is_unit_letter, ahead, Stops, source, options_of}
 use Rattle.duration_str.specs.Tokenizer.{place_of}
 use Rattle.duration_str.proofs.Characters.CharacterLemmas.{no_letter_of_ascii}
