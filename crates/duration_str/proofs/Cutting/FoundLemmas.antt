@@ -31,7 +31,7 @@ module _ (o : Options) where
     | inr solid ↦ elim (cases_Bool (goes_on o c text)) [
       | inl more ↦ rw (solid, more) (without_joined at place c text before more)
       | inr alone ↦
-            rw (solid, alone) (elsewhere place at (c ∷ []) (tokens_from o (at + width c) text) (omega (arith, before)))
+          rw (solid, alone) (elsewhere place at (c ∷ []) (tokens_from o (at + width c) text) (omega (arith, before)))
     ]
   ]
 

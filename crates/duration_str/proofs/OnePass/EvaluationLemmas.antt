@@ -71,7 +71,7 @@ pub term_told : (place : Option ℕ) (t : Term)
     → term_value place (u64_from t.number) t.length ≡ fault_or (term_fault place t) (Ok (value_of_term t))
 term_told place t = elim (cases_Bool (fits t.number)) [
   | inl number ↦
-        elim (cases_Bool (fits (value_of_term t))) [ inl value ↦ rw (number, value) | inr value ↦ rw (number, value) ]
+      elim (cases_Bool (fits (value_of_term t))) [ inl value ↦ rw (number, value) | inr value ↦ rw (number, value) ]
   | inr number ↦ rw number
 ]
 
@@ -151,7 +151,8 @@ added_push (x ∷ xs) t ys a b = (a.0, a.1, added_push xs t ys a.2 b)
 no_calc_left : (f : Term) (before later : List Term) (syntax : Option Cause) → sum_of (f ∷ before) < 2 ^ 64
     → AreAdded (f ∷ before) → AreAdded later
     → answer_with true (value_of_term f) Plus (value_by Plus before) later syntax
-    ≡ fault_or (running_fault (f ∷ before) later) (fault_or syntax (join Plus (Ok (value_of_term f)) (value_by Plus (before ++ later))))
+    ≡ fault_or (running_fault (f ∷ before) later)
+    (fault_or syntax (join Plus (Ok (value_of_term f)) (value_by Plus (before ++ later))))
 no_calc_left f before [] syntax h a b = rw append-nil
 no_calc_left f before (t ∷ later) syntax h a b =
     let next = before ++ t ∷ [] in
@@ -178,13 +179,6 @@ nothing_is : (set : CondUnit) → nothing_of set ≡ later_total set []
 nothing_is Plus = refl
 nothing_is Star = refl
 
-default_answer : (f : Term) (later : List Term) (syntax : Option Cause)
-    → answer_of false (f ∷ later) syntax
-    ≡ fault_or (term_fault (Some 0) f) (answer_after_first false (value_of_term f) later syntax)
-default_answer f [] syntax = refl
-default_answer f (u ∷ later) syntax =
-    rw (nothing_is u.operator, default_left (value_of_term f) u.operator [] (u ∷ later) syntax, whole_value f u later)
-
 no_calc_after : (f : Term) (later : List Term) (syntax : Option Cause) → AreAdded (f ∷ later) → sum_of (f ∷ []) < 2 ^ 64
     → fault_or (running_fault (f ∷ []) later) (fault_or syntax (Ok (unwrap_or (value_of (f ∷ later)) 0)))
     ≡ answer_after_first true (value_of_term f) later syntax
@@ -197,19 +191,16 @@ no_calc_after f (u ∷ later) syntax a h =
     let none = later_none [] (u ∷ later) a.2 (omega arith) in
     rw (value_is_sum (f ∷ u ∷ later) (omega arith) a, none, lt-ltb (sum_of (f ∷ u ∷ later)) _ below)))
 
-no_calc_answer : (f : Term) (later : List Term) (syntax : Option Cause) → AreAdded (f ∷ later)
-    → answer_of true (f ∷ later) syntax
-    ≡ fault_or (term_fault (Some 0) f) (answer_after_first true (value_of_term f) later syntax)
-no_calc_answer f later syntax a =
-    rw (fault_or-or_else (term_fault (Some 0) f)) (unless_fault (term_fault (Some 0) f) _ _ (λ e.
-    let below = simp no_fault at e in
-    let own : sum_of (f ∷ []) < 2 ^ 64 = omega arith in
-    rw (lt-ltb (sum_of (f ∷ [])) _ own) (no_calc_after f later syntax a own)))
-
 -- The answer to terms is the answer of reading them one by one.
 pub one_by_one : (no_calc : Bool) (f : Term) (later : List Term) (syntax : Option Cause)
     → (IsTrue no_calc → AreAdded (f ∷ later))
     → answer_of no_calc (f ∷ later) syntax
     ≡ fault_or (term_fault (Some 0) f) (answer_after_first no_calc (value_of_term f) later syntax)
-one_by_one false f later syntax added = default_answer f later syntax
-one_by_one true f later syntax added = no_calc_answer f later syntax (added refl)
+one_by_one false f [] syntax added = refl
+one_by_one false f (u ∷ later) syntax added =
+    rw (nothing_is u.operator, default_left (value_of_term f) u.operator [] (u ∷ later) syntax, whole_value f u later)
+one_by_one true f later syntax added =
+    rw (fault_or-or_else (term_fault (Some 0) f)) (unless_fault (term_fault (Some 0) f) _ _ (λ e.
+    let below = simp no_fault at e in
+    let own : sum_of (f ∷ []) < 2 ^ 64 = omega arith in
+    rw (lt-ltb (sum_of (f ∷ [])) _ own) (no_calc_after f later syntax (added refl) own)))
