@@ -31,9 +31,10 @@ after_number-no_calc = record { number = false; unit_word = true; operator = fal
 abbrev after_unit-no_calc : Expected
 after_unit-no_calc = record { number = true; unit_word = false; operator = false; text_end = true }
 
--- ---- Terms and sums
+-- ---- What texts are read as, and why others are refused
 
-pub record TermsAndSums : Type 0 where
+pub record Answers : Type 0 where
+  -- ---- Terms and sums
   pub sum_with_plus : answer off (codes "3m + 13s + 29ms") ≡ Ok 193_029_000_000
   pub sum_without_plus : answer off (codes "1d2h3min4s") ≡ Ok 93_784_000_000_000
   pub sum_of_many_units : answer off (codes "751d 1mon 3week 5d 2ns") ≡ Ok 69_724_800_000_000_002
@@ -41,13 +42,7 @@ pub record TermsAndSums : Type 0 where
   pub number_alone-seconds : answer off (codes "1") ≡ Ok 1_000_000_000
   pub last_number-seconds : answer off (codes "1m 2") ≡ Ok 62_000_000_000
   pub sum-overflow : answer off (codes "580y 580y") ≡ Err (Overflow None)
-
-pub terms_and_sums : TermsAndSums
-terms_and_sums = assumption
-
--- ---- Products
-
-pub record Products : Type 0 where
+  -- ---- Products
   pub product_by_one : answer off (codes "580y*1") ≡ Ok 18_290_880_000_000_000_000
   pub product-overflow : answer off (codes "580y*2") ≡ Err (Overflow None)
   pub product-zero_last : answer off (codes "580y*2*0") ≡ Ok 0
@@ -58,25 +53,13 @@ pub record Products : Type 0 where
   pub product-middle_step_rounded : answer off (codes "1*1ns*1ns*1000000000") ≡ Ok 0
   pub plus_then_star : answer off (codes "1m 2s*3") ≡ Err (Mixed Plus Star)
   pub star_then_plus : answer off (codes "1m*2*3+4") ≡ Err (Mixed Star Plus)
-
-pub products : Products
-products = assumption
-
--- ---- The limits of numbers
-
-pub record Limits : Type 0 where
+  -- ---- The limits of numbers
   pub leading_zeros : answer off (codes "00000000000000000000000001") ≡ Ok 1_000_000_000
   pub greatest_number : answer off (codes "18446744073709551615ns") ≡ Ok 18_446_744_073_709_551_615
   pub number_above_limit : answer off (codes "18446744073709551616ns") ≡ Err (NumberTooLarge (Some 0))
   pub first_term-overflow : answer off (codes "10000000000000000y+60") ≡ Err (Overflow (Some 0))
   pub later_number-no_place : answer off (codes "1s + 99999999999999999999") ≡ Err (NumberTooLarge None)
-
-pub limits : Limits
-limits = assumption
-
--- ---- Syntax faults, their places, and what is expected there
-
-pub record SyntaxFaults : Type 0 where
+  -- ---- Syntax faults, their places, and what is expected there
   pub empty-refused : answer off [] ≡ Err Empty
   pub blanks-refused : answer off (codes "   ") ≡ Err (Syntax 3 number_alone)
   pub two_numbers-refused : answer off (codes "1 2") ≡ Err (Syntax 2 after_number)
@@ -94,26 +77,14 @@ pub record SyntaxFaults : Type 0 where
   pub form_feed-refused : answer off (codes "1m" ++ 12 ∷ codes "2") ≡ Err (Syntax 2 after_unit)
   pub no_break_space-refused : answer off (codes "1m" ++ 0xA0 ∷ codes "2") ≡ Err (Syntax 2 after_unit)
   pub wide_space-refused : answer off (codes "1m" ++ 0x3000 ∷ codes "2") ≡ Err (Syntax 2 after_unit)
-
-pub syntax_faults : SyntaxFaults
-syntax_faults = assumption
-
--- ---- The order of refusals
-
-pub record OrderOfRefusals : Type 0 where
+  -- ---- The order of refusals
   pub syntax-before_standing_number : answer off (codes "99999999999999999999 2") ≡ Err (Syntax 21 after_number)
   pub first_term-before_syntax : answer off (codes "99999999999999999999y-") ≡ Err (NumberTooLarge (Some 0))
   pub syntax-before_sum : answer off (codes "580y 580y x") ≡ Err (Syntax 10 after_unit)
   pub syntax-before_sum-at_sign : answer off (codes "580y 580y-") ≡ Err (Syntax 9 after_unit)
   pub number-before_later_operator : answer off (codes "1m+99999999999999999999*2") ≡ Err (NumberTooLarge None)
   pub operator-before_later_number : answer off (codes "1m+2*99999999999999999999") ≡ Err (Mixed Plus Star)
-
-pub order_of_refusals : OrderOfRefusals
-order_of_refusals = assumption
-
--- ---- The option `no_calc`
-
-pub record NoCalcRows : Type 0 where
+  -- ---- The option `no_calc`
   pub no_calc-sum : answer with_no_calc (codes "2h 37m") ≡ Ok 9_420_000_000_000
   pub no_calc-plus_after_number : answer with_no_calc (codes "1+2") ≡ Err (Syntax 1 after_number-no_calc)
   pub no_calc-plus_after_unit : answer with_no_calc (codes "1m+2") ≡ Err (Syntax 2 after_unit-no_calc)
@@ -126,13 +97,7 @@ pub record NoCalcRows : Type 0 where
   pub no_calc-sum_before_plus : answer with_no_calc (codes "580y 580y+1") ≡ Err (Overflow None)
   pub no_calc-sum_before_minus : answer with_no_calc (codes "580y 580y-") ≡ Err (Overflow None)
   pub no_calc-later_number_no_place : answer with_no_calc (codes "1m 99999999999999999999") ≡ Err (NumberTooLarge None)
-
-pub no_calc_rows : NoCalcRows
-no_calc_rows = assumption
-
--- ---- The options `lowercase` and `cn_unit`
-
-pub record OtherOptions : Type 0 where
+  -- ---- The options `lowercase` and `cn_unit`
   pub capitals_folded : answer off (codes "1MS") ≡ Ok 1_000_000
   pub capital_minute : answer off (codes "1M") ≡ Ok 60_000_000_000
   pub capital_after_micro : answer off (codes "1µS") ≡ Ok 1_000
@@ -143,51 +108,22 @@ pub record OtherOptions : Type 0 where
   pub cn_unit-chinese_read : answer with_cn_unit (codes " 1分+   31秒 + 2毫秒+  3纳秒  ") ≡ Ok 91_002_000_003
   pub cn_unit-all_read : answer with_cn_unit (codes "1年1月1周1日1天1时1分1秒1毫秒1微秒1纳秒") ≡ Ok 34_909_261_001_001_001
   pub chinese-refused : answer off (codes " 1分+   31秒 + 2毫秒+  3纳秒  ") ≡ Err (Syntax 2 after_number)
+  -- ---- The quarter
+  pub quarter-read : answer off (codes "1q") ≡ Ok 7_862_400_000_000_000
+  pub capital_quarters-read : answer off (codes "2 Quarters") ≡ Ok 15_724_800_000_000_000
+  pub capital_quarter-lowercase_refused : answer with_lowercase (codes "1Q") ≡ Err (Syntax 1 after_number)
+  pub longer_word_than_quarter-refused : answer off (codes "1qs") ≡ Err (Syntax 1 after_number)
+  -- Before the quarter was added, its names named no unit, and there were 40 others.
+  pub quarter_was_no_unit : map (older_unit_of_word off) (row_of Quarter).names ≡ None ∷ None ∷ None ∷ []
 
-pub other_options : OtherOptions
-other_options = assumption
-
--- ---- The texts of faults
-
-pub record FaultTexts : Type 0 where
-  pub caret-by_characters : fault_text (encode_utf8_all (codes "1µs 分")) (Syntax 5 after_unit)
-      ≡ encode_utf8_all (codes "1µs 分" ++ 10 ∷ codes "    ^" ++ 10 ∷ codes "expected ['+', '*']")
-  pub byte-after_line_feeds : fault_text (codes "1m" ++ 10 ∷ codes "+" ++ 10 ∷ codes "x") (Syntax 5 number_alone)
-      ≡ codes "byte 5: expected number"
-  pub line-alone : fault_text (codes "1m 2s*3") (Mixed Plus Star) ≡ codes "not support '+' with '*' calculate"
-
-pub fault_texts : FaultTexts
-unfolding chars digits encode
-fault_texts = assumption
-
-abbrev printed : ℕ → List ℕ
-printed nanos = printed_counts (counts_of unit_lengths nanos)
-
--- ---- Printed texts
-
-pub record PrintedTexts : Type 0 where
-  pub printed-zero : printed 0 ≡ codes "0s"
-  pub printed-milliseconds : printed 193_029_000_000 ≡ codes "3min 13s 29ms"
-  pub printed-day_to_second : printed 93_784_000_000_000 ≡ codes "1d 2h 3min 4s"
-  pub printed-807_days : printed 69_724_800_000_000_002 ≡ codes "2y 2mon 2w 3d 2ns"
-  pub printed-90_days : printed 7_776_000_000_000_000 ≡ codes "3mon"
-  pub printed-91_days : printed 7_862_400_000_000_000 ≡ codes "1q"
-  pub printed-364_days : printed 31_449_600_000_000_000 ≡ codes "4q"
-  pub printed-35_days : printed 3_024_000_000_000_000 ≡ codes "1mon 5d"
-  pub printed-377_days : printed 32_572_803_000_000_000 ≡ codes "1y 1w 5d 3s"
-
-pub printed_texts : PrintedTexts
-unfolding digits
-printed_texts = assumption
+pub answers : Answers
+answers = assumption
 
 abbrev last_that_reads_back : List ℕ
 last_that_reads_back = codes "584y 3q 2mon 1w 3d 23h 34min 33s 709ms 551µs 615ns"
 
 abbrev first_that_overflows : List ℕ
 first_that_overflows = codes "584y 3q 2mon 1w 3d 23h 34min 33s 709ms 551µs 616ns"
-
-abbrev greatest_duration : List ℕ
-greatest_duration = codes "584942417355y 3w 5d 7h 15s 999ms 999µs 999ns"
 
 pub overflows-first : (no_calc lowercase cn_unit : Bool)
     → answer (record { no_calc = no_calc; lowercase = lowercase; cn_unit = cn_unit }) first_that_overflows
@@ -201,12 +137,35 @@ overflows-first false true false = refl
 overflows-first false false true = refl
 overflows-first false false false = refl
 
+-- ---- What faults and durations print
+
+abbrev printed : ℕ → List ℕ
+printed nanos = printed_counts (counts_of unit_lengths nanos)
+
+abbrev greatest_duration : List ℕ
+greatest_duration = codes "584942417355y 3w 5d 7h 15s 999ms 999µs 999ns"
+
 abbrev longest : List ℕ
 longest = codes "100000000000y 3q 2mon 3w 6d 23h 59min 59s 999ms 999µs 999ns"
 
--- ---- Printed texts around 2^64 nanoseconds
-
-pub record PrintedAround : Type 0 where
+pub record PrintedTexts : Type 0 where
+  -- ---- The texts of faults
+  pub caret-by_characters : fault_text (encode_utf8_all (codes "1µs 分")) (Syntax 5 after_unit)
+      ≡ encode_utf8_all (codes "1µs 分" ++ 10 ∷ codes "    ^" ++ 10 ∷ codes "expected ['+', '*']")
+  pub byte-after_line_feeds : fault_text (codes "1m" ++ 10 ∷ codes "+" ++ 10 ∷ codes "x") (Syntax 5 number_alone)
+      ≡ codes "byte 5: expected number"
+  pub line-alone : fault_text (codes "1m 2s*3") (Mixed Plus Star) ≡ codes "not support '+' with '*' calculate"
+  -- ---- Printed texts
+  pub printed-zero : printed 0 ≡ codes "0s"
+  pub printed-milliseconds : printed 193_029_000_000 ≡ codes "3min 13s 29ms"
+  pub printed-day_to_second : printed 93_784_000_000_000 ≡ codes "1d 2h 3min 4s"
+  pub printed-807_days : printed 69_724_800_000_000_002 ≡ codes "2y 2mon 2w 3d 2ns"
+  pub printed-90_days : printed 7_776_000_000_000_000 ≡ codes "3mon"
+  pub printed-91_days : printed 7_862_400_000_000_000 ≡ codes "1q"
+  pub printed-364_days : printed 31_449_600_000_000_000 ≡ codes "4q"
+  pub printed-35_days : printed 3_024_000_000_000_000 ≡ codes "1mon 5d"
+  pub printed-377_days : printed 32_572_803_000_000_000 ≡ codes "1y 1w 5d 3s"
+  -- ---- Printed texts around 2^64 nanoseconds
   pub printed-last_that_reads_back : printed 18_446_744_073_709_551_615 ≡ last_that_reads_back
   pub reads_back-last : answer off last_that_reads_back ≡ Ok 18_446_744_073_709_551_615
   pub printed-first_that_overflows : printed 18_446_744_073_709_551_616 ≡ first_that_overflows
@@ -217,9 +176,11 @@ pub record PrintedAround : Type 0 where
   pub sixty_bytes : max_printed_len ≡ 60
   pub overflows-greatest_duration : answer off greatest_duration ≡ Err (Overflow (Some 0))
 
-pub printed_around : PrintedAround
-unfolding digits encode
-printed_around = assumption
+pub printed_texts : PrintedTexts
+unfolding chars digits encode
+printed_texts = assumption
+
+-- ---- The names of the units
 
 -- Each of the names is read as the unit.
 abbrev AreNamesOf : Options → TimeUnit → List (List ℕ) → Type 0
@@ -237,26 +198,8 @@ AreNames (u ∷ us) =
 pub names_of_one_unit : AreNames units
 names_of_one_unit = assumption
 
--- ---- The names of the units
-
-pub record UnitNames : Type 0 where
-  pub forty_three_names : length (flat_map (λ u. (row_of u).names) units) ≡ 43
-
-pub unit_names : UnitNames
-unit_names = assumption
+pub forty_three_names : length (flat_map (λ u. (row_of u).names) units) ≡ 43
+forty_three_names = refl
 
 pub forty_older_names : length (flat_map (λ u. (row_of u).names) older_units) ≡ 40
 forty_older_names = refl
-
--- ---- The quarter
-
-pub record TheQuarter : Type 0 where
-  pub quarter-read : answer off (codes "1q") ≡ Ok 7_862_400_000_000_000
-  pub capital_quarters-read : answer off (codes "2 Quarters") ≡ Ok 15_724_800_000_000_000
-  pub capital_quarter-lowercase_refused : answer with_lowercase (codes "1Q") ≡ Err (Syntax 1 after_number)
-  pub longer_word_than_quarter-refused : answer off (codes "1qs") ≡ Err (Syntax 1 after_number)
-  -- Before the quarter was added, its names named no unit, and there were 40 others.
-  pub quarter_was_no_unit : map (older_unit_of_word off) (row_of Quarter).names ≡ None ∷ None ∷ None ∷ []
-
-pub the_quarter : TheQuarter
-the_quarter = assumption

@@ -7,7 +7,8 @@ use Rattle.std.specs.Char.{is_ascii}
 pub all_weaker : (p q : ℕ → Bool) (cs : List ℕ) → ((c : ℕ) → p c ≡ true → q c ≡ true) → IsTrue (list_all p cs)
     → IsTrue (list_all q cs)
 all_weaker p q [] weaker h = refl
-all_weaker p q (c ∷ cs) weaker h = and_from _ _ (weaker c (and_parts _ _ h).0) (all_weaker p q cs weaker (and_parts _ _ h).1)
+all_weaker p q (c ∷ cs) weaker h =
+    and_from _ _ (weaker c (and_parts _ _ h).0) (all_weaker p q cs weaker (and_parts _ _ h).1)
 
 letter_above : (o : Options) (c : ℕ) → is_unit_letter o c ≡ true → 65 ≤ c
 letter_above o c e = grind (arith, nat_tests)

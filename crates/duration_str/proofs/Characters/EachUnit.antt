@@ -21,7 +21,8 @@ each_unit P each NanoSecond = each.1.1.1.1.1.1.1.1.1.1.0
 
 each_passes : (test : TimeUnit → Bool) (us : List TimeUnit) → list_all test us ≡ true → Each (λ u. test u ≡ true) us
 each_passes test [] h = tt
-each_passes test (u ∷ us) h = let parts = and_parts (test u) (list_all test us) h in (parts.0, each_passes test us parts.1)
+each_passes test (u ∷ us) h =
+    let parts = and_parts (test u) (list_all test us) h in (parts.0, each_passes test us parts.1)
 
 -- A test passed by each unit of the table is passed by every unit.
 pub all_units : (test : TimeUnit → Bool) → list_all test units ≡ true → (u : TimeUnit) → test u ≡ true

@@ -13,7 +13,8 @@ decimal_digits = numerals_by_fold _ (search rules) number_after (search rules)
 ok_u64 : {E : Type 0} (r : Result ℕ E) (n len : ℕ) → 0 < len → OkIff r ((0 < len) × (n < 2 ^ 64)) n
     → result_ok r ≡ u64_from n
 ok_u64 (Ok x) n len some h = rw (lt-ltb n _ h.0.1, h.1)
-ok_u64 (Err e) n len some h = elim (cases_lt n (2 ^ 64)) [ inl below ↦ absurd (h (some, below)) | inr above ↦ rw (le-ltb n _ above) ]
+ok_u64 (Err e) n len some h =
+    elim (cases_lt n (2 ^ 64)) [ inl below ↦ absurd (h (some, below)) | inr above ↦ rw (le-ltb n _ above) ]
 
 -- the number that `parse` gives for digits
 pub parsed_u64 : {E : Type 0} (bs : List ℕ) (r : Result ℕ E) (parsed : Option ℕ) → IsUtf8 bs → IsNumber (chars bs)

@@ -19,20 +19,25 @@ at_least : (n : ℕ) (cs : List ℕ) → n * 32 ^ length cs ≤ packed_number_af
 at_least n [] = omega arith
 at_least n (c ∷ cs) =
     let more = at_least (n * 32 + c % 32) cs in
-    let step : n * 32 * 32 ^ length cs ≤ (n * 32 + c % 32) * 32 ^ length cs = mul-le-mul_right (32 ^ length cs) (omega arith) in
-    let pow : 32 ^ length (c ∷ cs) ≡ 32 * 32 ^ length cs = pow-succ' 32 (length cs) in rw pow (omega (arith, more, step))
+    let step : n * 32 * 32 ^ length cs ≤ (n * 32 + c % 32) * 32 ^ length cs =
+    mul-le-mul_right (32 ^ length cs) (omega arith) in
+    let pow : 32 ^ length (c ∷ cs) ≡ 32 * 32 ^ length cs = pow-succ' 32 (length cs) in
+    rw pow (omega (arith, more, step))
 
 below : (n : ℕ) (cs : List ℕ) → packed_number_after n cs < (n + 1) * 32 ^ length cs
 below n [] = omega arith
 below n (c ∷ cs) =
     let less = below (n * 32 + c % 32) cs in
     let small : c % 32 < 32 = mod-lt c (lit< tt) in
-    let step : (n * 32 + c % 32 + 1) * 32 ^ length cs ≤ (n * 32 + 32) * 32 ^ length cs = mul-le-mul_right (32 ^ length cs) (omega (arith, small)) in
-    let pow : 32 ^ length (c ∷ cs) ≡ 32 * 32 ^ length cs = pow-succ' 32 (length cs) in rw pow (omega (arith, less, step))
+    let step : (n * 32 + c % 32 + 1) * 32 ^ length cs ≤ (n * 32 + 32) * 32 ^ length cs =
+    mul-le-mul_right (32 ^ length cs) (omega (arith, small)) in
+    let pow : 32 ^ length (c ∷ cs) ≡ 32 * 32 ^ length cs = pow-succ' 32 (length cs) in
+    rw pow (omega (arith, less, step))
 
 -- the packed number of a word of at most 12 letters is exact
 pub exact : (w : List ℕ) (n : ℕ) → length w ≤ 12 → n ≡ packed_number w % 2 ^ 64 → n ≡ packed_number w
-exact w n h e = let up = below 0 w in let pow : 32 ^ length w ≤ 32 ^ 12 = pow-le-pow_right (lit< tt) h in omega (arith, up, pow, e)
+exact w n h e =
+    let up = below 0 w in let pow : 32 ^ length w ≤ 32 ^ 12 = pow-le-pow_right (lit< tt) h in omega (arith, up, pow, e)
 
 -- ---- different words of small letters have different packed numbers
 
@@ -124,7 +129,9 @@ small_same c e = grind (arith, nat_tests)
 
 no_capital : (w : List ℕ) → list_any is_ascii_uppercase w ≡ false → map to_ascii_lowercase w ≡ w
 no_capital [] e = refl
-no_capital (c ∷ w) e = let parts = or_parts (is_ascii_uppercase c) (list_any is_ascii_uppercase w) e in rw (small_same c parts.0, no_capital w parts.1)
+no_capital (c ∷ w) e =
+    let parts = or_parts (is_ascii_uppercase c) (list_any is_ascii_uppercase w) e in
+    rw (small_same c parts.0, no_capital w parts.1)
 
 form_lower : (o : Options) (w : List ℕ) → (o.lowercase && list_any is_ascii_uppercase w) ≡ false
     → comparison_form o w ≡ map to_ascii_lowercase w
@@ -176,7 +183,8 @@ slot_found table d n len right small key =
 
 -- whether a name, if it is all small letters, is in its slot
 abbrev pub is_kept : List (ℕ × TimeUnit) → (ℕ × TimeUnit) → List ℕ → Bool
-is_kept table d name = if are_small name then eqb (get_or table (slot (packed_number name)) d).0 (packed_number name) else true
+is_kept table d name =
+    if are_small name then eqb (get_or table (slot (packed_number name)) d).0 (packed_number name) else true
 
 abbrev pub are_kept : List (ℕ × TimeUnit) → (ℕ × TimeUnit) → List TimeUnit → Bool
 are_kept table d us = list_all (λ u. list_all (is_kept table d) (row_of u).names) us

@@ -25,8 +25,7 @@ stands_char text rest place c utf8 begins =
 -- an ASCII byte at a place is the UTF-8 of its character
 ascii_begins : (text : List ℕ) (place b : ℕ) → place < length text → b ≡ get_or text place 0 → b < 128
     → drop place text ≡ encode_utf8 b ++ drop (place + 1) text
-ascii_begins text place b inside is small =
-    rw (drop_more text place 0 inside, ← is, encode_ascii b small)
+ascii_begins text place b inside is small = rw (drop_more text place 0 inside, ← is, encode_ascii b small)
 
 -- nothing is ahead of the end
 pub end_ahead : (text : List ℕ) (place : ℕ) → length text ≤ place → ahead text place ≡ []
@@ -60,7 +59,8 @@ one_or_two_chars X text rest after first second utf8 begins step end =
 
 -- the width of a character is not 0
 pub width_some : (c : ℕ) → 1 ≤ width c
-width_some c = elim (cases_Bool (leb 55296 c && leb c 57343)) [ inl e ↦ rw e (omega arith) | inr e ↦ rw e (len_utf8_bounds c).0 ]
+width_some c =
+    elim (cases_Bool (leb 55296 c && leb c 57343)) [ inl e ↦ rw e (omega arith) | inr e ↦ rw e (len_utf8_bounds c).0 ]
 
 pub byte_len-append : (xs ys : List ℕ) → byte_len (xs ++ ys) ≡ byte_len xs + byte_len ys
 byte_len-append [] ys = omega arith

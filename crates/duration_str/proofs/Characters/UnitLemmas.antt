@@ -70,7 +70,8 @@ name_test : (o : Options) (word name : List ℕ) → IsUtf8 word → is_small na
     ≡ bytes_eq (comparison_form o (chars word)) name
 name_test o word name utf8 small =
     let bytes = rw (encodes-chars word utf8) at (comparison_form-encodes o (chars word)) in
-    rw (bytes, comparison_form-encodes o name, small_form o name small) (bytes_eq-encodes (comparison_form o (chars word)) name)
+    rw (bytes, comparison_form-encodes o name, small_form o name small)
+    (bytes_eq-encodes (comparison_form o (chars word)) name)
 
 names_test : (o : Options) (word : List ℕ) (names : List (List ℕ)) → IsUtf8 word → list_all is_small names ≡ true
     → list_any (λ bytes. bytes_eq (comparison_form o word) (comparison_form o bytes)) (map encodes names)
@@ -97,7 +98,9 @@ any_name o word texts names r utf8 encoded small is =
 -- the names in the table have no ASCII capitals
 names_small : (u : TimeUnit)
     → (list_all is_small (row_of u).names ≡ true) × (list_all is_small (row_of u).chinese ≡ true)
-names_small = each_unit (λ u. (list_all is_small (row_of u).names ≡ true) × (list_all is_small (row_of u).chinese ≡ true)) assumption
+names_small =
+    each_unit (λ u. (list_all is_small (row_of u).names ≡ true) × (list_all is_small (row_of u).chinese ≡ true))
+    assumption
 
 -- the word is among the unit's names
 pub by_name : (o : Options) (word : List ℕ) (u : TimeUnit) (texts : List (Bor (List ℕ))) (r : Bool) → IsUtf8 word
@@ -111,7 +114,8 @@ pub by_chinese : (o : Options) (word : List ℕ) (u : TimeUnit) (texts : List (B
     → AreEncoded texts (row_of u).chinese
     → r ≡ list_any (λ text. bytes_eq (comparison_form o word) (comparison_form o text.now)) texts
     → r ≡ list_any (bytes_eq (comparison_form o (chars word))) (row_of u).chinese
-by_chinese o word u texts r utf8 encoded is = any_name o word texts (row_of u).chinese r utf8 encoded (names_small u).1 is
+by_chinese o word u texts r utf8 encoded is =
+    any_name o word texts (row_of u).chinese r utf8 encoded (names_small u).1 is
 
 -- ---- a name belongs to one unit
 
@@ -134,15 +138,15 @@ unit_by_length = each_unit (λ u. find (λ v. eqb (nanos_of v) (nanos_of u)) uni
 same_length : (u v : TimeUnit) → nanos_of u ≡ nanos_of v → u ≡ v
 same_length u v e = let found = rw e at (unit_by_length u) in cc (unit_by_length v)
 
--- a word in both lists is a name that they share
-shared : (w : List ℕ) (xs ys : List (List ℕ)) → list_any (bytes_eq w) xs ≡ true → list_any (bytes_eq w) ys ≡ true
-    → list_all (λ x. not (list_any (bytes_eq x) ys)) xs ≡ true → ⊥
-shared w [] ys h k apart = cc
-shared w (x ∷ xs) ys h k apart =
-    let parts = and_parts (not (list_any (bytes_eq x) ys)) (list_all (λ x. not (list_any (bytes_eq x) ys)) xs) apart in
-    elim (or_cases (bytes_eq w x) (list_any (bytes_eq w) xs) h) [
-      | inl is ↦ cc (rw (← (bytes_eq-Decides w x).0 is, k) at parts.0)
-      | inr later ↦ shared w xs ys later k parts.1
+-- A test that all names pass is passed by a word that is one of them.
+named_passes : (test : List ℕ → Bool) (w : List ℕ) (names : List (List ℕ)) → list_all test names ≡ true
+    → list_any (bytes_eq w) names ≡ true → test w ≡ true
+named_passes test w [] all h = cc
+named_passes test w (name ∷ names) all h =
+    let parts = and_parts (test name) (list_all test names) all in
+    elim (or_cases (bytes_eq w name) (list_any (bytes_eq w) names) h) [
+      | inl is ↦ rw ((bytes_eq-Decides w name).0 is) parts.0
+      | inr later ↦ named_passes test w names parts.1 later
     ]
 
 named_among_all : (a cn ch : Bool) → (a || (cn && ch)) ≡ true → (a || ch) ≡ true
@@ -150,18 +154,9 @@ named_among_all a cn ch h = grind arith
 
 among_all : (o : Options) (w : List ℕ) (u : TimeUnit) → is_named o w u ≡ true
     → list_any (bytes_eq (comparison_form o w)) (all_names u) ≡ true
-among_all o w u h = list_any-append (bytes_eq (comparison_form o w)) (row_of u).names (row_of u).chinese ∙ named_among_all _ o.cn_unit _ h
-
--- a word that is spelled like a name without capitals has none
-spelled_form : (o : Options) (w : List ℕ) (names : List (List ℕ)) → list_all is_small names ≡ true
-    → list_any (bytes_eq w) names ≡ true → comparison_form o w ≡ w
-spelled_form o w [] small h = cc
-spelled_form o w (name ∷ names) small h =
-    let parts = and_parts (is_small name) (list_all is_small names) small in
-    elim (or_cases (bytes_eq w name) (list_any (bytes_eq w) names) h) [
-      | inl is ↦ rw ((bytes_eq-Decides w name).0 is) (small_form o name parts.0)
-      | inr later ↦ spelled_form o w names parts.1 later
-    ]
+among_all o w u h =
+    list_any-append (bytes_eq (comparison_form o w)) (row_of u).names (row_of u).chinese
+    ∙ named_among_all _ o.cn_unit _ h
 
 all_names_small : (u : TimeUnit) → list_all is_small (all_names u) ≡ true
 all_names_small = each_unit (λ u. list_all is_small (all_names u) ≡ true) assumption
@@ -171,12 +166,15 @@ module _ (o : Options) where
   named_in_any_case : (w : List ℕ) (u : TimeUnit) → is_named (record o { lowercase = true }) w u ≡ true
       → is_named o w u ≡ true
   named_in_any_case w u h =
-      rw (spelled_form o w (all_names u) (all_names_small u) (among_all (record o { lowercase = true }) w u h)) h
+      let named = among_all (record o { lowercase = true }) w u h in
+      rw (small_form o w (named_passes is_small w (all_names u) (all_names_small u) named)) h
 
   one_unit : (w : List ℕ) (u v : TimeUnit) → is_named o w u ≡ true → is_named o w v ≡ true → u ≡ v
   one_unit w u v h k = elim (or_cases (eqb (nanos_of u) (nanos_of v)) (are_apart u v) (all_apart u v)) [
     | inl same ↦ same_length u v (eqb-true (nanos_of u) (nanos_of v) same)
-    | inr apart ↦ absurd (shared (comparison_form o w) (all_names u) (all_names v) (among_all o w u h) (among_all o w v k) apart)
+    | inr apart ↦
+        let other = λ (name : List ℕ). not (list_any (bytes_eq name) (all_names v)) in
+        cc (named_passes other (comparison_form o w) (all_names u) apart (among_all o w u h), among_all o w v k)
   ]
 
   -- A unit of the list that the word names is found, since the word names no other.
@@ -193,7 +191,8 @@ module _ (o : Options) where
 
   -- the unit that a word names
   pub named_unit : (w : List ℕ) (u : TimeUnit) → is_named o w u ≡ true → unit_of_word o w ≡ Some u
-  named_unit w u h = found_only w units u h (all_units (λ u. list_any (λ v. eqb (nanos_of v) (nanos_of u)) units) refl u)
+  named_unit w u h =
+      found_only w units u h (all_units (λ u. list_any (λ v. eqb (nanos_of v) (nanos_of u)) units) refl u)
 
   -- the unit that a word names with these letters, under `lowercase` too
   pub unit_of_letters : (w letters : List ℕ) (r : Option TimeUnit) → w ≡ letters

@@ -15,18 +15,22 @@ use Rattle.duration_str.proofs.Characters.PackedLemmas.{exact, unit_by_number}
 
 -- the looks so far and the characters ahead, counting a looked-at head only once, are all the characters
 abbrev pub IsCounted : List ℕ → ℕ → ℕ → Option ℕ → Type 0
-IsCounted text place looks head = looks + length (ahead text place) ≡ length (chars text) + (if is_some head then 1 else 0)
+IsCounted text place looks head =
+    looks + length (ahead text place) ≡ length (chars text) + (if is_some head then 1 else 0)
 
 -- a text has at most as many characters as bytes
 chars_short : (text : List ℕ) → IsUtf8 text → length (chars text) ≤ length text
-chars_short text utf8 = let few = length-le-encodes (chars text) in let same = ap length (encodes-chars text utf8) in omega (arith, few, same)
+chars_short text utf8 =
+    let few = length-le-encodes (chars text) in let same = ap length (encodes-chars text utf8) in
+    omega (arith, few, same)
 
 module _ (text : List ℕ) (place : ℕ) where
   -- no character after the head was looked at
   pub counted_past : (next looks : ℕ) (head : Option ℕ) → IsSome head → ForSome head (StandsAt text place next)
       → IsCounted text place looks head → looks + length (ahead text next) ≡ length (chars text)
   counted_past next looks None h stands counted = absurd cc
-  counted_past next looks (Some c) h stands counted = let len = ap length (stands c refl).head in omega (arith, len, counted)
+  counted_past next looks (Some c) h stands counted =
+      let len = ap length (stands c refl).head in omega (arith, len, counted)
 
   -- one more look fits into 64 bits
   pub looks_fit : (looks : ℕ) → IsUtf8 text → length text < 2 ^ 63
@@ -37,7 +41,8 @@ module _ (text : List ℕ) (place : ℕ) where
   pub looks_most : (next looks : ℕ) (head : Option ℕ) → ForSome head (StandsAt text place next)
       → IsCounted text place looks head → looks ≤ length (chars text)
   looks_most next looks None stands counted = omega (arith, counted)
-  looks_most next looks (Some c) stands counted = let len = ap length (stands c refl).head in omega (arith, len, counted)
+  looks_most next looks (Some c) stands counted =
+      let len = ap length (stands c refl).head in omega (arith, len, counted)
 
   -- the characters before and after a place are all the characters
   pub parts_count : IsUtf8 text → IsCharBoundary text place
@@ -60,7 +65,8 @@ stands_same text text' place place' next (Some d) e p h = λ c is. let same : d 
 -- ---- characters that pass a test
 
 pub passes_none : (test : ℕ → Bool) (text : List ℕ) (place : ℕ) → Passes test text place place
-passes_none test text place = record { characters = []; between = record { cut = refl; bytes = omega arith }; all = refl }
+passes_none test text place =
+    record { characters = []; between = record { cut = refl; bytes = omega arith }; all = refl }
 
 -- one run that passes after another
 passes_on : {test : ℕ → Bool} {text : List ℕ} {place at next : ℕ} → Passes test text place at → Passes test text at next
@@ -136,8 +142,10 @@ any-push : (test : ℕ → Bool) (cs : List ℕ) (c : ℕ) → list_any test (cs
 any-push test cs c = rw (list_any-append test cs, or-false (test c))
 
 pub letters_head : (text left : List ℕ) (place at next : ℕ) (head : Option ℕ) (c value value' : ℕ) (capital capital' : Bool) → left ≡ text
-    → TakesLetters text place at value capital → head ≡ Some c → ForSome head (StandsAt left at next) → is_ascii_alphabetic c ≡ true
-    → value' ≡ (value * 32 + c % 32) % 2 ^ 64 → capital' ≡ (capital || nat_lt c 97) → TakesLetters text place next value' capital'
+    → TakesLetters text place at value capital → head ≡ Some c → ForSome head (StandsAt left at next)
+    → is_ascii_alphabetic c ≡ true
+    → value' ≡ (value * 32 + c % 32) % 2 ^ 64 → capital' ≡ (capital || nat_lt c 97)
+    → TakesLetters text place next value' capital'
 unfolding passes_head passes_on
 letters_head text left place at next head c value value' capital capital' same taken is stands e more or =
     let push = packed_after-push 0 taken.run.characters c in
@@ -160,8 +168,10 @@ pub chars_between : {text cs slice : List ℕ} {place next : ℕ} → Between te
 chars_between {text} {cs} {slice} {place} {next} between is utf8 =
     let there : place + (next - place) ≡ next = omega (arith, between.bytes) in
     let parts : slice ++ drop next text ≡ drop place text =
-    rw (is, ← there, ← drop-drop (next - place) place text, there) (take-append-drop (next - place) (drop place text)) in
-    append_cancel_right (chars slice) cs (ahead text next) (sym (chars-append slice (drop next text) utf8) ∙ rw parts between.cut)
+    rw (is, ← there, ← drop-drop (next - place) place text, there)
+    (take-append-drop (next - place) (drop place text)) in
+    append_cancel_right (chars slice) cs (ahead text next)
+    (sym (chars-append slice (drop next text) utf8) ∙ rw parts between.cut)
 
 -- ---- numbers and words
 
@@ -191,7 +201,8 @@ short_word {value = value} o taken folded short found =
     let few : length cs ≤ 12 = omega (arith, length-le-byte_len cs, taken.run.between.bytes, short) in
     record {
       run = passes_weaker (is_unit_letter o) (letter_of_ascii o) taken.run;
-      named = rw (found, exact cs value few taken.number, unit_by_number o cs (rw taken.capital at folded) taken.run.all);
+      named =
+          rw (found, exact cs value few taken.number, unit_by_number o cs (rw taken.capital at folded) taken.run.all);
     }
 
 -- a word by its slice: ASCII letters, then any unit letters

@@ -30,7 +30,8 @@ module _ (o : Options) where
     | inl blank ↦ rw blank
     | inr solid ↦ elim (cases_Bool (goes_on o c text)) [
       | inl more ↦ rw (solid, more) (without_joined at place c text before more)
-      | inr alone ↦ rw (solid, alone) (elsewhere place at (c ∷ []) (tokens_from o (at + width c) text) (omega (arith, before)))
+      | inr alone ↦
+          rw (solid, alone) (elsewhere place at (c ∷ []) (tokens_from o (at + width c) text) (omega (arith, before)))
     ]
   ]
 
@@ -76,7 +77,10 @@ found_later : (by place : ℕ) (tokens : List Token)
 found_later by place [] = refl
 found_later by place (token ∷ tokens) =
     let same : (by + token.start == by + place) ≡ (token.start == place) = grind (arith, nat_tests) in
-    elim (cases_Bool (token.start == place)) [ inl here ↦ rw (same, here) | inr other ↦ rw (same, other, found_later by place tokens) ]
+    elim (cases_Bool (token.start == place)) [
+      | inl here ↦ rw (same, here)
+      | inr other ↦ rw (same, other, found_later by place tokens)
+    ]
 
 -- ---- The token at the place, cut from a boundary before it
 
@@ -88,11 +92,14 @@ found_after o bs from place utf8 boundary within before =
     let front = chars (take from bs) in
     let text = chars (drop from bs) in
     let parts = rw take-append-drop at (chars-append (take from bs) (drop from bs) (IsUtf8-take bs from utf8 boundary)) in
-    let bytes : byte_len front ≡ from = rw (byte_count (take from bs) (IsUtf8-take bs from utf8 boundary)) (length-take-le from bs boundary.0) in
+    let bytes : byte_len front ≡ from =
+    rw (byte_count (take from bs) (IsUtf8-take bs from utf8 boundary)) (length-take-le from bs boundary.0) in
     let there : place ≡ from + (place - from) = omega (arith, within) in
     let start : 0 + byte_len front ≡ from + 0 = omega (arith, bytes) in
+    let later : 0 < byte_len front → 0 + byte_len front < place =
+    λ some. omega (arith, bytes, before (omega (arith, bytes, some))) in
     let found = rw (← there) at (found_later from (place - from) (tokens_of o text)) in
-    rw (parts, without_front o 0 place front text (λ some. omega (arith, bytes, before (omega (arith, bytes, some)))), start, tokens_later o from 0 text)
+    rw (parts, without_front o 0 place front text later, start, tokens_later o from 0 text)
     found
 
 -- The slice of a text from a boundary on is one of the text.

@@ -26,7 +26,8 @@ run_ends o test apart c (d ∷ rest) e stops = apart c d e stops
 run_stands : {text cs : List ℕ} {place next at c : ℕ} (o : Options) (test : ℕ → Bool) (meaning : List ℕ → Terminal)
     → ((c d : ℕ) → test c ≡ true → test d ≡ false → are_of_one_run o c d ≡ false)
     → ((d : ℕ) (ds : List ℕ) → IsTrue (list_all test (d ∷ ds)) → IsLexeme o (d ∷ ds) × (terminal_of o (d ∷ ds) ≡ meaning (d ∷ ds)))
-    → Between text place next cs → IsTrue (list_all test cs) → Stops test (ahead text next) → StandsAt text place at c → test c ≡ true
+    → Between text place next cs → IsTrue (list_all test cs) → Stops test (ahead text next) → StandsAt text place at c
+    → test c ≡ true
     → (0 < length cs) × StandsToken o text place next (meaning cs)
 run_stands {cs = []} o test meaning apart lexeme between all stops stands e =
     let same = sym between.cut ∙ stands.head in
@@ -111,7 +112,8 @@ module _ (o : Options) where
 
 -- A text that starts with a character other than a blank starts with a token of that character.
 pub first_token : (o : Options) (at c : ℕ) (text : List ℕ) → is_blank c ≡ false
-    → (cs : List ℕ) × (rest : List Token) × (tokens_from o at (c ∷ text) ≡ record { start = at; characters = cs } ∷ rest) ×
+    → (cs : List ℕ) × (rest : List Token)
+    × (tokens_from o at (c ∷ text) ≡ record { start = at; characters = cs } ∷ rest) ×
     (sort_at o c ≡ sort_of (terminal_of o cs))
 first_token o at c text e = of_tokens (tokens_from o at (c ∷ text)) (tokens_are o at (c ∷ text))
   where

@@ -23,7 +23,8 @@ terminal_cases o P none digits letters sign rest (c ∷ cs) = by_tests cs _ _ re
 
     by_tests : (ds : List ℕ) (are_digits are_letters : Bool) → list_all is_digit (c ∷ ds) ≡ are_digits
         → list_all (is_unit_letter o) (c ∷ ds) ≡ are_letters
-        → P (c ∷ ds) (if are_digits then number (number_of (c ∷ ds)) else if are_letters then word (unit_of_word o (c ∷ ds)) else sign_terminal (c ∷ ds))
+        → P (c ∷ ds) (if are_digits then number (number_of (c ∷ ds))
+        else if are_letters then word (unit_of_word o (c ∷ ds)) else sign_terminal (c ∷ ds))
     by_tests ds true are_letters d l = digits c ds d
     by_tests ds false true d l = letters c ds l
     by_tests [] false false d l = by_operator (operator_of c) refl d l
@@ -44,7 +45,8 @@ module _ (o : Options) where
   digits_are_lexeme = run_is_lexeme is_digit digit-not_blank (λ c d e f. rw (e, f))
 
   pub letters_are_lexeme : (c : ℕ) (cs : List ℕ) → IsTrue (list_all (is_unit_letter o) (c ∷ cs)) → IsLexeme o (c ∷ cs)
-  letters_are_lexeme = run_is_lexeme (is_unit_letter o) (letter-not_blank o) (λ c d e f. or_right _ _ (and_from _ _ e f))
+  letters_are_lexeme =
+      run_is_lexeme (is_unit_letter o) (letter-not_blank o) (λ c d e f. or_right _ _ (and_from _ _ e f))
 
 -- ---- The sort of a lexeme
 

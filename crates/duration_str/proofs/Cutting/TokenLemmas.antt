@@ -1,13 +1,8 @@
 -- `tokens_from` gives the tokens of a text, and a text has no others.
 use Rattle.std.proofs.Common.{◌≡◌, ℕ, ◌+◌, Bool, true, false, List, [], ◌∷◌, ◌++◌, IsTrue, if◌then◌else◌, arith, refl, sym, ◌∙◌, add_assoc, add-zero}
-use Rattle.duration_str.proofs.Common.{and_parts, and_from, list_all, Options, width, is_blank, IsBlank, byte_len, are_of_one_run, goes_on, IsLexeme, EndsRun, IsNextToken, AreTokens, tokens_from}
+use Rattle.duration_str.proofs.Common.{Stops, and_parts, and_from, list_all, Options, width, is_blank, IsBlank, byte_len, are_of_one_run, goes_on, IsLexeme, EndsRun, IsNextToken, AreTokens, tokens_from}
 use Rattle.duration_str.specs.Tokens.{Token, join}
 use Rattle.duration_str.proofs.Characters.CharacterLemmas.{same_run, run-not_blank}
-
--- The list is empty, or its first character fails the test.
-abbrev Stops : (ℕ → Bool) → List ℕ → Type 0
-Stops test [] = Unit {0}
-Stops test (c ∷ _) = test c ≡ false
 
 -- There is one way to split a list before its first character that fails a test.
 parted_once : (test : ℕ → Bool) (xs ys r s : List ℕ) → IsTrue (list_all test xs) → IsTrue (list_all test ys)
@@ -34,8 +29,8 @@ module _ (o : Options) where
   parts_once a b (c ∷ cs) (d ∷ ds) r s ha hb hc hd er es e =
       let blanks = parted_once is_blank a b (c ∷ (cs ++ r)) (d ∷ (ds ++ s)) ha hb hc.0 hd.0 e in
       let heads : c ≡ d = cc blanks.1 in
-      let run = parted_once (are_of_one_run o c) cs ds r s hc.1 (rw (← heads) at hd.1) (stops_at c r er) (stops_at c s (rw (← heads) at es))
-      (cc blanks.1) in
+      let run = parted_once (are_of_one_run o c) cs ds r s hc.1 (rw (← heads) at hd.1) (stops_at c r er)
+      (stops_at c s (rw (← heads) at es)) (cc blanks.1) in
       (blanks.0, cc run.0, run.1)
 
   no_token : (blanks cs rest : List ℕ) → IsLexeme o cs → IsBlank (blanks ++ (cs ++ rest)) → ⊥
@@ -46,8 +41,8 @@ module _ (o : Options) where
   next_once : (at : ℕ) (text : List ℕ) (p q : Token) (r s : List ℕ) → IsNextToken o at text p r
       → IsNextToken o at text q s → (p ≡ q) × (r ≡ s)
   next_once at text p q r s h k =
-      let same = parts_once h.blanks k.blanks p.characters q.characters r s h.blank k.blank h.is_lexeme k.is_lexeme h.ends k.ends
-      (sym h.parts ∙ k.parts) in
+      let same = parts_once h.blanks k.blanks p.characters q.characters r s h.blank k.blank h.is_lexeme k.is_lexeme
+      h.ends k.ends (sym h.parts ∙ k.parts) in
       let starts : p.start ≡ q.start = rw (h.start, k.start, same.0) in
       (λ i. record { start = starts i; characters = same.1 i }, same.2)
 
@@ -82,21 +77,15 @@ module _ (o : Options) where
       → AreTokens o (at + width c) text ps → AreTokens o at (c ∷ text) (record { start = at; characters = c ∷ [] } ∷ ps)
   lone_in_front at c text ps e g h = (
     text,
-    record {
-      blanks = [];
-      blank = refl;
-      parts = refl;
-      start = rw add-zero;
-      is_lexeme = (e, refl);
-      ends = g;
-    },
+    record { blanks = []; blank = refl; parts = refl; start = rw add-zero; is_lexeme = (e, refl); ends = g },
     rw add-zero h,
   )
 
   all_of_run : (c d : ℕ) (cs : List ℕ) → are_of_one_run o c d ≡ true → IsTrue (list_all (are_of_one_run o d) cs)
       → IsTrue (list_all (are_of_one_run o c) cs)
   all_of_run c d [] h k = refl
-  all_of_run c d (e ∷ cs) h k = and_from _ _ (sym (same_run o c d e h) ∙ (and_parts _ _ k).0) (all_of_run c d cs h (and_parts _ _ k).1)
+  all_of_run c d (e ∷ cs) h k =
+      and_from _ _ (sym (same_run o c d e h) ∙ (and_parts _ _ k).0) (all_of_run c d cs h (and_parts _ _ k).1)
 
   ends_of_run : (c d : ℕ) (rest : List ℕ) → are_of_one_run o c d ≡ true → goes_on o d rest ≡ false
       → goes_on o c rest ≡ false
@@ -128,19 +117,23 @@ module _ (o : Options) where
         rw moved at more,
       )
 
-  in_front : (at c : ℕ) (text : List ℕ) (ps : List Token) (blank goes : Bool) → is_blank c ≡ blank → goes_on o c text ≡ goes
+  in_front : (at c : ℕ) (text : List ℕ) (ps : List Token) (blank goes : Bool) → is_blank c ≡ blank
+      → goes_on o c text ≡ goes
       → AreTokens o (at + width c) text ps
-      → AreTokens o at (c ∷ text) (if blank then ps else if goes then join at c ps else record { start = at; characters = c ∷ [] } ∷ ps)
+      → AreTokens o at (c ∷ text)
+      (if blank then ps else if goes then join at c ps else record { start = at; characters = c ∷ [] } ∷ ps)
   in_front at c text ps true goes e g h = blank_in_front at c text ps e h
   in_front at c text ps false false e g h = lone_in_front at c text ps e g h
   in_front at c [] ps false true e g h = cc g
   in_front at c (d ∷ text) [] false true e g h = cc ((and_parts (is_blank d) _ h).0, run-not_blank o c d g)
   in_front at c (d ∷ text) (p ∷ ps) false true e g h =
-      joined_in_front at c d text h.1.blanks p.characters h.0 p.start ps e g h.1.blank h.1.parts h.1.start h.1.is_lexeme h.1.ends h.2
+      joined_in_front at c d text h.1.blanks p.characters h.0 p.start ps e g h.1.blank h.1.parts h.1.start h.1.is_lexeme
+      h.1.ends h.2
 
   pub tokens_are : (at : ℕ) (text : List ℕ) → AreTokens o at text (tokens_from o at text)
   tokens_are at [] = refl
-  tokens_are at (c ∷ text) = in_front at c text (tokens_from o (at + width c) text) (is_blank c) (goes_on o c text) refl refl
+  tokens_are at (c ∷ text) =
+      in_front at c text (tokens_from o (at + width c) text) (is_blank c) (goes_on o c text) refl refl
       (tokens_are (at + width c) text)
 
   -- The tokens of a text are its first token and those of the rest.
@@ -148,5 +141,8 @@ module _ (o : Options) where
       → tokens_from o at (blanks ++ (cs ++ rest))
       ≡ record { start = at + byte_len blanks; characters = cs } ∷ tokens_from o (at + byte_len blanks + byte_len cs) rest
   tokens_step at blanks cs rest b p e =
-      tokens_once at (blanks ++ (cs ++ rest)) _ _ (tokens_are at (blanks ++ (cs ++ rest)))
-      (rest, record { blanks = blanks; blank = b; parts = refl; start = refl; is_lexeme = p; ends = e }, tokens_are (at + byte_len blanks + byte_len cs) rest)
+      tokens_once at (blanks ++ (cs ++ rest)) _ _ (tokens_are at (blanks ++ (cs ++ rest))) (
+        rest,
+        record { blanks = blanks; blank = b; parts = refl; start = refl; is_lexeme = p; ends = e },
+        tokens_are (at + byte_len blanks + byte_len cs) rest,
+      )

@@ -26,8 +26,7 @@ left_same kept = rw (kept.options, kept.text)
 pub fewer_ahead : (s t : Tokens) (c : ℕ) → KeepsInput s t
     → ForSome s.head (StandsAt (source s) (place_of s) (place_of t)) → s.head ≡ Some c
     → length (ahead (source t) (place_of t)) < length (ahead (source s) (place_of s))
-fewer_ahead s t c kept past is =
-    simp (kept.text, (past c is).head) (omega arith)
+fewer_ahead s t c kept past is = simp (kept.text, (past c is).head) (omega arith)
 
 -- skipping the blanks from s to t
 pub looks_ahead : {s t : Tokens} (sort : Option Sort) → KeepsInput s t
@@ -45,7 +44,8 @@ pub first_left : (s : Tokens) (sort : Sort) → IsAhead s (Some sort)
     × (sort ≡ sort_of (terminal_of (options_of s) cs))
 first_left s sort h =
     let stands : StandsAt (source s) (place_of s) s.eye.next h.character = s.some h.character h.is_head in
-    let (cs, rest, is, sort_is) = first_token (options_of s) (place_of s) h.character (ahead (source s) s.eye.next) h.not_blank in
+    let (cs, rest, is, sort_is) =
+    first_token (options_of s) (place_of s) h.character (ahead (source s) s.eye.next) h.not_blank in
     (cs, rest, rw stands.head is, rw h.is_sort sort_is)
 
 pub one_sort : (s : Tokens) (a b : Sort) → IsAhead s (Some a) → IsAhead s (Some b) → a ≡ b
@@ -108,7 +108,8 @@ pub takes_long_word : {s m t : Tokens} {value start : ℕ} {capital : Bool} {sli
     → unit ≡ unit_of_word (options_of t) (chars slice) → TakesToken s t (word unit)
 takes_long_word {s} {m} {t} h kept letters later passed stops there is utf8 found =
     let all = keeps_on s m t kept later in
-    let word = long_word letters (rw (kept.options, kept.text) at passed) (same_slice all there is) utf8 (rw all.options at found) in
+    let word = long_word letters (rw (kept.options, kept.text) at passed) (same_slice all there is) utf8
+    (rw all.options at found) in
     takes_word h all word (simp kept.options at stops)
 
 -- taking the single character ahead
@@ -143,7 +144,9 @@ takes_terminal {s} {m} {t} x kept same taken there is utf8 sort before boundary 
     let cs = chars_between taken.between (same_slice taken.kept there is) utf8 in
     let order : x.start ≤ place_of t = omega (arith, taken.between.bytes, there) in
     let len : length x.text.now ≡ place_of t - x.start =
-    ap length is ∙ length-take-le (place_of t - x.start) (drop x.start (source t)) (simp length-drop (omega (arith, boundary.0, order))) in
+    ap length is
+    ∙ length-take-le (place_of t - x.start) (drop x.start (source t))
+    (simp length-drop (omega (arith, boundary.0, order))) in
     let all = keeps_on s m t kept taken.kept in
     record {
       first = rw (there, cs, ← same) taken.first;

@@ -8,11 +8,13 @@ use Rattle.duration_str.proofs.Printer.PrintingLemmas.{duration_lexemes, counts_
 printed_sum : (nanos : ℕ) (text : List ℕ) → FitsDuration nanos → IsPrinted nanos text
     → sum_of (terms_of (terminals_of off text)) ≡ nanos
 printed_sum nanos text h p =
-    ap (λ (ts : List Terminal). sum_of (terms_of ts)) (sym (sentence_terminals off text (duration_lexemes nanos) (printed_is_sum off nanos text h p).sentence))
+    ap (λ (ts : List Terminal). sum_of (terms_of ts))
+    (sym (sentence_terminals off text (duration_lexemes nanos) (printed_is_sum off nanos text h p).sentence))
     ∙ duration_sum off nanos h
 
 pub equal_texts_hold : EqualTexts
 equal_texts_hold m n a b fits_m fits_n p q = (
-  λ e. sym (printed_sum m a fits_m p) ∙ ap (λ (text : List ℕ). sum_of (terms_of (terminals_of off text))) e ∙ printed_sum n b fits_n q,
+  λ e. sym (printed_sum m a fits_m p) ∙ ap (λ (text : List ℕ). sum_of (terms_of (terminals_of off text))) e
+      ∙ printed_sum n b fits_n q,
   λ e. counts_are m a p ∙ ap (λ (nanos : ℕ). printed_counts (counts_of unit_lengths nanos)) e ∙ sym (counts_are n b q),
 )

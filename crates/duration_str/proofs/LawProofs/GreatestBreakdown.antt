@@ -14,7 +14,8 @@ counts_whole : (lengths : List ℕ) (nanos : ℕ) → EndInOne lengths
 counts_whole [] nanos h = absurd h
 counts_whole (l ∷ []) nanos h = rw h (omega arith)
 counts_whole (l ∷ m ∷ lengths) nanos h =
-    let rest : weighted_sum (m ∷ lengths) (counts_of (m ∷ lengths) (nanos % l)) ≡ nanos % l = counts_whole (m ∷ lengths) (nanos % l) h.1 in
+    let rest : weighted_sum (m ∷ lengths) (counts_of (m ∷ lengths) (nanos % l)) ≡ nanos % l =
+    counts_whole (m ∷ lengths) (nanos % l) h.1 in
     omega arith
 
 -- There is one count for each length.
@@ -64,7 +65,8 @@ units_end_in_one = omega arith
 
 pub greatest_breakdown_holds : GreatestBreakdown
 greatest_breakdown_holds nanos = record {
-  breakdown = record { one_each = counts_each unit_lengths nanos; whole = counts_whole unit_lengths nanos units_end_in_one };
+  breakdown =
+      record { one_each = counts_each unit_lengths nanos; whole = counts_whole unit_lengths nanos units_end_in_one };
   greatest = λ others b. counts_greatest unit_lengths nanos others units_end_in_one b.one_each b.whole;
 }
 
@@ -81,5 +83,6 @@ pub one_greatest : (lengths : List ℕ) (nanos : ℕ) (a b : List ℕ) → IsGre
     → IsGreatestBreakdown lengths nanos b → a ≡ b
 one_greatest lengths nanos a b h k = elim (k.greatest a h.breakdown) [
   | inl same ↦ same
-  | inr before ↦ elim (h.greatest b k.breakdown) [ inl same ↦ sym same | inr after ↦ absurd (not_before_each_other a b before after) ]
+  | inr before ↦
+      elim (h.greatest b k.breakdown) [ inl same ↦ sym same | inr after ↦ absurd (not_before_each_other a b before after) ]
 ]

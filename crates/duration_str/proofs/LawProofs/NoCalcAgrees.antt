@@ -31,7 +31,8 @@ no_operator_terminal o terminals h = terminal_cases o (λ w t. HasNoOperator w �
 no_operator_terminals : (o : Options) (lexemes : List (List ℕ)) → EachPasses (λ c. not (is_operator c)) lexemes
     → HaveNoOperator (map (terminal_of o) lexemes)
 no_operator_terminals o [] h = tt
-no_operator_terminals o (w ∷ lexemes) h = no_operator_terminal o (map (terminal_of o) lexemes) (no_operator_terminals o lexemes h.1) w h.0
+no_operator_terminals o (w ∷ lexemes) h =
+    no_operator_terminal o (map (terminal_of o) lexemes) (no_operator_terminals o lexemes h.1) w h.0
 
 pub no_calc_agrees_holds : NoCalcAgrees
 no_calc_agrees_holds o text nanos plain = (
@@ -42,9 +43,10 @@ no_calc_agrees_holds o text nanos plain = (
     value = r.value;
   },
   λ r. let passes = lexemes_pass (λ c. not (is_operator c)) r.lexemes text plain r.spells.1 in
+      let plus = no_operator_terminals o r.lexemes passes in
       record {
         lexemes = r.lexemes;
-        spells = (sentence_for false true (map (terminal_of o) r.lexemes) (inl (no_operator_terminals o r.lexemes passes)) r.spells.0, r.spells.1);
+        spells = (sentence_for false true (map (terminal_of o) r.lexemes) (inl plus) r.spells.0, r.spells.1);
         evaluates = r.evaluates;
         value = r.value;
       },

@@ -17,7 +17,8 @@ alike_back : {o p : Options} {text : List ℕ} → AreAlike o p text → AreAlik
 alike_back h = record { grammar = sym h.grammar; tokens = sym h.tokens; terminals = sym h.terminals }
 
 read_alike : {o p : Options} {text : List ℕ} (nanos : ℕ) → AreAlike o p text → IsRead o text nanos → IsRead p text nanos
-read_alike {p = p} {text = text} nanos h r = terminals_read p text nanos (rw (h.grammar, h.terminals) at (read_terminals r))
+read_alike {p = p} {text = text} nanos h r =
+    terminals_read p text nanos (rw (h.grammar, h.terminals) at (read_terminals r))
 
 refused_alike : {o p : Options} (text : List ℕ) (cause : Cause) → AreAlike o p text → IsRefused o text cause
     → IsRefused p text cause
@@ -78,7 +79,8 @@ all_lower (c ∷ w) h = let parts = and_parts _ _ h in rw (lower_same c parts.0,
 lowercase_alike : (o : Options) (text : List ℕ) → HasNoCapital text
     → AreAlike (record o { lowercase = true }) (record o { lowercase = false }) text
 lowercase_alike o text h =
-    agree_alike (λ c. not (is_ascii_uppercase c)) _ _ (record { letter = λ c e. refl; unit = λ w e. rw (all_lower w e) }) text refl h
+    agree_alike (λ c. not (is_ascii_uppercase c)) _ _
+    (record { letter = λ c e. refl; unit = λ w e. rw (all_lower w e) }) text refl h
 
 -- ---- Chinese characters
 
@@ -100,7 +102,8 @@ lower_not_chinese c h = elim (lower_or_ascii c) [
 
 all_lower_not_chinese : (w : List ℕ) → HasNoChinese w → HasNoChinese (map to_ascii_lowercase w)
 all_lower_not_chinese [] h = refl
-all_lower_not_chinese (c ∷ w) h = and_from _ _ (lower_not_chinese c (and_parts _ _ h).0) (all_lower_not_chinese w (and_parts _ _ h).1)
+all_lower_not_chinese (c ∷ w) h =
+    and_from _ _ (lower_not_chinese c (and_parts _ _ h).0) (all_lower_not_chinese w (and_parts _ _ h).1)
 
 form_not_chinese : (lowercase : Bool) (w : List ℕ) → HasNoChinese w
     → HasNoChinese (if lowercase then w else map to_ascii_lowercase w)
@@ -116,12 +119,14 @@ other_name : (w name : List ℕ) → HasNoChinese w → IsTrue (begins_chinese n
 other_name [] [] h k = cc k
 other_name [] (d ∷ ds) h k = refl
 other_name (f ∷ fs) [] h k = refl
-other_name (f ∷ fs) (d ∷ ds) h k = elim (cases_Bool (f == d)) [ inl e ↦ cc (rw (eqb-true f d e, k) at h) | inr e ↦ rw e ]
+other_name (f ∷ fs) (d ∷ ds) h k =
+    elim (cases_Bool (f == d)) [ inl e ↦ cc (rw (eqb-true f d e, k) at h) | inr e ↦ rw e ]
 
 other_names : (w : List ℕ) (names : List (List ℕ)) → HasNoChinese w → IsTrue (list_all begins_chinese names)
     → list_any (bytes_eq w) names ≡ false
 other_names w [] h k = refl
-other_names w (name ∷ names) h k = or_from _ _ (other_name w name h (and_parts _ _ k).0) (other_names w names h (and_parts _ _ k).1)
+other_names w (name ∷ names) h k =
+    or_from _ _ (other_name w name h (and_parts _ _ k).0) (other_names w names h (and_parts _ _ k).1)
 
 -- The word is not a Chinese name of these units.
 abbrev NamesNoChinese : List ℕ → List TimeUnit → Type 0
@@ -132,7 +137,8 @@ no_chinese_name : (w : List ℕ) (us : List TimeUnit) → HasNoChinese w
     → IsTrue (list_all (λ u. list_all begins_chinese (row_of u).chinese) us) → NamesNoChinese w us
 no_chinese_name w [] h k = tt
 no_chinese_name w (u ∷ us) h k =
-    let parts = and_parts (list_all begins_chinese (row_of u).chinese) (list_all (λ v. list_all begins_chinese (row_of v).chinese) us) k in
+    let parts = and_parts (list_all begins_chinese (row_of u).chinese)
+    (list_all (λ v. list_all begins_chinese (row_of v).chinese) us) k in
     (other_names w (row_of u).chinese h parts.0, no_chinese_name w us h parts.1)
 
 find_alike : (w : List ℕ) (us : List TimeUnit) → NamesNoChinese w us
@@ -143,7 +149,8 @@ find_alike w (u ∷ us) h = rw (h.0, find_alike w us h.1)
 
 cn_unit_unit : (o : Options) (w : List ℕ) → HasNoChinese w
     → unit_of_word (record o { cn_unit = true }) w ≡ unit_of_word (record o { cn_unit = false }) w
-cn_unit_unit o w h = find_alike (comparison_form o w) units (no_chinese_name (comparison_form o w) units (form_not_chinese o.lowercase w h) refl)
+cn_unit_unit o w h =
+    find_alike (comparison_form o w) units (no_chinese_name (comparison_form o w) units (form_not_chinese o.lowercase w h) refl)
 
 cn_unit_alike : (o : Options) (text : List ℕ) → HasNoChinese text
     → AreAlike (record o { cn_unit = true }) (record o { cn_unit = false }) text

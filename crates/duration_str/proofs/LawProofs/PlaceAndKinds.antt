@@ -12,12 +12,14 @@ no_operator_last : (no_calc : Bool) (last : Option Terminal) (terminals : List T
     → no_calc ≡ true → last ≢ Some (operator op) → AreAllowed no_calc last terminals
     → last_of last terminals ≢ Some (operator op)
 no_operator_last no_calc last [] op e n h = n
-no_operator_last no_calc last (t ∷ terminals) op e n h = no_operator_last no_calc (Some t) terminals op e (allowed_no_operator no_calc last t op e h.0) h.1
+no_operator_last no_calc last (t ∷ terminals) op e n h =
+    no_operator_last no_calc (Some t) terminals op e (allowed_no_operator no_calc last t op e h.0) h.1
 
 pub place_and_kinds_hold : PlaceAndKinds
 place_and_kinds_hold = record {
   kinds = kinds_by_table;
-  no_operator = λ no_calc front op e b. no_operator_last no_calc None front op e (λ q. cc) (begins_allowed no_calc front b);
+  no_operator =
+      λ no_calc front op e b. no_operator_last no_calc None front op e (λ q. cc) (begins_allowed no_calc front b);
   front = table_front;
   only = λ no_calc terminals front rest h. one_front h (table_front no_calc terminals);
 }

@@ -21,7 +21,7 @@ years_first o nanos h low =
 reads_below : (o : Options) (nanos : ℕ) (text : List ℕ) → nanos < 2 ^ 64 → IsPrinted nanos text → IsRead o text nanos
 reads_below o nanos text h p =
     let within : FitsDuration nanos = omega arith in
-    sum_read o (duration_lexemes nanos) text nanos (printed_is_sum o nanos text within p) (duration_sum o nanos within) h
+    sum_read (printed_is_sum o nanos text within p) (duration_sum o nanos within) h
 
 overflows_above : (o : Options) (nanos : ℕ) (text : List ℕ) → 2 ^ 64 ≤ nanos → nanos < 585 * nanos_of Year
     → IsPrinted nanos text → IsRefused o text (Overflow None)
@@ -29,12 +29,15 @@ overflows_above o nanos text low high p =
     let within : FitsDuration nanos = omega arith in
     let lexemes : List (List ℕ) = duration_lexemes nanos in
     let rest : List Terminal = after_years nanos in
-    let terminals : map (terminal_of o) lexemes ≡ number (years nanos) ∷ word (Some Year) ∷ rest = years_first o nanos within (omega arith) in
+    let terminals : map (terminal_of o) lexemes ≡ number (years nanos) ∷ word (Some Year) ∷ rest =
+    years_first o nanos within (omega arith) in
     let whole : sum_of (terms_of_lexemes o lexemes) ≡ nanos = duration_sum o nanos within in
-    let parts : years nanos * nanos_of Year + sum_of (terms_of rest) ≡ nanos = sym (ap (λ (ts : List Terminal). sum_of (terms_of ts)) terminals) ∙ whole in
+    let parts : years nanos * nanos_of Year + sum_of (terms_of rest) ≡ nanos =
+    sym (ap (λ (ts : List Terminal). sum_of (terms_of ts)) terminals) ∙ whole in
     let each : EachFits (terms_of_lexemes o lexemes) =
-    subst (λ (ts : List Terminal). EachFits (terms_of ts)) (sym terminals) (omega arith, sum_fits_each (terms_of rest) (omega arith)) in
-    sum_overflows o lexemes text (printed_is_sum o nanos text within p) each (omega arith)
+    subst (λ (ts : List Terminal). EachFits (terms_of ts)) (sym terminals)
+    (omega arith, sum_fits_each (terms_of rest) (omega arith)) in
+    sum_overflows (printed_is_sum o nanos text within p) each (omega arith)
 
 -- The years overflow by themselves.
 first_overflows : (no_calc : Bool) (n : ℕ) (rest : List Terminal) → n < 2 ^ 64 → 2 ^ 64 ≤ n * nanos_of Year

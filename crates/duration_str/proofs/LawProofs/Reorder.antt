@@ -60,6 +60,7 @@ pub reorder_holds : Reorder
 reorder_holds o a b lexemes others nanos s t plus other_plus counts r =
     let xs : List Term = terms_of_lexemes o lexemes in
     let ys : List Term = terms_of_lexemes o others in
-    let sums : sum_of ys ≡ sum_of xs = rw (sum_total ys, sum_total xs, same_total (map value_of_term xs) (map value_of_term ys) counts) in
-    let found : sum_of xs ≡ nanos = read_sum o lexemes a nanos (record { sentence = s; plus = plus }) r in
-    sum_read o others b nanos (record { sentence = t; plus = other_plus }) (sums ∙ found) (read_below r)
+    let same = same_total (map value_of_term xs) (map value_of_term ys) counts in
+    let sums : sum_of ys ≡ sum_of xs = rw (sum_total ys, sum_total xs, same) in
+    let found : sum_of xs ≡ nanos = read_sum (record { sentence = s; plus = plus }) r in
+    sum_read (record { sentence = t; plus = other_plus }) (sums ∙ found) (read_below r)

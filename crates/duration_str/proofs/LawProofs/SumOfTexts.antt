@@ -22,13 +22,7 @@ spells_after_blanks (w ∷ lexemes) s t h k = (
 
 pub spells_both : (xs ys : List (List ℕ)) (s t : List ℕ) → Spells xs s → Spells ys t → Spells (xs ++ ys) (s ++ t)
 spells_both [] ys s t h k = spells_after_blanks ys s t h k
-spells_both (x ∷ xs) ys s t h k = (
-  h.0,
-  h.1 ++ t,
-  h.2,
-  rw h.3 (simp append_assoc),
-  spells_both xs ys h.1 t h.4 k,
-)
+spells_both (x ∷ xs) ys s t h k = (h.0, h.1 ++ t, h.2, rw h.3 (simp append_assoc), spells_both xs ys h.1 t h.4 k)
 
 -- ---- They are a sentence, with the terms of both
 
@@ -76,8 +70,8 @@ module _ (o : Options) where
   lexemes_plus [] h = tt
   lexemes_plus (w ∷ lexemes) h = plus_terminal_first (map (terminal_of o) lexemes) (lexemes_plus lexemes h.1) w h.0
 
-  read_is_sum : (text : List ℕ) (nanos : ℕ) → HasNoStar text → (r : IsRead o text nanos) → IsSumOf o r.lexemes text
-  read_is_sum text nanos plain r = record {
+  read_is_sum : {text : List ℕ} {nanos : ℕ} → HasNoStar text → (r : IsRead o text nanos) → IsSumOf o r.lexemes text
+  read_is_sum {text} plain r = record {
     sentence = r.spells;
     plus = lexemes_plus r.lexemes (lexemes_pass (λ c. not (c == 42)) r.lexemes text plain r.spells.1);
   }
@@ -99,20 +93,17 @@ joined_lexemes lexemes others = (lexemes ++ codes "+" ∷ []) ++ others
 joined_terminals : (o : Options) (lexemes others : List (List ℕ))
     → map (terminal_of o) (joined_lexemes lexemes others)
     ≡ map (terminal_of o) lexemes ++ operator Plus ∷ map (terminal_of o) others
-joined_terminals o lexemes others =
-    rw (append_assoc lexemes, map-append (terminal_of o) lexemes, plus_terminal o)
+joined_terminals o lexemes others = rw (append_assoc lexemes, map-append (terminal_of o) lexemes, plus_terminal o)
 
-combination_is_sum : (o : Options) (a b : List ℕ) (lexemes others : List (List ℕ)) → o.no_calc ≡ false
+joined_is_sum : {o : Options} {a b : List ℕ} {lexemes others : List (List ℕ)} → o.no_calc ≡ false
     → IsSumOf o lexemes a → IsSumOf o others b → IsSumOf o (joined_lexemes lexemes others) (a ++ codes "+" ++ b)
-combination_is_sum o a b lexemes others calc s t =
-    let xs : List Terminal = map (terminal_of o) lexemes in
-    let ys : List Terminal = map (terminal_of o) others in
-    let first : Spells (lexemes ++ codes "+" ∷ []) (a ++ codes "+") =
-    spells_both lexemes (codes "+" ∷ []) a (codes "+") s.sentence.1 ([], [], refl, refl, refl) in
+joined_is_sum {o} {a} {b} {lexemes} {others} calc s t =
+    let (xs, ys) : List Terminal × List Terminal = (map (terminal_of o) lexemes, map (terminal_of o) others) in
+    let plus = spells_both lexemes (codes "+" ∷ []) a (codes "+") s.sentence.1 ([], [], refl, refl, refl) in
     record {
       sentence = (
         rw (calc, joined_terminals o lexemes others) (both_sentence xs ys (rw calc at s.sentence.0) (rw calc at t.sentence.0)),
-        spells_both (lexemes ++ codes "+" ∷ []) others (a ++ codes "+") b first t.sentence.1,
+        spells_both (lexemes ++ codes "+" ∷ []) others (a ++ codes "+") b plus t.sentence.1,
       );
       plus = rw (joined_terminals o lexemes others) (both_plus xs ys s.plus t.plus);
     }
@@ -129,21 +120,21 @@ record IsJoined (o : Options) (text : List ℕ) (nanos : ℕ) : Type 0 where
   total : sum_of (terms_of_lexemes o lexemes) ≡ nanos
   each : EachFits (terms_of_lexemes o lexemes)
 
-reads_joined : (o : Options) (a b : List ℕ) (m n : ℕ) → o.no_calc ≡ false → HasNoStar a → HasNoStar b → IsRead o a m
+reads_joined : {o : Options} {a b : List ℕ} {m n : ℕ} → o.no_calc ≡ false → HasNoStar a → HasNoStar b → IsRead o a m
     → IsRead o b n → IsJoined o (a ++ codes "+" ++ b) (m + n)
-reads_joined o a b m n calc plain_a plain_b r q =
-    let s : IsSumOf o r.lexemes a = read_is_sum o a m plain_a r in
-    let t : IsSumOf o q.lexemes b = read_is_sum o b n plain_b q in
-    let xs : List Term = terms_of_lexemes o r.lexemes in
-    let ys : List Term = terms_of_lexemes o q.lexemes in
+reads_joined {o} {m = m} {n = n} calc plain_a plain_b r q =
+    let s = read_is_sum o plain_a r in
+    let t = read_is_sum o plain_b q in
+    let xs = terms_of_lexemes o r.lexemes in
+    let ys = terms_of_lexemes o q.lexemes in
     let terms = joined_terms o r.lexemes q.lexemes (rw calc at r.spells.0) in
-    let sum_a : sum_of xs ≡ m = read_sum o r.lexemes a m s r in
-    let sum_b : sum_of ys ≡ n = read_sum o q.lexemes b n t q in
+    let sum_a : sum_of xs ≡ m = read_sum s r in
+    let sum_b : sum_of ys ≡ n = read_sum t q in
     let small_a = sum_fits_each xs (rw sum_a (read_below r)) in
     let small_b = sum_fits_each ys (rw sum_b (read_below q)) in
     record {
       lexemes = joined_lexemes r.lexemes q.lexemes;
-      sum = combination_is_sum o a b r.lexemes q.lexemes calc s t;
+      sum = joined_is_sum calc s t;
       total = rw (terms, sum-append xs ys, sum_a, sum_b);
       each = rw terms (both_fit xs ys small_a small_b);
     }
@@ -151,9 +142,7 @@ reads_joined o a b m n calc plain_a plain_b r q =
 pub sum_of_texts_holds : SumOfTexts
 sum_of_texts_holds = record {
   below = λ o a b m n calc plain_a plain_b r q h.
-      let j : IsJoined o (a ++ codes "+" ++ b) (m + n) = reads_joined o a b m n calc plain_a plain_b r q in
-      sum_read o j.lexemes (a ++ codes "+" ++ b) (m + n) j.sum j.total h;
+      let j = reads_joined calc plain_a plain_b r q in sum_read j.sum j.total h;
   above = λ o a b m n calc plain_a plain_b r q h.
-      let j : IsJoined o (a ++ codes "+" ++ b) (m + n) = reads_joined o a b m n calc plain_a plain_b r q in
-      sum_overflows o j.lexemes (a ++ codes "+" ++ b) j.sum j.each (rw j.total h);
+      let j = reads_joined calc plain_a plain_b r q in sum_overflows j.sum j.each (rw j.total h);
 }

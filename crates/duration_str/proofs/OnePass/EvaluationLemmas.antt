@@ -47,7 +47,8 @@ before_operator-fault : (set next : CondUnit) (a : Option Cause) (x : ℕ)
 before_operator-fault set next (Some cause) x = refl
 before_operator-fault set next None x = elim (cases_Bool (is_same_operator set next)) [ inl e ↦ rw e | inr e ↦ rw e ]
 
-ruleset in_order = (or_else_assoc, or_else-none_right, fault_or-or_else, join-fault_left, join-fault_right, ok_or-fits, before_operator-fault)
+ruleset in_order =
+    (or_else_assoc, or_else-none_right, fault_or-or_else, join-fault_left, join-fault_right, ok_or-fits, before_operator-fault)
 
 running_append : (before xs ys : List Term)
     → running_fault before (xs ++ ys) ≡ or_else (running_fault before xs) (running_fault (before ++ xs) ys)
@@ -69,7 +70,8 @@ value_by set later = fault_or (later_fault set [] later) (Ok (later_total set la
 pub term_told : (place : Option ℕ) (t : Term)
     → term_value place (u64_from t.number) t.length ≡ fault_or (term_fault place t) (Ok (value_of_term t))
 term_told place t = elim (cases_Bool (fits t.number)) [
-  | inl number ↦ elim (cases_Bool (fits (value_of_term t))) [ inl value ↦ rw (number, value) | inr value ↦ rw (number, value) ]
+  | inl number ↦
+      elim (cases_Bool (fits (value_of_term t))) [ inl value ↦ rw (number, value) | inr value ↦ rw (number, value) ]
   | inr number ↦ rw number
 ]
 
@@ -90,7 +92,8 @@ together-push Star before t = rw fold-append
 one_more : (set : CondUnit) (before : List Term) (t : Term)
     → join set (before_operator set (value_by set before) t.operator) (term_value None (u64_from t.number) t.length)
     ≡ value_by set (before ++ t ∷ [])
-one_more set before t = simp (in_order, term_told None t, later_append set [] before (t ∷ []), together-push set before t)
+one_more set before t =
+    simp (in_order, term_told None t, later_append set [] before (t ∷ []), together-push set before t)
 
 -- ---- All terms, one by one
 
@@ -105,7 +108,8 @@ answer_with no_calc first set later (t ∷ terms) syntax =
 -- the answer, given the first value and the terms after it
 abbrev pub answer_after_first : Bool → ℕ → List Term → Option Cause → Result ℕ Cause
 answer_after_first no_calc first [] syntax = fault_or syntax (Ok first)
-answer_after_first no_calc first (t ∷ terms) syntax = answer_with no_calc first t.operator (Ok (nothing_of t.operator)) (t ∷ terms) syntax
+answer_after_first no_calc first (t ∷ terms) syntax =
+    answer_with no_calc first t.operator (Ok (nothing_of t.operator)) (t ∷ terms) syntax
 
 default_left : (first : ℕ) (set : CondUnit) (before later : List Term) (syntax : Option Cause)
     → answer_with false first set (value_by set before) later syntax
@@ -115,7 +119,8 @@ default_left first set before (t ∷ later) syntax =
     rw (one_more set before t, default_left first set (before ++ t ∷ []) later syntax, append_assoc before (t ∷ []) later)
 
 -- the overflow of the later terms' sum, and that of the sum with the first term, are one fault
-sum_told : (first sum : ℕ) (own : Option Cause) → or_else own (or_else (unless (fits (first + sum)) (Overflow None)) None)
+sum_told : (first sum : ℕ) (own : Option Cause)
+    → or_else own (or_else (unless (fits (first + sum)) (Overflow None)) None)
     ≡ result_err (join Plus (Ok first) (fault_or (or_else own (or_else (unless (fits sum) (Overflow None)) None)) (Ok sum)))
 sum_told first sum (Some cause) = refl
 sum_told first sum None = elim (cases_lt sum (2 ^ 64)) [
@@ -143,9 +148,11 @@ added_push : (xs : List Term) (t : Term) (ys : List Term) → AreAdded xs → Ar
 added_push [] t ys a b = (b.0, b.1, tt)
 added_push (x ∷ xs) t ys a b = (a.0, a.1, added_push xs t ys a.2 b)
 
-no_calc_left : (f : Term) (before later : List Term) (syntax : Option Cause) → sum_of (f ∷ before) < 2 ^ 64 → AreAdded (f ∷ before) → AreAdded later
+no_calc_left : (f : Term) (before later : List Term) (syntax : Option Cause) → sum_of (f ∷ before) < 2 ^ 64
+    → AreAdded (f ∷ before) → AreAdded later
     → answer_with true (value_of_term f) Plus (value_by Plus before) later syntax
-    ≡ fault_or (running_fault (f ∷ before) later) (fault_or syntax (join Plus (Ok (value_of_term f)) (value_by Plus (before ++ later))))
+    ≡ fault_or (running_fault (f ∷ before) later)
+    (fault_or syntax (join Plus (Ok (value_of_term f)) (value_by Plus (before ++ later))))
 no_calc_left f before [] syntax h a b = rw append-nil
 no_calc_left f before (t ∷ later) syntax h a b =
     let next = before ++ t ∷ [] in
@@ -155,8 +162,7 @@ no_calc_left f before (t ∷ later) syntax h a b =
       ← checked_sum f before t b.0 a h,
       running_append (f ∷ before) (t ∷ []) later,
       fault_or-or_else fault (running_fault (f ∷ next) later),
-    )
-    (unless_fault fault _ _ (λ e.
+    ) (unless_fault fault _ _ (λ e.
     let below = running_below (f ∷ before) (t ∷ []) h e in
     rw (no_calc_left f next later syntax below (added_push (f ∷ before) t later a b) b.2, append_assoc)))
 
@@ -173,13 +179,6 @@ nothing_is : (set : CondUnit) → nothing_of set ≡ later_total set []
 nothing_is Plus = refl
 nothing_is Star = refl
 
-default_answer : (f : Term) (later : List Term) (syntax : Option Cause)
-    → answer_of false (f ∷ later) syntax
-    ≡ fault_or (term_fault (Some 0) f) (answer_after_first false (value_of_term f) later syntax)
-default_answer f [] syntax = refl
-default_answer f (u ∷ later) syntax =
-    rw (nothing_is u.operator, default_left (value_of_term f) u.operator [] (u ∷ later) syntax, whole_value f u later)
-
 no_calc_after : (f : Term) (later : List Term) (syntax : Option Cause) → AreAdded (f ∷ later) → sum_of (f ∷ []) < 2 ^ 64
     → fault_or (running_fault (f ∷ []) later) (fault_or syntax (Ok (unwrap_or (value_of (f ∷ later)) 0)))
     ≡ answer_after_first true (value_of_term f) later syntax
@@ -189,20 +188,19 @@ no_calc_after f (u ∷ later) syntax a h =
     ∙ no_calc_left f [] (u ∷ later) syntax h (a.0, a.1, tt) a.2 in
     rw start (unless_fault (running_fault (f ∷ []) (u ∷ later)) _ _ (λ e.
     let below = running_below (f ∷ []) (u ∷ later) h e in
-    rw (value_is_sum (f ∷ u ∷ later) (omega arith) a, later_none [] (u ∷ later) a.2 (omega arith), lt-ltb (sum_of (f ∷ u ∷ later)) _ below)))
-
-no_calc_answer : (f : Term) (later : List Term) (syntax : Option Cause) → AreAdded (f ∷ later)
-    → answer_of true (f ∷ later) syntax
-    ≡ fault_or (term_fault (Some 0) f) (answer_after_first true (value_of_term f) later syntax)
-no_calc_answer f later syntax a = rw (fault_or-or_else (term_fault (Some 0) f)) (unless_fault (term_fault (Some 0) f) _ _ (λ e.
-    let below = simp no_fault at e in
-    let own : sum_of (f ∷ []) < 2 ^ 64 = omega arith in
-    rw (lt-ltb (sum_of (f ∷ [])) _ own) (no_calc_after f later syntax a own)))
+    let none = later_none [] (u ∷ later) a.2 (omega arith) in
+    rw (value_is_sum (f ∷ u ∷ later) (omega arith) a, none, lt-ltb (sum_of (f ∷ u ∷ later)) _ below)))
 
 -- The answer to terms is the answer of reading them one by one.
 pub one_by_one : (no_calc : Bool) (f : Term) (later : List Term) (syntax : Option Cause)
     → (IsTrue no_calc → AreAdded (f ∷ later))
     → answer_of no_calc (f ∷ later) syntax
     ≡ fault_or (term_fault (Some 0) f) (answer_after_first no_calc (value_of_term f) later syntax)
-one_by_one false f later syntax added = default_answer f later syntax
-one_by_one true f later syntax added = no_calc_answer f later syntax (added refl)
+one_by_one false f [] syntax added = refl
+one_by_one false f (u ∷ later) syntax added =
+    rw (nothing_is u.operator, default_left (value_of_term f) u.operator [] (u ∷ later) syntax, whole_value f u later)
+one_by_one true f later syntax added =
+    rw (fault_or-or_else (term_fault (Some 0) f)) (unless_fault (term_fault (Some 0) f) _ _ (λ e.
+    let below = simp no_fault at e in
+    let own : sum_of (f ∷ []) < 2 ^ 64 = omega arith in
+    rw (lt-ltb (sum_of (f ∷ [])) _ own) (no_calc_after f later syntax (added refl) own)))

@@ -56,7 +56,8 @@ module _ (P : ℕ → Type 0) where
   evaluation_stands : (terms : List Term) → FaultStands P (evaluation_fault terms)
   evaluation_stands [] = tt
   evaluation_stands (t ∷ []) = tt
-  evaluation_stands (t ∷ u ∷ later) = search (or_else_stands, unless_stands, no_place, later_stands u.operator [] (u ∷ later))
+  evaluation_stands (t ∷ u ∷ later) =
+      search (or_else_stands, unless_stands, no_place, later_stands u.operator [] (u ∷ later))
 
   first_place : (before : List Term) → ForSome (place_after before) (λ (place : ℕ). place ≡ 0)
   first_place [] = at_start
@@ -64,7 +65,8 @@ module _ (P : ℕ → Type 0) where
 
   running_stands : (before terms : List Term) → FaultStands P (running_fault before terms)
   running_stands before [] = tt
-  running_stands before (t ∷ terms) = search (stands, first_place before, running_stands (before ++ t ∷ []) terms) depth 8
+  running_stands before (t ∷ terms) =
+      search (stands, first_place before, running_stands (before ++ t ∷ []) terms) depth 8
 
   first_stands : (terms : List Term) → FaultStands P (first_fault terms)
   first_stands [] = tt
@@ -103,8 +105,9 @@ module _ (P : ℕ → Type 0) where
   answer_stands o (c ∷ text) k l =
       let terminals = terminals_of o (c ∷ text) in
       let n = front_of o.no_calc terminals in
-      answer_after_stands o.no_calc (start_after n (byte_len (c ∷ text)) (tokens_of o (c ∷ text))) (take n terminals) (drop n terminals) _
-      (early_stands o.no_calc (take n terminals) (drop n terminals)) (start_among n (byte_len (c ∷ text)) (tokens_of o (c ∷ text)) k l)
+      answer_after_stands o.no_calc (start_after n (byte_len (c ∷ text)) (tokens_of o (c ∷ text))) (take n terminals)
+      (drop n terminals) _ (early_stands o.no_calc (take n terminals) (drop n terminals))
+      (start_among n (byte_len (c ∷ text)) (tokens_of o (c ∷ text)) k l)
 
 -- ---- Bytes and boundaries
 
@@ -142,7 +145,8 @@ all_start o bs xs cs at (p ∷ tokens) utf8 e w a =
     let first : chars bs ≡ before ++ (p.characters ++ rest) = rw append_assoc (rw a.1.parts at e) in
     let start : p.start ≡ byte_len before = rw (a.1.start, w, byte_len-append) in
     let next : chars bs ≡ (before ++ p.characters) ++ rest = rw (append_assoc before) first in
-    let end : p.start + byte_len p.characters ≡ byte_len (before ++ p.characters) = rw (start, byte_len-append before) in (
+    let end : p.start + byte_len p.characters ≡ byte_len (before ++ p.characters) =
+    rw (start, byte_len-append before) in (
       rw start (seam bs before (p.characters ++ rest) utf8 first),
       all_start o bs (before ++ p.characters) rest (p.start + byte_len p.characters) tokens utf8 next end a.2,
     )
@@ -179,5 +183,6 @@ chars_before bs place at utf8 boundary order =
     let cut : take at bs ≡ front ++ more =
     ap (λ n. take n bs) sum ∙ ap (take (length front + (at - place))) (sym (take-append-drop place bs))
     ∙ take-append-add front (drop place bs) (at - place) in
-    let parts : chars (take at bs) ≡ chars front ++ chars more = ap chars cut ∙ chars-append front more (IsUtf8-take bs place utf8 boundary) in
+    let parts : chars (take at bs) ≡ chars front ++ chars more =
+    ap chars cut ∙ chars-append front more (IsUtf8-take bs place utf8 boundary) in
     omega (arith, ap length parts, length-append (chars front) (chars more))

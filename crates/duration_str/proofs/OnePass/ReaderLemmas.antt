@@ -38,7 +38,8 @@ starts {s} {m} {sort = sort} look is =
 
 -- With a number ahead, the rest starts with it.
 pub at_number : (s : Tokens) → IsAhead s (Some sorts.Number) → StartsWith sorts.Number (place_of s) (rest_of s)
-at_number s ahead = starts {m = s} {sort = sorts.Number} (record { kept = keeps_all s; same_left = refl; ahead = ahead }) refl
+at_number s ahead =
+    starts {m = s} {sort = sorts.Number} (record { kept = keeps_all s; same_left = refl; ahead = ahead }) refl
 
 -- ---- A number
 

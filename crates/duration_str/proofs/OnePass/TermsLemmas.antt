@@ -81,7 +81,9 @@ terms_read no_calc op at n (terminal_at p (word (Some u)) (terminal_at q (number
     rw (with_unit op n u (front_in no_calc here) (after_in no_calc here))
 terms_read false op at n (terminal_at p (word (Some u)) (terminal_at q (operator next) (terminal_at r (number m) rest))) =
     let here = terminal_at r (number m) rest in
-    rw (with_unit op n u (operator next ∷ front_in false here) (after_in false here), at_operator Plus next (front_in false here) (after_in false here))
+    let front = front_in false here in
+    let after = after_in false here in
+    rw (with_unit op n u (operator next ∷ front) after, at_operator Plus next front after)
 terms_read false op at n (terminal_at p (operator next) (terminal_at q (number m) rest)) =
     let here = terminal_at q (number m) rest in
     rw (without_unit op next n (front_in false here) (after_in false here))
@@ -91,7 +93,8 @@ terms_read no_calc op at n rest = refl
 pub number_taken : (no_calc : Bool) (op : CondUnit) (s a : Tokens) (n : Option ℕ) (taken : TakesNumber s a n)
     (r : Result (Read TimeUnit) Cause) → r ≡ unit_read no_calc (rest_of a)
     → left_after no_calc op (rest_of s) ≡ after_number no_calc op taken.n r
-number_taken no_calc op s a n taken r is = rw (after_token taken.token, terms_read no_calc op (place_of s) taken.n (rest_of a), is)
+number_taken no_calc op s a n taken r is =
+    rw (after_token taken.token, terms_read no_calc op (place_of s) taken.n (rest_of a), is)
 
 -- ---- Steps of the answer
 
@@ -110,7 +113,8 @@ by_number : {A : Type 0} (no_calc : Bool) (f g : Ended → A) (op next : CondUni
     → f (left_after no_calc op (rest_of s)) ≡ g (left_after no_calc next (rest_of s))
 by_number no_calc f g op next s ahead terms none =
     let (n, rest, is) = at_number s ahead in
-    rw (is, terms_read no_calc op (place_of s) n rest, terms_read no_calc next (place_of s) n rest) (by n (unit_read no_calc rest))
+    rw (is, terms_read no_calc op (place_of s) n rest, terms_read no_calc next (place_of s) n rest)
+    (by n (unit_read no_calc rest))
   where
     by : (n : ℕ) (r : Result (Read TimeUnit) Cause)
         → f (after_number no_calc op n r) ≡ g (after_number no_calc next n r)
@@ -150,7 +154,8 @@ module _ (no_calc : Bool) (first : ℕ) (set : CondUnit) where
       → with_left no_calc first set (before_operator set later next) (left_after no_calc set (rest_of s))
       ≡ with_left no_calc first set later (left_after no_calc next (rest_of s))
   operator_next next later s ahead =
-      by_number no_calc (with_left no_calc first set (before_operator set later next)) (with_left no_calc first set later)
+      by_number no_calc (with_left no_calc first set (before_operator set later next))
+      (with_left no_calc first set later)
       set next s ahead (λ n r. rw (same_operator set (before_operator set later next))) (λ cause. refl)
 
   -- A later term is read up to b and added: `next` is the later terms' value including it.
@@ -177,11 +182,13 @@ answer_told : (no_calc : Bool) (place : ℕ) (front rest : List Terminal) (early
     → fault_or early (fault_or (fault_at place (kinds_after no_calc (last_of None front)) rest)
     (fault_or (late_fault no_calc front) (Ok (unwrap_or (value_of (terms_of front)) 0)))) ≡ answer_after no_calc place front rest early
 answer_told no_calc place front rest (Some cause) = refl
-answer_told no_calc place front [] None = whole_told (kinds_after no_calc (last_of None front)).text_end _ (late_fault no_calc front) front
+answer_told no_calc place front [] None =
+    whole_told (kinds_after no_calc (last_of None front)).text_end _ (late_fault no_calc front) front
 answer_told no_calc place front (terminal ∷ rest) None = refl
 
 in_order : (no_calc : Bool) (place : ℕ) (front rest : List Terminal)
-    → answer_of no_calc (terms_of (complete front rest)) (fault_at place (kinds_after no_calc (last_of None front)) rest) ≡ answer_at no_calc place front rest
+    → answer_of no_calc (terms_of (complete front rest)) (fault_at place (kinds_after no_calc (last_of None front)) rest)
+    ≡ answer_at no_calc place front rest
 in_order no_calc place front [] = answer_told no_calc place front [] _
 in_order no_calc place front (terminal ∷ rest) = answer_told no_calc place front (terminal ∷ rest) _
 
@@ -220,7 +227,8 @@ from_start : (no_calc : Bool) (rest : Rest) (left : Ended) → left_after no_cal
     → answer_of no_calc left.terms left.fault ≡ answer_left no_calc [] rest
 from_start no_calc rest left is =
     ap (λ (l : Ended). answer_of no_calc l.terms l.fault) (sym is)
-    ∙ in_order no_calc (start_left (front_of no_calc (terminals_in rest)) rest) (front_in no_calc rest) (after_in no_calc rest)
+    ∙ in_order no_calc (start_left (front_of no_calc (terminals_in rest)) rest) (front_in no_calc rest)
+    (after_in no_calc rest)
 
 fault_alone : (no_calc : Bool) (cause : Cause) → Err cause ≡ answer_of no_calc [] (Some cause)
 fault_alone false cause = refl
@@ -230,7 +238,8 @@ fault_alone true cause = refl
 pub first_unread : (no_calc : Bool) (s m a : Tokens) (n : Option ℕ) (cause : Cause) → rest_of m ≡ rest_of s
     → TakesNumber m a n → Err cause ≡ unit_read no_calc (rest_of a) → Err cause ≡ answer_left no_calc [] (rest_of s)
 first_unread no_calc s m a n cause same taken unit =
-    rw (← same, ← from_start no_calc (rest_of m) _ (number_taken no_calc Plus m a n taken _ unit)) (fault_alone no_calc cause)
+    rw (← same, ← from_start no_calc (rest_of m) _ (number_taken no_calc Plus m a n taken _ unit))
+    (fault_alone no_calc cause)
 
 -- The first term is read up to b, and has this value or fault.
 pub first_step : {m a : Tokens} {n : Option ℕ} {first : Result ℕ Cause} (no_calc : Bool) (s b : Tokens) (u : TimeUnit)
@@ -242,7 +251,8 @@ first_step {m = m} {a = a} {n = n} no_calc s b u same taken unit is =
     let t = term_of taken.n u in
     let more = after_unit no_calc (operator_read no_calc (rest_of b)) in
     let read = number_taken no_calc Plus m a n taken _ unit in
-    let added = λ (h : IsTrue no_calc). subst (λ (l : Ended). AreAdded l.terms) read (left_added no_calc Plus (rest_of m) refl h) in
+    let added =
+    λ (h : IsTrue no_calc). subst (λ (l : Ended). AreAdded l.terms) read (left_added no_calc Plus (rest_of m) refl h) in
     let whole = one_by_one no_calc t more.terms more.fault added in
     rw (← same, ← from_start no_calc (rest_of m) _ read, is, taken.is_value, term_told (Some 0) t, by_first-fault no_calc, whole)
 

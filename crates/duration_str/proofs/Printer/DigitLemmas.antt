@@ -24,7 +24,8 @@ pub ruleset put_steps = (decimal_digit, length_one, length_step, take_more_set)
 -- a number is below 10 to the power of the number of its digits
 below_power : (n : ℕ) → n < 2 ^ 64 → n < 10 ^ length (decimal n)
 below_power = decimal_by_steps (λ n ds. n < 10 ^ length ds) (λ n small. omega arith) (λ n ds big below.
-    let longer : length (ds ++ (48 + n % 10) ∷ []) ≡ suc (length ds) = omega (arith, length-append ds ((48 + n % 10) ∷ [])) in
+    let longer : length (ds ++ (48 + n % 10) ∷ []) ≡ suc (length ds) =
+    omega (arith, length-append ds ((48 + n % 10) ∷ [])) in
     rw (longer, pow-succ' 10 (length ds)) (omega (arith, below)))
 
 greatest_fits : (u : TimeUnit) → greatest_count u < 2 ^ 64

@@ -33,11 +33,12 @@ duration_lexemes nanos = lexemes (printed nanos)
 
 -- ---- The lexemes spell the text
 
-abbrev part : ℕ × TimeUnit → List ℕ
+abbrev pub part : ℕ × TimeUnit → List ℕ
 part p = decimal p.0 ++ (row_of p.1).printed
 
-parts_kept : (us : List TimeUnit) (counts : List ℕ) → printed_parts us counts ≡ map part (kept us counts)
-parts_kept (u ∷ us) (n ∷ counts) = elim (cases_Bool (n == 0)) [ inl e ↦ rw e (parts_kept us counts) | inr e ↦ rw (e, parts_kept us counts) ]
+pub parts_kept : (us : List TimeUnit) (counts : List ℕ) → printed_parts us counts ≡ map part (kept us counts)
+parts_kept (u ∷ us) (n ∷ counts) =
+    elim (cases_Bool (n == 0)) [ inl e ↦ rw e (parts_kept us counts) | inr e ↦ rw (e, parts_kept us counts) ]
 parts_kept _ _ = refl
 
 later_spelled : (ps : List (ℕ × TimeUnit)) → Spells (lexemes ps) (flat_map (λ part. codes " " ++ part) (map part ps))
@@ -104,7 +105,8 @@ units_plus (p ∷ ps) = units_plus ps
 pub counts_are : (nanos : ℕ) (text : List ℕ) → IsPrinted nanos text
     → text ≡ printed_counts (counts_of unit_lengths nanos)
 counts_are nanos text p =
-    let same = one_greatest unit_lengths nanos p.0 (counts_of unit_lengths nanos) p.1 (greatest_breakdown_holds nanos) in cc (p.2)
+    let same = one_greatest unit_lengths nanos p.0 (counts_of unit_lengths nanos) p.1
+    (greatest_breakdown_holds nanos) in cc (p.2)
 
 pub printed_is_sum : (o : Options) (nanos : ℕ) (text : List ℕ) → FitsDuration nanos → IsPrinted nanos text
     → IsSumOf o (duration_lexemes nanos) text
@@ -137,4 +139,5 @@ pub duration_sum : (o : Options) (nanos : ℕ) → FitsDuration nanos
     → sum_of (terms_of_lexemes o (duration_lexemes nanos)) ≡ nanos
 duration_sum o nanos h =
     let counts : List ℕ = counts_of unit_lengths nanos in
-    rw (terminals_of_duration o nanos h, sum_or_zero (kept units counts), sum_kept units counts) (greatest_breakdown_holds nanos).breakdown.whole
+    rw (terminals_of_duration o nanos h, sum_or_zero (kept units counts), sum_kept units counts)
+    (greatest_breakdown_holds nanos).breakdown.whole

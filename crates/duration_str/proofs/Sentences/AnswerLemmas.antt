@@ -55,7 +55,8 @@ has_value_below : (terms : List Term) → Evaluates terms → (n : ℕ) × (valu
 has_value_below [] e = absurd e
 has_value_below (t ∷ []) e = (value_of_term t, refl, (simp no_fault at e.0).1)
 has_value_below (t ∷ u ∷ later) e =
-    let faults = (or_else-none (later_fault u.operator [] (u ∷ later)) _).0 e.1 in (_, later_value t u later faults.0, simp no_fault at faults.1)
+    let faults = (or_else-none (later_fault u.operator [] (u ∷ later)) _).0 e.1 in
+    (_, later_value t u later faults.0, simp no_fault at faults.1)
 
 -- ---- Readings and refusals in terms of terminals
 
@@ -76,7 +77,8 @@ pub record IsReadAs (no_calc : Bool) (terminals : List Terminal) (nanos : ℕ) :
 pub read_terminals : {o : Options} {text : List ℕ} {nanos : ℕ} → IsRead o text nanos
     → IsReadAs o.no_calc (terminals_of o text) nanos
 read_terminals {o} {text} r =
-    rw (← sentence_terminals o text r.lexemes r.spells) (record { sentence = r.spells.0; evaluates = r.evaluates; value = r.value })
+    rw (← sentence_terminals o text r.lexemes r.spells)
+    (record { sentence = r.spells.0; evaluates = r.evaluates; value = r.value })
 
 pub read_sentence : {o : Options} {text : List ℕ} {nanos : ℕ} (lexemes : List (List ℕ)) → IsSentenceOf o lexemes text
     → IsRead o text nanos → IsReadAs o.no_calc (map (terminal_of o) lexemes) nanos

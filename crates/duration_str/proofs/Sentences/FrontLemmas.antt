@@ -6,7 +6,8 @@ use Rattle.std.proofs.lemmas.Bool.{not_from_false, not_from_true}
 -- The table allows each terminal after the one before it, and the first one after `last`.
 abbrev pub AreAllowed : Bool → Option Terminal → List Terminal → Type 0
 AreAllowed no_calc last [] = Unit {0}
-AreAllowed no_calc last (t ∷ terminals) = IsTrue (allows (kinds_after no_calc last) t) × AreAllowed no_calc (Some t) terminals
+AreAllowed no_calc last (t ∷ terminals) =
+    IsTrue (allows (kinds_after no_calc last) t) × AreAllowed no_calc (Some t) terminals
 
 -- The table allows these terminals and then the end, where they come after `last`.
 abbrev CanEnd : Bool → Option Terminal → List Terminal → Type 0

@@ -77,7 +77,8 @@ module _ (o : Options) where
   pub sentence_tokens : (text : List ℕ) (lexemes : List (List ℕ)) → IsSentenceOf o lexemes text
       → lexemes ≡ lexemes_of (tokens_of o text)
   sentence_tokens text lexemes s =
-      let found = spelled_tokens 0 None lexemes text (sentence_allowed o.no_calc (map (terminal_of o) lexemes) s.0) s.1 in
+      let found =
+      spelled_tokens 0 None lexemes text (sentence_allowed o.no_calc (map (terminal_of o) lexemes) s.0) s.1 in
       rw (← tokens_once o 0 text found.0 (tokens_of o text) found.1 (tokens_are o 0 text), found.2)
 
   pub sentence_terminals : (text : List ℕ) (lexemes : List (List ℕ)) → IsSentenceOf o lexemes text

@@ -82,7 +82,8 @@ pub below_evaluate : (terms : List Term) → 1 ≤ length terms → AreAdded ter
 below_evaluate [] l a h = absurd (omega arith)
 below_evaluate (t ∷ []) l a h = (term_below_no_fault None t a.1 (omega arith), refl)
 below_evaluate (t ∷ u ∷ later) l a h =
-    (term_below_no_fault None t a.1 (omega arith), rw (fault_of_sum t u later a.2.0, later_none [] (u ∷ later) a.2 (omega arith)) (simp no_fault (refl, h)))
+    let none = later_none [] (u ∷ later) a.2 (omega arith) in
+    (term_below_no_fault None t a.1 (omega arith), rw (fault_of_sum t u later a.2.0, none) (simp no_fault (refl, h)))
 
 pub evaluate_below : (terms : List Term) → AreAdded terms → Evaluates terms → sum_of terms < 2 ^ 64
 evaluate_below [] a h = absurd h

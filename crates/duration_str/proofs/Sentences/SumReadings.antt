@@ -1,6 +1,6 @@
 -- A text that a sum spells is read as the sum if it is below 2^64, and otherwise refused as an overflow.
-use Rattle.std.proofs.Common.{◌≡◌, ℕ, ◌^◌, ◌≤◌, ◌<◌, ◌⊎◌, inl, inr, Bool, true, false, List, [], ◌∷◌, ◌++◌, map, length, Some, None, arith, refl, sym, ap, subst, ◌∙◌, append_assoc, append-nil, lt-ltb, le-ltb}
-use Rattle.duration_str.proofs.Common.{cases_lt, Options, Plus, Overflow, Terminal, terminal_of, IsSentence, IsSentenceOf, AllPlus, Term, terms_of, value_of, value_of_term, sum_of, later_fault, evaluation_fault, first_fault, running_fault, place_after, late_fault, IsRead, IsRefusedAt, early, late, IsRefused}
+use Rattle.std.proofs.Common.{◌≡◌, ℕ, ◌^◌, ◌≤◌, ◌<◌, ◌⊎◌, inl, inr, Bool, true, false, List, [], ◌∷◌, ◌++◌, map, Some, None, arith, refl, sym, ap, subst, ◌∙◌, append_assoc, append-nil, lt-ltb, le-ltb}
+use Rattle.duration_str.proofs.Common.{cases_lt, Options, Plus, Overflow, Terminal, terminal_of, IsSentence, IsSentenceOf, AllPlus, Term, terms_of, value_of_term, sum_of, later_fault, evaluation_fault, first_fault, running_fault, place_after, late_fault, IsRead, IsRefusedAt, early, late, IsRefused}
 use Rattle.duration_str.proofs.Sentences.FaultLemmas.{is_same_operator-true, term_below_no_fault}
 use Rattle.duration_str.proofs.Sentences.SumLemmas.{AreAdded, terms_added, has_terms, fault_of_sum, below_evaluate, value_is_sum}
 use Rattle.duration_str.proofs.Sentences.AnswerLemmas.{read_sentence, sentence_refused}
@@ -15,28 +15,25 @@ terms_of_lexemes o lexemes = terms_of (map (terminal_of o) lexemes)
 
 -- ---- Sums below 2^64
 
-pub sum_read : (o : Options) (lexemes : List (List ℕ)) (text : List ℕ) (nanos : ℕ) → IsSumOf o lexemes text
+pub sum_read : {o : Options} {lexemes : List (List ℕ)} {text : List ℕ} {nanos : ℕ} → IsSumOf o lexemes text
     → sum_of (terms_of_lexemes o lexemes) ≡ nanos → nanos < 2 ^ 64 → IsRead o text nanos
-sum_read o lexemes text nanos s e h =
-    let terms : List Term = terms_of_lexemes o lexemes in
-    let some : 1 ≤ length terms = has_terms o.no_calc (map (terminal_of o) lexemes) s.sentence.0 in
-    let added : AreAdded terms = terms_added (map (terminal_of o) lexemes) s.plus in
-    let below : sum_of terms < 2 ^ 64 = subst (λ (n : ℕ). n < 2 ^ 64) (sym e) h in
+sum_read {o} {lexemes} s e h =
+    let terms = terms_of_lexemes o lexemes in
+    let some = has_terms o.no_calc (map (terminal_of o) lexemes) s.sentence.0 in
+    let added = terms_added (map (terminal_of o) lexemes) s.plus in
     record {
       lexemes = lexemes;
       spells = s.sentence;
-      evaluates = below_evaluate terms some added below;
+      evaluates = below_evaluate terms some added (rw e h);
       value = value_is_sum terms some added ∙ ap Some e;
     }
 
-pub read_sum : (o : Options) (lexemes : List (List ℕ)) (text : List ℕ) (nanos : ℕ) → IsSumOf o lexemes text
+pub read_sum : {o : Options} {lexemes : List (List ℕ)} {text : List ℕ} {nanos : ℕ} → IsSumOf o lexemes text
     → IsRead o text nanos → sum_of (terms_of_lexemes o lexemes) ≡ nanos
-read_sum o lexemes text nanos s r =
-    let terminals : List Terminal = map (terminal_of o) lexemes in
-    let value : value_of (terms_of terminals) ≡ Some nanos = (read_sentence lexemes s.sentence r).value in
-    let found : value_of (terms_of terminals) ≡ Some (sum_of (terms_of terminals)) =
-    value_is_sum (terms_of terminals) (has_terms o.no_calc terminals s.sentence.0) (terms_added terminals s.plus) in
-    cc
+read_sum {o} {lexemes} s r =
+    let terminals = map (terminal_of o) lexemes in
+    let some = has_terms o.no_calc terminals s.sentence.0 in
+    cc ((read_sentence lexemes s.sentence r).value, value_is_sum (terms_of terminals) some (terms_added terminals s.plus))
 
 -- ---- Sums from 2^64 on, of terms below 2^64
 
@@ -52,20 +49,23 @@ sum_fits_each (t ∷ terms) h = (omega arith, sum_fits_each terms (omega arith))
 pub running_overflow : (before terms : List Term) → AreAdded terms → EachFits terms → sum_of before < 2 ^ 64
     → 2 ^ 64 ≤ sum_of (before ++ terms) → running_fault before terms ≡ Some (Overflow None)
 running_overflow before [] a f b h = let e = append-nil before in absurd (omega (arith, rw e at h))
-running_overflow before (t ∷ later) a f b h = rw (term_below_no_fault (place_after before) t a.1 f.0) (elim (cases_lt (sum_of (before ++ t ∷ [])) (2 ^ 64)) [
-  | inl below ↦
-      let rest = running_overflow (before ++ t ∷ []) later a.2 f.1 below (rw append_assoc h) in
-      rw (lt-ltb _ _ below, rest)
-  | inr above ↦ rw (le-ltb _ _ above)
-])
+running_overflow before (t ∷ later) a f b h =
+    rw (term_below_no_fault (place_after before) t a.1 f.0) (elim (cases_lt (sum_of (before ++ t ∷ [])) (2 ^ 64)) [
+      | inl below ↦
+          let rest = running_overflow (before ++ t ∷ []) later a.2 f.1 below (rw append_assoc h) in
+          rw (lt-ltb _ _ below, rest)
+      | inr above ↦ rw (le-ltb _ _ above)
+    ])
 
 later_overflow : (before terms : List Term) → AreAdded terms → EachFits terms
     → (later_fault Plus before terms ≡ None) ⊎ (later_fault Plus before terms ≡ Some (Overflow None))
 later_overflow before [] a f = inl refl
-later_overflow before (t ∷ later) a f = rw ((is_same_operator-true Plus t.operator).1 a.0, term_below_no_fault None t a.1 f.0) (elim (cases_lt (sum_of (before ++ t ∷ [])) (2 ^ 64)) [
-  | inl below ↦ rw (lt-ltb _ _ below) (later_overflow (before ++ t ∷ []) later a.2 f.1)
-  | inr above ↦ rw (le-ltb _ _ above) (inr refl)
-])
+later_overflow before (t ∷ later) a f =
+    rw ((is_same_operator-true Plus t.operator).1 a.0, term_below_no_fault None t a.1 f.0)
+    (elim (cases_lt (sum_of (before ++ t ∷ [])) (2 ^ 64)) [
+      | inl below ↦ rw (lt-ltb _ _ below) (later_overflow (before ++ t ∷ []) later a.2 f.1)
+      | inr above ↦ rw (le-ltb _ _ above) (inr refl)
+    ])
 
 added_overflow : (terms : List Term) → AreAdded terms → EachFits terms → 2 ^ 64 ≤ sum_of terms
     → evaluation_fault terms ≡ Some (Overflow None)
@@ -89,10 +89,10 @@ terminals_overflow false place terminals s a f h =
     (subst (λ (ts : List Terminal). late_fault false ts ≡ Some (Overflow None)) same (added_overflow (terms_of terminals) a f h))
 terminals_overflow true place terminals s a f h = early (running_overflow [] (terms_of terminals) a f (omega arith) h)
 
-pub sum_overflows : (o : Options) (lexemes : List (List ℕ)) (text : List ℕ) → IsSumOf o lexemes text
+pub sum_overflows : {o : Options} {lexemes : List (List ℕ)} {text : List ℕ} → IsSumOf o lexemes text
     → EachFits (terms_of_lexemes o lexemes) → 2 ^ 64 ≤ sum_of (terms_of_lexemes o lexemes)
     → IsRefused o text (Overflow None)
-sum_overflows o lexemes text s f h =
-    let terminals : List Terminal = map (terminal_of o) lexemes in
+sum_overflows {o} {lexemes} {text} s f h =
+    let terminals = map (terminal_of o) lexemes in
     sentence_refused o text lexemes (Overflow None) s.sentence
     (λ place. terminals_overflow o.no_calc place terminals s.sentence.0 (terms_added terminals s.plus) f h)

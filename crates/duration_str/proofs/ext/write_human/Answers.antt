@@ -7,4 +7,5 @@ pub returns-clause-text : goal.returns-clause-text
 returns-clause-text c =
     let counts = counts_of unit_lengths (as_nanos c.args.d.now) in
     let bytes = c.from_utf8_unchecked.ensures ∙ c.fill-end.ensures.text in
-    (counts, greatest_breakdown_holds (as_nanos c.args.d.now), sym (chars_from_encodes (printed_counts counts) _ c.from_utf8_unchecked.utf8 (sym bytes)))
+    let same = chars_from_encodes (printed_counts counts) _ c.from_utf8_unchecked.utf8 (sym bytes) in
+    (counts, greatest_breakdown_holds (as_nanos c.args.d.now), sym same)

@@ -7,4 +7,5 @@ pub returns : goal.returns
 returns c =
     let text = c.args.input.now in
     let result = c.read_text.result.0 in
-    subst (λ o. ParsesText o text result) c.off.ensures (parses_text _ text result c.read_text.ensures.answer c.read_text.ensures.fits)
+    subst (λ o. ParsesText o text result) c.off.ensures
+    (parses_text _ text result c.read_text.ensures.answer c.read_text.ensures.fits)

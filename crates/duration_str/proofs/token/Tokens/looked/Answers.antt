@@ -6,7 +6,8 @@ use Rattle.duration_str.proofs.token.Tokens.looked.Goals as goal
 pub returns-clause-most : goal.returns-clause-most
 returns-clause-most c =
     let s = c.args.self.now in
-    subst (λ n. n ≤ length (chars s.eye.text.now)) (sym c.looks.ensures) (looks_most s.eye.text.now s.eye.place s.eye.next s.eye.looks s.head s.some s.counted)
+    subst (λ n. n ≤ length (chars s.eye.text.now)) (sym c.looks.ensures)
+    (looks_most s.eye.text.now s.eye.place s.eye.next s.eye.looks s.head s.some s.counted)
 
 pub returns-clause-least : goal.returns-clause-least
 returns-clause-least c =
