@@ -1,7 +1,7 @@
 """Packs the package and the shared library into a wheel, by PEP 517 and PEP 660, without downloading anything.
 
 The library is taken from the file that DURATION_STR_LIB names, from where pkg-config says that it is installed, or from the
-checkout in which this folder lies, where `rt` proves and builds it and gcc links it, in this order.
+checkout in which this folder lies, where tools/library proves and builds it, in this order.
 """
 
 import base64
@@ -30,10 +30,10 @@ LIBRARY = "libduration_str.so"
 HELP = """there is no shared library duration_str to pack. Do one of these:
 - run ./install at the top of the repository, and see that pkg-config finds duration_str.pc;
 - set DURATION_STR_LIB to the library's file, such as /usr/local/lib/libduration_str.so;
-- put the Rattle toolchain's command rt and gcc on the path, and build within a checkout of the repository."""
+- build within a checkout of the repository, with the Rattle toolchain's command rt on the path."""
 HERE = pathlib.Path(__file__).resolve().parent
 PACKAGE = HERE / "src" / NAME
-C_CRATE = HERE.parent.parent / "crates" / "duration_str_c"
+CHECKOUT = HERE.parent.parent
 
 
 def _installed():
@@ -47,19 +47,14 @@ def _installed():
 
 
 def _built():
-    """The library's file, linked from the checkout's archive, which is proved and built where it isn't there; or None."""
-    archive = C_CRATE / "out" / "libduration_str_c.a"
-    if not archive.is_file() and C_CRATE.is_dir() and shutil.which("rt"):
-        ran = subprocess.run(["rt", "lib"], cwd=C_CRATE, capture_output=True, text=True)
-        if ran.returncode != 0:
-            raise SystemExit(f"{ran.stdout}{ran.stderr}rt lib failed in {C_CRATE}")
-    if not archive.is_file() or not shutil.which("gcc"):
+    """The library's file in the checkout, which is proved and built where it has to be; None outside a checkout."""
+    tool = CHECKOUT / "tools" / "library"
+    if not tool.is_file():
         return None
-    file = archive.with_name(LIBRARY)
-    exports = f"-Wl,--version-script,{C_CRATE / 'exports.map'}"
-    whole = ["-Wl,--whole-archive", str(archive), "-Wl,--no-whole-archive"]
-    subprocess.run(["gcc", "-shared", "-o", str(file), exports, *whole], check=True)
-    return file
+    ran = subprocess.run([tool], stdout=subprocess.PIPE, text=True)
+    if ran.returncode != 0:
+        raise SystemExit(HELP)
+    return pathlib.Path(ran.stdout.strip(), LIBRARY)
 
 
 def _library():
