@@ -1,6 +1,7 @@
 // node tests/durstr.mjs MODULE [no_calc] [lowercase] [cn_unit]: does over a WebAssembly module of the library what the
 // program durstr does. The status is 0 if all lines are read, and 1 if some are refused.
 import { readFileSync, writeFileSync } from "node:fs";
+import { setFlagsFromString } from "node:v8";
 
 const BITS = { no_calc: 1, lowercase: 2, cn_unit: 4 };
 const SECOND = 1_000_000_000n;
@@ -11,6 +12,8 @@ const PRINTED = 64;
 
 const [path, ...words] = process.argv.slice(2);
 const options = words.reduce((bits, word) => bits | (BITS[word] ?? fail(`unknown word: ${word}`)), 0);
+// Memories with 64-bit addresses need no flag from Node 24 on.
+if (parseInt(process.versions.node) < 24) setFlagsFromString("--experimental-wasm-memory64");
 const { instance } = await WebAssembly.instantiate(readFileSync(path), {});
 const { memory, __heap_base: heap, ...calls } = instance.exports;
 
