@@ -10,6 +10,6 @@ from_utf8_unchecked-requires c =
     elim c.if-is_ascii.branch [
       | then-is_ascii w ↦ IsUtf8-from_ascii bytes w.if-is_ascii.ensures.cases
       | else-is_ascii w ↦
-            subst (λ b. MatchBool b (IsUtf8 bytes) (¬ (IsUtf8 bytes))) (sym w.value-is ∙ c.if-is_utf8.true)
-            w.is_utf8.ensures
+          subst (λ b. MatchBool b (IsUtf8 bytes) (¬ (IsUtf8 bytes))) (sym w.value-is ∙ c.if-is_utf8.true)
+          w.is_utf8.ensures
     ]
