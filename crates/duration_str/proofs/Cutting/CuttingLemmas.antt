@@ -210,6 +210,7 @@ low_number low n is = ⊎_elim small large (cases_lt n (2 ^ 64))
   where
     small : n < 2 ^ 64 → (if is_some (u64_from n) then Some low else None) ≡ u64_from n
     small less = let same : low ≡ n = omega (arith, is, less) in rw (u64_some n less) (ap Some same)
+
     large : 2 ^ 64 ≤ n → (if is_some (u64_from n) then Some low else None) ≡ u64_from n
     large more = rw (u64_none n more) refl
 

@@ -7,12 +7,12 @@ use Rattle.duration_str.proofs.Cutting.TokenizerLemmas.{digits_taken, digits_sli
 use Rattle.duration_str.specs.Tokenizer.{source, place_of}
 use Rattle.duration_str.proofs.token.Tokens.take_number.Goals as goal
 
-pub returns-then-place-start-le-MOST_DIGITS : goal.returns-then-place-start-le-MOST_DIGITS
-returns-then-place-start-le-MOST_DIGITS c =
+pub returns-then-is_short : goal.returns-then-is_short
+returns-then-is_short c =
     let s = c.args.self.now in
     let t = c.take_digits-low.new.self in
     let e = c.take_digits-low.ensures in
-    let h = c.if-place-start-le-MOST_DIGITS.true in
+    let h = c.if-is_short.true in
     takes_number s t c.take_digits-low.result _ c.requires e.kept e.digits e.stops
     (le-leb _ 19 h ∙ short_number (source s) (place_of s) (place_of t) c.take_digits-low.result e.digits (omega (arith, h, c.place.ensures, c.place-start.ensures)))
 
@@ -25,8 +25,8 @@ number_of-requires c =
     c.since.ensures c.since.utf8))
     (digits_taken s t c.take_digits-low.result c.requires e.kept e.digits e.stops).0
 
-pub returns-else-place-start-le-MOST_DIGITS : goal.returns-else-place-start-le-MOST_DIGITS
-returns-else-place-start-le-MOST_DIGITS c =
+pub returns-else-is_short : goal.returns-else-is_short
+returns-else-is_short c =
     let s = c.args.self.now in
     let t = c.take_digits-low.new.self in
     let e = c.take_digits-low.ensures in
