@@ -4,6 +4,10 @@
 use core::fmt;
 
 /// An operator between two terms.
+///
+/// ```
+/// assert_eq!(duration_str::CondUnit::Star.to_string(), "*");
+/// ```
 #[derive(Clone, Copy, Debug, PartialEq, Eq)]
 pub enum CondUnit {
     /// `+`
@@ -14,6 +18,13 @@ pub enum CondUnit {
 
 impl CondUnit {
     /// The operator that a character stands for, if any.
+    ///
+    /// ```
+    /// use duration_str::CondUnit;
+    ///
+    /// assert_eq!(CondUnit::from_char('+'), Some(CondUnit::Plus));
+    /// assert_eq!(CondUnit::from_char('-'), None);
+    /// ```
     pub fn from_char(c: char) -> Option<CondUnit> {
         match c {
             '+' => Some(CondUnit::Plus),

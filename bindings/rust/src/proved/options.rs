@@ -2,6 +2,13 @@
 //! The choice of options.
 
 /// Which grammar is read, and which words name units.
+///
+/// ```
+/// use duration_str::{Options, parse_with};
+///
+/// let chinese = Options { cn_unit: true, ..Options::off() };
+/// assert_eq!(parse_with("1分 31秒", chinese).unwrap().as_secs(), 91);
+/// ```
 #[derive(Clone, Copy, Debug, PartialEq, Eq)]
 pub struct Options {
     /// Operators are not read, and the terms are added one by one.
@@ -14,6 +21,10 @@ pub struct Options {
 
 impl Options {
     /// All three options off.
+    ///
+    /// ```
+    /// assert!(!duration_str::Options::off().no_calc);
+    /// ```
     pub const fn off() -> Options {
         Options {
             no_calc: false,

@@ -7,6 +7,14 @@ use super::packed::unit_of_packed;
 use super::unit::{CondUnit, Options, TimeUnit};
 
 /// The sort of a token.
+///
+/// ```
+/// use duration_str::{Options, TimeUnit, Tokens, What};
+///
+/// let mut tokens = Tokens::new("3 hours", Options::off());
+/// assert_eq!(tokens.next().unwrap().what, What::Number);
+/// assert_eq!(tokens.next().unwrap().what, What::Word(Some(TimeUnit::Hour)));
+/// ```
 #[derive(Clone, Copy, Debug, PartialEq, Eq)]
 pub enum What {
     /// Digits.
@@ -20,6 +28,13 @@ pub enum What {
 }
 
 /// A token of a text.
+///
+/// ```
+/// use duration_str::{CondUnit, Options, Token, Tokens, What};
+///
+/// let plus = Token { start: 2, text: "+", what: What::Operator(CondUnit::Plus) };
+/// assert_eq!(Tokens::new("1s+2m", Options::off()).nth(2), Some(plus));
+/// ```
 #[derive(Clone, Copy, Debug, PartialEq, Eq)]
 pub struct Token<'a> {
     /// The byte of the source at which it starts.
@@ -70,6 +85,13 @@ impl Letters {
 }
 
 /// The tokens of a text, in order. Each character is looked at once, when it is reached.
+///
+/// ```
+/// use duration_str::{Options, Tokens};
+///
+/// let texts: Vec<&str> = Tokens::new("13s + 29ms", Options::off()).map(|token| token.text).collect();
+/// assert_eq!(texts, ["13", "s", "+", "29", "ms"]);
+/// ```
 pub struct Tokens<'a> {
     eye: Eye<'a>,
     /// The character at the place, already looked at; `None` at the end.
@@ -79,6 +101,12 @@ pub struct Tokens<'a> {
 
 impl<'a> Tokens<'a> {
     /// The tokens of a text, cut under these options.
+    ///
+    /// ```
+    /// use duration_str::{Options, Tokens};
+    ///
+    /// assert_eq!(Tokens::new("13s", Options::off()).count(), 2);
+    /// ```
     #[inline(always)]
     pub fn new(text: &'a str, o: Options) -> Tokens<'a> {
         let mut eye = Eye::new(text);
@@ -91,6 +119,14 @@ impl<'a> Tokens<'a> {
     }
 
     /// How many times a character of the text was looked at.
+    ///
+    /// ```
+    /// use duration_str::{Options, Tokens};
+    ///
+    /// let mut tokens = Tokens::new("13s", Options::off());
+    /// assert_eq!(tokens.by_ref().count(), 2);
+    /// assert_eq!(tokens.looked(), 3);
+    /// ```
     #[inline(always)]
     pub fn looked(&self) -> u64 {
         self.eye.looks()
@@ -113,7 +149,8 @@ impl<'a> Tokens<'a> {
     #[inline(always)]
     fn skip_blanks(&mut self) {
         while let Some(c) = self.head
-            && is_blank(c) {
+            && is_blank(c)
+        {
             self.advance();
         }
     }
@@ -123,7 +160,8 @@ impl<'a> Tokens<'a> {
     fn take_digits(&mut self) -> u64 {
         let mut number = 0u64;
         while let Some(c) = self.head
-            && c.is_ascii_digit() {
+            && c.is_ascii_digit()
+        {
             number = ((number as u128 * 10 + (c as u32 - 48) as u128) % MODULUS) as u64;
             self.advance();
         }
@@ -135,8 +173,8 @@ impl<'a> Tokens<'a> {
     pub(crate) fn take_number(&mut self) -> Number {
         let start = self.eye.place();
         let low = self.take_digits();
-        let fits = self.eye.place() - start <= MOST_DIGITS
-            || number_of(self.eye.since(start)).is_some();
+        let is_short = self.eye.place() - start <= MOST_DIGITS;
+        let fits = is_short || number_of(self.eye.since(start)).is_some();
         Number { low, fits }
     }
 
@@ -147,12 +185,14 @@ impl<'a> Tokens<'a> {
         let mut packed = 0u64;
         let mut has_capital = false;
         if let Some(first) = self.head
-            && first.is_ascii() {
+            && first.is_ascii()
+        {
             packed = u64::from(first as u32 % 32);
             has_capital = first < 'a';
             self.advance();
             while let Some(c) = self.head
-                && c.is_ascii_alphabetic() {
+                && c.is_ascii_alphabetic()
+            {
                 packed = ((packed as u128 * 32 + (c as u32 % 32) as u128) % MODULUS) as u64;
                 has_capital |= c < 'a';
                 self.advance();
@@ -168,7 +208,8 @@ impl<'a> Tokens<'a> {
     #[inline(always)]
     fn skip_letters(&mut self) {
         while let Some(c) = self.head
-            && is_unit_letter(c, self.options) {
+            && is_unit_letter(c, self.options)
+        {
             self.advance();
         }
     }
@@ -185,7 +226,8 @@ impl<'a> Tokens<'a> {
         };
         if ended
             && letters.ignore_case(self.options.lowercase)
-            && self.eye.place() - start <= MOST_LETTERS {
+            && self.eye.place() - start <= MOST_LETTERS
+        {
             unit_of_packed(letters.packed)
         } else {
             self.skip_letters();
@@ -249,7 +291,8 @@ impl<'a> Tokens<'a> {
     #[inline(always)]
     pub(crate) fn sort_after_number(&mut self) -> Option<Sort> {
         if let Some(c) = self.head
-            && c.is_ascii_alphabetic() {
+            && c.is_ascii_alphabetic()
+        {
             return Some(Sort::Word);
         }
         self.sort_ahead()

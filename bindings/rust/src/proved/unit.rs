@@ -8,6 +8,13 @@ pub use super::options::Options;
 use core::fmt;
 
 /// A unit of time.
+///
+/// ```
+/// use duration_str::TimeUnit;
+///
+/// assert_eq!(TimeUnit::default(), TimeUnit::Second);
+/// assert_eq!(TimeUnit::Minute.to_string(), "min");
+/// ```
 #[derive(Clone, Copy, Debug, PartialEq, Eq, Default)]
 pub enum TimeUnit {
     /// 365 days.
@@ -37,6 +44,10 @@ pub enum TimeUnit {
 
 impl TimeUnit {
     /// The length in nanoseconds.
+    ///
+    /// ```
+    /// assert_eq!(duration_str::TimeUnit::Minute.nanos(), 60_000_000_000);
+    /// ```
     #[inline]
     pub fn nanos(self) -> u64 {
         self.row().nanos
@@ -132,7 +143,11 @@ impl TimeUnit {
 
     /// The unit that a word names under these options, if any. No word names two units.
     ///
-    /// `from_word("Minutes", Options::off())` is `Some(TimeUnit::Minute)`.
+    /// ```
+    /// use duration_str::{Options, TimeUnit};
+    ///
+    /// assert_eq!(TimeUnit::from_word("Minutes", Options::off()), Some(TimeUnit::Minute));
+    /// ```
     pub fn from_word(word: &str, o: Options) -> Option<TimeUnit> {
         match unit_of_short_name(word, o) {
             Some(unit) => Some(unit),
@@ -146,6 +161,10 @@ impl TimeUnit {
     ///
     /// `NumberTooLarge` for a number of 2^64 or more, otherwise `Overflow` for a value of 2^64 or more, both without a
     /// place.
+    ///
+    /// ```
+    /// assert_eq!(duration_str::TimeUnit::Hour.value("2"), Ok(7_200_000_000_000));
+    /// ```
     pub fn value(self, number: &str) -> Result<u64, Cause> {
         self.times(number_of(number), None)
     }

@@ -1,8 +1,8 @@
 //! Moments, against chrono's own arithmetic.
 use chrono::{Duration, NaiveDate, NaiveDateTime, TimeZone, Utc};
 use duration_str::{
-    after_naive_date, after_naive_date_time, before_naive_date, before_naive_date_time, moment_after, moment_before,
-    Cause, HumanFormat, Options,
+    Cause, HumanFormat, Options, after_naive_date, after_naive_date_time, before_naive_date,
+    before_naive_date_time, moment_after, moment_before,
 };
 use proptest::prelude::*;
 
@@ -49,12 +49,25 @@ proptest! {
 #[test]
 fn moves_under_the_options() {
     let start = moment(0, 0);
-    let all = Options { no_calc: true, lowercase: true, cn_unit: true };
+    let all = Options {
+        no_calc: true,
+        lowercase: true,
+        cn_unit: true,
+    };
     assert_eq!(moment_after(start, "1分 1s", all), Ok(moment(61, 0)));
-    assert_eq!(moment_before(start, "1m*2", Options::off()), Ok(moment(-120, 0)));
-    assert_eq!(moment_before(start, "1m*2", all).unwrap_err().found(), Some("*"));
+    assert_eq!(
+        moment_before(start, "1m*2", Options::off()),
+        Ok(moment(-120, 0))
+    );
+    assert_eq!(
+        moment_before(start, "1m*2", all).unwrap_err().found(),
+        Some("*")
+    );
     assert_eq!(moment_after(start, "1S", all).unwrap_err().place(), Some(1));
-    assert_eq!(moment_after(start, "", all).unwrap_err().cause(), Cause::Empty);
+    assert_eq!(
+        moment_after(start, "", all).unwrap_err().cause(),
+        Cause::Empty
+    );
 }
 
 #[test]
@@ -62,8 +75,14 @@ fn counts_a_leap_second_as_the_next() {
     let date = NaiveDate::from_ymd_opt(2016, 12, 31).unwrap();
     let leap = date.and_hms_milli_opt(23, 59, 59, 1_500).unwrap();
     let next = date.succ_opt().unwrap();
-    assert_eq!(moment_after(leap, "1s", Options::off()), Ok(next.and_hms_milli_opt(0, 0, 1, 500).unwrap()));
-    assert_eq!(moment_before(leap, "1s", Options::off()), Ok(date.and_hms_milli_opt(23, 59, 59, 500).unwrap()));
+    assert_eq!(
+        moment_after(leap, "1s", Options::off()),
+        Ok(next.and_hms_milli_opt(0, 0, 1, 500).unwrap())
+    );
+    assert_eq!(
+        moment_before(leap, "1s", Options::off()),
+        Ok(date.and_hms_milli_opt(23, 59, 59, 500).unwrap())
+    );
 }
 
 #[test]
@@ -78,6 +97,9 @@ fn starts_now() {
     assert!(((from + day).date()..=(to + day).date()).contains(&after.unwrap()));
     let (from, before, to) = (clock(), before_naive_date("1d"), clock());
     assert!(((from - day).date()..=(to - day).date()).contains(&before.unwrap()));
-    assert_eq!(after_naive_date_time("600y").unwrap_err(), "600y\n^\noverflow error");
+    assert_eq!(
+        after_naive_date_time("600y").unwrap_err(),
+        "600y\n^\noverflow error"
+    );
     assert_eq!(before_naive_date("").unwrap_err(), "Empty input");
 }

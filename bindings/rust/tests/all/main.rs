@@ -12,5 +12,9 @@ use duration_str::Options;
 
 /// The eight choices of options.
 fn all_options() -> impl Iterator<Item = Options> {
-    (0..8).map(|bits| Options { no_calc: bits & 1 != 0, lowercase: bits & 2 != 0, cn_unit: bits & 4 != 0 })
+    (0..8).map(|bits| Options {
+        no_calc: bits & 1 != 0,
+        lowercase: bits & 2 != 0,
+        cn_unit: bits & 4 != 0,
+    })
 }
