@@ -4,7 +4,7 @@ use crate::options::Options;
 use crate::proved::parser as proved;
 pub use crate::proved::parser::{Cause, Expected};
 use alloc::string::{String, ToString};
-use alloc::vec::Vec;
+use alloc::vec;
 use core::fmt;
 use core::hash::{Hash, Hasher};
 
@@ -175,8 +175,7 @@ impl<'a> Fault<'a> {
 
     /// The message.
     pub(crate) fn message(&self) -> String {
-        let mut message = Vec::new();
-        message.resize(self.message_len(), 0);
+        let mut message = vec![0; self.message_len()];
         match self.write_message(&mut message) {
             Some(_) => String::from_utf8(message).unwrap_or_else(|_| self.to_string()),
             None => self.to_string(),

@@ -63,7 +63,13 @@ mod human_duration;
 mod options;
 #[forbid(unsafe_code)]
 mod parser;
-#[allow(dead_code)] // `parse_std`, since the features choose the options here.
+// `parse_std` is not used, since the features choose the options here. The toolchain writes some things otherwise.
+#[allow(dead_code)]
+#[allow(
+    clippy::precedence,
+    clippy::question_mark,
+    clippy::while_let_on_iterator
+)]
 mod proved;
 #[cfg(feature = "serde")]
 #[forbid(unsafe_code)]

@@ -16,21 +16,22 @@ use core::time::Duration;
 /// assert_eq!(parse_with("1m*10", no_calc).unwrap_err().found(), Some("*"));
 /// ```
 pub fn parse_with(input: &str, options: Options) -> Result<Duration, Fault<'_>> {
-    match parser::parse_with(input, options) {
+    match answer(input, options) {
         Ok(duration) => Ok(duration),
         Err(fault) => Err(Fault::new(fault, options)),
     }
 }
 
+/// What the proved source answers. Where all options are off the compiler knows them, and leaves the tests of them out.
+#[inline(always)]
+fn answer(text: &str, options: Options) -> Result<Duration, parser::Fault<'_>> {
+    if options.are_off() { parser::parse(text) } else { parser::parse_with(text, options) }
+}
+
 /// Reads a text, as [`parse`] does.
 fn read(text: &str) -> Result<Duration, String> {
     const OPTIONS: Options = Options::of_features();
-    let answer = if OPTIONS.are_off() {
-        parser::parse(text)
-    } else {
-        parser::parse_with(text, OPTIONS)
-    };
-    match answer {
+    match answer(text, OPTIONS) {
         Ok(duration) => Ok(duration),
         Err(fault) => Err(message(fault)),
     }

@@ -18,7 +18,12 @@ pub struct Answer {
 unsafe extern "C" {
     fn duration_str_parse(text: *const u8, length: usize, nanos: *mut u64) -> bool;
     fn duration_str_format(secs: u64, nanos: u32, buffer: *mut u8) -> usize;
-    fn duration_str_parse_with(text: *const u8, length: usize, options: u32, answer: *mut Answer) -> bool;
+    fn duration_str_parse_with(
+        text: *const u8,
+        length: usize,
+        options: u32,
+        answer: *mut Answer,
+    ) -> bool;
     fn duration_str_message(
         text: *const u8,
         length: usize,
@@ -46,7 +51,13 @@ pub fn parse_with(text: &[u8], options: u32) -> Answer {
 pub fn format(duration: Duration) -> String {
     let mut buffer = [0xff; 64];
     // SAFETY: the buffer has the 64 bytes that may be written.
-    let end = unsafe { duration_str_format(duration.as_secs(), duration.subsec_nanos(), buffer.as_mut_ptr()) };
+    let end = unsafe {
+        duration_str_format(
+            duration.as_secs(),
+            duration.subsec_nanos(),
+            buffer.as_mut_ptr(),
+        )
+    };
     String::from_utf8(buffer[..end].to_vec()).expect("UTF-8")
 }
 
@@ -61,7 +72,15 @@ fn written(room: usize, write: impl Fn(&mut [u8]) -> usize) -> Vec<u8> {
 pub fn message(text: &[u8], answer: &Answer) -> Vec<u8> {
     written(2 * text.len() + 200, |buffer| {
         // SAFETY: the pointers and lengths are those of slices that lie apart, and `answer` is as the header has it.
-        unsafe { duration_str_message(text.as_ptr(), text.len(), answer, buffer.as_mut_ptr(), buffer.len()) }
+        unsafe {
+            duration_str_message(
+                text.as_ptr(),
+                text.len(),
+                answer,
+                buffer.as_mut_ptr(),
+                buffer.len(),
+            )
+        }
     })
 }
 

@@ -10,7 +10,11 @@ const KINDS: [u32; 4] = [1, 2, 4, 8];
 
 /// The options of these bits, which are the header's.
 fn options_of(bits: u32) -> Options {
-    Options { no_calc: bits & 1 != 0, lowercase: bits & 2 != 0, cn_unit: bits & 4 != 0 }
+    Options {
+        no_calc: bits & 1 != 0,
+        lowercase: bits & 2 != 0,
+        cn_unit: bits & 4 != 0,
+    }
 }
 
 fn sign(operator: CondUnit) -> u8 {
@@ -28,14 +32,23 @@ fn answer_of(fault: &Fault<'_>) -> Answer {
         Cause::OutOfRange | Cause::NotText { .. } => panic!("no cause of a text: {fault:?}"),
     };
     let kinds = fault.expected().map_or([false; 4], |expected| {
-        [expected.number, expected.unit_word, expected.operator, expected.text_end]
+        [
+            expected.number,
+            expected.unit_word,
+            expected.operator,
+            expected.text_end,
+        ]
     });
     Answer {
         nanos: 0,
         place: fault.place().unwrap_or(0),
         found_length: fault.found().map_or(0, str::len),
         cause,
-        expected: kinds.iter().zip(KINDS).map(|(is_kind, bit)| u32::from(*is_kind) * bit).sum(),
+        expected: kinds
+            .iter()
+            .zip(KINDS)
+            .map(|(is_kind, bit)| u32::from(*is_kind) * bit)
+            .sum(),
         has_place: u8::from(fault.place().is_some()),
         first_operator: operators.0,
         later_operator: operators.1,
@@ -54,7 +67,11 @@ pub fn compare_printed(duration: Duration) {
 fn compare_fault(text: &str, fault: &Fault<'_>, told: &Answer, room: &mut Vec<u8>) {
     assert_eq!(answer_of(fault), *told, "{text:?}");
     let message = archive::message(text.as_bytes(), told);
-    assert_eq!((fault.text(), fault.message_len()), (text, message.len()), "{text:?}");
+    assert_eq!(
+        (fault.text(), fault.message_len()),
+        (text, message.len()),
+        "{text:?}"
+    );
     assert_eq!(fault.to_string().as_bytes(), message, "{text:?}");
     room.clear();
     room.resize(message.len(), 0);
@@ -77,14 +94,28 @@ pub fn compare(bytes: &[u8]) {
         match &answer {
             Ok(duration) => {
                 let nanos = u64::try_from(duration.as_nanos()).expect("a value below 2^64");
-                assert_eq!(Answer { nanos, ..Answer::default() }, told, "{text:?}");
+                assert_eq!(
+                    Answer {
+                        nanos,
+                        ..Answer::default()
+                    },
+                    told,
+                    "{text:?}"
+                );
                 compare_printed(*duration);
             }
             Err(fault) => compare_fault(text, fault, &told, &mut room),
         }
         if bits == 0 {
-            assert_eq!(archive::parse(bytes), answer.ok().map(|length| length.as_nanos() as u64));
-            assert_eq!(parse(text), answer.map_err(|fault| fault.to_string()), "{text:?}");
+            assert_eq!(
+                archive::parse(bytes),
+                answer.ok().map(|length| length.as_nanos() as u64)
+            );
+            assert_eq!(
+                parse(text),
+                answer.map_err(|fault| fault.to_string()),
+                "{text:?}"
+            );
         }
     }
 }

@@ -3,7 +3,10 @@ use erased::texts::Texts;
 use erased::{compare, compare_printed};
 
 fn main() {
-    let numbers: Vec<u64> = std::env::args().skip(1).map(|word| word.parse().expect("a number")).collect();
+    let numbers: Vec<u64> = std::env::args()
+        .skip(1)
+        .map(|word| word.parse().expect("a number"))
+        .collect();
     let (count, seed) = match numbers[..] {
         [count] => (count, 0),
         [count, seed] => (count, seed),
@@ -14,5 +17,7 @@ fn main() {
         compare(&texts.text());
         compare_printed(texts.duration());
     }
-    println!("erased: {count} texts from the seed {seed}, each under 8 choices: the crate and the archive answer the same");
+    println!(
+        "erased: {count} texts from the seed {seed}, each under 8 choices: the crate and the archive answer the same"
+    );
 }

@@ -3,21 +3,79 @@ use duration_str::TimeUnit;
 use std::time::Duration;
 
 const NAMES: [&str; 50] = [
-    "y", "year", "years", "q", "quarter", "quarters", "mon", "month", "months", "w", "week", "weeks",
-    "d", "day", "days", "h", "hr", "hour", "hours", "m", "min", "minute", "minutes", "s", "sec",
-    "seconds", "ms", "msec", "milliseconds", "µs", "µsec", "us", "usec", "microseconds", "ns", "nsec",
-    "nanoseconds", "年", "月", "周", "日", "天", "时", "分", "秒", "毫秒", "微秒", "纳秒", "Min", "MS",
+    "y",
+    "year",
+    "years",
+    "q",
+    "quarter",
+    "quarters",
+    "mon",
+    "month",
+    "months",
+    "w",
+    "week",
+    "weeks",
+    "d",
+    "day",
+    "days",
+    "h",
+    "hr",
+    "hour",
+    "hours",
+    "m",
+    "min",
+    "minute",
+    "minutes",
+    "s",
+    "sec",
+    "seconds",
+    "ms",
+    "msec",
+    "milliseconds",
+    "µs",
+    "µsec",
+    "us",
+    "usec",
+    "microseconds",
+    "ns",
+    "nsec",
+    "nanoseconds",
+    "年",
+    "月",
+    "周",
+    "日",
+    "天",
+    "时",
+    "分",
+    "秒",
+    "毫秒",
+    "微秒",
+    "纳秒",
+    "Min",
+    "MS",
 ];
 const UNITS: [TimeUnit; 6] = [
-    TimeUnit::Year, TimeUnit::Week, TimeUnit::Day, TimeUnit::Second, TimeUnit::MilliSecond, TimeUnit::NanoSecond,
+    TimeUnit::Year,
+    TimeUnit::Week,
+    TimeUnit::Day,
+    TimeUnit::Second,
+    TimeUnit::MilliSecond,
+    TimeUnit::NanoSecond,
 ];
 const BLANKS: [&str; 9] = ["", "", "", "", " ", " ", "  ", "\t", "\r\n"];
 const SIGNS: [&[&str]; 5] = [&["+"], &["*"], &["", "+"], &[""], &["", "+", "*"]];
 const STRAYS: [&str; 24] = [
-    "-", "x", ".", "μ", "µ", "é", "ß", "K", "分", "中", "𝟙", "١", "\u{a0}", "\0", "_", "/", "(", ":", "\n",
-    "\u{b}", "+", "*", "7", "m",
+    "-", "x", ".", "μ", "µ", "é", "ß", "K", "分", "中", "𝟙", "١", "\u{a0}", "\0", "_", "/", "(",
+    ":", "\n", "\u{b}", "+", "*", "7", "m",
 ];
-const BROKEN: [&[u8]; 6] = [b"\xff", b"\xc2", b"\xb5", b"\xe5\x88", b"\xed\xa0\x80", b"\xf0\x9f"];
+const BROKEN: [&[u8]; 6] = [
+    b"\xff",
+    b"\xc2",
+    b"\xb5",
+    b"\xe5\x88",
+    b"\xed\xa0\x80",
+    b"\xf0\x9f",
+];
 
 /// A source of numbers (splitmix64).
 pub struct Texts(pub u64);
@@ -43,12 +101,17 @@ impl Texts {
         match self.below(20) {
             0..13 => (self.draw() % [10, 100, 1_000, 10_000][self.below(4)]).to_string(),
             13 => "0".repeat(self.below(25)) + &(self.draw() % 100).to_string(),
-            14 => u128::from(self.draw()).wrapping_mul(1 << self.below(9)).to_string(),
+            14 => u128::from(self.draw())
+                .wrapping_mul(1 << self.below(9))
+                .to_string(),
             15..17 => self.choice(&["0", "1"]).to_string(),
             // A number whose term is near 2^64 nanoseconds.
             _ => {
-                let parts = u128::from(self.choice(&UNITS).nanos()) * self.choice(&[1, 2, 3, 65_536]);
-                ((1 << 64) / parts + self.below(5) as u128).saturating_sub(2).to_string()
+                let parts =
+                    u128::from(self.choice(&UNITS).nanos()) * self.choice(&[1, 2, 3, 65_536]);
+                ((1 << 64) / parts + self.below(5) as u128)
+                    .saturating_sub(2)
+                    .to_string()
             }
         }
     }
@@ -66,7 +129,12 @@ impl Texts {
         let signs = self.choice(&SIGNS);
         let mut pieces = Vec::new();
         for _ in 0..=self.below(4) {
-            pieces.extend([self.number(), self.choice(&BLANKS).into(), self.unit(), self.choice(&BLANKS).into()]);
+            pieces.extend([
+                self.number(),
+                self.choice(&BLANKS).into(),
+                self.unit(),
+                self.choice(&BLANKS).into(),
+            ]);
             pieces.extend([self.choice(signs).into(), self.choice(&BLANKS).into()]);
         }
         if self.below(10) > 0 {
@@ -110,6 +178,9 @@ impl Texts {
     /// The next duration.
     pub fn duration(&mut self) -> Duration {
         let secs = self.draw() >> self.below(64);
-        Duration::new(secs, [0, 1, 999_999_999, (self.draw() % 1_000_000_000) as u32][self.below(4)])
+        Duration::new(
+            secs,
+            [0, 1, 999_999_999, (self.draw() % 1_000_000_000) as u32][self.below(4)],
+        )
     }
 }

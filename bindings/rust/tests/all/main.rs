@@ -4,6 +4,7 @@ mod config;
 #[cfg(feature = "chrono")]
 mod dates;
 mod faults;
+mod owned;
 mod printing;
 mod values;
 mod vectors;
