@@ -25,7 +25,11 @@ pub fn parse_with(input: &str, options: Options) -> Result<Duration, Fault<'_>> 
 /// What the proved source answers. Where all options are off the compiler knows them, and leaves the tests of them out.
 #[inline(always)]
 fn answer(text: &str, options: Options) -> Result<Duration, parser::Fault<'_>> {
-    if options.are_off() { parser::parse(text) } else { parser::parse_with(text, options) }
+    if options.are_off() {
+        parser::parse(text)
+    } else {
+        parser::parse_with(text, options)
+    }
 }
 
 /// Reads a text, as [`parse`] does.
