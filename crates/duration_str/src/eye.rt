@@ -87,6 +87,17 @@ impl<'a> Eye<'a> {
     {
         &self.text[start..self.place]
     }
+
+    /// The bytes of `since`, which take no test for characters' boundaries.
+    #[inline(always)]
+    pub(crate) fn bytes_since(&self, start: usize) -> &'a [u8]
+        requires order { start ≤ self.now.place }
+        requires boundary { IsCharBoundary self.now.text.now start }
+        ensures slice { result.now ≡ slice_range self.now.text.now start self.now.place }
+        ensures utf8 { IsUtf8 result.now }
+    {
+        &self.text.as_bytes()[start..self.place]
+    }
 }
 
 /// The character at a place, and `None` at the end of the text. `next` becomes the place after it; if both were returned

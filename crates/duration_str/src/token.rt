@@ -4,7 +4,7 @@ ghost use Rattle.std.specs.Option.{ForSome, ForNone};
 ghost use Rattle.std.specs.Char.{is_ascii_alphabetic};
 ghost use Rattle.std.specs.Str.{chars};
 ghost use Rattle.std.specs.Iterator.{item_count};
-ghost use Rattle.duration_str.specs.Text.{is_blank, is_digit, is_unit_letter, is_chinese};
+ghost use Rattle.duration_str.specs.Text.{is_blank, is_digit, is_unit_letter, is_chinese, IsNumber, number_of};
 ghost use Rattle.duration_str.specs.Tokens.{tokens_of};
 ghost use Rattle.duration_str.specs.Internal.Cutting.{ahead, StandsAt, Passes, Stops, TakesDigits, TakesLetters};
 ghost use Rattle.duration_str.specs.Internal.Sorts.{sort_at};
@@ -65,22 +65,31 @@ pub(crate) enum Sort {
     Other,
 }
 
-/// A number modulo 2^64, and whether it is below 2^64.
+/// A run of digits and its value modulo 2^64.
 #[derive(Clone, Copy)]
-pub(crate) struct Number {
+pub(crate) struct Number<'a> {
+    digits: &'a [u8],
     low: u64,
-    fits: bool,
+    ghost utf8: { ∥ IsUtf8 digits.now ∥₁ },
+    ghost number: { IsNumber (chars digits.now) },
+    ghost same: { low ≡ number_of (chars digits.now) % 2 ^ 64 },
 }
 
-impl Number {
+impl<'a> Number<'a> {
     ghost use Rattle.duration_str.specs.Internal.Tokenizer.{u64_of};
 
     /// The number; `None` from 2^64 on.
     #[inline(always)]
     pub(crate) fn value(self) -> Option<u64>
-        ensures { result ≡ u64_of self }
+        ensures { result ≡ u64_of self.entry }
     {
-        if self.fits { Some(self.low) } else { None }
+        if self.digits.len() <= MOST_DIGITS {
+            Some(self.low)
+        } else {
+            // `?` keeps this path separate, as in `take_word`.
+            let number = number_of(self.digits)?;
+            Some(number)
+        }
     }
 }
 
@@ -220,15 +229,16 @@ impl<'a> Tokens<'a> {
 
     /// Takes the number ahead.
     #[inline(always)]
-    pub(crate) fn take_number(&mut self) -> Number
+    pub(crate) fn take_number(&mut self) -> Number<'a>
         requires { IsAhead self.old (Some a_number) }
         ensures { TakesNumber self.old self.new (u64_of result) }
     {
         let start = self.eye.place();
         let low = self.take_digits();
-        let is_short = self.eye.place() - start <= MOST_DIGITS;
-        let fits = is_short || number_of(self.eye.since(start)).is_some();
-        Number { low, fits }
+        Number {
+            digits: self.eye.bytes_since(start),
+            low,
+        }
     }
 
     /// Moves past the ASCII letters at the start of the word ahead, and returns them packed. The word's first character

@@ -190,7 +190,7 @@ impl TimeUnit {
         requires { IsNumber (chars number.now) }
         ensures { result ≡ term_answer None (term_of (number_of (chars number.now)) self) }
     {
-        self.times(number_of(number), None)
+        self.times(number_of(number.as_bytes()), None)
     }
 
     /// The value of a term in nanoseconds. `number` is `None` if it exceeds `u64`; `place` goes into the error.

@@ -56,6 +56,12 @@ impl<'a> Eye<'a> {
     pub(crate) fn since(&self, start: usize) -> &'a str {
         &self.text[start..self.place]
     }
+
+    /// The bytes of `since`, which take no test for characters' boundaries.
+    #[inline(always)]
+    pub(crate) fn bytes_since(&self, start: usize) -> &'a [u8] {
+        &self.text.as_bytes()[start..self.place]
+    }
 }
 
 /// The character at a place, and `None` at the end of the text. `next` becomes the place after it; if both were returned

@@ -4,6 +4,9 @@
 /// The number that digits write; `None` from 2^64 on.
 #[cold]
 #[inline(never)]
-pub(crate) fn number_of(digits: &str) -> Option<u64> {
-    digits.parse::<u64>().ok()
+pub(crate) fn number_of(digits: &[u8]) -> Option<u64> {
+    match str::from_utf8(digits) {
+        Ok(text) => text.parse::<u64>().ok(),
+        Err(_) => None,
+    }
 }

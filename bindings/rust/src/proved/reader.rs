@@ -136,7 +136,7 @@ pub(crate) struct Later {
 impl Later {
     /// Adds a term, which is not evaluated if a fault is held back.
     #[inline(always)]
-    fn add(&mut self, set: CondUnit, number: Number, unit: TimeUnit) {
+    fn add(&mut self, set: CondUnit, number: Number<'_>, unit: TimeUnit) {
         if self.fault.is_some() {
             return;
         }
@@ -181,7 +181,7 @@ impl Later {
 
 /// The value of the later terms with one more, or its fault.
 #[inline(always)]
-fn with_term(set: CondUnit, total: u64, number: Number, unit: TimeUnit) -> Result<u64, Cause> {
+fn with_term(set: CondUnit, total: u64, number: Number<'_>, unit: TimeUnit) -> Result<u64, Cause> {
     let value = unit.times(number.value(), None)?;
     within(combination(set, total, value))
 }

@@ -54,18 +54,24 @@ pub(crate) enum Sort {
     Other,
 }
 
-/// A number modulo 2^64, and whether it is below 2^64.
+/// A run of digits and its value modulo 2^64.
 #[derive(Clone, Copy)]
-pub(crate) struct Number {
+pub(crate) struct Number<'a> {
+    digits: &'a [u8],
     low: u64,
-    fits: bool,
 }
 
-impl Number {
+impl<'a> Number<'a> {
     /// The number; `None` from 2^64 on.
     #[inline(always)]
     pub(crate) fn value(self) -> Option<u64> {
-        if self.fits { Some(self.low) } else { None }
+        if self.digits.len() <= MOST_DIGITS {
+            Some(self.low)
+        } else {
+            // `?` keeps this path separate, as in `take_word`.
+            let number = number_of(self.digits)?;
+            Some(number)
+        }
     }
 }
 
@@ -170,12 +176,13 @@ impl<'a> Tokens<'a> {
 
     /// Takes the number ahead.
     #[inline(always)]
-    pub(crate) fn take_number(&mut self) -> Number {
+    pub(crate) fn take_number(&mut self) -> Number<'a> {
         let start = self.eye.place();
         let low = self.take_digits();
-        let is_short = self.eye.place() - start <= MOST_DIGITS;
-        let fits = is_short || number_of(self.eye.since(start)).is_some();
-        Number { low, fits }
+        Number {
+            digits: self.eye.bytes_since(start),
+            low,
+        }
     }
 
     /// Moves past the ASCII letters at the start of the word ahead, and returns them packed. The word's first character

@@ -166,7 +166,7 @@ impl TimeUnit {
     /// assert_eq!(duration_str::TimeUnit::Hour.value("2"), Ok(7_200_000_000_000));
     /// ```
     pub fn value(self, number: &str) -> Result<u64, Cause> {
-        self.times(number_of(number), None)
+        self.times(number_of(number.as_bytes()), None)
     }
 
     /// The value of a term in nanoseconds. `number` is `None` if it exceeds `u64`; `place` goes into the error.

@@ -1,9 +1,9 @@
 -- The steps of cutting, in terms of a text, the byte up to which it is cut, and the looks.
-use Rattle.std.proofs.Common.{◌≡◌, ℕ, ◌+◌, ◌-◌, ◌*◌, ◌%◌, ◌<◌, ◌≤◌, ◌^◌, Bool, true, false, List, [], ◌∷◌, ◌++◌, length, take, drop, Option, Some, None, IsUtf8, refl, ap, sym, ◌∙◌, subst, arith, lit<, ⊎_elim}
+use Rattle.std.proofs.Common.{◌≡◌, ℕ, ◌+◌, ◌-◌, ◌*◌, ◌%◌, ◌<◌, ◌≤◌, ◌^◌, Bool, true, false, List, [], ◌∷◌, ◌++◌, length, take, drop, Option, Some, None, IsUtf8, refl, ap, sym, ◌∙◌, subst, arith, lit<}
 use Rattle.std.specs.Prelude.{nat_lt, ◌&&◌, ◌||◌, is_some, IsSome, IfSome, IsTrue, slice_range, if◌then◌else◌}
 use Rattle.std.specs.List.{list_any, list_all}
 use Rattle.std.specs.Char.{is_ascii_alphabetic, is_ascii_uppercase}
-use Rattle.std.proofs.lemmas.Bool.{and_from, and_parts, cases_lt}
+use Rattle.std.proofs.lemmas.Bool.{and_from, and_parts}
 use Rattle.std.proofs.lemmas.List.Folds.{list_any-append, list_all-append}
 use Rattle.std.specs.Option.{ForSome}
 use Rattle.std.specs.Str.{IsCharBoundary, chars}
@@ -17,7 +17,7 @@ use Rattle.duration_str.specs.declared.options.Options.{Options}
 use Rattle.duration_str.specs.declared.unit.TimeUnit.{TimeUnit}
 use Rattle.duration_str.specs.Tokens.{tokens_from, IsLexeme, EndsRun}
 use Rattle.duration_str.proofs.Cutting.TokenLemmas.{tokens_step}
-use Rattle.duration_str.specs.Text.{width, byte_len, is_blank, IsBlank, is_digit, is_unit_letter, number_after, number_of}
+use Rattle.duration_str.specs.Text.{width, byte_len, is_blank, IsBlank, is_digit, is_unit_letter, number_after, number_of, IsNumber}
 use Rattle.duration_str.specs.Units.{unit_of_word}
 use Rattle.duration_str.specs.Internal.Numbers.{u64_from}
 use Rattle.duration_str.specs.Internal.Packed.{unit_of_packed}
@@ -25,7 +25,7 @@ use Rattle.duration_str.specs.Internal.Cutting.{ahead, StandsAt, Between, Passes
 use Rattle.duration_str.proofs.Characters.CharacterLemmas.{letter_of_ascii, capital_below}
 use Rattle.duration_str.proofs.Sentences.SpellingLemmas.{all_weaker}
 use Rattle.duration_str.proofs.Characters.TextLemmas.{width_some, byte_len-append}
-use Rattle.duration_str.proofs.Characters.NumberLemmas.{u64_some, u64_none, number_below}
+use Rattle.duration_str.proofs.Characters.NumberLemmas.{u64_some, number_below}
 use Rattle.duration_str.proofs.Characters.PackedLemmas.{exact, unit_by_number}
 
 -- ---- how many times a character was looked at
@@ -195,24 +195,17 @@ chars_between text place next cs slice between is utf8 =
 -- ---- numbers and words
 
 -- a number with at most 19 digits is below 2^64
-pub short_number : (text : List ℕ) (place next low : ℕ) (taken : TakesDigits text place next low) → next - place ≤ 19
-    → true ≡ is_some (u64_from (number_of taken.run.characters))
-short_number text place next low taken short =
-    let cs = taken.run.characters in
-    let few : length cs ≤ 19 = between_count text place next 19 cs taken.run.between short in
-    let less = number_below 0 cs taken.run.all in
+pub short_number : (digits : List ℕ) (low : ℕ) → IsUtf8 digits → IsNumber (chars digits) → low ≡ number_of (chars digits) % 2 ^ 64 → length digits ≤ 19
+    → Some low ≡ u64_from (number_of (chars digits))
+short_number digits low utf8 number same short =
+    let cs = chars digits in
+    let count = chars_short digits utf8 in
+    let few : length cs ≤ 19 = omega (arith, count, short) in
+    let less = number_below 0 cs number.1 in
     let pow : 10 ^ length cs ≤ 10 ^ 19 = pow-le-pow_right (lit< tt) few in
-    ap is_some (sym (u64_some (number_of cs) (omega (arith, less, pow))))
-
--- a number below 2^64, by its value modulo 2^64
-pub low_number : (low n : ℕ) → low ≡ n % 2 ^ 64 → (if is_some (u64_from n) then Some low else None) ≡ u64_from n
-low_number low n is = ⊎_elim small large (cases_lt n (2 ^ 64))
-  where
-    small : n < 2 ^ 64 → (if is_some (u64_from n) then Some low else None) ≡ u64_from n
-    small less = let same : low ≡ n = omega (arith, is, less) in rw (u64_some n less) (ap Some same)
-
-    large : 2 ^ 64 ≤ n → (if is_some (u64_from n) then Some low else None) ≡ u64_from n
-    large more = rw (u64_none n more) refl
+    let small : number_of cs < 2 ^ 64 = omega (arith, less, pow) in
+    let whole : low ≡ number_of cs = omega (arith, same, small) in
+    ap Some whole ∙ sym (u64_some (number_of cs) small)
 
 -- The characters from `place` to `next` are unit letters, and `unit` is the unit that they name.
 pub record TakesWord (o : Options) (text : List ℕ) (place next : ℕ) (unit : Option TimeUnit) : Type 0 where

@@ -1,6 +1,6 @@
 -- The steps of `Tokens`: what is ahead, and the next token.
-use Rattle.std.proofs.Common.{Bool, ◌≡◌, ℕ, ◌-◌, ◌<◌, ◌≤◌, drop, length-drop, arith, true, List, [], ◌∷◌, length, Option, Some, None, IsUtf8, refl, sym, ap, subst, ◌∙◌}
-use Rattle.std.specs.Prelude.{slice_range, is_some, if◌then◌else◌}
+use Rattle.std.proofs.Common.{Bool, ◌≡◌, ℕ, ◌-◌, ◌<◌, ◌%◌, ◌^◌, ◌≤◌, drop, length-drop, arith, true, List, [], ◌∷◌, length, Option, Some, None, IsUtf8, refl, sym, ap, subst, ◌∙◌}
+use Rattle.std.specs.Prelude.{slice_range}
 use Rattle.std.specs.Option.{ForSome}
 use Rattle.std.specs.Str.{IsCharBoundary, chars}
 use Rattle.std.proofs.lemmas.List.{length-take-le}
@@ -21,7 +21,7 @@ use Rattle.duration_str.specs.Internal.Sorts.{sort_at, sort_of}
 use Rattle.duration_str.specs.Internal.Numbers.{u64_from}
 use Rattle.duration_str.specs.Tokenizer.{source, options_of, place_of, left, what_of, KeepsInput, YieldsNextToken}
 use Rattle.duration_str.specs.Internal.Tokenizer.{IsAhead, LooksAhead, IsSign, TakesToken, TakesTokenWith, TakesNumber}
-use Rattle.duration_str.proofs.Cutting.CuttingLemmas.{TakesWord, chars_between, low_number, long_word, same_slice, blanks_passed, token_taken, place_at_end}
+use Rattle.duration_str.proofs.Cutting.CuttingLemmas.{TakesWord, chars_between, long_word, same_slice, blanks_passed, token_taken, place_at_end}
 use Rattle.duration_str.proofs.Cutting.SortLemmas.{StandsToken, number_stands, word_stands, sign_stands, digit_of_sort, letter_of_sort, sign_of_sort, sign_sorts, first_token}
 
 pub keeps_all : (s : Tokens) → KeepsInput s s
@@ -91,30 +91,21 @@ takes_token s t terminal kept token = record {
   is_terminal = token.is_terminal;
 }
 
--- The digits from s to t are the number ahead.
-pub digits_taken : (s t : Tokens) (low : ℕ) → IsAhead s (Some Number) → KeepsInput s t
-    → (taken : TakesDigits (source s) (place_of s) (place_of t) low) → Stops is_digit (ahead (source t) (place_of t))
-    → IsNumber taken.run.characters × TakesNumber s t (u64_from (number_of taken.run.characters))
-digits_taken s t low h kept taken stops =
+-- The slice from s to t is the number ahead, and `low` is its value modulo 2^64.
+pub takes_number : (s t : Tokens) (low start : ℕ) (slice : List ℕ) → IsAhead s (Some Number) → KeepsInput s t
+    → TakesDigits (source s) (place_of s) (place_of t) low → Stops is_digit (ahead (source t) (place_of t)) → start ≡ place_of s
+    → slice ≡ slice_range (source t) start (place_of t) → IsUtf8 slice
+    → IsNumber (chars slice) × (low ≡ number_of (chars slice) % 2 ^ 64) × TakesNumber s t (u64_from (number_of (chars slice)))
+takes_number s t low start slice h kept taken stops there is utf8 =
+    let same = chars_between (source s) (place_of s) (place_of t) taken.run.characters slice taken.run.between
+    (same_slice slice (source t) (source s) start (place_of s) (place_of t) is kept.text there) utf8 in
     let token = number_stands (options_of s) (source s) (place_of s) (place_of t) s.eye.next h.character taken.run
     (subst (λ l. Stops is_digit (ahead l (place_of t))) kept.text stops) (s.some h.character h.is_head)
-    (digit_of_sort (options_of s) h.character h.is_sort) in
-    (token.0, record { n = number_of taken.run.characters; token = takes_token s t _ kept token.1; is_value = refl })
-
--- the same, given the number modulo 2^64 and whether it is below
-pub takes_number : (s t : Tokens) (low : ℕ) (fits : Bool) → IsAhead s (Some Number) → KeepsInput s t
-    → (taken : TakesDigits (source s) (place_of s) (place_of t) low) → Stops is_digit (ahead (source t) (place_of t))
-    → fits ≡ is_some (u64_from (number_of taken.run.characters)) → TakesNumber s t (if fits then Some low else None)
-takes_number s t low fits h kept taken stops below =
-    subst (TakesNumber s t) (sym (ap (λ b. if b then Some low else None) below ∙ low_number low (number_of taken.run.characters) taken.number))
-    (digits_taken s t low h kept taken stops).1
-
--- the slice of the digits from s to t
-pub digits_slice : (s t : Tokens) (low start : ℕ) (slice : List ℕ) → KeepsInput s t → (taken : TakesDigits (source s) (place_of s) (place_of t) low)
-    → start ≡ place_of s → slice ≡ slice_range (source t) start (place_of t) → IsUtf8 slice → chars slice ≡ taken.run.characters
-digits_slice s t low start slice kept taken there is utf8 =
-    chars_between (source s) (place_of s) (place_of t) taken.run.characters slice taken.run.between
-    (same_slice slice (source t) (source s) start (place_of s) (place_of t) is kept.text there) utf8
+    (digit_of_sort (options_of s) h.character h.is_sort) in (
+      subst IsNumber (sym same) token.0,
+      taken.number ∙ ap (λ l. number_of l % 2 ^ 64) (sym same),
+      record { n = number_of taken.run.characters; token = takes_token s t _ kept token.1; is_value = ap (λ l. u64_from (number_of l)) same },
+    )
 
 pub takes_word : (s t : Tokens) (unit : Option TimeUnit) → IsAhead s (Some Word) → KeepsInput s t
     → TakesWord (options_of s) (source s) (place_of s) (place_of t) unit → Stops (is_unit_letter (options_of s)) (ahead (source t) (place_of t))

@@ -1,10 +1,11 @@
 -- What the private calls of `Tokens` do: they look ahead, and take the token ahead.
-use Rattle.std.specs.Prelude.{◌≡◌, ℕ, Bool, true, false, List, ◌∷◌, Option, Some, None, if◌then◌else◌}
+use Rattle.std.specs.Prelude.{◌≡◌, ℕ, Bool, true, false, List, ◌∷◌, Option, Some, None}
+use Rattle.std.specs.Str.{chars}
 use Rattle.duration_str.specs.declared.token.Sort.{Sort}
 use Rattle.duration_str.specs.declared.token.Sort.TheVariants as sorts
 use Rattle.duration_str.specs.declared.token.Number.{Number}
 use Rattle.duration_str.specs.declared.token.Tokens.{Tokens}
-use Rattle.duration_str.specs.Text.{is_blank}
+use Rattle.duration_str.specs.Text.{is_blank, number_of}
 use Rattle.duration_str.specs.Grammar.{Terminal, number, terminal_of}
 use Rattle.duration_str.specs.Tokenizer.{source, options_of, place_of, left, KeepsInput}
 use Rattle.duration_str.specs.Internal.Numbers.{u64_from}
@@ -63,7 +64,7 @@ pub record TakesToken (old new : Tokens) (terminal : Terminal) : Type 0 where
 
 -- the number, or `None` from 2^64 on
 abbrev pub u64_of : Number → Option ℕ
-u64_of n = if n.fits then Some n.low else None
+u64_of n = u64_from (number_of (chars n.digits.now))
 
 -- The first token that is left is taken; it is a number, and `value` is `None` from 2^64 on.
 pub record TakesNumber (old new : Tokens) (value : Option ℕ) : Type 0 where
