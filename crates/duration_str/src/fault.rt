@@ -11,6 +11,14 @@ use crate::unit::CondUnit;
 use std::fmt;
 
 /// What could stand at the place of a syntax fault.
+///
+/// ```
+/// use duration_str::{Cause, Expected, Options, parse_with};
+///
+/// let number = Expected { number: true, unit_word: false, operator: false, text_end: false };
+/// let cause = parse_with("1m+", Options::off()).unwrap_err().cause();
+/// assert_eq!(cause, Cause::Syntax { place: 3, expected: number });
+/// ```
 #[derive(Clone, Copy, Debug, PartialEq, Eq)]
 pub struct Expected {
     /// A number.
@@ -24,31 +32,59 @@ pub struct Expected {
 }
 
 /// Why a text is refused. A place is a byte offset in the text.
+///
+/// ```
+/// use duration_str::{Cause, Options, parse_with};
+///
+/// assert_eq!(parse_with("", Options::off()).unwrap_err().cause(), Cause::Empty);
+/// ```
 #[derive(Clone, Copy, Debug, PartialEq, Eq)]
 pub enum Cause {
     /// The text is empty.
     Empty,
     /// At `place`, no sentence continues as the text does.
-    Syntax { place: usize, expected: Expected },
+    Syntax {
+        /// Where the first token stands with which no sentence continues, or the length of the text.
+        place: usize,
+        /// What could stand there.
+        expected: Expected,
+    },
     /// A number is 2^64 or more.
-    NumberTooLarge { place: Option<usize> },
+    NumberTooLarge {
+        /// 0 for the first number, `None` for a later one.
+        place: Option<usize>,
+    },
     /// A term, a step of the evaluation or the value is 2^64 nanoseconds or more.
-    Overflow { place: Option<usize> },
+    Overflow {
+        /// 0 for the first term, `None` for a later one and for a step.
+        place: Option<usize>,
+    },
     /// The operator `later` follows the different operator `first`.
-    Mixed { first: CondUnit, later: CondUnit },
+    Mixed {
+        /// The first operator.
+        first: CondUnit,
+        /// The first that differs from it.
+        later: CondUnit,
+    },
     /// The date is out of range.
     OutOfRange,
     /// A configuration value is not a text.
-    NotText { optional: bool },
+    NotText {
+        /// Whether the value may be missing.
+        optional: bool,
+    },
 }
 
 impl Cause {
     /// Byte offset of the fault: set for syntax faults, 0 for an oversized first term, otherwise `None`. In a `Fault` it
     /// is a character boundary within the text.
     ///
-    /// ```text
-    /// parse("1m 3-5").unwrap_err().cause().place() // Some(4)
-    /// parse("580y*2").unwrap_err().cause().place() // None
+    /// ```
+    /// use duration_str::{Options, parse_with};
+    ///
+    /// let place = |text| parse_with(text, Options::off()).unwrap_err().cause().place();
+    /// assert_eq!(place("1m 3-5"), Some(4));
+    /// assert_eq!(place("580y*2"), None);
     /// ```
     pub fn place(self) -> Option<usize>
         ensures { result ≡ place_of self }
@@ -62,6 +98,13 @@ impl Cause {
 }
 
 /// A refusal: the text that was read, and the cause. It prints as a message for people.
+///
+/// ```
+/// use duration_str::{Options, parse_with};
+///
+/// let fault = parse_with("3ms-2ms", Options::off()).unwrap_err();
+/// assert_eq!(fault.to_string(), "3ms-2ms\n   ^\nexpected ['+', '*']");
+/// ```
 #[derive(Clone, Copy, Debug, PartialEq, Eq)]
 pub struct Fault<'a> {
     /// The whole text that was read; the empty text for `NotText`.
@@ -74,6 +117,12 @@ pub struct Fault<'a> {
 
 impl<'a> Fault<'a> {
     /// The whole text that was read; the empty text for `NotText`.
+    ///
+    /// ```
+    /// use duration_str::{Options, parse_with};
+    ///
+    /// assert_eq!(parse_with("1x", Options::off()).unwrap_err().text(), "1x");
+    /// ```
     pub fn text(&self) -> &'a str
         ensures { result ≡ self.now.text }
     {
@@ -81,6 +130,13 @@ impl<'a> Fault<'a> {
     }
 
     /// Why it is refused.
+    ///
+    /// ```
+    /// use duration_str::{Cause, Options, parse_with};
+    ///
+    /// let cause = parse_with("600y", Options::off()).unwrap_err().cause();
+    /// assert_eq!(cause, Cause::Overflow { place: Some(0) });
+    /// ```
     pub fn cause(&self) -> Cause
         ensures { result ≡ self.now.cause }
     {

@@ -108,6 +108,10 @@ impl Layout {
 
 impl Cause {
     /// The length in bytes of the line that `write_line` writes.
+    ///
+    /// ```
+    /// assert_eq!(duration_str::Cause::Empty.line_len(), 11);
+    /// ```
     pub fn line_len(self) -> usize
         ensures { result ≡ length (encode_utf8_all (line_of self)) }
     {
@@ -118,9 +122,13 @@ impl Cause {
     ///
     /// `None` if it is longer than the buffer, which is then unchanged. Allocates nothing.
     ///
-    /// ```text
+    /// ```
+    /// use duration_str::{Options, parse_with};
+    ///
     /// let mut buffer = [0; 64];
-    /// parse("3 + ").unwrap_err().cause().write_line(&mut buffer) // Some(15), and `buffer` starts: "expected number"
+    /// let cause = parse_with("3 + ", Options::off()).unwrap_err().cause();
+    /// assert_eq!(cause.write_line(&mut buffer), Some(15));
+    /// assert_eq!(&buffer[..15], b"expected number");
     /// ```
     pub fn write_line(self, buffer: &mut [u8]) -> Option<usize>
         ensures bytes { IsWritten (encode_utf8_all (line_of self)) buffer.old result buffer.new }
@@ -134,8 +142,10 @@ impl Cause {
 impl Fault<'_> {
     /// The length in bytes of the message that `write_message` writes; `usize::MAX` if it is greater than that.
     ///
-    /// ```text
-    /// parse("3ms-2ms").unwrap_err().message_len() // 32
+    /// ```
+    /// use duration_str::{Options, parse_with};
+    ///
+    /// assert_eq!(parse_with("3ms-2ms", Options::off()).unwrap_err().message_len(), 32);
     /// ```
     pub fn message_len(&self) -> usize
         ensures { result ≡ min (length (fault_text self.now.text.now self.now.cause)) (2 ^ 64 - 1) }
@@ -147,9 +157,13 @@ impl Fault<'_> {
     ///
     /// `None` if it is longer than the buffer, which is then unchanged. Allocates nothing.
     ///
-    /// ```text
+    /// ```
+    /// use duration_str::{Options, parse_with};
+    ///
     /// let mut buffer = [0; 64];
-    /// parse("").unwrap_err().write_message(&mut buffer) // Some(11), and `buffer` starts: "Empty input"
+    /// let fault = parse_with("", Options::off()).unwrap_err();
+    /// assert_eq!(fault.write_message(&mut buffer), Some(11));
+    /// assert_eq!(&buffer[..11], b"Empty input");
     /// ```
     pub fn write_message(&self, buffer: &mut [u8]) -> Option<usize>
         ensures bytes { IsWritten (fault_text self.now.text.now self.now.cause)

@@ -19,10 +19,12 @@ use std::time::Duration;
 /// It returns what `parse_with` returns for `Options::off()`. Terms such as `3m`, `29ms` or `10`, which is seconds, are
 /// joined by `+` or by `*`; an operator that is left out is a plus. The value is below 2^64 nanoseconds.
 ///
-/// ```text
-/// parse("3m + 13s + 29ms") // Ok(Duration::from_millis(193_029))
-/// parse("1m*60*20")        // Ok(Duration::from_secs(72_000))
-/// parse("1m 3-5")          // Err, Syntax at byte 4: a unit, an operator or the end could stand there
+/// ```
+/// use duration_str::parse;
+/// use std::time::Duration;
+///
+/// assert_eq!(parse("3m 13s 29ms").unwrap(), Duration::from_millis(193_029));
+/// assert!(parse("1m 3-5").is_err());
 /// ```
 #[inline(always)]
 pub fn parse(input: &str) -> Result<Duration, Fault<'_>>
@@ -33,6 +35,10 @@ pub fn parse(input: &str) -> Result<Duration, Fault<'_>>
 }
 
 /// What `parse` returns.
+///
+/// ```
+/// assert_eq!(duration_str::parse_std("2h 37m").unwrap().as_secs(), 9_420);
+/// ```
 pub fn parse_std(input: &str) -> Result<Duration, Fault<'_>>
     ensures { ParsesText off input.now result }
 {
@@ -47,9 +53,14 @@ pub fn parse_std(input: &str) -> Result<Duration, Fault<'_>>
 /// fault of the evaluation. Under `no_calc` the terms are added one by one, and their faults precede later syntax
 /// faults. Allocates nothing.
 ///
-/// ```text
-/// parse_with("2h 37m", Options { no_calc: true, ..Options::off() }) // Ok(Duration::from_secs(9_420))
-/// parse_with("1+2", Options { no_calc: true, ..Options::off() })    // Err, Syntax at byte 1
+/// ```
+/// use duration_str::{Options, parse_with};
+/// use std::time::Duration;
+///
+/// assert_eq!(parse_with("1m*60*20", Options::off()), Ok(Duration::from_secs(72_000)));
+/// let no_calc = Options { no_calc: true, ..Options::off() };
+/// assert_eq!(parse_with("2h 37m", no_calc), Ok(Duration::from_secs(9_420)));
+/// assert_eq!(parse_with("1+2", no_calc).unwrap_err().cause().place(), Some(1));
 /// ```
 pub fn parse_with(input: &str, o: Options) -> Result<Duration, Fault<'_>>
     ensures { ParsesText o input.now result }

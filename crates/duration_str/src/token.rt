@@ -18,6 +18,14 @@ use crate::packed::unit_of_packed;
 use crate::unit::{CondUnit, Options, TimeUnit};
 
 /// The sort of a token.
+///
+/// ```
+/// use duration_str::{Options, TimeUnit, Tokens, What};
+///
+/// let mut tokens = Tokens::new("3 hours", Options::off());
+/// assert_eq!(tokens.next().unwrap().what, What::Number);
+/// assert_eq!(tokens.next().unwrap().what, What::Word(Some(TimeUnit::Hour)));
+/// ```
 #[derive(Clone, Copy, Debug, PartialEq, Eq)]
 pub enum What {
     /// Digits.
@@ -31,6 +39,13 @@ pub enum What {
 }
 
 /// A token of a text.
+///
+/// ```
+/// use duration_str::{CondUnit, Options, Token, Tokens, What};
+///
+/// let plus = Token { start: 2, text: "+", what: What::Operator(CondUnit::Plus) };
+/// assert_eq!(Tokens::new("1s+2m", Options::off()).nth(2), Some(plus));
+/// ```
 #[derive(Clone, Copy, Debug, PartialEq, Eq)]
 pub struct Token<'a> {
     /// The byte of the source at which it starts.
@@ -53,7 +68,7 @@ pub(crate) enum Sort {
 /// A run of digits and its value modulo 2^64.
 #[derive(Clone, Copy)]
 pub(crate) struct Number<'a> {
-    digits: &'a str,
+    digits: &'a [u8],
     low: u64,
     ghost utf8: { ∥ IsUtf8 digits.now ∥₁ },
     ghost number: { IsNumber (chars digits.now) },
@@ -96,6 +111,13 @@ impl Letters {
 }
 
 /// The tokens of a text, in order. Each character is looked at once, when it is reached.
+///
+/// ```
+/// use duration_str::{Options, Tokens};
+///
+/// let texts: Vec<&str> = Tokens::new("13s + 29ms", Options::off()).map(|token| token.text).collect();
+/// assert_eq!(texts, ["13", "s", "+", "29", "ms"]);
+/// ```
 #[derive(Drop)]
 pub struct Tokens<'a> {
     eye: Eye<'a>,
@@ -114,6 +136,12 @@ impl<'a> Tokens<'a> {
     ghost use Rattle.duration_str.specs.Internal.Tokenizer.{IsAhead, LooksAhead, LooksForNumber, IsSignAhead, u64_of, TakesNumber, TakesToken, TakesTokenWith, TakesSign};
 
     /// The tokens of a text, cut under these options.
+    ///
+    /// ```
+    /// use duration_str::{Options, Tokens};
+    ///
+    /// assert_eq!(Tokens::new("13s", Options::off()).count(), 2);
+    /// ```
     #[inline(always)]
     pub fn new(text: &'a str, o: Options) -> Tokens<'a>
         ensures source { source result ≡ text.now }
@@ -130,6 +158,14 @@ impl<'a> Tokens<'a> {
     }
 
     /// How many times a character of the text was looked at.
+    ///
+    /// ```
+    /// use duration_str::{Options, Tokens};
+    ///
+    /// let mut tokens = Tokens::new("13s", Options::off());
+    /// assert_eq!(tokens.by_ref().count(), 2);
+    /// assert_eq!(tokens.looked(), 3);
+    /// ```
     #[inline(always)]
     pub fn looked(&self) -> u64
         ensures count { result ≡ looks_of self.now }
@@ -200,7 +236,7 @@ impl<'a> Tokens<'a> {
         let start = self.eye.place();
         let low = self.take_digits();
         Number {
-            digits: self.eye.since(start),
+            digits: self.eye.bytes_since(start),
             low,
         }
     }

@@ -18,6 +18,13 @@ pub use crate::options::Options;
 use std::fmt;
 
 /// A unit of time.
+///
+/// ```
+/// use duration_str::TimeUnit;
+///
+/// assert_eq!(TimeUnit::default(), TimeUnit::Second);
+/// assert_eq!(TimeUnit::Minute.to_string(), "min");
+/// ```
 #[derive(Clone, Copy, Debug, PartialEq, Eq)]
 pub enum TimeUnit {
     /// 365 days.
@@ -55,6 +62,10 @@ impl Default for TimeUnit {
 
 impl TimeUnit {
     /// The length in nanoseconds.
+    ///
+    /// ```
+    /// assert_eq!(duration_str::TimeUnit::Minute.nanos(), 60_000_000_000);
+    /// ```
     #[inline]
     pub fn nanos(self) -> u64
         ensures { result ≡ nanos_of self }
@@ -157,7 +168,11 @@ impl TimeUnit {
 
     /// The unit that a word names under these options, if any. No word names two units.
     ///
-    /// `from_word("Minutes", Options::off())` is `Some(TimeUnit::Minute)`.
+    /// ```
+    /// use duration_str::{Options, TimeUnit};
+    ///
+    /// assert_eq!(TimeUnit::from_word("Minutes", Options::off()), Some(TimeUnit::Minute));
+    /// ```
     #[tactic(auto, using(crate::proofs::Characters::UnitLemmas::named_unit))]
     pub fn from_word(word: &str, o: Options) -> Option<TimeUnit>
         ensures unit { result ≡ unit_of_word o (chars word.now) }
@@ -176,11 +191,15 @@ impl TimeUnit {
     ///
     /// `NumberTooLarge` for a number of 2^64 or more, otherwise `Overflow` for a value of 2^64 or more, both without a
     /// place.
+    ///
+    /// ```
+    /// assert_eq!(duration_str::TimeUnit::Hour.value("2"), Ok(7_200_000_000_000));
+    /// ```
     pub fn value(self, number: &str) -> Result<u64, Cause>
         requires { IsNumber (chars number.now) }
         ensures { result ≡ term_answer None (term_of (number_of (chars number.now)) self) }
     {
-        self.times(number_of(number), None)
+        self.times(number_of(number.as_bytes()), None)
     }
 
     /// The value of a term in nanoseconds. `number` is `None` if it exceeds `u64`; `place` goes into the error.
