@@ -32,8 +32,6 @@ Name: duration-str
 Version: {VERSION}
 Summary: Durations read from expressions such as `3m 13s 29ms`, and printed for people, over a proved library
 License: Apache-2.0
-License-File: LICENSE
-License-File: NOTICE
 Requires-Python: >=3.9
 Classifier: Operating System :: POSIX :: Linux
 Classifier: Typing :: Typed

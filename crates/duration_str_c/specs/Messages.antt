@@ -25,7 +25,8 @@ IsShown bytes old len new =
     × (length bytes ≤ length old → take (length bytes) new ≡ bytes)
     × (length old < length bytes → new ≡ old)
 
--- The bytes are a text that can have a fault with this cause: its place, if it has one, is a character boundary.
+-- The bytes are a text that can have a fault with this cause: the cause is not that they are none, and its place, if it
+-- has one, is a character boundary.
 abbrev pub CanFault : List ℕ → Cause → Type 0
 CanFault bytes cause =
     IsUtf8 bytes × (is_not_text cause ≡ false) × ForSome (place_of cause) (IsCharBoundary bytes)
