@@ -133,7 +133,7 @@ pub struct Tokens<'a> {
 impl<'a> Tokens<'a> {
     ghost use Rattle.duration_str.specs.Grammar.{Terminal, word};
     ghost use Rattle.duration_str.specs.Tokenizer.{source, options_of, place_of, looks_of, left, what_of, KeepsInput};
-    ghost use Rattle.duration_str.specs.Internal.Tokenizer.{IsAhead, LooksAhead, LooksForNumber, IsSignAhead, u64_of, TakesNumber, TakesToken, TakesTokenWith, TakesSign};
+    ghost use Rattle.duration_str.specs.Internal.Tokenizer.{IsAhead, LooksAhead, LooksForNumber, u64_of, TakesNumber, TakesToken, TakesTokenWith, TakesSign};
 
     /// The tokens of a text, cut under these options.
     ///
@@ -183,13 +183,15 @@ impl<'a> Tokens<'a> {
         self.eye.place()
     }
 
-    /// Moves past the character ahead, and looks at the next one.
+    /// Moves past the character ahead, and looks at the next one. So an operator, or a character that is neither a digit
+    /// nor a unit letter, is taken as a token.
     #[inline(always)]
-    fn advance(&mut self)
+    pub(crate) fn advance(&mut self)
         requires { IsSome self.old.head }
         ensures kept { KeepsInput self.old self.new }
         ensures past { ForSome self.old.head
             (StandsAt (source self.old) (place_of self.old) (place_of self.new)) }
+        ensures sign { TakesSign self.old self.new }
     {
         self.eye.step();
         self.head = self.eye.look();
@@ -321,16 +323,6 @@ impl<'a> Tokens<'a> {
         }
     }
 
-    /// Takes the single character ahead: an operator, or one that is neither a digit nor a unit letter.
-    #[inline(always)]
-    pub(crate) fn take_sign(&mut self)
-        requires { IsSignAhead self.old }
-        ensures kept { KeepsInput self.old self.new }
-        ensures sign { TakesSign self.old self.new }
-    {
-        self.advance();
-    }
-
     /// Takes the token ahead, which is of this sort.
     #[inline(always)]
     fn take_token(&mut self, sort: Sort) -> What
@@ -344,11 +336,11 @@ impl<'a> Tokens<'a> {
             }
             Sort::Word => What::Word(self.take_word()),
             Sort::Operator(operator) => {
-                self.take_sign();
+                self.advance();
                 What::Operator(operator)
             }
             Sort::Other => {
-                self.take_sign();
+                self.advance();
                 What::Other
             }
         }

@@ -85,7 +85,7 @@ pub operator_taken : {s m : Tokens} {ahead : Option Sort} {op : CondUnit} (t : T
     → ahead ≡ Some (sorts.Operator op) → TakesSign m t
     → operator_read false (rest_of s) ≡ leaving (rest_of t) (fault_or (lacks_number (rest_of t)) (Ok (Some op)))
 operator_taken {m = m} {op = op} t look is takes =
-    let taken = takes (sorts.Operator op) (rw is at look.ahead) in
+    let taken = takes (sorts.Operator op) tt (rw is at look.ahead) in
     rw (← same_rest look, after_token taken.token, operator_terminal taken.terminal op taken.has)
 
 -- the operator that was read
