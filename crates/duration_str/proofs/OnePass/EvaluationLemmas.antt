@@ -47,8 +47,8 @@ before_operator-fault : (set next : CondUnit) (a : Option Cause) (x : ℕ)
 before_operator-fault set next (Some cause) x = refl
 before_operator-fault set next None x = elim (cases_Bool (is_same_operator set next)) [ inl e ↦ rw e | inr e ↦ rw e ]
 
-ruleset in_order =
-    (or_else_assoc, or_else-none_right, fault_or-or_else, join-fault_left, join-fault_right, ok_or-fits, before_operator-fault)
+ruleset in_order = (or_else_assoc, or_else-none_right, fault_or-or_else, join-fault_left, join-fault_right, ok_or-fits,
+    before_operator-fault)
 
 running_append : (before xs ys : List Term)
     → running_fault before (xs ++ ys) ≡ or_else (running_fault before xs) (running_fault (before ++ xs) ys)

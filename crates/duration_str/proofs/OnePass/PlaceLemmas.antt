@@ -150,7 +150,8 @@ all_start o bs xs cs at (p ∷ tokens) utf8 e w a =
 pub fault_placed : (o : Options) (bs : List ℕ) (c : Cause) → IsUtf8 bs → answer o (chars bs) ≡ Err c
     → ForSome (place_of c) (IsCharBoundary bs)
 fault_placed o bs c utf8 e =
-    rw e at (answer_stands (IsCharBoundary bs) o (chars bs) (IsCharBoundary-start bs utf8) (rw (byte_count bs utf8) (IsCharBoundary-end bs))
+    rw e at (answer_stands (IsCharBoundary bs) o (chars bs) (IsCharBoundary-start bs utf8)
+    (rw (byte_count bs utf8) (IsCharBoundary-end bs))
     (all_start o bs [] (chars bs) 0 (tokens_of o (chars bs)) utf8 refl refl (tokens_are o 0 (chars bs))))
 
 -- There are at most as many characters before an earlier place.
