@@ -143,7 +143,8 @@ any-push : (test : ℕ → Bool) (cs : List ℕ) (c : ℕ) → list_any test (cs
 any-push test cs c = rw (list_any-append test cs, or-false (test c))
 
 pub letters_head : (text left : List ℕ) (place at next : ℕ) (head : Option ℕ) (c value value' : ℕ)
-    (capital capital' : Bool) → left ≡ text → TakesLetters text place at value capital → head ≡ Some c → ForSome head (StandsAt left at next)
+    (capital capital' : Bool) → left ≡ text → TakesLetters text place at value capital → head ≡ Some c
+    → ForSome head (StandsAt left at next)
     → is_ascii_alphabetic c ≡ true
     → value' ≡ (value * 32 + c % 32) % 2 ^ 64 → capital' ≡ (capital || nat_lt c 97)
     → TakesLetters text place next value' capital'
