@@ -243,7 +243,8 @@ token_taken {text} {cs} {place} {next} o between is_lexeme ends =
 pub place_at_end : (text : List ℕ) (place : ℕ) → IsUtf8 text → IsCharBoundary text place → ahead text place ≡ []
     → place ≡ length text
 place_at_end text place utf8 boundary nothing =
-    let bytes = ap length (sym (encodes-chars (drop place text) (IsUtf8-drop text place utf8 boundary)) ∙ ap encodes nothing) in
+    let whole = encodes-chars (drop place text) (IsUtf8-drop text place utf8 boundary) in
+    let bytes = ap length (sym whole ∙ ap encodes nothing) in
     let len = length-drop place text in
     let order = boundary.0 in
     omega (arith, bytes, len, order)

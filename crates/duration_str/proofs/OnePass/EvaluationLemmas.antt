@@ -121,7 +121,8 @@ default_left first set before (t ∷ later) syntax =
 -- the overflow of the later terms' sum, and that of the sum with the first term, are one fault
 sum_told : (first sum : ℕ) (own : Option Cause)
     → or_else own (or_else (unless (fits (first + sum)) (Overflow None)) None)
-    ≡ result_err (join Plus (Ok first) (fault_or (or_else own (or_else (unless (fits sum) (Overflow None)) None)) (Ok sum)))
+    ≡ result_err (join Plus (Ok first)
+    (fault_or (or_else own (or_else (unless (fits sum) (Overflow None)) None)) (Ok sum)))
 sum_told first sum (Some cause) = refl
 sum_told first sum None = elim (cases_lt sum (2 ^ 64)) [
   | inl below ↦ rw (lt-ltb sum _ below) (elim (cases_Bool (fits (first + sum))) [ inl e ↦ rw e | inr e ↦ rw e ])

@@ -189,8 +189,8 @@ answer_told no_calc place front [] None =
 answer_told no_calc place front (terminal ∷ rest) None = refl
 
 in_order : (no_calc : Bool) (place : ℕ) (front rest : List Terminal)
-    → answer_of no_calc (terms_of (complete front rest)) (fault_at place (kinds_after no_calc (last_of None front)) rest)
-    ≡ answer_at no_calc place front rest
+    → answer_of no_calc (terms_of (complete front rest))
+    (fault_at place (kinds_after no_calc (last_of None front)) rest) ≡ answer_at no_calc place front rest
 in_order no_calc place front [] = answer_told no_calc place front [] _
 in_order no_calc place front (terminal ∷ rest) = answer_told no_calc place front (terminal ∷ rest) _
 

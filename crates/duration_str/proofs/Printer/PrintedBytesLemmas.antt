@@ -86,7 +86,8 @@ some_decimal n h =
     decimal_by_steps_wide (λ n ds. 0 < length ds) (λ n small. lit< tt)
     (λ n ds big some. omega (arith, length-append ds ((48 + n % 10) ∷ []))) n h
 
-ended_counts : (ps : List (ℕ × TimeUnit)) → EachSmall ps → ended (with_counts [] ps) ≡ encode_utf8_all (spaced (map part ps))
+ended_counts : (ps : List (ℕ × TimeUnit)) → EachSmall ps
+    → ended (with_counts [] ps) ≡ encode_utf8_all (spaced (map part ps))
 unfolding lib.Utf8.encode
 ended_counts [] small = refl
 ended_counts (p ∷ ps) small =
@@ -136,5 +137,6 @@ IsUtf8-counts (p ∷ ps) small =
     rw (encodes-append (part p) (spaced_parts ps))
     (IsUtf8-append (encode_utf8_all (part p)) _ (IsUtf8-part p small.0) (IsUtf8-spaced ps small.1))
 
-pub IsUtf8-printed : (nanos : ℕ) → nanos < 10 ^ 64 → IsUtf8 (encode_utf8_all (printed_counts (counts_of unit_lengths nanos)))
+pub IsUtf8-printed : (nanos : ℕ) → nanos < 10 ^ 64
+    → IsUtf8 (encode_utf8_all (printed_counts (counts_of unit_lengths nanos)))
 IsUtf8-printed nanos h = rw (parts_kept units) (IsUtf8-counts (counts_in units nanos) (counts_small units nanos h))

@@ -198,7 +198,8 @@ module _ (no_calc : Bool) (place : ℕ) where
       syntax_means front [] f e (λ s. cc ((ends_by_table no_calc front f.begins).1 (rw append-nil at s)))
   whole_means front (t ∷ rest) f e true w = cc
   whole_means front (t ∷ rest) f e false w =
-      syntax_means front (t ∷ rest) f e (λ s. cc (one_front (rw f.parts at f) (sentence_front no_calc (front ++ t ∷ rest) s)).1)
+      syntax_means front (t ∷ rest) f e
+      (λ s. cc (one_front (rw f.parts at f) (sentence_front no_calc (front ++ t ∷ rest) s)).1)
 
   front_means : {terminals : List Terminal} (front rest : List Terminal) → IsFront no_calc terminals front rest
       → (cause : Option Cause) → early_fault no_calc front rest ≡ cause
