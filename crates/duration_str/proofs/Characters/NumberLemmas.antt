@@ -32,4 +32,5 @@ digits_terminal o (c ∷ cs) some h = cond-true _ _ _ h
 -- The terminal of a number's decimal digits is that number.
 pub decimal_terminal : (o : Options) (n : ℕ) → n < 2 ^ 64 → terminal_of o (decimal n) ≡ number n
 decimal_terminal o n h =
-    rw (digits_terminal o _ (decimal_nonempty n h) (digits_decimal decimal_digits n h), digits_value-decimal decimal_digits n h)
+    let terminal = digits_terminal o _ (decimal_nonempty n h) (digits_decimal decimal_digits n h) in
+    rw (terminal, digits_value-decimal decimal_digits n h)

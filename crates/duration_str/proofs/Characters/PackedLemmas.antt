@@ -142,7 +142,8 @@ named_by_number : (o : Options) (w : List ℕ) (u : TimeUnit) → (o.lowercase &
 named_by_number o w u folded letters =
     let v = map to_ascii_lowercase w in
     let small = lower_small w letters in
-    rw (form_lower o w folded, names_test v (row_of u).names small, names_test v (row_of u).chinese small, lower_packed 0 w letters)
+    let named = names_test v (row_of u).names small in
+    rw (form_lower o w folded, named, names_test v (row_of u).chinese small, lower_packed 0 w letters)
     (ascii_alone _ o.cn_unit _ (no_chinese (packed_number w) u))
 
 -- the unit that a word of ASCII letters names, without capitals under `lowercase`

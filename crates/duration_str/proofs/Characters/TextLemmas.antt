@@ -19,7 +19,8 @@ pub stands_char : (text rest : List ℕ) (place c : ℕ) → IsUtf8 (drop place 
     → drop place text ≡ encode_utf8 c ++ rest → StandsAt text place (place + len_utf8 c) c
 stands_char text rest place c utf8 begins =
     let all : ahead text place ≡ c ∷ chars rest = chars_past_char (drop place text) rest c utf8 begins in
-    let is_char : scalar c ≡ true = (and_parts (scalar c) (scalars (chars rest)) (rw all at (scalars-chars (drop place text) utf8))).0 in
+    let are_chars = rw all at (scalars-chars (drop place text) utf8) in
+    let is_char = (and_parts (scalar c) (scalars (chars rest)) are_chars).0 in
     record { head = rw (all, drop_past_char text rest place c begins); bytes = rw (width-scalar c is_char) }
 
 -- an ASCII byte at a place is the UTF-8 of its character
@@ -55,7 +56,8 @@ pub one_or_two_chars : (X : Type 0) (text rest after : List ℕ) (first : ℕ) (
     → text ≡ encode_utf8 first ++ rest → MatchOption second ((length rest ≡ 0) × X) (λ c. rest ≡ encode_utf8 c ++ after)
     → length after ≡ 0 → chars text ≡ first ∷ option_to_list second
 one_or_two_chars X text rest after first second utf8 begins step end =
-    rw (chars_past_char text rest first utf8 begins, last_chars X rest after second (IsUtf8-past_char text rest first utf8 begins) step end)
+    let after_first = IsUtf8-past_char text rest first utf8 begins in
+    rw (chars_past_char text rest first utf8 begins, last_chars X rest after second after_first step end)
 
 -- the width of a character is not 0
 pub width_some : (c : ℕ) → 1 ≤ width c

@@ -48,7 +48,8 @@ module _ (text : List ℕ) (place : ℕ) where
   pub parts_count : IsUtf8 text → IsCharBoundary text place
       → length (chars text) ≡ length (chars (take place text)) + length (ahead text place)
   parts_count utf8 boundary =
-      let parts = rw take-append-drop at (chars-append (take place text) (drop place text) (IsUtf8-take text place utf8 boundary)) in
+      let front = IsUtf8-take text place utf8 boundary in
+      let parts = rw take-append-drop at (chars-append (take place text) (drop place text) front) in
       rw (parts, length-append (chars (take place text)))
 
   -- each character before the place was looked at
@@ -141,8 +142,9 @@ letters_none text place = record { run = passes_none is_ascii_alphabetic text pl
 any-push : (test : ℕ → Bool) (cs : List ℕ) (c : ℕ) → list_any test (cs ++ c ∷ []) ≡ (list_any test cs || test c)
 any-push test cs c = rw (list_any-append test cs, or-false (test c))
 
-pub letters_head : (text left : List ℕ) (place at next : ℕ) (head : Option ℕ) (c value value' : ℕ) (capital capital' : Bool) → left ≡ text
-    → TakesLetters text place at value capital → head ≡ Some c → ForSome head (StandsAt left at next)
+pub letters_head : (text left : List ℕ) (place at next : ℕ) (head : Option ℕ) (c value value' : ℕ)
+    (capital capital' : Bool) → left ≡ text → TakesLetters text place at value capital → head ≡ Some c
+    → ForSome head (StandsAt left at next)
     → is_ascii_alphabetic c ≡ true
     → value' ≡ (value * 32 + c % 32) % 2 ^ 64 → capital' ≡ (capital || nat_lt c 97)
     → TakesLetters text place next value' capital'
@@ -241,7 +243,8 @@ token_taken {text} {cs} {place} {next} o between is_lexeme ends =
 pub place_at_end : (text : List ℕ) (place : ℕ) → IsUtf8 text → IsCharBoundary text place → ahead text place ≡ []
     → place ≡ length text
 place_at_end text place utf8 boundary nothing =
-    let bytes = ap length (sym (encodes-chars (drop place text) (IsUtf8-drop text place utf8 boundary)) ∙ ap encodes nothing) in
+    let whole = encodes-chars (drop place text) (IsUtf8-drop text place utf8 boundary) in
+    let bytes = ap length (sym whole ∙ ap encodes nothing) in
     let len = length-drop place text in
     let order = boundary.0 in
     omega (arith, bytes, len, order)

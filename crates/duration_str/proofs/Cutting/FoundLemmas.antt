@@ -91,7 +91,8 @@ found_after : (o : Options) (bs : List ℕ) (from place : ℕ) → IsUtf8 bs →
 found_after o bs from place utf8 boundary within before =
     let front = chars (take from bs) in
     let text = chars (drop from bs) in
-    let parts = rw take-append-drop at (chars-append (take from bs) (drop from bs) (IsUtf8-take bs from utf8 boundary)) in
+    let front_utf8 = IsUtf8-take bs from utf8 boundary in
+    let parts = rw take-append-drop at (chars-append (take from bs) (drop from bs) front_utf8) in
     let bytes : byte_len front ≡ from =
     rw (byte_count (take from bs) (IsUtf8-take bs from utf8 boundary)) (length-take-le from bs boundary.0) in
     let there : place ≡ from + (place - from) = omega (arith, within) in

@@ -25,7 +25,8 @@ run_ends o test apart c (d ∷ rest) e stops = apart c d e stops
 -- Such a run is a token, if it is a lexeme that stands for `meaning`.
 run_stands : {text cs : List ℕ} {place next at c : ℕ} (o : Options) (test : ℕ → Bool) (meaning : List ℕ → Terminal)
     → ((c d : ℕ) → test c ≡ true → test d ≡ false → are_of_one_run o c d ≡ false)
-    → ((d : ℕ) (ds : List ℕ) → IsTrue (list_all test (d ∷ ds)) → IsLexeme o (d ∷ ds) × (terminal_of o (d ∷ ds) ≡ meaning (d ∷ ds)))
+    → ((d : ℕ) (ds : List ℕ) → IsTrue (list_all test (d ∷ ds))
+    → IsLexeme o (d ∷ ds) × (terminal_of o (d ∷ ds) ≡ meaning (d ∷ ds)))
     → Between text place next cs → IsTrue (list_all test cs) → Stops test (ahead text next) → StandsAt text place at c
     → test c ≡ true
     → (0 < length cs) × StandsToken o text place next (meaning cs)
@@ -55,8 +56,10 @@ pub word_stands : {text : List ℕ} {place next at c : ℕ} {unit : Option TimeU
     → TakesWord o text place next unit → Stops (is_unit_letter o) (ahead text next) → StandsAt text place at c
     → is_unit_letter o c ≡ true → StandsToken o text place next (word unit)
 word_stands o taken stops stands e =
-    rw taken.named (run_stands o (is_unit_letter o) (λ cs. word (unit_of_word o cs)) (λ c d p q. rw (letter-not_digit o c p, p, q))
-    (λ d ds all. (letters_are_lexeme o d ds all, rw (letter-not_digit o d (and_parts (is_unit_letter o d) _ all).0, all)))
+    rw taken.named (run_stands o (is_unit_letter o) (λ cs. word (unit_of_word o cs))
+    (λ c d p q. rw (letter-not_digit o c p, p, q)) (λ d ds all.
+    let no_digit = letter-not_digit o d (and_parts (is_unit_letter o d) _ all).0 in
+    (letters_are_lexeme o d ds all, rw (no_digit, all)))
     taken.run.between taken.run.all stops stands e).1
 
 -- an operator, or a character of no other class

@@ -11,7 +11,8 @@ pub terminal_cases : (o : Options) (P : List ℕ → Terminal → Type 0) → P 
     → ((c : ℕ) (cs : List ℕ) → IsTrue (list_all (is_unit_letter o) (c ∷ cs)) → P (c ∷ cs) (word (unit_of_word o (c ∷ cs))))
     → ((c : ℕ) (op : CondUnit) → list_all is_digit (c ∷ []) ≡ false → list_all (is_unit_letter o) (c ∷ []) ≡ false
     → operator_of c ≡ Some op → P (c ∷ []) (operator op))
-    → ((c : ℕ) (cs : List ℕ) → list_all is_digit (c ∷ cs) ≡ false → list_all (is_unit_letter o) (c ∷ cs) ≡ false → P (c ∷ cs) other)
+    → ((c : ℕ) (cs : List ℕ) → list_all is_digit (c ∷ cs) ≡ false → list_all (is_unit_letter o) (c ∷ cs) ≡ false
+    → P (c ∷ cs) other)
     → (w : List ℕ) → P w (terminal_of o w)
 terminal_cases o P none digits letters sign rest [] = none
 terminal_cases o P none digits letters sign rest (c ∷ cs) = by_tests cs _ _ refl refl

@@ -36,7 +36,8 @@ looks_ahead {s} sort kept blanks ahead =
 
 pub none_left : (s : Tokens) → IsAhead s None → (left s ≡ []) × (place_of s ≡ length (source s))
 none_left s end =
-    (rw (s.none end), place_at_end (source s) (place_of s) (IsUtf8-had s.eye.text.now s.eye.utf8) s.eye.at_place (s.none end))
+    let utf8 = IsUtf8-had s.eye.text.now s.eye.utf8 in
+    (rw (s.none end), place_at_end (source s) (place_of s) utf8 s.eye.at_place (s.none end))
 
 -- The first token that is left starts at the place, and its terminal has the sort ahead.
 pub first_left : (s : Tokens) (sort : Sort) → IsAhead s (Some sort)

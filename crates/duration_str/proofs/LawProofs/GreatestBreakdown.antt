@@ -84,5 +84,8 @@ pub one_greatest : (lengths : List ℕ) (nanos : ℕ) (a b : List ℕ) → IsGre
 one_greatest lengths nanos a b h k = elim (k.greatest a h.breakdown) [
   | inl same ↦ same
   | inr before ↦
-      elim (h.greatest b k.breakdown) [ inl same ↦ sym same | inr after ↦ absurd (not_before_each_other a b before after) ]
+      elim (h.greatest b k.breakdown) [
+        | inl same ↦ sym same
+        | inr after ↦ absurd (not_before_each_other a b before after)
+      ]
 ]

@@ -1,5 +1,5 @@
 -- Without operators `no_calc` changes neither what is accepted nor its value.
-use Rattle.std.proofs.Common.{ℕ, ◌≡◌, ◌⊎◌, inl, inr, refl, Bool, true, false, not, List, [], ◌∷◌, map, Some, is_some, sym, ap, ◌∙◌, true≢false}
+use Rattle.std.proofs.Common.{ℕ, ◌≡◌, ◌⊎◌, inl, inr, refl, Bool, true, false, not, List, [], ◌∷◌, map, Some}
 use Rattle.duration_str.proofs.Common.{and_parts, Options, Terminal, number, word, operator, terminal_of, IsSentence, NoCalcAgrees, HasNoOperator, is_operator}
 use Rattle.duration_str.proofs.Cutting.TerminalLemmas.{terminal_cases}
 use Rattle.duration_str.proofs.Sentences.SpellingLemmas.{EachPasses, lexemes_pass}
@@ -25,8 +25,7 @@ no_operator_terminal : (o : Options) (terminals : List Terminal) → HaveNoOpera
     → HasNoOperator w → HaveNoOperator (terminal_of o w ∷ terminals)
 no_operator_terminal o terminals h = terminal_cases o (λ w t. HasNoOperator w → HaveNoOperator (t ∷ terminals))
     (λ plain. h) (λ c cs digits plain. h) (λ c cs letters plain. h)
-    (λ c op _ _ sign plain. true≢false (sym (and_parts (not (is_operator c)) _ plain).0 ∙ ap (λ found. not (is_some found)) sign))
-    (λ c cs _ _ plain. h)
+    (λ c op _ _ sign plain. cc (rw sign at (and_parts (not (is_operator c)) _ plain).0)) (λ c cs _ _ plain. h)
 
 no_operator_terminals : (o : Options) (lexemes : List (List ℕ)) → EachPasses (λ c. not (is_operator c)) lexemes
     → HaveNoOperator (map (terminal_of o) lexemes)

@@ -150,7 +150,8 @@ find_alike w (u ∷ us) h = rw (h.0, find_alike w us h.1)
 cn_unit_unit : (o : Options) (w : List ℕ) → HasNoChinese w
     → unit_of_word (record o { cn_unit = true }) w ≡ unit_of_word (record o { cn_unit = false }) w
 cn_unit_unit o w h =
-    find_alike (comparison_form o w) units (no_chinese_name (comparison_form o w) units (form_not_chinese o.lowercase w h) refl)
+    let form = comparison_form o w in
+    find_alike form units (no_chinese_name form units (form_not_chinese o.lowercase w h) refl)
 
 cn_unit_alike : (o : Options) (text : List ℕ) → HasNoChinese text
     → AreAlike (record o { cn_unit = true }) (record o { cn_unit = false }) text

@@ -51,7 +51,7 @@ overflows_far_above o nanos text low high p =
     let terminals = sym (years_first o nanos high (omega arith)) in
     let fault = first_overflows o.no_calc (years nanos) (after_years nanos) (omega arith) (omega arith) in
     sentence_refused o text (duration_lexemes nanos) (Overflow (Some 0)) (printed_is_sum o nanos text high p).sentence
-    (λ place. early (subst (λ (ts : List Terminal). early_fault o.no_calc ts [] ≡ Some (Overflow (Some 0))) terminals fault))
+    (λ place. early (rw (← terminals) fault))
 
 pub reads_back_holds : ReadsBack
 reads_back_holds = record { below = reads_below; above = overflows_above; far_above = overflows_far_above }

@@ -102,7 +102,8 @@ joined_is_sum {o} {a} {b} {lexemes} {others} calc s t =
     let plus = spells_both lexemes (codes "+" ∷ []) a (codes "+") s.sentence.1 ([], [], refl, refl, refl) in
     record {
       sentence = (
-        rw (calc, joined_terminals o lexemes others) (both_sentence xs ys (rw calc at s.sentence.0) (rw calc at t.sentence.0)),
+        rw (calc, joined_terminals o lexemes others)
+            (both_sentence xs ys (rw calc at s.sentence.0) (rw calc at t.sentence.0)),
         spells_both (lexemes ++ codes "+" ∷ []) others (a ++ codes "+") b plus t.sentence.1,
       );
       plus = rw (joined_terminals o lexemes others) (both_plus xs ys s.plus t.plus);

@@ -47,8 +47,15 @@ before_operator-fault : (set next : CondUnit) (a : Option Cause) (x : ℕ)
 before_operator-fault set next (Some cause) x = refl
 before_operator-fault set next None x = elim (cases_Bool (is_same_operator set next)) [ inl e ↦ rw e | inr e ↦ rw e ]
 
-ruleset in_order =
-    (or_else_assoc, or_else-none_right, fault_or-or_else, join-fault_left, join-fault_right, ok_or-fits, before_operator-fault)
+ruleset in_order = (
+  or_else_assoc,
+  or_else-none_right,
+  fault_or-or_else,
+  join-fault_left,
+  join-fault_right,
+  ok_or-fits,
+  before_operator-fault,
+)
 
 running_append : (before xs ys : List Term)
     → running_fault before (xs ++ ys) ≡ or_else (running_fault before xs) (running_fault (before ++ xs) ys)
@@ -121,7 +128,8 @@ default_left first set before (t ∷ later) syntax =
 -- the overflow of the later terms' sum, and that of the sum with the first term, are one fault
 sum_told : (first sum : ℕ) (own : Option Cause)
     → or_else own (or_else (unless (fits (first + sum)) (Overflow None)) None)
-    ≡ result_err (join Plus (Ok first) (fault_or (or_else own (or_else (unless (fits sum) (Overflow None)) None)) (Ok sum)))
+    ≡ result_err (join Plus (Ok first)
+    (fault_or (or_else own (or_else (unless (fits sum) (Overflow None)) None)) (Ok sum)))
 sum_told first sum (Some cause) = refl
 sum_told first sum None = elim (cases_lt sum (2 ^ 64)) [
   | inl below ↦ rw (lt-ltb sum _ below) (elim (cases_Bool (fits (first + sum))) [ inl e ↦ rw e | inr e ↦ rw e ])

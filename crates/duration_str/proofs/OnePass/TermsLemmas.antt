@@ -159,7 +159,8 @@ module _ (no_calc : Bool) (first : ℕ) (set : CondUnit) where
       set next s ahead (λ n r. rw (same_operator set (before_operator set later next))) (λ cause. refl)
 
   -- A later term is read up to b and added: `next` is the later terms' value including it.
-  pub later_step : {next : Result ℕ Cause} {s a : Tokens} {n : Option ℕ} (later : Result ℕ Cause) (b : Tokens) (u : TimeUnit)
+  pub later_step : {next : Result ℕ Cause} {s a : Tokens} {n : Option ℕ} (later : Result ℕ Cause) (b : Tokens)
+      (u : TimeUnit)
       → TakesNumber s a n → leaving (rest_of b) (Ok u) ≡ unit_read no_calc (rest_of a)
       → next ≡ join set later (term_value None n (nanos_of u))
       → with_left no_calc first set later (left_after no_calc set (rest_of s))
@@ -180,15 +181,16 @@ whole_told true cause (Some fault) terminals = refl
 
 answer_told : (no_calc : Bool) (place : ℕ) (front rest : List Terminal) (early : Option Cause)
     → fault_or early (fault_or (fault_at place (kinds_after no_calc (last_of None front)) rest)
-    (fault_or (late_fault no_calc front) (Ok (unwrap_or (value_of (terms_of front)) 0)))) ≡ answer_after no_calc place front rest early
+    (fault_or (late_fault no_calc front) (Ok (unwrap_or (value_of (terms_of front)) 0))))
+    ≡ answer_after no_calc place front rest early
 answer_told no_calc place front rest (Some cause) = refl
 answer_told no_calc place front [] None =
     whole_told (kinds_after no_calc (last_of None front)).text_end _ (late_fault no_calc front) front
 answer_told no_calc place front (terminal ∷ rest) None = refl
 
 in_order : (no_calc : Bool) (place : ℕ) (front rest : List Terminal)
-    → answer_of no_calc (terms_of (complete front rest)) (fault_at place (kinds_after no_calc (last_of None front)) rest)
-    ≡ answer_at no_calc place front rest
+    → answer_of no_calc (terms_of (complete front rest))
+    (fault_at place (kinds_after no_calc (last_of None front)) rest) ≡ answer_at no_calc place front rest
 in_order no_calc place front [] = answer_told no_calc place front [] _
 in_order no_calc place front (terminal ∷ rest) = answer_told no_calc place front (terminal ∷ rest) _
 
@@ -254,7 +256,8 @@ first_step {m = m} {a = a} {n = n} no_calc s b u same taken unit is =
     let added =
     λ (h : IsTrue no_calc). subst (λ (l : Ended). AreAdded l.terms) read (left_added no_calc Plus (rest_of m) refl h) in
     let whole = one_by_one no_calc t more.terms more.fault added in
-    rw (← same, ← from_start no_calc (rest_of m) _ read, is, taken.is_value, term_told (Some 0) t, by_first-fault no_calc, whole)
+    let start = from_start no_calc (rest_of m) _ read in
+    rw (← same, ← start, is, taken.is_value, term_told (Some 0) t, by_first-fault no_calc, whole)
 
 first_stands : (first : ℕ) (set : CondUnit) (front rest : List Terminal)
     → terms_of (complete (first_term first set ++ front) rest)
@@ -278,7 +281,8 @@ from_later no_calc first set rest below plus =
     let f = term_of first NanoSecond in
     let value : first ≡ value_of_term f = omega arith in
     let none = sym (term_below_no_fault (Some 0) f (omega arith) (omega (arith, below))) in
-    let added : IsTrue no_calc → AreAdded (f ∷ left.terms) = λ h. (refl, omega arith, left_added no_calc set rest (plus h) h) in
+    let added : IsTrue no_calc → AreAdded (f ∷ left.terms) =
+    λ h. (refl, omega arith, left_added no_calc set rest (plus h) h) in
     let terms = sym (first_stands first set front after) in
     let kinds = sym (same_kinds no_calc set front) in
     let place = start_left (front_of no_calc (terminals_in rest)) rest in

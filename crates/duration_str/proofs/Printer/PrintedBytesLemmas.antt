@@ -40,7 +40,8 @@ counts_small (u ∷ us) nanos h =
       | inr e ↦ rw e (smaller_div nanos (nanos_of u) h, rest)
     ]
 
-encode_part : (n : ℕ) (name : List ℕ) → n < 10 ^ 64 → encode_utf8_all (decimal n ++ name) ≡ decimal n ++ encode_utf8_all name
+encode_part : (n : ℕ) (name : List ℕ) → n < 10 ^ 64
+    → encode_utf8_all (decimal n ++ name) ≡ decimal n ++ encode_utf8_all name
 encode_part n name h = rw (encodes-append (decimal n), encodes-IsAscii (decimal n) (IsAscii-decimal_wide n h))
 
 with_parts_counts : (us : List TimeUnit) (bytes : List ℕ) (nanos : ℕ) → nanos < 10 ^ 64
@@ -85,7 +86,8 @@ some_decimal n h =
     decimal_by_steps_wide (λ n ds. 0 < length ds) (λ n small. lit< tt)
     (λ n ds big some. omega (arith, length-append ds ((48 + n % 10) ∷ []))) n h
 
-ended_counts : (ps : List (ℕ × TimeUnit)) → EachSmall ps → ended (with_counts [] ps) ≡ encode_utf8_all (spaced (map part ps))
+ended_counts : (ps : List (ℕ × TimeUnit)) → EachSmall ps
+    → ended (with_counts [] ps) ≡ encode_utf8_all (spaced (map part ps))
 unfolding lib.Utf8.encode
 ended_counts [] small = refl
 ended_counts (p ∷ ps) small =
@@ -98,7 +100,7 @@ ended_counts (p ∷ ps) small =
 ended_units : (nanos : ℕ) → nanos < 10 ^ 64
     → ended (with_parts [] units nanos) ≡ encode_utf8_all (printed_counts (counts_of unit_lengths nanos))
 ended_units nanos h =
-    rw (with_parts_counts units [] nanos h, parts_kept units) (ended_counts (counts_in units nanos) (counts_small units nanos h))
+    rw (with_parts_counts units [] nanos h, parts_kept units) (ended_counts _ (counts_small units nanos h))
 
 -- the years from whole seconds, then the rest in nanoseconds
 pub printed_from_seconds : {secs subsec second year : ℕ} {years bytes : List ℕ} (nanos : ℕ) → nanos < 10 ^ 64
@@ -117,8 +119,9 @@ ended_take end buffer some inside = ended_some (take end buffer) (rw (length-tak
 
 IsUtf8-part : (p : ℕ × TimeUnit) → p.0 < 10 ^ 64 → IsUtf8 (encode_utf8_all (part p))
 IsUtf8-part p h =
+    let name = (row_of p.1).printed in
     let digits = IsUtf8-from_ascii (decimal p.0) (IsAscii-decimal_wide p.0 h) in
-    rw (encode_part p.0 (row_of p.1).printed h) (IsUtf8-append (decimal p.0) _ digits ((row_of p.1).printed, (scalar_name p.1, refl)))
+    rw (encode_part p.0 name h) (IsUtf8-append (decimal p.0) _ digits (name, (scalar_name p.1, refl)))
 
 IsUtf8-spaced : (ps : List (ℕ × TimeUnit)) → EachSmall ps → IsUtf8 (encode_utf8_all (spaced_parts ps))
 unfolding lib.Utf8.encode
@@ -134,5 +137,6 @@ IsUtf8-counts (p ∷ ps) small =
     rw (encodes-append (part p) (spaced_parts ps))
     (IsUtf8-append (encode_utf8_all (part p)) _ (IsUtf8-part p small.0) (IsUtf8-spaced ps small.1))
 
-pub IsUtf8-printed : (nanos : ℕ) → nanos < 10 ^ 64 → IsUtf8 (encode_utf8_all (printed_counts (counts_of unit_lengths nanos)))
+pub IsUtf8-printed : (nanos : ℕ) → nanos < 10 ^ 64
+    → IsUtf8 (encode_utf8_all (printed_counts (counts_of unit_lengths nanos)))
 IsUtf8-printed nanos h = rw (parts_kept units) (IsUtf8-counts (counts_in units nanos) (counts_small units nanos h))

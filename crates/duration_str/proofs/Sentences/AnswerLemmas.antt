@@ -191,13 +191,15 @@ module _ (no_calc : Bool) (place : ℕ) where
   whole_means : {terminals : List Terminal} (front rest : List Terminal) → IsFront no_calc terminals front rest
       → early_fault no_calc front rest ≡ None → (whole : Bool) → is_whole no_calc front rest ≡ whole
       → MeansAt no_calc place front rest
-      (if whole then late_answer (late_fault no_calc front) front else Err (Syntax place (kinds_after no_calc (last_of None front))))
+      (if whole then late_answer (late_fault no_calc front) front
+      else Err (Syntax place (kinds_after no_calc (last_of None front))))
   whole_means front [] f e true w = late_means front _ ((ends_by_table no_calc front f.begins).0 w) e refl
   whole_means front [] f e false w =
       syntax_means front [] f e (λ s. cc ((ends_by_table no_calc front f.begins).1 (rw append-nil at s)))
   whole_means front (t ∷ rest) f e true w = cc
   whole_means front (t ∷ rest) f e false w =
-      syntax_means front (t ∷ rest) f e (λ s. cc (one_front (rw f.parts at f) (sentence_front no_calc (front ++ t ∷ rest) s)).1)
+      syntax_means front (t ∷ rest) f e
+      (λ s. cc (one_front (rw f.parts at f) (sentence_front no_calc (front ++ t ∷ rest) s)).1)
 
   front_means : {terminals : List Terminal} (front rest : List Terminal) → IsFront no_calc terminals front rest
       → (cause : Option Cause) → early_fault no_calc front rest ≡ cause

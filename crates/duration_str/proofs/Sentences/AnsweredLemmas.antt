@@ -23,4 +23,10 @@ module _ (o : Options) (bytes : List ℕ) where
   pub parses_text : (r : Result Duration Fault) → IsAnswered as_nanos (answer o (chars bytes)) bytes r
       → IfOk r (λ d. as_nanos d < 2 ^ 64) → ParsesText o bytes r
   parses_text r h fits =
-      record { read = answered_read r h; accepts = answered_accepts r h; refused = answered_refused r h; answer = h; fits = fits }
+      record {
+        read = answered_read r h;
+        accepts = answered_accepts r h;
+        refused = answered_refused r h;
+        answer = h;
+        fits = fits;
+      }

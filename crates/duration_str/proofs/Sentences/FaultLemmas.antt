@@ -1,5 +1,5 @@
--- When there is no fault, and when there is a fault of this cause: sets of equivalences for `simp`.
-use Rattle.std.proofs.Common.{◌≡◌, ℕ, ◌^◌, ◌≤◌, ◌<◌, ◌⊎◌, ◌↔◌, inl, inr, Bool, true, false, Option, Some, None, arith, refl, lt-ltb, ltb-true, le-ltb, ltb-false}
+-- When there is no fault: a set of equivalences for `simp`.
+use Rattle.std.proofs.Common.{◌≡◌, ℕ, ◌^◌, ◌≤◌, ◌<◌, ◌↔◌, Bool, true, false, Option, Some, None, arith, refl, lt-ltb, ltb-true}
 use Rattle.duration_str.proofs.Common.{CondUnit, Plus, Star, Cause, Term, value_of_term, fits, or_else, unless, term_fault, is_same_operator}
 
 pub or_else-none : (a b : Option Cause) → (or_else a b ≡ None) ↔ ((a ≡ None) × (b ≡ None))
@@ -21,21 +21,6 @@ is_same_operator-true Star Plus = (λ h. cc, λ h. cc)
 
 -- There is no fault: each number is below 2^64, and each operator is the one that was set.
 pub ruleset no_fault = (or_else-none, unless-none, fits-true, is_same_operator-true)
-
-pub or_else-some : (a b : Option Cause) (cause : Cause)
-    → (or_else a b ≡ Some cause) ↔ ((a ≡ Some cause) ⊎ ((a ≡ None) × (b ≡ Some cause)))
-or_else-some None b cause = (λ h. inr (refl, h), λ h. elim h [ inl e ↦ cc | inr e ↦ e.1 ])
-or_else-some (Some c) b cause = (λ h. inl h, λ h. elim h [ inl e ↦ e | inr e ↦ cc e.0 ])
-
-pub unless-some : (b : Bool) (c cause : Cause) → (unless b c ≡ Some cause) ↔ ((b ≡ false) × (c ≡ cause))
-unless-some true c cause = (λ h. cc, λ h. cc)
-unless-some false c cause = (λ h. (refl, cc), λ h. cc)
-
-pub fits-false : (n : ℕ) → (fits n ≡ false) ↔ (2 ^ 64 ≤ n)
-fits-false n = (ltb-false n (2 ^ 64), le-ltb n (2 ^ 64))
-
--- There is a fault, of this cause.
-pub ruleset some_fault = (or_else-some, unless-some, fits-false, no_fault)
 
 pub term_below_no_fault : (place : Option ℕ) (t : Term) → 1 ≤ t.length → value_of_term t < 2 ^ 64
     → term_fault place t ≡ None

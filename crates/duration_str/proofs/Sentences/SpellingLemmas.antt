@@ -48,7 +48,8 @@ module _ (o : Options) where
   ends_in_sentence (c ∷ cs) [] [] p a s = refl
   ends_in_sentence (c ∷ cs) (d ∷ rest) [] p a s = stops_at_blank c d (and_parts _ _ s).0
   ends_in_sentence (c ∷ cs) rest (v ∷ ws) p a s =
-      rw s.3 (stops_before c cs s.0 v s.1 s.2 p (allowed_is_lexeme o (kinds_after o.no_calc (Some (terminal_of o (c ∷ cs)))) v a.0) a.0)
+      let expected = kinds_after o.no_calc (Some (terminal_of o (c ∷ cs))) in
+      rw s.3 (stops_before c cs s.0 v s.1 s.2 p (allowed_is_lexeme o expected v a.0) a.0)
 
   -- The lexemes of a sentence that spells the text are the characters of its tokens.
   spelled_tokens : (at : ℕ) (last : Option Terminal) (lexemes : List (List ℕ)) (text : List ℕ)

@@ -76,7 +76,8 @@ pub fault_of_sum : (t u : Term) (later : List Term) → u.operator ≡ Plus
     → evaluation_fault (t ∷ u ∷ later)
     ≡ or_else (later_fault Plus [] (u ∷ later)) (unless (fits (sum_of (t ∷ u ∷ later))) (Overflow None))
 fault_of_sum t u later e =
-    ap (λ set. or_else (later_fault set [] (u ∷ later)) (unless (fits (total_of set t (later_total set (u ∷ later)))) (Overflow None))) e
+    ap (λ set. or_else (later_fault set [] (u ∷ later))
+    (unless (fits (total_of set t (later_total set (u ∷ later)))) (Overflow None))) e
 
 pub below_evaluate : (terms : List Term) → 1 ≤ length terms → AreAdded terms → sum_of terms < 2 ^ 64 → Evaluates terms
 below_evaluate [] l a h = absurd (omega arith)

@@ -1,6 +1,6 @@
 -- A text that a sum spells is read as the sum if it is below 2^64, and otherwise refused as an overflow.
 use Rattle.std.proofs.Common.{◌≡◌, ℕ, ◌^◌, ◌≤◌, ◌<◌, ◌⊎◌, inl, inr, Bool, true, false, List, [], ◌∷◌, ◌++◌, map, Some, None, arith, refl, sym, ap, subst, ◌∙◌, append_assoc, append-nil, lt-ltb, le-ltb}
-use Rattle.duration_str.proofs.Common.{cases_lt, Options, Plus, Overflow, Terminal, terminal_of, IsSentence, IsSentenceOf, AllPlus, Term, terms_of, value_of_term, sum_of, later_fault, evaluation_fault, first_fault, running_fault, place_after, late_fault, IsRead, IsRefusedAt, early, late, IsRefused}
+use Rattle.duration_str.proofs.Common.{cases_lt, Options, Plus, Overflow, Terminal, terminal_of, IsSentence, IsSentenceOf, AllPlus, Term, terms_of, value_of_term, sum_of, later_fault, evaluation_fault, first_fault, running_fault, place_after, IsRead, IsRefusedAt, early, late, IsRefused}
 use Rattle.duration_str.proofs.Sentences.FaultLemmas.{is_same_operator-true, term_below_no_fault}
 use Rattle.duration_str.proofs.Sentences.SumLemmas.{AreAdded, terms_added, has_terms, fault_of_sum, below_evaluate, value_is_sum}
 use Rattle.duration_str.proofs.Sentences.AnswerLemmas.{read_sentence, sentence_refused}
@@ -86,7 +86,7 @@ terminals_overflow : (no_calc : Bool) (place : ℕ) (terminals : List Terminal) 
 terminals_overflow false place terminals s a f h =
     let same : terminals ≡ terminals ++ [] = sym (append-nil terminals) in
     late (first_fits (terms_of terminals) a f) (subst (IsSentence false) same s)
-    (subst (λ (ts : List Terminal). late_fault false ts ≡ Some (Overflow None)) same (added_overflow (terms_of terminals) a f h))
+    (rw (← same) (added_overflow (terms_of terminals) a f h))
 terminals_overflow true place terminals s a f h = early (running_overflow [] (terms_of terminals) a f (omega arith) h)
 
 pub sum_overflows : {o : Options} {lexemes : List (List ℕ)} {text : List ℕ} → IsSumOf o lexemes text

@@ -6,8 +6,9 @@ use Rattle.duration_str.proofs.ext.fill.Goals as goal
 
 pub returns-then-end-eq0-clause-text : goal.returns-then-end-eq0-clause-text
 returns-then-end-eq0-clause-text c =
-    let whole = printed_from_seconds (as_nanos c.args.d) (omega arith) c.as_secs-secs.ensures (c.from.ensures ∙ c.subsec_nanos.ensures)
-    c.nanos-second.ensures c.nanos.ensures c.put_part-years.ensures.text c.put_units-end.ensures.text in
+    let whole = printed_from_seconds (as_nanos c.args.d) (omega arith) c.as_secs-secs.ensures
+    (c.from.ensures ∙ c.subsec_nanos.ensures) c.nanos-second.ensures c.nanos.ensures c.put_part-years.ensures.text
+    c.put_units-end.ensures.text in
     c.put_text.ensures.text ∙ ap (λ n. ended (take n c.put_units-end.new.buffer)) (sym c.if-end-eq0.true) ∙ whole
 
 pub returns-then-end-eq0-clause-utf8 : goal.returns-then-end-eq0-clause-utf8
@@ -18,8 +19,9 @@ pub returns-clause-text : goal.returns-clause-text
 unfolding digits
 returns-clause-text c =
     sym (ended_take c.put_units-end.result c.put_units-end.new.buffer (omega arith) (omega arith))
-    ∙ printed_from_seconds (as_nanos c.args.d) (omega arith) c.as_secs-secs.ensures (c.from.ensures ∙ c.subsec_nanos.ensures)
-    c.nanos-second.ensures c.nanos.ensures c.put_part-years.ensures.text c.put_units-end.ensures.text
+    ∙ printed_from_seconds (as_nanos c.args.d) (omega arith) c.as_secs-secs.ensures
+    (c.from.ensures ∙ c.subsec_nanos.ensures) c.nanos-second.ensures c.nanos.ensures c.put_part-years.ensures.text
+    c.put_units-end.ensures.text
 
 pub returns-clause-utf8 : goal.returns-clause-utf8
 returns-clause-utf8 c = rw (returns-clause-text c) (IsUtf8-printed (as_nanos c.args.d) (omega arith))

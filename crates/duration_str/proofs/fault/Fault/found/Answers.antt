@@ -14,7 +14,8 @@ returns-clause-token c =
     let is_source : source c.new.result ≡ drop from text = c.new.ensures.source ∙ c.range_from.ensures.value in
     let is_left : left c.new.result ≡ tokens_of c.args.o (chars (drop from text)) =
     c.new.ensures.left ∙ ap (λ (bs : List ℕ). tokens_of c.args.o (chars bs)) c.range_from.ensures.value in
-    let cut = subst₂ (λ (bs : List ℕ) (tokens : List Token). IsSliceOf bs (token_at (c.in-Syntax.place - from) tokens) c.token_at.result)
+    let cut = subst₂
+    (λ (bs : List ℕ) (tokens : List Token). IsSliceOf bs (token_at (c.in-Syntax.place - from) tokens) c.token_at.result)
     is_source is_left c.token_at.ensures in
     rw c.in-Syntax.is (slice_found c.args.o text from c.in-Syntax.place c.token_at.result utf8 floor.boundary
     (omega (arith, floor.bound)) (λ some. omega (arith, floor.bound, some)) cut)

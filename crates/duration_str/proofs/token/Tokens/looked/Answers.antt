@@ -13,4 +13,5 @@ pub returns-clause-least : goal.returns-clause-least
 returns-clause-least c =
     let s = c.args.self.now in
     subst (λ n. length (chars (take s.eye.place s.eye.text.now)) ≤ n) (sym c.looks.ensures)
-    (looks_least s.eye.text.now s.eye.place s.eye.looks s.head (IsUtf8-had s.eye.text.now s.eye.utf8) s.eye.at_place s.counted)
+    (looks_least s.eye.text.now s.eye.place s.eye.looks s.head (IsUtf8-had s.eye.text.now s.eye.utf8)
+    s.eye.at_place s.counted)

@@ -14,5 +14,6 @@ returns c =
     let m = c.skip_blanks.new.self in
     let e = c.skip_blanks.ensures in
     let head = c.in_ok-first.was {u = tt} in
+    let first = c.in_ok-first.first in
     looks_ahead _ e.kept e.blanks
-    (record { character = c.in_ok-first.first; is_head = head; not_blank = e.stops c.in_ok-first.first head; is_sort = c.sort_at.ensures })
+    (record { character = first; is_head = head; not_blank = e.stops first head; is_sort = c.sort_at.ensures })
