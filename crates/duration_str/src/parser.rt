@@ -3,9 +3,7 @@ ghost use Rattle.std.specs.Prelude.{◌≡◌, ℕ, ◌^◌, ◌<◌, ◌≤◌,
 ghost use Rattle.std.specs.Duration.{as_nanos};
 ghost use Rattle.std.specs.Str.{chars};
 ghost use Rattle.duration_str.specs.Answer.{answer};
-ghost use Rattle.duration_str.specs.Results.{IsAnswered, IsMissingAtEnd, ParsesText, ReachesPlace};
-ghost use Rattle.duration_str.specs.Faults.{IsSliceOf, found, token_at};
-ghost use Rattle.duration_str.specs.Tokenizer.{source, left};
+ghost use Rattle.duration_str.specs.Results.{IsAnswered, ParsesText, ReachesPlace};
 ghost use Rattle.duration_str.specs.Units.{off};
 
 pub use crate::fault::{Cause, Expected, Fault};
@@ -105,39 +103,4 @@ fn read_text(input: &str, o: Options) -> (Result<Duration, Fault<'_>>, u64)
         Ok(nanos) => (Ok(Duration::from_nanos(nanos)), looked),
         Err(cause) => (Err(Fault { text: input, cause }), looked),
     }
-}
-
-impl<'a> Fault<'a> {
-    /// The token that starts at the place of a syntax fault, as a slice of the text.
-    ///
-    /// The text is cut under these options. `None` if no token starts at the place, and for every other cause. With the
-    /// options of the reading, a syntax fault has no token exactly if it is at the end of the text.
-    ///
-    /// ```text
-    /// parse("3ms-2ms").unwrap_err().found(Options::off()) // Some("-")
-    /// ```
-    pub fn found(&self, o: Options) -> Option<&'a str>
-        ensures token { IsSliceOf self.now.text.now
-            (found o (chars self.now.text.now) self.now.cause) result }
-        ensures end { IsMissingAtEnd o self.now.text.now self.now.cause result }
-    {
-        let Cause::Syntax { place, .. } = self.cause else {
-            return None;
-        };
-        // To find a token at the place it is enough to cut from the character before it on.
-        let from = self.text.floor_char_boundary(place.saturating_sub(1));
-        token_at(Tokens::new(&self.text[from..], o), place - from)
-    }
-}
-
-/// The token that starts at the place, among those that are left.
-fn token_at<'a>(mut tokens: Tokens<'a>, place: usize) -> Option<&'a str>
-    ensures { IsSliceOf (source tokens.entry) (token_at place (left tokens.entry)) result }
-{
-    while let Some(token) = tokens.next() {
-        if token.start == place {
-            return Some(token.text);
-        }
-    }
-    None
 }

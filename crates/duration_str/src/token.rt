@@ -7,13 +7,13 @@ ghost use Rattle.std.specs.Iterator.{item_count};
 ghost use Rattle.duration_str.specs.Text.{is_blank, is_digit, is_unit_letter, is_chinese, IsNumber, number_of};
 ghost use Rattle.duration_str.specs.Tokens.{tokens_of};
 ghost use Rattle.duration_str.specs.Internal.Cutting.{ahead, StandsAt, Passes, Stops, TakesDigits, TakesLetters};
+ghost use Rattle.duration_str.specs.Internal.Numbers.{u64_from};
 ghost use Rattle.duration_str.specs.Internal.Sorts.{sort_at};
 ghost use Rattle.duration_str.specs.Units.{unit_of_word};
 ghost use Rattle.duration_str.specs.declared.token.Sort.{Sort};
 ghost use Rattle.duration_str.specs.declared.token.Sort.TheVariants.{Number as a_number, Word as a_word};
 
 use crate::eye::Eye;
-use crate::number::number_of;
 use crate::packed::unit_of_packed;
 use crate::unit::{CondUnit, Options, TimeUnit};
 
@@ -477,4 +477,18 @@ fn is_blank(c: char) -> bool
     ensures { result ≡ is_blank c }
 {
     c <= ' ' && matches!(c, ' ' | '\t' | '\r' | '\n')
+}
+
+/// The number that digits write; `None` from 2^64 on.
+#[cold]
+#[inline(never)]
+pub(crate) fn number_of(digits: &[u8]) -> Option<u64>
+    requires utf8 { IsUtf8 digits.now }
+    requires number { IsNumber (chars digits.now) }
+    ensures { result ≡ u64_from (number_of (chars digits.now)) }
+{
+    match str::from_utf8(digits) {
+        Ok(text) => text.parse::<u64>().ok(),
+        Err(_) => None,
+    }
 }

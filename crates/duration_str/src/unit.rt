@@ -12,9 +12,9 @@ ghost use Rattle.duration_str.specs.Internal.Numbers.{term_value};
 ghost use Rattle.duration_str.specs.Terms.{term_of, term_answer};
 
 use crate::fault::Cause;
-use crate::number::number_of;
 pub use crate::operator::CondUnit;
 pub use crate::options::Options;
+use crate::token::number_of;
 use std::fmt;
 
 /// A unit of time.

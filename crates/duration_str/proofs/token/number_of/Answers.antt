@@ -3,7 +3,7 @@ use Rattle.std.specs.Str.{chars}
 use Rattle.duration_str.specs.Text.{IsNumber, number_of}
 use Rattle.duration_str.specs.Internal.Numbers.{u64_from}
 use Rattle.duration_str.proofs.Characters.NumberLemmas.{parsed_u64}
-use Rattle.duration_str.proofs.number.number_of.Goals as goal
+use Rattle.duration_str.proofs.token.number_of.Goals as goal
 
 pub returns-in-Ok : goal.returns-in-Ok
 returns-in-Ok c =

@@ -1,7 +1,7 @@
 use Rattle.std.proofs.Common.{arith}
 use Rattle.jiff.proofs.Family.{civil_nanos-parts, time_nanos_bound}
 use Rattle.jiff.proofs.SpanFacts.{signed_arith}
-use Rattle.duration_str.proofs.top.at_utc.Goals as goal
+use Rattle.duration_str.proofs.dates.at_utc.Goals as goal
 
 pub returns : goal.returns
 returns c =

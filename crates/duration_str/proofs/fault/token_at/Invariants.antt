@@ -1,6 +1,6 @@
 use Rattle.std.proofs.Common.{◌≡◌, length}
 use Rattle.duration_str.proofs.Common.{token_at, source, left}
-use Rattle.duration_str.proofs.parser.token_at.Given as goal
+use Rattle.duration_str.proofs.fault.token_at.Given as goal
 
 abbrev pub invariant-loop-token : goal.invariant-loop-token
 invariant-loop-token l = record {
