@@ -8,10 +8,12 @@ pub const ROOM: usize = 512;
 
 /// One way to the library.
 pub trait Library {
-    /// The value of a text in nanoseconds.
-    fn reading(text: &str) -> Duration;
+    /// What a value is read as.
+    type Value;
+    /// The value of a text.
+    fn reading(text: &str) -> Self::Value;
     /// The value of a text under these options, which are the bits of the header.
-    fn reading_with(text: &str, options: u32) -> Duration;
+    fn reading_with(text: &str, options: u32) -> Self::Value;
     /// A duration printed into a buffer.
     fn printing(length: Duration) -> [u8; 64];
     /// Writes the message of a refused text into the buffer, and returns its length.
@@ -22,6 +24,8 @@ pub trait Library {
 pub struct Crate;
 
 impl Library for Crate {
+    type Value = Duration;
+
     #[inline(always)]
     fn reading(text: &str) -> Duration {
         parse(text).expect("a text that is read")
@@ -79,22 +83,24 @@ unsafe extern "C" {
 }
 
 impl Library for Archive {
+    type Value = u64;
+
     #[inline(always)]
-    fn reading(text: &str) -> Duration {
+    fn reading(text: &str) -> u64 {
         let mut nanos = 0;
         // SAFETY: the pointer and length are a slice's, and `nanos` is written alone.
         let read = unsafe { duration_str_parse(text.as_ptr(), text.len(), &mut nanos) };
         assert!(read, "refused: {text}");
-        Duration::from_nanos(nanos)
+        nanos
     }
 
     #[inline(always)]
-    fn reading_with(text: &str, options: u32) -> Duration {
+    fn reading_with(text: &str, options: u32) -> u64 {
         let mut answer = Answer::default();
         // SAFETY: the pointer and length are a slice's, and `answer` is laid out as the header's.
         let read = unsafe { duration_str_parse_with(text.as_ptr(), text.len(), options, &mut answer) };
         assert!(read, "refused: {text}");
-        Duration::from_nanos(answer.nanos)
+        answer.nanos
     }
 
     #[inline(always)]

@@ -1,10 +1,13 @@
 //! Durations as people write them: `3m 13s 29ms` is read as a duration, or refused with a fault that points at its place,
 //! and a duration is printed as `3min 13s 29ms`.
 //!
-//! This crate has the public interface of `duration-str` 0.19.0 from crates.io, over a proved library; the crate itself,
-//! which calls it, is tested. What it adds: [`parse_with`], whose options are chosen at each call and whose [`Fault`] says why and where;
-//! [`write_human`], which takes no memory; and `moment_after` and `moment_before` for any moment. Faults' texts are
-//! the proved library's, whose caret stands at the first piece with which no expression goes on.
+//! This crate has the public interface of `duration-str` 0.19.0 from crates.io. What reads and prints is proved: it is the
+//! source of a proved library with its contracts taken out. What it adds: [`parse_with`], whose options are chosen at each
+//! call and whose [`Fault`] says why and where; [`OwnedFault`]; [`HumanDuration`], for command lines and serde;
+//! [`write_human`], which takes no memory; [`Tokens`]; and `moment_after` and `moment_before` for any moment. A message's
+//! caret stands at the first piece with which no expression goes on.
+//!
+//! There is one `unsafe` block, in [`write_human`], which is proved with the rest of it.
 //!
 //! ```
 //! use duration_str::{parse, HumanFormat};

@@ -8,12 +8,6 @@ mod eye;
 #[forbid(unsafe_code)]
 mod fault;
 #[forbid(unsafe_code)]
-mod line;
-#[forbid(unsafe_code)]
-mod message;
-#[forbid(unsafe_code)]
-mod number;
-#[forbid(unsafe_code)]
 mod operator;
 #[forbid(unsafe_code)]
 mod options;

@@ -82,32 +82,3 @@ fn read_text(input: &str, o: Options) -> (Result<Duration, Fault<'_>>, u64) {
         Err(cause) => (Err(Fault { text: input, cause }), looked),
     }
 }
-
-impl<'a> Fault<'a> {
-    /// The token that starts at the place of a syntax fault, as a slice of the text.
-    ///
-    /// The text is cut under these options. `None` if no token starts at the place, and for every other cause. With the
-    /// options of the reading, a syntax fault has no token exactly if it is at the end of the text.
-    ///
-    /// ```text
-    /// parse("3ms-2ms").unwrap_err().found(Options::off()) // Some("-")
-    /// ```
-    pub fn found(&self, o: Options) -> Option<&'a str> {
-        let Cause::Syntax { place, .. } = self.cause else {
-            return None;
-        };
-        // To find a token at the place it is enough to cut from the character before it on.
-        let from = self.text.floor_char_boundary(place.saturating_sub(1));
-        token_at(Tokens::new(&self.text[from..], o), place - from)
-    }
-}
-
-/// The token that starts at the place, among those that are left.
-fn token_at<'a>(mut tokens: Tokens<'a>, place: usize) -> Option<&'a str> {
-    while let Some(token) = tokens.next() {
-        if token.start == place {
-            return Some(token.text);
-        }
-    }
-    None
-}

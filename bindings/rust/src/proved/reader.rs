@@ -118,7 +118,7 @@ fn read_operator(tokens: &mut Tokens<'_>, no_calc: bool) -> Result<Option<CondUn
             if no_calc {
                 return Err(fault);
             }
-            tokens.take_sign();
+            tokens.advance();
             expect_number(tokens)?;
             Ok(Some(operator))
         }

@@ -2,7 +2,6 @@
 //! The tokens of a text: numbers, words, operators, and other single characters.
 
 use super::eye::Eye;
-use super::number::number_of;
 use super::packed::unit_of_packed;
 use super::unit::{CondUnit, Options, TimeUnit};
 
@@ -144,9 +143,10 @@ impl<'a> Tokens<'a> {
         self.eye.place()
     }
 
-    /// Moves past the character ahead, and looks at the next one.
+    /// Moves past the character ahead, and looks at the next one. So an operator, or a character that is neither a digit
+    /// nor a unit letter, is taken as a token.
     #[inline(always)]
-    fn advance(&mut self) {
+    pub(crate) fn advance(&mut self) {
         self.eye.step();
         self.head = self.eye.look();
     }
@@ -250,12 +250,6 @@ impl<'a> Tokens<'a> {
         }
     }
 
-    /// Takes the single character ahead: an operator, or one that is neither a digit nor a unit letter.
-    #[inline(always)]
-    pub(crate) fn take_sign(&mut self) {
-        self.advance();
-    }
-
     /// Takes the token ahead, which is of this sort.
     #[inline(always)]
     fn take_token(&mut self, sort: Sort) -> What {
@@ -266,11 +260,11 @@ impl<'a> Tokens<'a> {
             }
             Sort::Word => What::Word(self.take_word()),
             Sort::Operator(operator) => {
-                self.take_sign();
+                self.advance();
                 What::Operator(operator)
             }
             Sort::Other => {
-                self.take_sign();
+                self.advance();
                 What::Other
             }
         }
@@ -382,4 +376,14 @@ fn is_chinese(c: char) -> bool {
 #[inline]
 fn is_blank(c: char) -> bool {
     c <= ' ' && matches!(c, ' ' | '\t' | '\r' | '\n')
+}
+
+/// The number that digits write; `None` from 2^64 on.
+#[cold]
+#[inline(never)]
+pub(crate) fn number_of(digits: &[u8]) -> Option<u64> {
+    match str::from_utf8(digits) {
+        Ok(text) => text.parse::<u64>().ok(),
+        Err(_) => None,
+    }
 }
