@@ -173,14 +173,16 @@ impl TimeUnit {
     ///
     /// assert_eq!(TimeUnit::from_word("Minutes", Options::off()), Some(TimeUnit::Minute));
     /// ```
-    #[inline(never)]
     #[tactic(auto, using(crate::proofs::Characters::UnitLemmas::named_unit))]
     pub fn from_word(word: &str, o: Options) -> Option<TimeUnit>
         ensures unit { result ≡ unit_of_word o (chars word.now) }
         ensures only { (unit : TimeUnit) → is_named o (chars word.now) unit ≡ true
             → unit_of_word o (chars word.now) ≡ Some unit }
     {
-        UNITS.iter().copied().find(|unit| unit.is_named(word, o))
+        match unit_of_short_name(word, o) {
+            Some(unit) => Some(unit),
+            None => named_unit(word, o),
+        }
     }
 
     /// The value in nanoseconds of a term with this number, a nonempty run of digits.
@@ -261,6 +263,60 @@ static UNITS: [TimeUnit; 11] = [
     TimeUnit::MicroSecond,
     TimeUnit::NanoSecond,
 ];
+
+/// The first unit with the word among its names.
+#[inline(never)]
+fn named_unit(word: &str, o: Options) -> Option<TimeUnit>
+    ensures { result ≡ unit_of_word o (chars word.now) }
+{
+    UNITS.iter().copied().find(|unit| unit.is_named(word, o))
+}
+
+/// The unit that a word names, if it is spelled like one of the short names beyond ASCII. `None` doesn't mean that the
+/// word is no name.
+fn unit_of_short_name(word: &str, o: Options) -> Option<TimeUnit>
+    ensures { ForSome result (λ unit. unit_of_word o (chars word.now) ≡ Some unit) }
+{
+    let (first, second) = one_or_two_chars(word)?;
+    unit_of_letters(first, second, o)
+}
+
+/// The characters of a text that has one or two.
+#[inline(always)]
+fn one_or_two_chars(text: &str) -> Option<(char, Option<char>)>
+    ensures { ForSome result (λ letters. chars text.now ≡ letters.0 ∷ option_to_list letters.1) }
+{
+    let mut letters = text.chars();
+    let first = letters.next()?;
+    let second = letters.next();
+    match letters.next() {
+        None => Some((first, second)),
+        Some(_) => None,
+    }
+}
+
+/// The unit with this name of one or two letters beyond ASCII. `named_unit` finds the names that are missing here.
+#[inline(always)]
+fn unit_of_letters(first: char, second: Option<char>, o: Options) -> Option<TimeUnit>
+    ensures { ForSome result (λ unit. is_named (record o { lowercase = true })
+        (first ∷ option_to_list second) unit ≡ true) }
+{
+    match (first, second) {
+        ('µ', Some('s')) => Some(TimeUnit::MicroSecond),
+        _ if !o.cn_unit => None,
+        ('年', None) => Some(TimeUnit::Year),
+        ('月', None) => Some(TimeUnit::Month),
+        ('周', None) => Some(TimeUnit::Week),
+        ('日' | '天', None) => Some(TimeUnit::Day),
+        ('时', None) => Some(TimeUnit::Hour),
+        ('分', None) => Some(TimeUnit::Minute),
+        ('秒', None) => Some(TimeUnit::Second),
+        ('毫', Some('秒')) => Some(TimeUnit::MilliSecond),
+        ('微', Some('秒')) => Some(TimeUnit::MicroSecond),
+        ('纳', Some('秒')) => Some(TimeUnit::NanoSecond),
+        _ => None,
+    }
+}
 
 /// Whether a word is one of these names.
 fn is_any(names: &[&str], word: &str, o: Options) -> bool

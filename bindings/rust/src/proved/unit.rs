@@ -154,9 +154,11 @@ impl TimeUnit {
     ///
     /// assert_eq!(TimeUnit::from_word("Minutes", Options::off()), Some(TimeUnit::Minute));
     /// ```
-    #[inline(never)]
     pub fn from_word(word: &str, o: Options) -> Option<TimeUnit> {
-        UNITS.iter().copied().find(|unit| unit.is_named(word, o))
+        match unit_of_short_name(word, o) {
+            Some(unit) => Some(unit),
+            None => named_unit(word, o),
+        }
     }
 
     /// The value in nanoseconds of a term with this number, a nonempty run of digits.
@@ -227,6 +229,51 @@ static UNITS: [TimeUnit; 11] = [
     TimeUnit::MicroSecond,
     TimeUnit::NanoSecond,
 ];
+
+/// The first unit with the word among its names.
+#[inline(never)]
+fn named_unit(word: &str, o: Options) -> Option<TimeUnit> {
+    UNITS.iter().copied().find(|unit| unit.is_named(word, o))
+}
+
+/// The unit that a word names, if it is spelled like one of the short names beyond ASCII. `None` doesn't mean that the
+/// word is no name.
+fn unit_of_short_name(word: &str, o: Options) -> Option<TimeUnit> {
+    let (first, second) = one_or_two_chars(word)?;
+    unit_of_letters(first, second, o)
+}
+
+/// The characters of a text that has one or two.
+#[inline(always)]
+fn one_or_two_chars(text: &str) -> Option<(char, Option<char>)> {
+    let mut letters = text.chars();
+    let first = letters.next()?;
+    let second = letters.next();
+    match letters.next() {
+        None => Some((first, second)),
+        Some(_) => None,
+    }
+}
+
+/// The unit with this name of one or two letters beyond ASCII. `named_unit` finds the names that are missing here.
+#[inline(always)]
+fn unit_of_letters(first: char, second: Option<char>, o: Options) -> Option<TimeUnit> {
+    match (first, second) {
+        ('µ', Some('s')) => Some(TimeUnit::MicroSecond),
+        _ if !o.cn_unit => None,
+        ('年', None) => Some(TimeUnit::Year),
+        ('月', None) => Some(TimeUnit::Month),
+        ('周', None) => Some(TimeUnit::Week),
+        ('日' | '天', None) => Some(TimeUnit::Day),
+        ('时', None) => Some(TimeUnit::Hour),
+        ('分', None) => Some(TimeUnit::Minute),
+        ('秒', None) => Some(TimeUnit::Second),
+        ('毫', Some('秒')) => Some(TimeUnit::MilliSecond),
+        ('微', Some('秒')) => Some(TimeUnit::MicroSecond),
+        ('纳', Some('秒')) => Some(TimeUnit::NanoSecond),
+        _ => None,
+    }
+}
 
 /// Whether a word is one of these names.
 fn is_any(names: &[&str], word: &str, o: Options) -> bool {
