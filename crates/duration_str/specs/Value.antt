@@ -1,6 +1,7 @@
 -- The terms of a sentence, their value, and their faults.
-use Rattle.std.specs.Prelude.{◌≡◌, ℕ, ◌+◌, ◌*◌, ◌/◌, ◌^◌, Bool, true, false, List, [], ◌∷◌, ◌++◌, Option, Some, None, if◌then◌else◌, nat_lt}
+use Rattle.std.specs.Prelude.{◌≡◌, ℕ, ◌+◌, ◌*◌, ◌/◌, ◌^◌, Bool, true, false, List, [], ◌∷◌, ◌++◌, Option, Some, None, if◌then◌else◌, nat_lt, ⊤, map}
 use Rattle.std.specs.List.{list_all, fold}
+use Rattle.duration_str.specs.declared.options.Options.{Options}
 use Rattle.duration_str.specs.declared.unit.TimeUnit.{TimeUnit}
 use Rattle.duration_str.specs.declared.unit.TimeUnit.TheVariants.{Second}
 use Rattle.duration_str.specs.declared.operator.CondUnit.{CondUnit}
@@ -8,7 +9,7 @@ use Rattle.duration_str.specs.declared.operator.CondUnit.TheVariants.{Plus, Star
 use Rattle.duration_str.specs.declared.fault.Cause.{Cause}
 use Rattle.duration_str.specs.declared.fault.Cause.TheVariants.{NumberTooLarge, Overflow, Mixed}
 use Rattle.duration_str.specs.Units.{nanos_of}
-use Rattle.duration_str.specs.Grammar.{Terminal, number, word, operator}
+use Rattle.duration_str.specs.Grammar.{Terminal, number, word, operator, terminal_of}
 
 -- a term: the operator before it, its number, and its unit's length in nanoseconds
 pub record Term : Type 0 where
@@ -40,9 +41,13 @@ terms_after op terminals = terms_by nanos_of op terminals
 abbrev pub terms_of : List Terminal → List Term
 terms_of terminals = terms_after Plus terminals
 
+-- the terms that the lexemes of a sentence write
+abbrev pub written_terms : Options → List (List ℕ) → List Term
+written_terms o lexemes = terms_of (map (terminal_of o) lexemes)
+
 -- Every operator that is written is plus.
 abbrev pub AllPlus : List Terminal → Type 0
-AllPlus [] = Unit {0}
+AllPlus [] = ⊤
 AllPlus (operator op ∷ terminals) = (op ≡ Plus) × AllPlus terminals
 AllPlus (terminal ∷ terminals) = AllPlus terminals
 

@@ -76,13 +76,13 @@ unaffected_has_same_value agrees idle o p text h nanos =
     changed_one_by_one (λ (q : Options). IsRead q text nanos) o p
     (either_way (λ (b : Bool). IsRead (record o { no_calc = b }) text nanos) o.no_calc p.no_calc
     (λ differ. agrees o text nanos (no_operator o p text h differ)))
-    (λ q differ. idle.lowercase_value q text nanos (no_capital o p text h differ))
-    (λ q differ. idle.cn_unit_value q text nanos (no_chinese o p text h differ))
+    (λ q differ. (idle.lowercase q text (no_capital o p text h differ)).value nanos)
+    (λ q differ. (idle.cn_unit q text (no_chinese o p text h differ)).value nanos)
 
 pub unaffected_has_same_cause : OptionsIdle → (o p : Options) (text : List ℕ) → IsUnaffected o p text → o.no_calc ≡ p.no_calc
     → HasSameCause o p text
 unaffected_has_same_cause idle o p text h same cause =
     changed_one_by_one (λ (q : Options). IsRefused q text cause) o p
     (subst (λ (b : Bool). IsRefused o text cause ↔ IsRefused (record o { no_calc = b }) text cause) same (λ r. r, λ r. r))
-    (λ q differ. idle.lowercase_cause q text cause (no_capital o p text h differ))
-    (λ q differ. idle.cn_unit_cause q text cause (no_chinese o p text h differ))
+    (λ q differ. (idle.lowercase q text (no_capital o p text h differ)).cause cause)
+    (λ q differ. (idle.cn_unit q text (no_chinese o p text h differ)).cause cause)

@@ -170,8 +170,12 @@ same_cause cause h = (refused_alike _ cause h, refused_alike _ cause (alike_back
 
 pub options_idle_holds : OptionsIdle
 options_idle_holds = record {
-  lowercase_value = λ o text nanos h. same_value nanos (lowercase_alike o text h);
-  lowercase_cause = λ o text cause h. same_cause cause (lowercase_alike o text h);
-  cn_unit_value = λ o text nanos h. same_value nanos (cn_unit_alike o text h);
-  cn_unit_cause = λ o text cause h. same_cause cause (cn_unit_alike o text h);
+  lowercase = λ o text h. record {
+    value = λ nanos. same_value nanos (lowercase_alike o text h);
+    cause = λ cause. same_cause cause (lowercase_alike o text h);
+  };
+  cn_unit = λ o text h. record {
+    value = λ nanos. same_value nanos (cn_unit_alike o text h);
+    cause = λ cause. same_cause cause (cn_unit_alike o text h);
+  };
 }

@@ -1,5 +1,5 @@
 -- What the private calls of `Tokens` do: they look ahead, and take the token ahead.
-use Rattle.std.specs.Prelude.{◌≡◌, ℕ, Bool, true, false, List, ◌∷◌, Option, Some, None}
+use Rattle.std.specs.Prelude.{◌≡◌, ℕ, Bool, true, false, List, ◌∷◌, Option, Some, None, ⊤}
 use Rattle.std.specs.Str.{chars}
 use Rattle.duration_str.specs.declared.token.Sort.{Sort}
 use Rattle.duration_str.specs.declared.token.Sort.TheVariants as sorts
@@ -46,7 +46,7 @@ pub record LooksForNumber (old new : Tokens) (answer : Bool) : Type 0 where
 abbrev pub IsSign : Sort → Type 0
 IsSign sorts.Number = ⊥
 IsSign sorts.Word = ⊥
-IsSign _ = Unit {0}
+IsSign _ = ⊤
 
 -- The first token that is left is taken; it starts at the place and stands for this terminal.
 pub record TakesToken (old new : Tokens) (terminal : Terminal) : Type 0 where
