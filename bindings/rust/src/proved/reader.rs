@@ -35,10 +35,10 @@ fn read_later(
         let number = tokens.take_number();
         let unit = read_unit(tokens, no_calc)?;
         later.add(set, number, unit);
-        later.sum_checked(no_calc, first, set)?;
+        later.check_sum(no_calc, first, set)?;
         match read_operator(tokens, no_calc)? {
             None => return later.answer(first, set),
-            Some(next) => later.go_on(set, next),
+            Some(next) => later.check_operator(set, next),
         }
     }
 }
@@ -148,7 +148,7 @@ impl Later {
 
     /// Checks the next operator, which must be the one that was set.
     #[inline(always)]
-    fn go_on(&mut self, set: CondUnit, next: CondUnit) {
+    fn check_operator(&mut self, set: CondUnit, next: CondUnit) {
         if next != set && self.fault.is_none() {
             self.fault = Some(Cause::Mixed {
                 first: set,
@@ -168,7 +168,7 @@ impl Later {
 
     /// Under `no_calc`, reports at once the fault of a term, or an overflow of the sum so far.
     #[inline]
-    fn sum_checked(&self, no_calc: bool, first: u64, set: CondUnit) -> Result<(), Cause> {
+    fn check_sum(&self, no_calc: bool, first: u64, set: CondUnit) -> Result<(), Cause> {
         if !no_calc {
             return Ok(());
         }

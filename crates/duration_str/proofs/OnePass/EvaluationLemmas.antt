@@ -3,7 +3,7 @@ use Rattle.std.proofs.Common.{◌≡◌, ℕ, ◌+◌, ◌*◌, ◌^◌, ◌<◌
 use Rattle.duration_str.proofs.Common.{cases_Bool, cases_lt, CondUnit, Plus, Star, Cause, Overflow, Mixed, Term, value_of_term, sum_of, later_total, combination, value_of, fits, or_else, unless, term_fault, later_fault, evaluation_fault, is_same_operator, u64_from, term_value, first_fault, running_fault, fault_or, nothing_of, before_operator, at_once}
 use Rattle.std.specs.Result.{result_err}
 use Rattle.std.proofs.lemmas.List.Sums.{fold-append}
-use Rattle.duration_str.specs.Internal.Rest.{join}
+use Rattle.duration_str.specs.Internal.Rest.{checked_combination}
 use Rattle.duration_str.proofs.Sentences.FaultLemmas.{no_fault, is_same_operator-true}
 use Rattle.duration_str.proofs.Sentences.SumLemmas.{AreAdded, sum-append, later_none, running_below, value_is_sum}
 use Rattle.duration_str.proofs.Sentences.AnswerLemmas.{later_value}
@@ -28,15 +28,15 @@ fault_or-or_else : (a b : Option Cause) (r : Result ℕ Cause) → fault_or (or_
 fault_or-or_else None b r = refl
 fault_or-or_else (Some cause) b r = refl
 
-join-fault_left : (set : CondUnit) (a : Option Cause) (x y : Result ℕ Cause)
-    → join set (fault_or a x) y ≡ fault_or a (join set x y)
-join-fault_left set None x y = refl
-join-fault_left set (Some cause) x y = refl
+checked_combination-fault_left : (set : CondUnit) (a : Option Cause) (x y : Result ℕ Cause)
+    → checked_combination set (fault_or a x) y ≡ fault_or a (checked_combination set x y)
+checked_combination-fault_left set None x y = refl
+checked_combination-fault_left set (Some cause) x y = refl
 
-join-fault_right : (set : CondUnit) (x : ℕ) (a : Option Cause) (y : Result ℕ Cause)
-    → join set (Ok x) (fault_or a y) ≡ fault_or a (join set (Ok x) y)
-join-fault_right set x None y = refl
-join-fault_right set x (Some cause) y = refl
+checked_combination-fault_right : (set : CondUnit) (x : ℕ) (a : Option Cause) (y : Result ℕ Cause)
+    → checked_combination set (Ok x) (fault_or a y) ≡ fault_or a (checked_combination set (Ok x) y)
+checked_combination-fault_right set x None y = refl
+checked_combination-fault_right set x (Some cause) y = refl
 
 ok_or-fits : (n : ℕ) → ok_or (u64_from n) (Overflow None) ≡ fault_or (unless (fits n) (Overflow None)) (Ok n)
 ok_or-fits n = elim (cases_Bool (fits n)) [ inl e ↦ rw e | inr e ↦ rw e ]
@@ -51,8 +51,8 @@ ruleset in_order = (
   or_else_assoc,
   or_else-none_right,
   fault_or-or_else,
-  join-fault_left,
-  join-fault_right,
+  checked_combination-fault_left,
+  checked_combination-fault_right,
   ok_or-fits,
   before_operator-fault,
 )
@@ -97,7 +97,7 @@ together-push Star before t = rw fold-append
 
 -- One more term is combined if its operator is the one that was set.
 one_more : (set : CondUnit) (before : List Term) (t : Term)
-    → join set (before_operator set (value_by set before) t.operator) (term_value None (u64_from t.number) t.length)
+    → checked_combination set (before_operator set (value_by set before) t.operator) (term_value None (u64_from t.number) t.length)
     ≡ value_by set (before ++ t ∷ [])
 one_more set before t =
     simp (in_order, term_told None t, later_append set [] before (t ∷ []), together-push set before t)
@@ -107,10 +107,10 @@ one_more set before t =
 -- the answer, given the first value and the later terms so far, the terms that are left, and the syntax fault after
 -- them
 abbrev pub answer_with : Bool → ℕ → CondUnit → Result ℕ Cause → List Term → Option Cause → Result ℕ Cause
-answer_with no_calc first set later [] syntax = fault_or syntax (join set (Ok first) later)
+answer_with no_calc first set later [] syntax = fault_or syntax (checked_combination set (Ok first) later)
 answer_with no_calc first set later (t ∷ terms) syntax =
-    let next = join set (before_operator set later t.operator) (term_value None (u64_from t.number) t.length) in
-    fault_or (at_once no_calc (join set (Ok first) next)) (answer_with no_calc first set next terms syntax)
+    let next = checked_combination set (before_operator set later t.operator) (term_value None (u64_from t.number) t.length) in
+    fault_or (at_once no_calc (checked_combination set (Ok first) next)) (answer_with no_calc first set next terms syntax)
 
 -- the answer, given the first value and the terms after it
 abbrev pub answer_after_first : Bool → ℕ → List Term → Option Cause → Result ℕ Cause
@@ -120,7 +120,7 @@ answer_after_first no_calc first (t ∷ terms) syntax =
 
 default_left : (first : ℕ) (set : CondUnit) (before later : List Term) (syntax : Option Cause)
     → answer_with false first set (value_by set before) later syntax
-    ≡ fault_or syntax (join set (Ok first) (value_by set (before ++ later)))
+    ≡ fault_or syntax (checked_combination set (Ok first) (value_by set (before ++ later)))
 default_left first set before [] syntax = rw append-nil
 default_left first set before (t ∷ later) syntax =
     rw (one_more set before t, default_left first set (before ++ t ∷ []) later syntax, append_assoc before (t ∷ []) later)
@@ -128,7 +128,7 @@ default_left first set before (t ∷ later) syntax =
 -- the overflow of the later terms' sum, and that of the sum with the first term, are one fault
 sum_told : (first sum : ℕ) (own : Option Cause)
     → or_else own (or_else (unless (fits (first + sum)) (Overflow None)) None)
-    ≡ result_err (join Plus (Ok first)
+    ≡ result_err (checked_combination Plus (Ok first)
     (fault_or (or_else own (or_else (unless (fits sum) (Overflow None)) None)) (Ok sum)))
 sum_told first sum (Some cause) = refl
 sum_told first sum None = elim (cases_lt sum (2 ^ 64)) [
@@ -140,7 +140,7 @@ sum_told first sum None = elim (cases_lt sum (2 ^ 64)) [
 checked_sum : (f : Term) (before : List Term) (t : Term) → t.operator ≡ Plus → AreAdded (f ∷ before)
     → sum_of (f ∷ before) < 2 ^ 64
     → running_fault (f ∷ before) (t ∷ [])
-    ≡ result_err (join Plus (Ok (value_of_term f)) (value_by Plus (before ++ t ∷ [])))
+    ≡ result_err (checked_combination Plus (Ok (value_of_term f)) (value_by Plus (before ++ t ∷ [])))
 checked_sum f before t plus a h =
     let same = (is_same_operator-true Plus t.operator).1 plus in
     rw (later_append Plus [] before (t ∷ []), later_none [] before a.2 (omega arith), same)
@@ -160,7 +160,7 @@ no_calc_left : (f : Term) (before later : List Term) (syntax : Option Cause) →
     → AreAdded (f ∷ before) → AreAdded later
     → answer_with true (value_of_term f) Plus (value_by Plus before) later syntax
     ≡ fault_or (running_fault (f ∷ before) later)
-    (fault_or syntax (join Plus (Ok (value_of_term f)) (value_by Plus (before ++ later))))
+    (fault_or syntax (checked_combination Plus (Ok (value_of_term f)) (value_by Plus (before ++ later))))
 no_calc_left f before [] syntax h a b = rw append-nil
 no_calc_left f before (t ∷ later) syntax h a b =
     let next = before ++ t ∷ [] in
@@ -176,11 +176,11 @@ no_calc_left f before (t ∷ later) syntax h a b =
 
 -- The first value combined with that of all later terms has the fault and the value of the whole list.
 whole_value : (f u : Term) (later : List Term)
-    → join u.operator (Ok (value_of_term f)) (value_by u.operator (u ∷ later))
+    → checked_combination u.operator (Ok (value_of_term f)) (value_by u.operator (u ∷ later))
     ≡ fault_or (evaluation_fault (f ∷ u ∷ later)) (Ok (unwrap_or (value_of (f ∷ u ∷ later)) 0))
 whole_value f u later =
     let fault = later_fault u.operator [] (u ∷ later) in
-    rw (join-fault_right u.operator (value_of_term f) fault, ok_or-fits, fault_or-or_else fault)
+    rw (checked_combination-fault_right u.operator (value_of_term f) fault, ok_or-fits, fault_or-or_else fault)
     (unless_fault fault _ _ (λ e. rw (later_value f u later e)))
 
 nothing_is : (set : CondUnit) → nothing_of set ≡ later_total set []

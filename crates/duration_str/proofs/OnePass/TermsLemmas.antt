@@ -2,7 +2,7 @@
 use Rattle.std.proofs.Common.{◌≡◌, ℕ, ◌^◌, ◌<◌, Bool, true, false, List, [], ◌∷◌, ◌++◌, length, take, drop, Option, Some, None, Result, Ok, Err, if◌then◌else◌, unwrap_or, IsTrue, refl, sym, ap, subst, ◌∙◌, arith}
 use Rattle.duration_str.proofs.Common.{TimeUnit, NanoSecond, CondUnit, Plus, Star, Cause, Syntax, Expected, Number, Tokens, nanos_of, Terminal, number, word, operator, AllPlus, Term, second, value_of_term, terms_of, terms_after, unless, value_of, term_value, term_of, without_last_number, complete, late_fault, late_answer, answer_after, answer_at, kinds_after, last_of, front_of, IsAhead, TakesNumber, Rest, terminal_at, rest_of, start_left, terminals_in, Read, leaving, unit_read, operator_read, answer_left, first_term, fault_or, nothing_of, before_operator, at_once}
 use Rattle.duration_str.specs.Tokenizer.{place_of}
-use Rattle.duration_str.specs.Internal.Rest.{join}
+use Rattle.duration_str.specs.Internal.Rest.{checked_combination}
 use Rattle.duration_str.proofs.Sentences.FaultLemmas.{term_below_no_fault}
 use Rattle.duration_str.proofs.Sentences.FrontLemmas.{begins_allowed, table_front}
 use Rattle.duration_str.proofs.Sentences.SumLemmas.{AreAdded, terms_added}
@@ -162,9 +162,9 @@ module _ (no_calc : Bool) (first : ℕ) (set : CondUnit) where
   pub later_step : {next : Result ℕ Cause} {s a : Tokens} {n : Option ℕ} (later : Result ℕ Cause) (b : Tokens)
       (u : TimeUnit)
       → TakesNumber s a n → leaving (rest_of b) (Ok u) ≡ unit_read no_calc (rest_of a)
-      → next ≡ join set later (term_value None n (nanos_of u))
+      → next ≡ checked_combination set later (term_value None n (nanos_of u))
       → with_left no_calc first set later (left_after no_calc set (rest_of s))
-      ≡ fault_or (at_once no_calc (join set (Ok first) next))
+      ≡ fault_or (at_once no_calc (checked_combination set (Ok first) next))
       (with_left no_calc first set next (after_unit no_calc (operator_read no_calc (rest_of b))))
   later_step {s = s} {a = a} {n = n} later b u taken unit is =
       ap (with_left no_calc first set later) (number_taken no_calc set s a n taken _ unit)
