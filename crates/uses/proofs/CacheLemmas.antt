@@ -1,10 +1,6 @@
 -- The canonical text of a value.
 use Rattle.std.proofs.Common.{ℕ, ◌^◌, ◌<◌, List, refl}
-use Rattle.std.specs.Duration.{FitsDuration}
-use Rattle.duration_str.specs.Units.{off, unit_lengths}
-use Rattle.duration_str.specs.Reading.{IsRead}
-use Rattle.duration_str.specs.Printing.{IsPrinted, counts_of}
-use Rattle.duration_str.specs.Laws.{GreatestBreakdown, EqualTexts, ReadsBack}
+use Rattle.duration_str.proofs.Common.{FitsDuration, off, unit_lengths, IsRead, IsPrinted, counts_of, GreatestBreakdown, EqualTexts, ReadsBack}
 use Rattle.uses.specs.Cache.{canonical_text, IsKey, IsCanonical}
 
 -- What a value prints as is its key.

@@ -1,9 +1,8 @@
 -- What can be typed at the place of a syntax fault.
 use Rattle.std.proofs.Common.{◌≡◌, ℕ, ◌+◌, List, [], ◌∷◌, ◌++◌, map, take, length, IsTrue, codes, refl, arith, sym, ap, ◌∙◌, append-nil, append_assoc}
-use Rattle.std.proofs.lemmas.List.{take-map}
-use Rattle.std.proofs.Math.Seq.{take-append_seam}
 use Rattle.duration_str.proofs.Common.{map-append, byte_len, Terminal, number, word, operator, other, terminal_of, IsSentence, Spells, IsLexeme, AreTokens, tokens_of, lexemes_of, BeginsSentence, allows, IsRefused, OneSentence, OneCut, PlaceAndKinds}
-use Rattle.uses.proofs.Common.{Options, Expected, Syntax, Token}
+use Rattle.uses.proofs.Common.{take-map, Options, Expected, Syntax, Token}
+use Rattle.std.proofs.Math.Seq.{take-append_seam}
 use Rattle.duration_str.proofs.Sentences.SpellingLemmas.{tokens_spell_at}
 use Rattle.duration_str.proofs.LawProofs.SumOfTexts.{spells_both}
 use Rattle.uses.specs.Completion.{BeginsExpression, IsCompletion}

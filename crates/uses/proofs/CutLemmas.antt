@@ -1,8 +1,7 @@
 -- How a text is cut that is split at a token, or joined at a blank.
 use Rattle.std.proofs.Common.{◌≡◌, ℕ, zero, suc, ◌+◌, List, [], ◌∷◌, ◌++◌, take, arith, refl, sym, ap, ◌∙◌, append-nil, append_assoc, add_assoc, add-zero}
 use Rattle.duration_str.proofs.Common.{and_parts, false_from_ne_true, map-append, list_all, width, byte_len, is_blank, IsBlank, IsLexeme, EndsRun, AreTokens, tokens_from, tokens_of, lexemes_of, start_after}
-use Rattle.uses.proofs.Common.{Options, Token}
-use Rattle.duration_str.proofs.Characters.CharacterLemmas.{run-not_blank}
+use Rattle.uses.proofs.Common.{Options, Token, run-not_blank}
 use Rattle.duration_str.proofs.Characters.TextLemmas.{byte_len-append}
 use Rattle.duration_str.proofs.Cutting.TokenLemmas.{tokens_step}
 

@@ -1,16 +1,8 @@
 -- Lines and their texts are spelled by the same sentences.
 use Rattle.std.proofs.Common.{◌≡◌, ℕ, ◌+◌, List, [], ◌∷◌, IsUtf8, refl, ap, ◌∙◌, append_assoc, inl, inr}
-use Rattle.std.proofs.lemmas.Bool.{and_from, cases_Bool, true≢false}
-use Rattle.std.proofs.lemmas.List.Folds.{list_all-append}
-use Rattle.std.proofs.lemmas.Str.{chars-append}
+use Rattle.duration_str.proofs.Common.{and_from, cases_Bool, list_all-append, chars-append, width, is_blank, Spells, IsSentenceOf, goes_on, tokens_from, lexemes_of, OneSentence, BlanksFree}
+use Rattle.uses.proofs.Common.{true≢false, Options, run-not_blank, line_of, IsReadAsBefore}
 use Rattle.std.specs.Str.{chars}
-use Rattle.duration_str.specs.declared.options.Options.{Options}
-use Rattle.duration_str.specs.Text.{width, is_blank}
-use Rattle.duration_str.specs.Grammar.{Spells, IsSentenceOf}
-use Rattle.duration_str.specs.Tokens.{goes_on, tokens_from, lexemes_of}
-use Rattle.duration_str.specs.Laws.{OneSentence, BlanksFree}
-use Rattle.duration_str.proofs.Characters.CharacterLemmas.{run-not_blank}
-use Rattle.uses.specs.Line.{line_of, IsReadAsBefore}
 
 chars_line : (bytes : List ℕ) → IsUtf8 bytes → chars (line_of bytes) ≡ line_of (chars bytes)
 unfolding chars

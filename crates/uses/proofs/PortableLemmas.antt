@@ -1,14 +1,8 @@
 -- Texts whose characters mean the same under several choices of options.
 use Rattle.std.proofs.Common.{◌≡◌, ◌↔◌, ◌||◌, ◌&&◌, ℕ, Bool, true, false, not, List, [], ◌∷◌, IsTrue, refl, subst}
 use Rattle.std.proofs.Math.Bool.{beq}
-use Rattle.std.proofs.lemmas.Bool.{true≢false, and_from, and_parts}
-use Rattle.std.specs.Char.{is_ascii_uppercase}
-use Rattle.std.specs.List.{list_all}
-use Rattle.duration_str.specs.declared.options.Options.{Options}
-use Rattle.duration_str.specs.Laws.{is_operator}
-use Rattle.duration_str.specs.Text.{is_chinese}
-use Rattle.duration_str.specs.Reading.{IsRead, IsRefused}
-use Rattle.duration_str.specs.Laws.{NoCalcAgrees, OptionsIdle, HasNoOperator, HasNoCapital, HasNoChinese}
+use Rattle.duration_str.proofs.Common.{and_from, and_parts, is_ascii_uppercase, list_all, is_operator, is_chinese, IsRead, IsRefused, NoCalcAgrees, OptionsIdle, HasNoOperator, HasNoCapital, HasNoChinese}
+use Rattle.uses.proofs.Common.{true≢false, Options}
 use Rattle.uses.specs.Portable.{is_unaffected, HasSameValue, HasSameCause}
 
 all_weaker : (p q : ℕ → Bool) (cs : List ℕ) → ((c : ℕ) → p c ≡ true → q c ≡ true) → IsTrue (list_all p cs) → IsTrue (list_all q cs)

@@ -1,15 +1,9 @@
 -- Texts that multiply two parts, in either order.
 use Rattle.std.proofs.Common.{◌≡◌, ℕ, ◌*◌, ◌/◌, ◌^◌, ◌<◌, List, inl, inr, arith, refl, sym, subst, ap, ◌∙◌, mul_comm}
-use Rattle.duration_str.specs.declared.options.Options.{Options}
-use Rattle.duration_str.specs.declared.operator.CondUnit.TheVariants.{Plus, Star}
+use Rattle.duration_str.proofs.Common.{nanos_of, second, IsRead, TwoFactors}
+use Rattle.uses.proofs.Common.{Options, Plus, Star, Part, nanos_in, term_of_part, MultipliesInEitherOrder}
 use Rattle.duration_str.specs.declared.unit.TimeUnit.{TimeUnit}
 use Rattle.duration_str.specs.declared.unit.TimeUnit.TheVariants.{Year}
-use Rattle.duration_str.specs.Units.{nanos_of}
-use Rattle.duration_str.specs.Value.{second}
-use Rattle.duration_str.specs.Reading.{IsRead}
-use Rattle.duration_str.specs.Laws.{TwoFactors}
-use Rattle.uses.specs.declared.product.Part.{Part}
-use Rattle.uses.specs.Product.{nanos_in, term_of_part, MultipliesInEitherOrder}
 
 -- A part whose length is below 2^64 has such a number.
 pub number_below : (n : ℕ) (u : TimeUnit) → n * nanos_of u < 2 ^ 64 → n < 2 ^ 64

@@ -1,17 +1,7 @@
 -- Results of reading, given what the text is read as or refused for.
-use Rattle.std.proofs.Common.{◌≡◌, ℕ, List, Result, Ok, Err, IsOkAnd, IsErrAnd, map, ap, ◌∙◌}
-use Rattle.std.specs.declared.time.Duration.{Duration}
-use Rattle.std.specs.Duration.{as_nanos}
-use Rattle.std.specs.Str.{chars}
-use Rattle.duration_str.specs.declared.options.Options.{Options}
-use Rattle.duration_str.specs.declared.fault.Cause.{Cause}
-use Rattle.duration_str.specs.declared.fault.Fault.{Fault}
-use Rattle.duration_str.specs.Reading.{IsRead, IsRefused}
-use Rattle.duration_str.specs.Results.{ParsesText}
-use Rattle.duration_str.specs.Grammar.{terminal_of, IsSentenceOf}
-use Rattle.duration_str.specs.Tokens.{Token, tokens_of, lexemes_of}
-use Rattle.duration_str.specs.Older.{older_terminals, WasSentenceOf}
-use Rattle.duration_str.specs.Laws.{OneAnswer, OneSentence, OlderTexts}
+use Rattle.std.proofs.Common.{◌≡◌, ℕ, List, Result, Ok, Err, IsOkAnd, IsErrAnd, map, ap, ◌∙◌, chars}
+use Rattle.duration_str.proofs.Common.{as_nanos, IsRead, IsRefused, ParsesText, terminal_of, IsSentenceOf, tokens_of, lexemes_of, older_terminals, WasSentenceOf, OneAnswer, OneSentence, OlderTexts}
+use Rattle.uses.proofs.Common.{Duration, Options, Cause, Fault, Token}
 
 -- A text that is read as a value is answered by it.
 pub value_answered : OneAnswer → (o : Options) (bytes : List ℕ) (result : Result Duration Fault) (nanos : ℕ) → ParsesText o bytes result

@@ -1,17 +1,9 @@
 -- Sums whose parts are exchanged.
 use Rattle.std.proofs.Common.{◌≡◌, ℕ, ◌+◌, ◌==◌, List, [], ◌∷◌, map, if◌then◌else◌, refl, sym, ap, ◌∙◌}
 use Rattle.std.specs.List.{sum_by}
-use Rattle.std.specs.List.Sorted.{IsPermutation}
+use Rattle.duration_str.proofs.Common.{Term, value_of_term, times_in, IsRead, Reorder}
+use Rattle.uses.proofs.Common.{IsPermutation, sum_by-IsPermutation, Options, Plus, Part, nanos_in, term_of_part}
 use Rattle.std.proofs.lemmas.List.Sums.{sum_by-cons}
-use Rattle.std.proofs.lemmas.List.Sorted.{sum_by-IsPermutation}
-use Rattle.duration_str.specs.declared.options.Options.{Options}
-use Rattle.duration_str.specs.declared.operator.CondUnit.TheVariants.{Plus}
-use Rattle.duration_str.specs.Value.{Term, value_of_term}
-use Rattle.duration_str.specs.Laws.{times_in}
-use Rattle.duration_str.specs.Reading.{IsRead}
-use Rattle.duration_str.specs.Laws.{Reorder}
-use Rattle.uses.specs.declared.product.Part.{Part}
-use Rattle.uses.specs.Product.{nanos_in, term_of_part}
 use Rattle.uses.specs.Sum.{Adds}
 
 -- how often the list of a part alone has the length n

@@ -1,9 +1,7 @@
 -- Texts compared by their bytes.
-use Rattle.std.proofs.Common.{◌≡◌, ◌↔◌, ℕ, Bool, List, IsTrue, IsUtf8, ap, sym, ◌∙◌}
-use Rattle.std.specs.Str.{chars, bytes_eq}
-use Rattle.std.proofs.lemmas.Str.{encodes-chars}
-use Rattle.std.proofs.lemmas.Slice.Eq.{bytes_eq-Decides}
-use lib.Utf8.{encodes}
+use Rattle.std.proofs.Common.{◌≡◌, ◌↔◌, ℕ, Bool, List, IsTrue, IsUtf8, ap, sym, ◌∙◌, chars}
+use Rattle.duration_str.proofs.Common.{encodes-chars, bytes_eq-Decides, encodes}
+use Rattle.std.specs.Str.{bytes_eq}
 
 chars_tell : (a b : List ℕ) → IsUtf8 a → IsUtf8 b → chars a ≡ chars b → a ≡ b
 chars_tell a b ua ub e = sym (encodes-chars a ua) ∙ ap encodes e ∙ encodes-chars b ub

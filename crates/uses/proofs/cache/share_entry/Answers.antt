@@ -1,6 +1,5 @@
-use Rattle.std.specs.Duration.{FitsDuration, as_nanos}
+use Rattle.duration_str.proofs.Common.{FitsDuration, as_nanos, off}
 use Rattle.std.proofs.Common.{◌≡◌, sym, ◌∙◌, arith}
-use Rattle.duration_str.specs.Units.{off}
 use Rattle.uses.proofs.CacheLemmas.{key_is_printed}
 use Rattle.uses.proofs.TextLemmas.{equal_by_chars}
 use Rattle.uses.proofs.cache.share_entry.Goals as goal

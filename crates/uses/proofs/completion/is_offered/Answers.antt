@@ -1,9 +1,6 @@
-use Rattle.std.proofs.Common.{◌≡◌, ℕ, List, [], ◌∷◌, ap, ap₂, sym, ◌∙◌}
-use Rattle.std.specs.Str.{chars}
-use Rattle.duration_str.specs.declared.options.Options.{Options}
-use Rattle.duration_str.specs.Tokens.{Token}
-use Rattle.duration_str.specs.Grammar.{terminal_of}
-use Rattle.duration_str.specs.Tokenizer.{left, token_of, what_of}
+use Rattle.std.proofs.Common.{◌≡◌, ℕ, List, [], ◌∷◌, ap, ap₂, sym, ◌∙◌, chars}
+use Rattle.duration_str.proofs.Common.{terminal_of, left, what_of}
+use Rattle.uses.proofs.Common.{Options, Token, token_of}
 use Rattle.uses.proofs.CompletionLemmas.{tokens_of_lexeme}
 use Rattle.uses.proofs.completion.is_offered.Goals as goal
 

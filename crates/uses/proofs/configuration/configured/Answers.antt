@@ -1,16 +1,10 @@
-use Rattle.std.proofs.Common.{◌≡◌, pos, Result, Ok, Err, subst, sym}
-use Rattle.std.proofs.lemmas.Bool.{true≢false}
-use Rattle.std.specs.declared.time.Duration.{Duration}
-use Rattle.std.specs.Duration.{as_nanos}
-use Rattle.std.specs.Str.{chars}
+use Rattle.std.proofs.Common.{◌≡◌, pos, Result, Ok, Err, subst, sym, chars}
+use Rattle.duration_str.proofs.Common.{as_nanos, IsRead, off, OneAnswer}
+use Rattle.uses.proofs.Common.{true≢false, Duration, Fault}
 use Rattle.serde_json.specs.Data.{Data, string}
 use Rattle.duration_str.specs.declared.error.DError.{DError}
-use Rattle.duration_str.specs.declared.fault.Fault.{Fault}
 use Rattle.duration_str.specs.Configuration.{IsRequired}
 use Rattle.duration_str.specs.Errors.{IsErrorOf, IsOverflow}
-use Rattle.duration_str.specs.Reading.{IsRead}
-use Rattle.duration_str.specs.Units.{off}
-use Rattle.duration_str.specs.Laws.{OneAnswer}
 use Rattle.uses.specs.Configuration.{IsAnswered, Overflows}
 use Rattle.uses.proofs.configuration.configured.Goals as goal
 

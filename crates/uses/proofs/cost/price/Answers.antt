@@ -1,9 +1,6 @@
 use Rattle.std.proofs.Common.{◌≡◌, ℕ, List, Result, Ok, Err, OnOk, IsOkAnd, IsErrAnd, refl, mul-le-mul_right}
 use Rattle.std.specs.Prelude.{IfErr}
-use Rattle.std.specs.declared.time.Duration.{Duration}
-use Rattle.duration_str.specs.declared.fault.Cause.{Cause}
-use Rattle.duration_str.specs.declared.fault.Cause.TheVariants.{Syntax}
-use Rattle.duration_str.specs.declared.fault.Fault.{Fault}
+use Rattle.uses.proofs.Common.{Duration, Cause, Syntax, Fault}
 use Rattle.duration_str.specs.Results.{ReachesPlace}
 use Rattle.uses.proofs.StoredLemmas.{value_answered, cause_answered}
 use Rattle.uses.proofs.cost.price.Goals as goal

@@ -1,6 +1,6 @@
 use Rattle.std.proofs.Common.{rules, arith, ◌≡◌, inl, inr, refl}
 use Rattle.std.proofs.lemmas.Str.Pattern.{strip_suffix_char}
-use Rattle.uses.specs.Line.{line_of}
+use Rattle.uses.proofs.Common.{line_of}
 use Rattle.uses.proofs.LineLemmas.{text_read}
 use Rattle.uses.proofs.line.without_line_feed.Goals as goal
 

@@ -1,6 +1,6 @@
 use Rattle.std.proofs.Common.{arith, ℕ, ◌*◌, ◌/◌, ◌^◌, ◌<◌, ◌≡◌, ap₂, subst, sym, ◌∙◌}
-use Rattle.duration_str.specs.Value.{second}
-use Rattle.uses.specs.Product.{nanos_in}
+use Rattle.duration_str.proofs.Common.{second}
+use Rattle.uses.proofs.Common.{nanos_in}
 use Rattle.uses.proofs.ProductLemmas.{Fit, product_read, read_product}
 use Rattle.uses.proofs.product.scaled.Goals as goal
 

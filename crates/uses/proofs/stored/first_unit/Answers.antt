@@ -1,9 +1,6 @@
-use Rattle.std.proofs.Common.{◌≡◌, List, [], ◌∷◌, ap, sym, ◌∙◌}
-use Rattle.std.specs.Str.{chars}
-use Rattle.duration_str.specs.declared.options.Options.{Options}
-use Rattle.duration_str.specs.Tokens.{Token, tokens_of}
-use Rattle.duration_str.specs.Tokenizer.{left, token_of, what_of}
-use Rattle.duration_str.specs.Grammar.{terminal_of}
+use Rattle.std.proofs.Common.{◌≡◌, List, [], ◌∷◌, ap, sym, ◌∙◌, chars}
+use Rattle.duration_str.proofs.Common.{tokens_of, left, what_of, terminal_of}
+use Rattle.uses.proofs.Common.{Options, Token, token_of}
 use Rattle.uses.specs.Stored.{unit_of_first}
 use Rattle.uses.proofs.StoredLemmas.{older_terminals_of_tokens}
 use Rattle.uses.proofs.stored.first_unit.Goals as goal

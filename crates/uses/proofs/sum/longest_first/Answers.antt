@@ -1,8 +1,5 @@
 use Rattle.std.proofs.Common.{rules, sym, ap, subst, ◌∙◌, reverse}
-use Rattle.std.specs.List.Sorted.{IsPermutation, IsNonDecreasingBy}
-use Rattle.std.proofs.lemmas.List.{reverse-reverse}
-use Rattle.std.proofs.lemmas.List.Sorted.{IsPermutation-trans, IsPermutation-sym, IsNonDecreasingBy-from_sort_by_key}
-use Rattle.uses.specs.Product.{nanos_in}
+use Rattle.uses.proofs.Common.{IsPermutation, IsNonDecreasingBy, reverse-reverse, IsPermutation-trans, IsPermutation-sym, IsNonDecreasingBy-from_sort_by_key, nanos_in}
 use Rattle.uses.proofs.SumLemmas.{permuted_read}
 use Rattle.uses.proofs.sum.longest_first.Goals as goal
 
