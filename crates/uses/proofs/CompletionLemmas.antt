@@ -88,9 +88,9 @@ module _ (one : OneSentence) (cut : OneCut) (law : PlaceAndKinds) (o : Options) 
         parts = k.parts;
         ends_at_place = omega (arith, k.place, at_front.0);
         typed = λ w h. let next = follows law o.no_calc (stand_for o tokens) (terminal_of o w) begins in (
-            λ b. rw table (next.1 (typed_begins k.front w tokens k.are h b)),
-            λ a. allowed_typed k.front w tokens expected k.are (next.0 (rw table at a)) a,
-          );
+          λ b. rw table (next.1 (typed_begins k.front w tokens k.are h b)),
+          λ a. allowed_typed k.front w tokens expected k.are (next.0 (rw table at a)) a,
+        );
         nothing_more = (
           λ whole. let lexemes = (one.tokens o k.front whole.0 whole.1.0).0 whole.1.1
               ∙ ap lexemes_of (sym (cut.only o k.front tokens k.are)) in

@@ -18,23 +18,23 @@ pub struct Example {
     pub answer: Result<Duration, Cause>,
 }
 
-const OFF: Options = Options {
+pub(crate) const OFF: Options = Options {
     no_calc: false,
     lowercase: false,
     cn_unit: false,
 };
 
-const NO_CALC: Options = Options {
+pub(crate) const NO_CALC: Options = Options {
     no_calc: true,
     ..OFF
 };
 
-const LOWERCASE: Options = Options {
+pub(crate) const LOWERCASE: Options = Options {
     lowercase: true,
     ..OFF
 };
 
-const CN_UNIT: Options = Options {
+pub(crate) const CN_UNIT: Options = Options {
     cn_unit: true,
     ..OFF
 };
