@@ -1,6 +1,5 @@
 -- What a text moves a moment to.
-use Rattle.std.specs.Prelude.{◌≡◌, ℕ, ℤ, List, Result, IsOkAnd, IsErrAnd}
-use Rattle.std.specs.Str.{chars}
+use Rattle.std.specs.Prelude.{◌≡◌, ℕ, ℤ, List, Result, IsOkAnd, IsErrAnd, chars}
 use Rattle.duration_str.specs.declared.fault.Cause.{Cause}
 use Rattle.duration_str.specs.declared.fault.Cause.TheVariants.{OutOfRange}
 use Rattle.duration_str.specs.declared.fault.Fault.{Fault}

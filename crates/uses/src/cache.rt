@@ -1,7 +1,6 @@
 //! The key of a cache: one text for each value.
-ghost use Rattle.std.specs.Prelude.{◌≡◌, ℕ, List, ◌↔◌, IsTrue, IfOk, IfErr, ◌⊎◌};
+ghost use Rattle.std.specs.Prelude.{◌≡◌, ℕ, List, ◌↔◌, IsTrue, IfOk, IfErr, ◌⊎◌, chars};
 ghost use Rattle.std.specs.Duration.{as_nanos};
-ghost use Rattle.std.specs.Str.{chars};
 ghost use Rattle.duration_str.specs.declared.options.Options.{Options as Choice};
 ghost use Rattle.duration_str.specs.Reading.{IsRead};
 ghost use Rattle.duration_str.specs.Printing.{IsPrinted};

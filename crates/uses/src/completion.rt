@@ -1,6 +1,5 @@
 //! What a person may type next.
-ghost use Rattle.std.specs.Prelude.{◌≡◌, ◌↔◌, ℕ, length, IsTrue, IfSome, IfNone};
-ghost use Rattle.std.specs.Str.{chars};
+ghost use Rattle.std.specs.Prelude.{◌≡◌, ◌↔◌, ℕ, length, IsTrue, IfSome, IfNone, chars};
 ghost use Rattle.duration_str.specs.declared.fault.Cause.TheVariants.{Syntax};
 ghost use Rattle.duration_str.specs.declared.fault.Expected.{Expected as Kinds};
 ghost use Rattle.duration_str.specs.Reading.{IsRefused};

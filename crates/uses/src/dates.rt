@@ -1,4 +1,5 @@
 //! When what is kept for some time is deleted, and when what is delayed is due.
+#![tactic(auto, using(crate::proofs::DateLemmas::dated_is_moved))]
 ghost use Rattle.std.specs.Prelude.{pos, ◌+ℤ◌, ◌-ℤ◌};
 ghost use Rattle.duration_str.specs.Dates.{IsCivil, IsCivilDay};
 ghost use Rattle.uses.specs.Dates.{IsMoved};

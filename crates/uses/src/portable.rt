@@ -1,7 +1,6 @@
 //! Expressions that mean the same under several choices of options.
-ghost use Rattle.std.specs.Prelude.{◌≡◌, ℕ, IsTrue};
+ghost use Rattle.std.specs.Prelude.{◌≡◌, ℕ, IsTrue, chars};
 ghost use Rattle.std.specs.List.{list_all};
-ghost use Rattle.std.specs.Str.{chars};
 ghost use Rattle.duration_str.specs.Text.{is_chinese};
 ghost use Rattle.uses.specs.Portable.{is_unaffected, HasSameValue, HasSameCause};
 

@@ -1,7 +1,6 @@
 //! Durations that an older version of a program stored as texts.
-ghost use Rattle.std.specs.Prelude.{◌≡◌, ℕ, List, IsOkAnd, IsErrAnd};
+ghost use Rattle.std.specs.Prelude.{◌≡◌, ℕ, List, IsOkAnd, IsErrAnd, chars};
 ghost use Rattle.std.specs.Duration.{as_nanos};
-ghost use Rattle.std.specs.Str.{chars};
 ghost use Rattle.duration_str.specs.Grammar.{Terminal};
 ghost use Rattle.duration_str.specs.Tokenizer.{what_of};
 ghost use Rattle.duration_str.specs.Older.{older_terminals, WasSentenceOf, WasRead, WasRefused};

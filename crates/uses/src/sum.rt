@@ -1,9 +1,8 @@
 //! Sums of durations, added without being written, and written in another order.
-ghost use Rattle.std.specs.Prelude.{◌≡◌, ◌↔◌, ℕ, false, ◌==◌, ◌++◌, None, List, not, codes, reverse, IfSome, IfNone};
+ghost use Rattle.std.specs.Prelude.{◌≡◌, ◌↔◌, ℕ, false, ◌==◌, ◌++◌, None, List, not, codes, reverse, IfSome, IfNone, chars};
 ghost use Rattle.std.specs.Duration.{as_nanos};
 ghost use Rattle.std.specs.List.{list_all};
 ghost use Rattle.std.specs.List.Sorted.{IsPermutation, IsNonDecreasingBy};
-ghost use Rattle.std.specs.Str.{chars};
 ghost use Rattle.duration_str.specs.declared.options.Options.{Options as Choice};
 ghost use Rattle.duration_str.specs.Laws.{HasNoStar};
 ghost use Rattle.duration_str.specs.Reading.{IsRead, IsRefused};
