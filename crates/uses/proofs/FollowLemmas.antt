@@ -1,5 +1,5 @@
 -- What the law `place_and_kinds` says of one more terminal.
-use Rattle.std.proofs.Common.{◌≡◌, ℕ, ◌≤◌, Bool, inl, inr, ◌↔◌, List, [], ◌∷◌, ◌++◌, Option, Some, None, length, IsTrue, arith, refl, sym, ap, append-nil, length-take, suc-le-suc, le_of_suc-le-suc}
+use Rattle.std.proofs.Common.{◌≡◌, ◌≤◌, Bool, inl, inr, ◌↔◌, List, [], ◌∷◌, ◌++◌, Option, Some, None, length, IsTrue, arith, refl, sym, ap, append-nil, length-take, suc-le-suc, le_of_suc-le-suc}
 use Rattle.duration_str.proofs.Common.{cases_Bool, Terminal, number, operator, IsSentence, BeginsSentence, kinds_after, allows, last_of, front_after, front_of, PlaceAndKinds}
 use Rattle.uses.proofs.Common.{take_all, CondUnit}
 

@@ -1,7 +1,7 @@
 -- What is known of a text that is refused for its syntax.
 use Rattle.std.proofs.Common.{◌≡◌, ℕ, Bool, true, false, List, [], ◌∷◌, ◌++◌, Option, Some, None, ap, ◌∙◌}
-use Rattle.duration_str.proofs.Common.{Terminal, CanFollow, Term, or_else, unless, term_fault, later_fault, evaluation_fault, terms_of, IsRefusedAt, first_fault, running_fault, place_after, complete_terms, early_fault, late_fault, early, syntax_fault, late}
-use Rattle.uses.proofs.Common.{Options, CondUnit, Cause, Syntax, Expected}
+use Rattle.duration_str.proofs.Common.{Terminal, CanFollow, Term, or_else, unless, term_fault, later_fault, evaluation_fault, terms_of, IsRefusedAt, first_fault, running_fault, complete_terms, early_fault, late_fault, early, syntax_fault, late}
+use Rattle.uses.proofs.Common.{CondUnit, Cause, Syntax, Expected}
 
 -- ---- The faults of the evaluation are no syntax faults
 

@@ -1,4 +1,5 @@
 //! The key of a cache: one text for each value.
+#![tactic(auto, using(crate::proofs::CacheLemmas::key_is_canonical))]
 ghost use Rattle.std.specs.Prelude.{◌≡◌, ℕ, List, ◌↔◌, IsTrue, IfOk, IfErr, ◌⊎◌, chars};
 ghost use Rattle.std.specs.Duration.{as_nanos};
 ghost use Rattle.duration_str.specs.declared.options.Options.{Options as Choice};

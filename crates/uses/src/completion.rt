@@ -1,4 +1,5 @@
 //! What a person may type next.
+#![tactic(auto, using(crate::proofs::CompletionLemmas::refused_completion))]
 ghost use Rattle.std.specs.Prelude.{◌≡◌, ◌↔◌, ℕ, length, IsTrue, IfSome, IfNone, chars};
 ghost use Rattle.duration_str.specs.declared.fault.Cause.TheVariants.{Syntax};
 ghost use Rattle.duration_str.specs.declared.fault.Expected.{Expected as Kinds};

@@ -1,4 +1,5 @@
 //! Expressions that mean the same under several choices of options.
+#![tactic(auto, using(crate::proofs::PortableLemmas::unaffected_has_same_value, crate::proofs::PortableLemmas::unaffected_has_same_cause))]
 ghost use Rattle.std.specs.Prelude.{◌≡◌, ℕ, IsTrue, chars};
 ghost use Rattle.std.specs.List.{list_all};
 ghost use Rattle.duration_str.specs.Text.{is_chinese};

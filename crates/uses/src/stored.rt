@@ -1,4 +1,5 @@
 //! Durations that an older version of a program stored as texts.
+#![tactic(auto, using(crate::proofs::StoredLemmas::value_answered, crate::proofs::StoredLemmas::cause_answered))]
 ghost use Rattle.std.specs.Prelude.{◌≡◌, ℕ, List, IsOkAnd, IsErrAnd, chars};
 ghost use Rattle.std.specs.Duration.{as_nanos};
 ghost use Rattle.duration_str.specs.Grammar.{Terminal};

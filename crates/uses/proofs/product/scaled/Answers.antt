@@ -1,6 +1,5 @@
-use Rattle.std.proofs.Common.{arith, ℕ}
-use Rattle.uses.proofs.Common.{nanos_in}
-use Rattle.uses.proofs.ProductLemmas.{IsProduct, read_as_product}
+use Rattle.std.proofs.Common.{arith}
+use Rattle.uses.proofs.ProductLemmas.{read_as_product}
 use Rattle.uses.proofs.product.scaled.Goals as goal
 
 pub returns-in_default-clause-refused : goal.returns-in_default-clause-refused
