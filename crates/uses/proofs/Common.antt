@@ -2,18 +2,12 @@
 pub use Rattle.duration_str.proofs.Characters.CharacterLemmas.{run-not_blank}
 pub use Rattle.duration_str.specs.Tokenizer.{token_of}
 pub use Rattle.duration_str.specs.Tokens.{Token}
-pub use Rattle.duration_str.specs.declared.fault.Cause.{Cause}
-pub use Rattle.duration_str.specs.declared.fault.Cause.TheVariants.{Syntax}
-pub use Rattle.duration_str.specs.declared.fault.Expected.{Expected}
-pub use Rattle.duration_str.specs.declared.fault.Fault.{Fault}
 pub use Rattle.duration_str.specs.declared.operator.CondUnit.{CondUnit}
-pub use Rattle.duration_str.specs.declared.operator.CondUnit.TheVariants.{Plus, Star}
-pub use Rattle.duration_str.specs.declared.options.Options.{Options}
 pub use Rattle.std.proofs.lemmas.Bool.{true≢false}
 pub use Rattle.std.proofs.lemmas.List.{length-take, reverse-reverse, take-map, take_all, take_more_set}
 pub use Rattle.std.proofs.lemmas.List.Sorted.{IsNonDecreasingBy-from_sort_by_key, IsPermutation-sym, IsPermutation-trans, sum_by-IsPermutation}
 pub use Rattle.std.specs.List.Sorted.{IsNonDecreasingBy, IsPermutation}
-pub use Rattle.std.specs.declared.time.Duration.{Duration}
+pub use Rattle.uses.specs.Common.{Cause, Duration, Expected, Fault, Options, Plus, Star, Syntax}
 pub use Rattle.uses.specs.Line.{IsReadAsBefore, line_of}
 pub use Rattle.uses.specs.Product.{MultipliesInEitherOrder, nanos_in, term_of_part}
 pub use Rattle.uses.specs.declared.product.Part.{Part}

@@ -53,10 +53,10 @@ module _ (one : OneSentence) (cut : OneCut) (law : PlaceAndKinds) (o : Options) 
       let e : IsEnding o (stand_for o tokens ++ terminal_of o w ∷ []) =
       ending_after (stand_for o tokens) (terminal_of o w) expected b a in
       let typed = lexemes_of tokens ++ w ∷ [] in
-      let spells = spells_both (lexemes_of tokens) (w ∷ []) kept (32 ∷ w) (tokens_spell_at o 0 kept tokens are) (spells_one w) in (
-        e.text,
-        (typed ++ e.lexemes, (simp map-append e.sentence, spells_both typed e.lexemes (kept ++ 32 ∷ w) (32 ∷ e.text) spells e.spells)),
-      )
+      let before = tokens_spell_at o 0 kept tokens are in
+      let spells = spells_both (lexemes_of tokens) (w ∷ []) kept (32 ∷ w) before (spells_one w) in
+      let whole = spells_both typed e.lexemes (kept ++ 32 ∷ w) (32 ∷ e.text) spells e.spells in
+      (e.text, (typed ++ e.lexemes, (simp map-append e.sentence, whole)))
 
   -- What can be typed goes on with the beginning of a sentence.
   typed_begins : (kept w : List ℕ) (tokens : List Token) → AreTokens o 0 kept tokens → IsLexeme o w

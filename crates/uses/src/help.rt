@@ -1,6 +1,5 @@
 //! The examples of a help page.
-ghost use Rattle.std.specs.List.{AllByRecursion};
-ghost use Rattle.std.specs.Str.{chars};
+ghost use Rattle.uses.specs.Common.{AllByRecursion, chars};
 ghost use Rattle.uses.specs.Help.{IsOnlyAnswerTo};
 
 use duration_str::laws::one_sentence;
