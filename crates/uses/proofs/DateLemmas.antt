@@ -1,11 +1,9 @@
 -- What a text moves a moment to, from the contract of the calls for dates.
-use Rattle.std.proofs.Common.{ℕ, ℤ, List, inl, inr, Result, Ok, Err}
+use Rattle.std.proofs.Common.{ℕ, ℤ, List, inl, inr, Result, Ok, Err, chars}
 use Rattle.std.specs.Int.Signed.{clash_ℤ}
-use Rattle.std.specs.Str.{chars}
-use Rattle.duration_str.specs.declared.fault.Fault.{Fault}
-use Rattle.duration_str.specs.Units.{off}
+use Rattle.duration_str.proofs.Common.{off, OneAnswer}
+use Rattle.uses.proofs.Common.{Fault}
 use Rattle.duration_str.specs.Dates.{IsInRange, IsOutOfRange, IsDated}
-use Rattle.duration_str.specs.Laws.{OneAnswer}
 use Rattle.uses.specs.Dates.{IsMoved}
 
 apart : (instant : ℤ) → IsInRange instant → IsOutOfRange instant → ⊥

@@ -1,4 +1,5 @@
 pub mod CacheLemmas
+pub mod Common
 pub mod CompletionLemmas
 pub mod CutLemmas
 pub mod DateLemmas

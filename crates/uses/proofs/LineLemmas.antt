@@ -1,24 +1,16 @@
 -- Lines and their texts are spelled by the same sentences.
 use Rattle.std.proofs.Common.{◌≡◌, ℕ, ◌+◌, List, [], ◌∷◌, IsUtf8, refl, ap, ◌∙◌, append_assoc, inl, inr}
-use Rattle.std.proofs.lemmas.Bool.{and_from, cases_Bool, true≢false}
-use Rattle.std.proofs.lemmas.List.Folds.{list_all-append}
-use Rattle.std.proofs.lemmas.Str.{chars-append}
+use Rattle.duration_str.proofs.Common.{and_from, cases_Bool, list_all-append, chars-append, width, is_blank, Spells, IsSentenceOf, goes_on, tokens_from, lexemes_of, OneSentence, BlanksFree}
+use Rattle.uses.proofs.Common.{true≢false, Options, run-not_blank, line_of, IsReadAsBefore}
 use Rattle.std.specs.Str.{chars}
-use Rattle.duration_str.specs.declared.options.Options.{Options}
-use Rattle.duration_str.specs.Text.{width, is_blank}
-use Rattle.duration_str.specs.Grammar.{Spells, IsSentenceOf}
-use Rattle.duration_str.specs.Tokens.{goes_on, tokens_from, lexemes_of}
-use Rattle.duration_str.specs.Laws.{OneSentence, BlanksFree}
-use Rattle.duration_str.proofs.Characters.CharacterLemmas.{run-not_blank}
-use Rattle.uses.specs.Line.{line_of, IsReadAsBefore}
 
 chars_line : (bytes : List ℕ) → IsUtf8 bytes → chars (line_of bytes) ≡ line_of (chars bytes)
 unfolding chars
 chars_line bytes utf8 = chars-append bytes (10 ∷ []) utf8
 
 -- A text that the same sentences spell is read as before.
-read_as_before : BlanksFree → (old new : List ℕ) → ((o : Options) (lexemes : List (List ℕ)) → IsSentenceOf o lexemes old → Spells lexemes new)
-    → IsReadAsBefore old new
+read_as_before : BlanksFree → (old new : List ℕ)
+    → ((o : Options) (lexemes : List (List ℕ)) → IsSentenceOf o lexemes old → Spells lexemes new) → IsReadAsBefore old new
 read_as_before free old new spells = record {
   value = λ o nanos read. free.value o old new read.lexemes nanos read.spells (spells o read.lexemes read.spells) read;
   cause = λ o lexemes cause s refused. free.cause o old new lexemes cause s (spells o lexemes s) refused;
@@ -46,10 +38,12 @@ line_tokens o at (c ∷ []) = elim (cases_Bool (goes_on o c (10 ∷ []))) [
 ]
 line_tokens o at (c ∷ d ∷ text) = rw (line_tokens o (at + width c) (d ∷ text)) refl
 
-spells_text : OneSentence → (o : Options) (lexemes : List (List ℕ)) (text : List ℕ) → IsSentenceOf o lexemes (line_of text) → Spells lexemes text
+spells_text : OneSentence → (o : Options) (lexemes : List (List ℕ)) (text : List ℕ)
+    → IsSentenceOf o lexemes (line_of text) → Spells lexemes text
 spells_text law o lexemes text s =
     (law.tokens o text lexemes s.0).1 ((law.tokens o (line_of text) lexemes s.0).0 s.1 ∙ ap lexemes_of (line_tokens o 0 text))
 
-pub text_read : OneSentence → BlanksFree → (bytes : List ℕ) → IsUtf8 bytes → IsReadAsBefore (chars (line_of bytes)) (chars bytes)
+pub text_read : OneSentence → BlanksFree → (bytes : List ℕ) → IsUtf8 bytes
+    → IsReadAsBefore (chars (line_of bytes)) (chars bytes)
 text_read law free bytes utf8 =
     rw (chars_line bytes utf8) (read_as_before free _ (chars bytes) (λ o lexemes s. spells_text law o lexemes (chars bytes) s))

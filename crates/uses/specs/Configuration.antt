@@ -1,15 +1,9 @@
 -- The duration in a required field, or the error for its refusal.
-use Rattle.std.specs.Prelude.{◌≡◌, ℕ, List, Option, Result, Ok, Err, false}
-use Rattle.std.specs.declared.time.Duration.{Duration}
-use Rattle.std.specs.Duration.{as_nanos}
-use Rattle.std.specs.Str.{chars}
+use Rattle.std.specs.Prelude.{◌≡◌, ℕ, List, Option, Result, Ok, Err, false, chars}
+use Rattle.uses.specs.Common.{Duration, as_nanos, Cause, Overflow, NotText, IsRead, IsRefused, off}
 use Rattle.serde_json.specs.Data.{Data, string}
 use Rattle.duration_str.specs.declared.error.DError.{DError}
-use Rattle.duration_str.specs.declared.fault.Cause.{Cause}
-use Rattle.duration_str.specs.declared.fault.Cause.TheVariants.{Overflow, NotText}
 use Rattle.duration_str.specs.Errors.{IsErrorOf}
-use Rattle.duration_str.specs.Reading.{IsRead, IsRefused}
-use Rattle.duration_str.specs.Units.{off}
 
 -- The value is a text that is read as the duration, or refused for a cause whose error this is; or it is no text, and
 -- the error says so.

@@ -1,12 +1,6 @@
 -- What a text moves a moment to.
-use Rattle.std.specs.Prelude.{◌≡◌, ℕ, ℤ, List, Result, IsOkAnd, IsErrAnd}
-use Rattle.std.specs.Str.{chars}
-use Rattle.duration_str.specs.declared.fault.Cause.{Cause}
-use Rattle.duration_str.specs.declared.fault.Cause.TheVariants.{OutOfRange}
-use Rattle.duration_str.specs.declared.fault.Fault.{Fault}
-use Rattle.duration_str.specs.Units.{off}
-use Rattle.duration_str.specs.Dates.{IsInRange, IsOutOfRange}
-use Rattle.duration_str.specs.Reading.{IsRead, IsRefused}
+use Rattle.std.specs.Prelude.{◌≡◌, ℕ, ℤ, List, Result, IsOkAnd, IsErrAnd, chars}
+use Rattle.uses.specs.Common.{Cause, OutOfRange, Fault, off, IsInRange, IsOutOfRange, IsRead, IsRefused}
 
 -- The fault is of these bytes, for this cause.
 abbrev pub IsFaultOf : List ℕ → Cause → Fault → Type 0

@@ -1,4 +1,5 @@
 pub mod Cache
+pub mod Common
 pub mod Completion
 pub mod Configuration
 pub mod Dates

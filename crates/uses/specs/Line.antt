@@ -1,9 +1,6 @@
 -- Texts with a line feed at their end, and without.
 use Rattle.std.specs.Prelude.{◌≡◌, ◌≢◌, ℕ, List, ◌++◌, ◌⊎◌, codes}
-use Rattle.duration_str.specs.declared.options.Options.{Options}
-use Rattle.duration_str.specs.declared.fault.Cause.{Cause}
-use Rattle.duration_str.specs.Grammar.{IsSentenceOf}
-use Rattle.duration_str.specs.Reading.{IsRead, IsRefused}
+use Rattle.uses.specs.Common.{Options, Cause, IsSentenceOf, IsRead, IsRefused}
 
 -- the text and a line feed
 abbrev pub line_of : List ℕ → List ℕ

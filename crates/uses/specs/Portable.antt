@@ -2,11 +2,7 @@
 use Rattle.std.specs.Prelude.{ℕ, Bool, not, ◌&&◌, ◌||◌, List, ◌↔◌}
 use Rattle.std.specs.Bool.{beq}
 use Rattle.std.specs.Char.{is_ascii_uppercase}
-use Rattle.duration_str.specs.declared.options.Options.{Options}
-use Rattle.duration_str.specs.declared.fault.Cause.{Cause}
-use Rattle.duration_str.specs.Laws.{is_operator}
-use Rattle.duration_str.specs.Text.{is_chinese}
-use Rattle.duration_str.specs.Reading.{IsRead, IsRefused}
+use Rattle.uses.specs.Common.{Options, Cause, is_operator, is_chinese, IsRead, IsRefused}
 
 -- whether the character means the same under both choices: an operator if `no_calc` is the same, an ASCII capital if
 -- `lowercase` is, one of the Chinese characters of the units if `cn_unit` is, and any other character

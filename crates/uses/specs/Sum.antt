@@ -1,9 +1,6 @@
 -- Texts that add parts.
 use Rattle.std.specs.Prelude.{◌≡◌, ℕ, List, map}
-use Rattle.duration_str.specs.declared.options.Options.{Options}
-use Rattle.duration_str.specs.declared.operator.CondUnit.TheVariants.{Plus}
-use Rattle.duration_str.specs.Grammar.{terminal_of, IsSentenceOf}
-use Rattle.duration_str.specs.Value.{AllPlus, terms_of}
+use Rattle.uses.specs.Common.{Options, Plus, terminal_of, IsSentenceOf, AllPlus, terms_of}
 use Rattle.uses.specs.declared.product.Part.{Part}
 use Rattle.uses.specs.Product.{term_of_part}
 

@@ -1,13 +1,8 @@
 //! What a person may type next.
-ghost use Rattle.std.specs.Prelude.{◌≡◌, ◌↔◌, ℕ, length, IsTrue, IfSome, IfNone};
-ghost use Rattle.std.specs.Str.{chars};
-ghost use Rattle.duration_str.specs.declared.fault.Cause.TheVariants.{Syntax};
-ghost use Rattle.duration_str.specs.declared.fault.Expected.{Expected as Kinds};
-ghost use Rattle.duration_str.specs.Reading.{IsRefused};
-ghost use Rattle.duration_str.specs.Grammar.{Terminal, terminal_of};
-ghost use Rattle.duration_str.specs.Tokens.{IsLexeme};
-ghost use Rattle.duration_str.specs.Tokenizer.{what_of};
-ghost use Rattle.duration_str.specs.Answer.{allows};
+#![tactic(auto, using(crate::proofs::CompletionLemmas::refused_completion))]
+
+ghost use Rattle.std.specs.Prelude.{◌≡◌, ◌↔◌, ℕ, length, IsTrue, IfSome, IfNone, chars};
+ghost use Rattle.uses.specs.Common.{Syntax, Expected as Kinds, IsRefused, Terminal, terminal_of, IsLexeme, what_of, allows};
 ghost use Rattle.uses.specs.Completion.{IsCompletion};
 
 use duration_str::laws::{one_sentence, place_and_kinds};

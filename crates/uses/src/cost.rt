@@ -1,9 +1,6 @@
 //! What reading a text costs, for a service that charges for it.
-ghost use Rattle.std.specs.Prelude.{◌≡◌, ◌≤◌, ◌*◌, ℕ, length, take};
-ghost use Rattle.std.specs.Str.{chars};
-ghost use Rattle.duration_str.specs.Reading.{IsRead, IsRefused};
-ghost use Rattle.duration_str.specs.declared.fault.Cause.TheVariants.{Syntax};
-ghost use Rattle.duration_str.specs.declared.fault.Expected.{Expected};
+ghost use Rattle.std.specs.Prelude.{◌≡◌, ◌≤◌, ◌*◌, ℕ, length, take, chars};
+ghost use Rattle.uses.specs.Common.{IsRead, IsRefused, Syntax, Expected};
 
 use duration_str::laws::one_sentence;
 use duration_str::{Options, parse_looked};

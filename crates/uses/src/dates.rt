@@ -1,6 +1,8 @@
 //! When what is kept for some time is deleted, and when what is delayed is due.
+#![tactic(auto, using(crate::proofs::DateLemmas::dated_is_moved))]
+
 ghost use Rattle.std.specs.Prelude.{pos, ◌+ℤ◌, ◌-ℤ◌};
-ghost use Rattle.duration_str.specs.Dates.{IsCivil, IsCivilDay};
+ghost use Rattle.uses.specs.Common.{IsCivil, IsCivilDay};
 ghost use Rattle.uses.specs.Dates.{IsMoved};
 
 use duration_str::laws::one_sentence;

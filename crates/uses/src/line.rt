@@ -1,5 +1,7 @@
 //! Expressions that stand on a line of their own.
-ghost use Rattle.std.specs.Str.{chars};
+#![tactic(auto, using(crate::proofs::LineLemmas::line_read))]
+
+ghost use Rattle.uses.specs.Common.{chars};
 ghost use Rattle.duration_str.specs.Buffers.{IsInFront};
 ghost use Rattle.uses.specs.Line.{IsWithoutLineFeed, line_of, IsReadAsBefore};
 

@@ -1,8 +1,8 @@
 //! Expressions that mean the same under several choices of options.
-ghost use Rattle.std.specs.Prelude.{◌≡◌, ℕ, IsTrue};
-ghost use Rattle.std.specs.List.{list_all};
-ghost use Rattle.std.specs.Str.{chars};
-ghost use Rattle.duration_str.specs.Text.{is_chinese};
+#![tactic(auto, using(crate::proofs::PortableLemmas::unaffected_has_same_value, crate::proofs::PortableLemmas::unaffected_has_same_cause))]
+
+ghost use Rattle.std.specs.Prelude.{◌≡◌, ℕ, IsTrue, chars};
+ghost use Rattle.uses.specs.Common.{list_all, is_chinese};
 ghost use Rattle.uses.specs.Portable.{is_unaffected, HasSameValue, HasSameCause};
 
 use duration_str::laws::{no_calc_agrees, options_idle};

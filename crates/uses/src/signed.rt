@@ -1,9 +1,7 @@
 //! The difference of two durations.
-ghost use Rattle.std.specs.Prelude.{◌≡◌, ◌-ℤ◌, ◌⊎◌, ℕ, pos, IsOkAnd, IfErr};
-ghost use Rattle.std.specs.Str.{chars};
+ghost use Rattle.std.specs.Prelude.{◌≡◌, ◌-ℤ◌, ◌⊎◌, ℕ, pos, IsOkAnd, IfErr, chars};
 ghost use Rattle.jiff.specs.Words.{signed_nanos};
-ghost use Rattle.duration_str.specs.Reading.{IsRead};
-ghost use Rattle.duration_str.specs.Units.{off};
+ghost use Rattle.uses.specs.Common.{IsRead, off};
 ghost use Rattle.uses.specs.Cache.{Refuses};
 
 use duration_str::laws::one_sentence;

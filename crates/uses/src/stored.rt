@@ -1,12 +1,10 @@
 //! Durations that an older version of a program stored as texts.
-ghost use Rattle.std.specs.Prelude.{◌≡◌, ℕ, List, IsOkAnd, IsErrAnd};
-ghost use Rattle.std.specs.Duration.{as_nanos};
-ghost use Rattle.std.specs.Str.{chars};
-ghost use Rattle.duration_str.specs.Grammar.{Terminal};
-ghost use Rattle.duration_str.specs.Tokenizer.{what_of};
+#![tactic(auto, using(crate::proofs::StoredLemmas::value_answered, crate::proofs::StoredLemmas::cause_answered))]
+
+ghost use Rattle.std.specs.Prelude.{◌≡◌, ℕ, List, IsOkAnd, IsErrAnd, chars};
+ghost use Rattle.uses.specs.Common.{as_nanos, Terminal, what_of, Cause as AnyCause};
 ghost use Rattle.duration_str.specs.Older.{older_terminals, WasSentenceOf, WasRead, WasRefused};
 ghost use Rattle.uses.specs.Stored.{unit_named, unit_of_first};
-ghost use Rattle.duration_str.specs.declared.fault.Cause.{Cause as AnyCause};
 
 use duration_str::laws::{older_texts, one_sentence};
 use duration_str::{Fault, Options, TimeUnit, Tokens, What, parse_with};

@@ -1,13 +1,7 @@
 //! Sums of durations, added without being written, and written in another order.
-ghost use Rattle.std.specs.Prelude.{◌≡◌, ◌↔◌, ℕ, false, ◌==◌, ◌++◌, None, List, not, codes, reverse, IfSome, IfNone};
-ghost use Rattle.std.specs.Duration.{as_nanos};
-ghost use Rattle.std.specs.List.{list_all};
+ghost use Rattle.std.specs.Prelude.{◌≡◌, ◌↔◌, ℕ, false, ◌==◌, ◌++◌, None, List, not, codes, reverse, IfSome, IfNone, chars};
+ghost use Rattle.uses.specs.Common.{as_nanos, list_all, Options as Choice, HasNoStar, IsRead, IsRefused, Overflow};
 ghost use Rattle.std.specs.List.Sorted.{IsPermutation, IsNonDecreasingBy};
-ghost use Rattle.std.specs.Str.{chars};
-ghost use Rattle.duration_str.specs.declared.options.Options.{Options as Choice};
-ghost use Rattle.duration_str.specs.Laws.{HasNoStar};
-ghost use Rattle.duration_str.specs.Reading.{IsRead, IsRefused};
-ghost use Rattle.duration_str.specs.declared.fault.Cause.TheVariants.{Overflow};
 ghost use Rattle.uses.specs.Product.{nanos_in};
 ghost use Rattle.uses.specs.Sum.{Adds};
 

@@ -1,16 +1,10 @@
-use Rattle.std.proofs.Common.{◌≡◌, pos, Result, Ok, Err, subst, sym}
-use Rattle.std.proofs.lemmas.Bool.{true≢false}
-use Rattle.std.specs.declared.time.Duration.{Duration}
-use Rattle.std.specs.Duration.{as_nanos}
-use Rattle.std.specs.Str.{chars}
+use Rattle.std.proofs.Common.{◌≡◌, pos, Result, Ok, Err, sym, chars}
+use Rattle.duration_str.proofs.Common.{as_nanos, off, OneAnswer}
+use Rattle.uses.proofs.Common.{true≢false, Duration, Fault}
 use Rattle.serde_json.specs.Data.{Data, string}
 use Rattle.duration_str.specs.declared.error.DError.{DError}
-use Rattle.duration_str.specs.declared.fault.Fault.{Fault}
 use Rattle.duration_str.specs.Configuration.{IsRequired}
 use Rattle.duration_str.specs.Errors.{IsErrorOf, IsOverflow}
-use Rattle.duration_str.specs.Reading.{IsRead}
-use Rattle.duration_str.specs.Units.{off}
-use Rattle.duration_str.specs.Laws.{OneAnswer}
 use Rattle.uses.specs.Configuration.{IsAnswered, Overflows}
 use Rattle.uses.proofs.configuration.configured.Goals as goal
 
@@ -19,10 +13,11 @@ abbrev IsGiven : Data → Result Duration Fault → Type 0
 IsGiven value result = IsRequired (λ d. pos (as_nanos d)) value result
 
 given_value : (A : Type 0) (value : Data) (d : Duration) → IsGiven value (Ok d) → IsAnswered {A = A} value (Ok d)
-given_value A (string text) d (nanos, read, is) = let same : nanos ≡ as_nanos d = cc in subst (IsRead off (chars text)) same read
+given_value A (string text) d (nanos, read, is) = let same : nanos ≡ as_nanos d = cc in rw same at read
 given_value A _ d h = absurd h
 
-given_fault : {A : Type 0} (value : Data) (f : Fault) (error : DError A) → IsGiven value (Err f) → IsErrorOf f.cause error → IsAnswered value (Err error)
+given_fault : {A : Type 0} (value : Data) (f : Fault) (error : DError A) → IsGiven value (Err f)
+    → IsErrorOf f.cause error → IsAnswered value (Err error)
 given_fault (string text) f error (bytes, refused) is = (f.cause, refused, is)
 given_fault _ f error (bytes, no_text) is = rw no_text at is
 

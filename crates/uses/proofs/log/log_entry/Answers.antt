@@ -1,5 +1,5 @@
 use Rattle.std.proofs.Common.{rules, arith, ◌<◌, length, take, [], ◌∷◌, ap}
-use Rattle.std.proofs.lemmas.List.{length-take, take_more_set}
+use Rattle.uses.proofs.Common.{length-take, take_more_set}
 use Rattle.std.proofs.lemmas.Str.{IsUtf8-append, IsUtf8-from_ascii}
 use Rattle.uses.proofs.log.log_entry.Goals as goal
 

@@ -1,4 +1,4 @@
-use Rattle.duration_str.specs.Units.{off}
+use Rattle.duration_str.proofs.Common.{off}
 use Rattle.uses.proofs.signed.difference.Goals as goal
 
 pub returns-in_err-length-clause-read : goal.returns-in_err-length-clause-read
