@@ -92,7 +92,7 @@ impl<'a> Fault<'a> {
         }
     }
 
-    /// For a syntax fault: the piece of the text that stands at its place, or `None` at the end.
+    /// For a syntax fault: the token that stands at its place, or `None` at the end of the text.
     ///
     /// ```
     /// use duration_str::{Options, parse_with};

@@ -5,7 +5,7 @@
 //! source of a proved library with its contracts taken out. What it adds: [`parse_with`], whose options are chosen at each
 //! call and whose [`Fault`] says why and where; [`OwnedFault`]; [`HumanDuration`], for command lines and serde;
 //! [`write_human`], which takes no memory; [`Tokens`]; and `moment_after` and `moment_before` for any moment. A message's
-//! caret stands at the first piece with which no expression goes on.
+//! caret stands at the first token with which no expression continues.
 //!
 //! There is one `unsafe` block, in [`write_human`], which is proved with the rest of it.
 //!

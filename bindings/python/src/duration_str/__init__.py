@@ -49,7 +49,7 @@ class Cause(enum.IntEnum):
     EMPTY = 1
     """The text is empty."""
     SYNTAX = 2
-    """No expression goes on as the text does at the place."""
+    """No expression continues as the text does at the place."""
     NUMBER_TOO_LARGE = 3
     """A number is 2**64 or more."""
     OVERFLOW = 4
@@ -91,7 +91,7 @@ class DurationError(ValueError, argparse.ArgumentTypeError):
     expected: Expected
     """What could stand at the place of a syntax fault; for other faults no flag is set."""
     found: str | None
-    """The piece of the text that stands at the place of a syntax fault, or None at the end and for other faults."""
+    """The token that stands at the place of a syntax fault, or None at the end and for other faults."""
 
     def __init__(
         self, message: str, text: str, cause: Cause, place: int | None, expected: Expected, found: str | None
