@@ -345,7 +345,7 @@ static const char *line_of(const struct duration_str_answer *answer)
     case DURATION_STR_MIXED:
         return answer->first_operator == '+' ? "not support '+' with '*' calculate" : "not support '*' with '+' calculate";
     case DURATION_STR_OUT_OF_RANGE: return "date out of range";
-    case DURATION_STR_NOT_TEXT: return "expect duration string, e.g: '1min+30'";
+    case DURATION_STR_NOT_TEXT: return "not UTF-8";
     }
     return "";
 }

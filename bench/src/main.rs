@@ -1,15 +1,14 @@
-//! Times of this library and of humantime, and single calls of humantime and of the Rust crate for a program that
-//! counts instructions. `calls.rs` has those of this library.
+//! Times of this library and of humantime, and single calls of humantime for a program that counts instructions.
+//! `calls.rs` has those of this library. The Rust crate is measured, unless the archive is named.
 //!
 //! - `bench times`: nanoseconds a call over 1,000 expressions, a line `WHAT OURS THEIRS` for reading and for printing.
-//! - `bench crate-times`: the same of the Rust crate, for reading beside the C call, and for printing into a `String`
-//!   beside humantime.
-//! - `bench option-times`: nanoseconds a call over 1,000 expressions through `duration_str_parse_with`, a line
-//!   `OPTIONS NANOS` for each choice of options, the bits of `duration_str.h`.
+//! - `bench archive-times`: the same of the archive through C, beside the crate.
+//! - `bench option-times`: nanoseconds a call over 1,000 expressions through `parse_with`, a line `OPTIONS NANOS` for each
+//!   choice of options, the bits of `duration_str.h`.
 //! - `bench refused-times NAME..`: nanoseconds for a refused text and its message, a line `NAME OURS THEIRS` for each
-//!   of these names of `texts.rs`. A text that humantime reads, or that is no `str`, has `-` for THEIRS.
-//! - `bench calls SIDE WHAT COUNT`: so many calls on `3m 13s 29ms`. SIDE is `crate` (the Rust crate) or `theirs`, WHAT
-//!   is `read`, `print` (into a buffer) or `print-string`.
+//!   of these names of `texts.rs`. A text that humantime reads has `-` for THEIRS.
+//! - `bench calls WHAT COUNT`: so many calls of humantime on `3m 13s 29ms`. WHAT is `read`, `print` (into a buffer) or
+//!   `print-string`.
 //! - `bench text BYTES COUNT`: humantime reads a text of so many bytes so many times.
 //! - `bench refuse NAME COUNT`: humantime refuses a text so many times, and its message is written into a buffer. Where
 //!   it doesn't refuse the text, `-` is printed.
@@ -18,28 +17,11 @@ mod ours;
 mod texts;
 
 use duration_str::HumanFormat;
-use ours::{printing, reading, reading_with, refusing, ROOM};
+use ours::{Archive, Crate, Library, ROOM};
 use std::hint::black_box;
 use std::io::Write;
 use std::time::{Duration, Instant};
-use texts::{long_text, refused, repeat, EXPRESSION};
-
-#[derive(Clone, Copy)]
-enum Side {
-    Crate,
-    Theirs,
-}
-
-#[derive(Clone, Copy)]
-enum Call {
-    Read,
-    Print,
-    PrintString,
-}
-
-fn crate_reading(text: &str) -> Duration {
-    duration_str::parse(text).expect("a text that is read")
-}
+use texts::{EXPRESSION, long_text, refused, repeat};
 
 fn their_reading(text: &str) -> Duration {
     humantime::parse_duration(text).expect("a text that humantime reads")
@@ -71,58 +53,47 @@ fn nanos_a_call<const SIDES: usize>(calls: usize, sides: [&dyn Fn(); SIDES]) -> 
     least
 }
 
-fn times() {
-    let texts: Vec<&str> = EXPRESSIONS.lines().collect();
-    let lengths: Vec<Duration> = texts.iter().map(|text| their_reading(text)).collect();
-    let [ours, theirs] = nanos_a_call(
-        texts.len(),
-        [
-            &|| texts.iter().for_each(|text| { black_box(reading(black_box(text))); }),
-            &|| texts.iter().for_each(|text| { black_box(their_reading(black_box(text))); }),
-        ],
-    );
-    println!("read {ours:.1} {theirs:.1}");
-    let our_print = || lengths.iter().for_each(|length| { black_box(printing(black_box(*length))); });
-    let their_print = || lengths.iter().for_each(|length| { black_box(their_printing(black_box(*length))); });
-    let [ours, theirs] = nanos_a_call(lengths.len(), [&our_print, &their_print]);
-    println!("print {ours:.1} {theirs:.1}");
-    let their_string = || {
-        lengths.iter().for_each(|length| { black_box(humantime::format_duration(black_box(*length)).to_string()); });
-    };
-    let [ours, theirs] = nanos_a_call(lengths.len(), [&our_print, &their_string]);
-    println!("print-string {ours:.1} {theirs:.1}");
+/// The expressions, and their values.
+fn expressions() -> (Vec<&'static str>, Vec<Duration>) {
+    EXPRESSIONS.lines().map(|text| (text, their_reading(text))).unzip()
 }
 
-fn crate_times() {
-    let texts: Vec<&str> = EXPRESSIONS.lines().collect();
-    let lengths: Vec<Duration> = texts.iter().map(|text| crate_reading(text)).collect();
-    let [ours, theirs] = nanos_a_call(
-        texts.len(),
-        [
-            &|| texts.iter().for_each(|text| { black_box(crate_reading(black_box(text))); }),
-            &|| texts.iter().for_each(|text| { black_box(reading(black_box(text))); }),
-        ],
-    );
-    println!("read {ours:.1} {theirs:.1}");
-    let [ours, theirs] = nanos_a_call(
-        lengths.len(),
-        [
-            &|| lengths.iter().for_each(|length| { black_box(black_box(length).human_format()); }),
-            &|| {
-                lengths.iter().for_each(|length| {
-                    black_box(humantime::format_duration(black_box(*length)).to_string());
-                });
-            },
-        ],
-    );
-    println!("print-string {ours:.1} {theirs:.1}");
+/// Calls this for each element.
+fn all<T: Copy, R>(of: &[T], call: impl Fn(T) -> R) {
+    of.iter().for_each(|each| { black_box(call(black_box(*each))); });
+}
+
+fn times() {
+    let (texts, lengths) = expressions();
+    let string = |length: Duration| humantime::format_duration(length).to_string();
+    let sides: [(&str, &dyn Fn(), &dyn Fn()); 3] = [
+        ("read", &|| all(&texts, Crate::reading), &|| all(&texts, their_reading)),
+        ("print", &|| all(&lengths, Crate::printing), &|| all(&lengths, their_printing)),
+        ("print-string", &|| all(&lengths, |length| length.human_format()), &|| all(&lengths, string)),
+    ];
+    for (what, ours, theirs) in sides {
+        let [ours, theirs] = nanos_a_call(texts.len(), [ours, theirs]);
+        println!("{what} {ours:.1} {theirs:.1}");
+    }
+}
+
+fn archive_times() {
+    let (texts, lengths) = expressions();
+    let sides: [(&str, &dyn Fn(), &dyn Fn()); 2] = [
+        ("read", &|| all(&texts, Archive::reading), &|| all(&texts, Crate::reading)),
+        ("print", &|| all(&lengths, Archive::printing), &|| all(&lengths, Crate::printing)),
+    ];
+    for (what, archive, ours) in sides {
+        let [archive, ours] = nanos_a_call(texts.len(), [archive, ours]);
+        println!("{what} {archive:.1} {ours:.1}");
+    }
 }
 
 fn option_times() {
     let texts: Vec<&str> = EXPRESSIONS.lines().collect();
     let sides: [_; 8] = std::array::from_fn(|options| {
         let texts = &texts;
-        move || texts.iter().for_each(|text| { black_box(reading_with(black_box(text), black_box(options as u32))); })
+        move || texts.iter().for_each(|text| { black_box(Crate::reading_with(black_box(text), black_box(options as u32))); })
     });
     let nanos = nanos_a_call(texts.len(), sides.each_ref().map(|side| side as &dyn Fn()));
     for (options, nanos) in nanos.iter().enumerate() {
@@ -140,7 +111,7 @@ fn their_refusing(text: &str, buffer: &mut [u8; ROOM]) -> Option<usize> {
 
 /// The text of this name, where humantime refuses it.
 fn refused_by_them(name: &str) -> Option<String> {
-    let text = String::from_utf8(refused(name)).ok()?;
+    let text = refused(name);
     their_refusing(&text, &mut [0; ROOM])?;
     Some(text)
 }
@@ -151,7 +122,7 @@ fn refused_times(names: &[&str]) {
         let text = refused(name);
         let ours = || {
             let mut buffer = [0; ROOM];
-            repeat(CALLS as u64, || { black_box(refusing(black_box(&text), &mut buffer)); });
+            repeat(CALLS as u64, || { black_box(Crate::refusing(black_box(&text), &mut buffer)); });
             black_box(&buffer);
         };
         match refused_by_them(name) {
@@ -179,20 +150,16 @@ fn refuse(name: &str, count: u64) {
     black_box(&buffer);
 }
 
-fn calls(side: Side, call: Call, count: u64) {
+fn calls(what: &str, count: u64) {
     let length = Duration::new(193, 29_000_000);
-    repeat(count, || {
-        let text = black_box(EXPRESSION);
-        let length = black_box(length);
-        match (side, call) {
-            (Side::Crate, Call::Read) => { black_box(crate_reading(text)); }
-            (Side::Crate, Call::Print) => { black_box(duration_str::write_human(&length, &mut [0; 64])); }
-            (Side::Crate, Call::PrintString) => { black_box(length.human_format()); }
-            (Side::Theirs, Call::Read) => { black_box(their_reading(text)); }
-            (Side::Theirs, Call::Print) => { black_box(their_printing(length)); }
-            (Side::Theirs, Call::PrintString) => { black_box(humantime::format_duration(length).to_string()); }
-        }
-    });
+    match what {
+        "read" => repeat(count, || { black_box(their_reading(black_box(EXPRESSION))); }),
+        "print" => repeat(count, || { black_box(their_printing(black_box(length))); }),
+        "print-string" => repeat(count, || {
+            black_box(humantime::format_duration(black_box(length)).to_string());
+        }),
+        _ => panic!("no call: {what}"),
+    }
 }
 
 fn text(bytes: usize, count: u64) {
@@ -203,7 +170,7 @@ fn text(bytes: usize, count: u64) {
 fn seconds(bytes: usize) {
     let text = long_text(bytes);
     let start = Instant::now();
-    black_box(reading(black_box(&text)));
+    black_box(Crate::reading(black_box(&text)));
     let ours = start.elapsed().as_secs_f64();
     let start = Instant::now();
     black_box(their_reading(black_box(&text)));
@@ -211,30 +178,13 @@ fn seconds(bytes: usize) {
     println!("{bytes} {ours:.4} {theirs:.4}");
 }
 
-fn side(word: &str) -> Side {
-    match word {
-        "crate" => Side::Crate,
-        "theirs" => Side::Theirs,
-        _ => panic!("no side: {word}"),
-    }
-}
-
-fn call(word: &str) -> Call {
-    match word {
-        "read" => Call::Read,
-        "print" => Call::Print,
-        "print-string" => Call::PrintString,
-        _ => panic!("no call: {word}"),
-    }
-}
-
 fn main() {
     let words: Vec<String> = std::env::args().skip(1).collect();
     let words: Vec<&str> = words.iter().map(String::as_str).collect();
     match words.as_slice() {
         ["times"] => times(),
-        ["crate-times"] => crate_times(),
-        ["calls", who, what, count] => calls(side(who), call(what), count.parse().expect("a count")),
+        ["archive-times"] => archive_times(),
+        ["calls", what, count] => calls(what, count.parse().expect("a count")),
         ["option-times"] => option_times(),
         ["refused-times", names @ ..] => refused_times(names),
         ["text", bytes, count] => text(bytes.parse().expect("a length"), count.parse().expect("a count")),

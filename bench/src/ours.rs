@@ -1,6 +1,58 @@
-//! The library's C calls that are measured.
+//! This library's calls that are measured: those of the Rust crate, and those of the archive through C.
+use duration_str::{Options, parse, parse_with, write_human};
 use std::hint::black_box;
 use std::time::Duration;
+
+/// More bytes than the message of any measured text has.
+pub const ROOM: usize = 512;
+
+/// One way to the library.
+pub trait Library {
+    /// What a value is read as.
+    type Value;
+    /// The value of a text.
+    fn reading(text: &str) -> Self::Value;
+    /// The value of a text under these options, which are the bits of the header.
+    fn reading_with(text: &str, options: u32) -> Self::Value;
+    /// A duration printed into a buffer.
+    fn printing(length: Duration) -> [u8; 64];
+    /// Writes the message of a refused text into the buffer, and returns its length.
+    fn refusing(text: &str, buffer: &mut [u8; ROOM]) -> usize;
+}
+
+/// The Rust crate.
+pub struct Crate;
+
+impl Library for Crate {
+    type Value = Duration;
+
+    #[inline(always)]
+    fn reading(text: &str) -> Duration {
+        parse(text).expect("a text that is read")
+    }
+
+    #[inline(always)]
+    fn reading_with(text: &str, options: u32) -> Duration {
+        let [no_calc, lowercase, cn_unit] = [1, 2, 4].map(|bit| options & bit != 0);
+        parse_with(text, Options { no_calc, lowercase, cn_unit }).expect("a text that is read")
+    }
+
+    #[inline(always)]
+    fn printing(length: Duration) -> [u8; 64] {
+        let mut buffer = [0; 64];
+        black_box(write_human(&length, &mut buffer).len());
+        buffer
+    }
+
+    #[inline(always)]
+    fn refusing(text: &str, buffer: &mut [u8; ROOM]) -> usize {
+        let fault = parse_with(text, Options::off()).expect_err("a text that is refused");
+        fault.write_message(buffer).expect("a message that fits")
+    }
+}
+
+/// The archive, called through C.
+pub struct Archive;
 
 /// `struct duration_str_answer`, of which nothing is read here.
 #[repr(C)]
@@ -16,6 +68,7 @@ struct Answer {
     later_operator: u8,
 }
 
+#[link(name = "duration_str", kind = "static")]
 unsafe extern "C" {
     fn duration_str_parse(text: *const u8, length: usize, nanos: *mut u64) -> bool;
     fn duration_str_format(secs: u64, nanos: u32, buffer: *mut u8) -> usize;
@@ -29,47 +82,46 @@ unsafe extern "C" {
     ) -> usize;
 }
 
-/// More bytes than the message of any measured text has.
-pub const ROOM: usize = 512;
+impl Library for Archive {
+    type Value = u64;
 
-#[inline]
-pub fn reading(text: &str) -> u64 {
-    let mut nanos = 0;
-    // SAFETY: the pointer and length are a slice's, and `nanos` is written alone.
-    let read = unsafe { duration_str_parse(text.as_ptr(), text.len(), &mut nanos) };
-    assert!(read, "refused: {text}");
-    nanos
-}
+    #[inline(always)]
+    fn reading(text: &str) -> u64 {
+        let mut nanos = 0;
+        // SAFETY: the pointer and length are a slice's, and `nanos` is written alone.
+        let read = unsafe { duration_str_parse(text.as_ptr(), text.len(), &mut nanos) };
+        assert!(read, "refused: {text}");
+        nanos
+    }
 
-#[inline]
-pub fn printing(length: Duration) -> [u8; 64] {
-    let mut buffer = [0; 64];
-    // SAFETY: the buffer has the 64 bytes that may be written.
-    let end = unsafe { duration_str_format(length.as_secs(), length.subsec_nanos(), buffer.as_mut_ptr()) };
-    black_box(end);
-    buffer
-}
+    #[inline(always)]
+    fn reading_with(text: &str, options: u32) -> u64 {
+        let mut answer = Answer::default();
+        // SAFETY: the pointer and length are a slice's, and `answer` is laid out as the header's.
+        let read = unsafe { duration_str_parse_with(text.as_ptr(), text.len(), options, &mut answer) };
+        assert!(read, "refused: {text}");
+        answer.nanos
+    }
 
-/// The value of a text under these options, which are the bits of the header.
-#[inline]
-pub fn reading_with(text: &str, options: u32) -> u64 {
-    let mut answer = Answer::default();
-    // SAFETY: the pointer and length are a slice's, and `answer` is laid out as the header's.
-    let read = unsafe { duration_str_parse_with(text.as_ptr(), text.len(), options, &mut answer) };
-    assert!(read, "refused: {text}");
-    answer.nanos
-}
+    #[inline(always)]
+    fn printing(length: Duration) -> [u8; 64] {
+        let mut buffer = [0; 64];
+        // SAFETY: the buffer has the 64 bytes that may be written.
+        let end = unsafe { duration_str_format(length.as_secs(), length.subsec_nanos(), buffer.as_mut_ptr()) };
+        black_box(end);
+        buffer
+    }
 
-/// Writes the message of a refused text into the buffer, and returns its length.
-#[inline]
-pub fn refusing(text: &[u8], buffer: &mut [u8; ROOM]) -> usize {
-    let mut answer = Answer::default();
-    // SAFETY: the pointers and lengths are those of slices that lie apart, and `answer` is laid out as the header's.
-    let length = unsafe {
-        let read = duration_str_parse_with(text.as_ptr(), text.len(), 0, &mut answer);
-        assert!(!read, "read");
-        duration_str_message(text.as_ptr(), text.len(), &answer, buffer.as_mut_ptr(), ROOM)
-    };
-    assert!(0 < length && length <= ROOM);
-    length
+    #[inline(always)]
+    fn refusing(text: &str, buffer: &mut [u8; ROOM]) -> usize {
+        let mut answer = Answer::default();
+        // SAFETY: the pointers and lengths are those of slices that lie apart, and `answer` is laid out as the header's.
+        let length = unsafe {
+            let read = duration_str_parse_with(text.as_ptr(), text.len(), 0, &mut answer);
+            assert!(!read, "read");
+            duration_str_message(text.as_ptr(), text.len(), &answer, buffer.as_mut_ptr(), ROOM)
+        };
+        assert!(0 < length && length <= ROOM);
+        length
+    }
 }

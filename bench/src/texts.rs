@@ -12,26 +12,25 @@ pub fn long_text(bytes: usize) -> String {
 }
 
 /// The text that is refused for the cause of this name, or for the syntax at this end of 100 bytes.
-pub fn refused(name: &str) -> Vec<u8> {
-    let text: &[u8] = match name {
-        "empty" => b"",
-        "syntax" => b"1m 3-5",
-        "number" => b"18446744073709551616s",
-        "first-term" => b"600000000000y",
-        "later-sum" => b"580y 580y",
-        "mixed" => b"1m + 2s * 3",
-        "not-text" => b"3m \xff",
+pub fn refused(name: &str) -> String {
+    let text = match name {
+        "empty" => "",
+        "syntax" => "1m 3-5",
+        "number" => "18446744073709551616s",
+        "first-term" => "600000000000y",
+        "later-sum" => "580y 580y",
+        "mixed" => "1m + 2s * 3",
         "start" => return with_minus(0),
         "middle" => return with_minus(48),
         "end" => return with_minus(99),
         _ => panic!("no refused text: {name}"),
     };
-    text.to_vec()
+    text.to_string()
 }
 
-fn with_minus(place: usize) -> Vec<u8> {
-    let mut text = long_text(100).into_bytes();
-    text[place] = b'-';
+fn with_minus(place: usize) -> String {
+    let mut text = long_text(100);
+    text.replace_range(place..=place, "-");
     text
 }
 

@@ -1,21 +1,31 @@
-"""Packs the package and the shared library into a wheel, by PEP 517 and PEP 660, without downloading anything.
+"""Packs the package and the shared library into a wheel, by PEP 517 and PEP 660, without downloading anything. The same
+files give the same bytes; the setting `platform` is the wheel's tag for the platform, if it isn't this machine's.
 
 The library is taken from the file that DURATION_STR_LIB names, from where pkg-config says that it is installed, or from the
-checkout in which this folder lies, where `rt` proves and builds it and gcc links it, in this order.
+checkout in which this folder lies, where tools/library proves and builds it, in this order.
 """
 
 import base64
+import gzip
 import hashlib
 import io
 import os
 import pathlib
+import re
 import shutil
 import subprocess
 import sysconfig
 import tarfile
+import time
 import zipfile
 
-NAME, VERSION = "duration_str", "0.19.0"
+NAME = "duration_str"
+HERE = pathlib.Path(__file__).resolve().parent
+PACKAGE = HERE / "src" / NAME
+CHECKOUT = HERE.parent.parent
+VERSION = re.search(r'^__version__ = "(.*)"$', (PACKAGE / "__init__.py").read_text(encoding="utf-8"), re.M)[1]
+#: When all files that are packed were written, in seconds since 1970; a wheel knows no time before 1980.
+TIME = max(int(os.environ.get("SOURCE_DATE_EPOCH", 0)), 315_532_800)
 METADATA = f"""\
 Metadata-Version: 2.1
 Name: duration-str
@@ -25,15 +35,16 @@ License: Apache-2.0
 Requires-Python: >=3.9
 Classifier: Operating System :: POSIX :: Linux
 Classifier: Typing :: Typed
-"""
+Description-Content-Type: text/markdown
+
+{(HERE / "README.md").read_text(encoding="utf-8")}"""
 LIBRARY = "libduration_str.so"
+#: Its name in the package, by which Python doesn't take it for a module
+PACKED = f"{LIBRARY}.0"
 HELP = """there is no shared library duration_str to pack. Do one of these:
 - run ./install at the top of the repository, and see that pkg-config finds duration_str.pc;
 - set DURATION_STR_LIB to the library's file, such as /usr/local/lib/libduration_str.so;
-- put the Rattle toolchain's command rt and gcc on the path, and build within a checkout of the repository."""
-HERE = pathlib.Path(__file__).resolve().parent
-PACKAGE = HERE / "src" / NAME
-C_CRATE = HERE.parent.parent / "crates" / "duration_str_c"
+- build within a checkout of the repository, with the Rattle toolchain's command rt on the path."""
 
 
 def _installed():
@@ -47,19 +58,14 @@ def _installed():
 
 
 def _built():
-    """The library's file, linked from the checkout's archive, which is proved and built where it isn't there; or None."""
-    archive = C_CRATE / "out" / "libduration_str_c.a"
-    if not archive.is_file() and C_CRATE.is_dir() and shutil.which("rt"):
-        ran = subprocess.run(["rt", "lib"], cwd=C_CRATE, capture_output=True, text=True)
-        if ran.returncode != 0:
-            raise SystemExit(f"{ran.stdout}{ran.stderr}rt lib failed in {C_CRATE}")
-    if not archive.is_file() or not shutil.which("gcc"):
+    """The library's file in the checkout, which is proved and built where it has to be; None outside a checkout."""
+    tool = CHECKOUT / "tools" / "library"
+    if not tool.is_file():
         return None
-    file = archive.with_name(LIBRARY)
-    exports = f"-Wl,--version-script,{C_CRATE / 'exports.map'}"
-    whole = ["-Wl,--whole-archive", str(archive), "-Wl,--no-whole-archive"]
-    subprocess.run(["gcc", "-shared", "-o", str(file), exports, *whole], check=True)
-    return file
+    ran = subprocess.run([tool], stdout=subprocess.PIPE, text=True)
+    if ran.returncode != 0:
+        raise SystemExit(HELP)
+    return pathlib.Path(ran.stdout.strip(), LIBRARY)
 
 
 def _library():
@@ -80,41 +86,57 @@ def _sources(folder):
     return {f"{folder}/{file.name}": file.read_bytes() for file in files}
 
 
-def _wheel(folder, files):
+def _licences():
+    """The files of the licence, by their names; they stand beside this one, or at the top of the checkout."""
+    folder = HERE if (HERE / "LICENSE").is_file() else CHECKOUT
+    return {name: (folder / name).read_bytes() for name in ("LICENSE", "NOTICE")}
+
+
+def _wheel(folder, files, settings):
     """Writes a wheel of these files, and returns its name."""
-    tag = "py3-none-" + sysconfig.get_platform().replace("-", "_").replace(".", "_")
+    here = sysconfig.get_platform().replace("-", "_").replace(".", "_")
+    platforms = (settings or {}).get("platform", here)
     info = f"{NAME}-{VERSION}.dist-info"
-    wheel = f"Wheel-Version: 1.0\nGenerator: {NAME} backend\nRoot-Is-Purelib: false\nTag: {tag}\n"
+    wheel = f"Wheel-Version: 1.0\nGenerator: {NAME} backend\nRoot-Is-Purelib: false\n"
+    wheel += "".join(f"Tag: py3-none-{platform}\n" for platform in platforms.split("."))
     files = {**files, f"{info}/METADATA": METADATA.encode(), f"{info}/WHEEL": wheel.encode()}
+    files |= {f"{info}/{name}": content for name, content in _licences().items()}
     record = ""
-    name = f"{NAME}-{VERSION}-{tag}.whl"
-    with zipfile.ZipFile(pathlib.Path(folder, name), "w", zipfile.ZIP_DEFLATED) as packed:
+    for path, content in files.items():
+        digest = base64.urlsafe_b64encode(hashlib.sha256(content).digest()).rstrip(b"=").decode()
+        record += f"{path},sha256={digest},{len(content)}\n"
+    files[f"{info}/RECORD"] = f"{record}{info}/RECORD,,\n".encode()
+    name = f"{NAME}-{VERSION}-py3-none-{platforms}.whl"
+    with zipfile.ZipFile(pathlib.Path(folder, name), "w") as packed:
         for path, content in files.items():
-            digest = base64.urlsafe_b64encode(hashlib.sha256(content).digest()).rstrip(b"=").decode()
-            record += f"{path},sha256={digest},{len(content)}\n"
-            packed.writestr(path, content)
-        packed.writestr(f"{info}/RECORD", f"{record}{info}/RECORD,,\n")
+            member = zipfile.ZipInfo(path, time.gmtime(TIME)[:6])
+            member.compress_type = zipfile.ZIP_DEFLATED
+            member.external_attr = 0o100_644 << 16
+            packed.writestr(member, content)
     return name
 
 
 def build_wheel(wheel_directory, config_settings=None, metadata_directory=None):
     """A wheel that holds the shared library."""
-    return _wheel(wheel_directory, {**_sources(NAME), f"{NAME}/{LIBRARY}": _library()})
+    return _wheel(wheel_directory, {**_sources(NAME), f"{NAME}/{PACKED}": _library()}, config_settings)
 
 
 def build_editable(wheel_directory, config_settings=None, metadata_directory=None):
     """A wheel that names the folder of the sources, into which the shared library is put."""
-    (PACKAGE / LIBRARY).write_bytes(_library())
-    return _wheel(wheel_directory, {f"{NAME}.pth": f"{PACKAGE.parent}\n".encode()})
+    (PACKAGE / PACKED).write_bytes(_library())
+    return _wheel(wheel_directory, {f"{NAME}.pth": f"{PACKAGE.parent}\n".encode()}, config_settings)
 
 
 def build_sdist(sdist_directory, config_settings=None):
     """The sources alone: who builds them names the library."""
     root = f"{NAME}-{VERSION}"
-    own = {path: (HERE / path).read_bytes() for path in ["pyproject.toml", "backend.py"]}
-    with tarfile.open(pathlib.Path(sdist_directory, f"{root}.tar.gz"), "w:gz") as packed:
-        for path, content in {**own, **_sources(f"src/{NAME}"), "PKG-INFO": METADATA.encode()}.items():
-            member = tarfile.TarInfo(f"{root}/{path}")
-            member.size = len(content)
-            packed.addfile(member, io.BytesIO(content))
-    return f"{root}.tar.gz"
+    files = {path: (HERE / path).read_bytes() for path in ["README.md", "backend.py", "pyproject.toml"]}
+    files = {**files, **_licences(), **_sources(f"src/{NAME}"), "PKG-INFO": METADATA.encode()}
+    name = f"{root}.tar.gz"
+    with open(pathlib.Path(sdist_directory, name), "wb") as file, gzip.GzipFile("", "wb", 9, file, TIME) as packed:
+        with tarfile.open(fileobj=packed, mode="w") as members:
+            for path, content in files.items():
+                member = tarfile.TarInfo(f"{root}/{path}")
+                member.size, member.mtime = len(content), TIME
+                members.addfile(member, io.BytesIO(content))
+    return name

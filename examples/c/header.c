@@ -75,6 +75,10 @@ static void check_messages(void)
     expect(message[19] == '#', "what stands after the line");
     expect(duration_str_line(&answer, NULL, 0) == 19, "the length of a line");
     expect(duration_str_message(text, 2, &answer, message, 32) == 19, "a message of another text");
+    answer.has_place = 0;
+    expect(duration_str_message(text, 7, &answer, NULL, 0) == 32, "a message whatever a field is that does not count");
+    answer = read_with("1\xff", 0);
+    expect(duration_str_line(&answer, message, 32) == 9 && memcmp(message, "not UTF-8", 9) == 0, "what is no UTF-8");
     answer.cause = 99;
     expect(duration_str_message(text, 7, &answer, message, 32) == 0, "a message of an unknown cause");
 }

@@ -1,6 +1,8 @@
 """The examples that the documentation has."""
 
 import doctest
+import importlib.metadata
+import pydoc
 import unittest
 
 import duration_str
@@ -15,6 +17,23 @@ class Documentation(unittest.TestCase):
     def test_names_what_is_public(self):
         for name in duration_str.__all__:
             self.assertTrue(getattr(duration_str, name).__doc__, name)
+
+    def test_leaves_the_builtin_function(self):
+        names = {}
+        exec("from duration_str import *", names)
+        self.assertEqual({*duration_str.__all__, "__builtins__"}, set(names))
+        self.assertNotIn("format", names)
+
+    def test_shows_the_units_and_nothing_of_ctypes(self):
+        told = pydoc.render_doc(duration_str)
+        self.assertIn("µs, µsec, µsecond", told)
+        self.assertNotIn("ctypes", told)
+        self.assertNotIn("libduration_str", told)
+
+    def test_has_its_version_and_its_description(self):
+        told = importlib.metadata.metadata("duration-str")
+        self.assertEqual(told["Version"], duration_str.__version__)
+        self.assertIn("# duration-str for Python", told.get_payload())
 
 
 if __name__ == "__main__":

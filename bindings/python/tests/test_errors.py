@@ -1,6 +1,9 @@
 """Why texts are refused."""
 
+import argparse
+import contextlib
 import copy
+import io
 import pickle
 import unittest
 
@@ -98,8 +101,18 @@ class Errors(unittest.TestCase):
     def test_can_be_copied_and_pickled(self):
         for text in ["", "1µs …", "600y"]:
             error = error_of(text)
+            error.job = "backup"
+            error.__notes__ = ["of the second job"]
             for other in [copy.copy(error), pickle.loads(pickle.dumps(error))]:
                 self.assertEqual((str(other), vars(other)), (str(error), vars(error)))
+
+    def test_shows_its_message_in_argparse(self):
+        parser = argparse.ArgumentParser(prog="job")
+        parser.add_argument("--timeout", type=parse)
+        self.assertEqual(parser.parse_args(["--timeout", "1m"]).timeout, parse("1m"))
+        with contextlib.redirect_stderr(io.StringIO()) as told, self.assertRaises(SystemExit):
+            parser.parse_args(["--timeout", "600y"])
+        self.assertIn("argument --timeout: 600y\n^\noverflow error\n", told.getvalue())
 
 
 if __name__ == "__main__":

@@ -3,7 +3,7 @@
 import json
 import pathlib
 
-VECTORS = json.loads(pathlib.Path(__file__).parents[2].joinpath("vectors.json").read_text(encoding="utf-8"))
+VECTORS = json.loads(pathlib.Path(__file__).parents[2].joinpath("rust/vectors.json").read_text(encoding="utf-8"))
 LINES = VECTORS["lines"]
 OPTIONS = [
     {"no_calc": bool(bits & 1), "lowercase": bool(bits & 2), "cn_unit": bool(bits & 4)} for bits in range(8)

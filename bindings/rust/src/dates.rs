@@ -1,55 +1,53 @@
-//! Moments after and before another.
+//! Moments after and before another, by chrono's own checked arithmetic.
 use crate::fault::Fault;
-use crate::ffi::{after, before, Answer, Moment};
 use crate::options::Options;
-use alloc::string::{String, ToString};
-use chrono::{NaiveDate, NaiveDateTime, TimeZone, Utc};
+use crate::parser::{parse_with, signed};
+use alloc::string::String;
+use chrono::{NaiveDate, NaiveDateTime, Utc};
 
-const NANOS_A_SECOND: u32 = 1_000_000_000;
-
-/// A moment of UTC as the library takes it.
-fn moment_of(date_time: NaiveDateTime) -> Moment {
-    let moment = Utc.from_utc_datetime(&date_time);
-    let nanos = moment.timestamp_subsec_nanos();
-    Moment { secs: moment.timestamp() + i64::from(nanos / NANOS_A_SECOND), nanos: nanos % NANOS_A_SECOND }
-}
-
-/// A moment that the library moved, in UTC, or the fault that it told.
-fn moved(text: &str, moment: Result<Moment, Answer>) -> Result<NaiveDateTime, Fault<'_>> {
-    let moment = moment.map_err(|answer| Fault::new(text, answer))?;
-    let date_time = Utc.timestamp_opt(moment.secs, moment.nanos).single();
-    Ok(date_time.expect("the library's years go from -9999 to 9999, and chrono's beyond").naive_utc())
-}
-
-/// The moment that comes after this one by the value of a text. Both are in UTC; a leap second is the second after it.
+/// The moment that comes after this one by the value of a text. Both are in the same zone, such as UTC.
 ///
-/// The cause is [`Cause::OutOfRange`](crate::Cause::OutOfRange) where one of the two is before -9999-01-02T01:59:59 or
-/// after 9999-12-30T22:00:00.999999999.
+/// The text is read first, and its fault comes first. The cause is [`Cause::OutOfRange`](crate::Cause::OutOfRange) where
+/// chrono has no such moment.
 ///
 /// ```
 /// use chrono::NaiveDate;
-/// use duration_str::{moment_after, Options};
+/// use duration_str::{Options, moment_after};
 ///
 /// let moment = NaiveDate::from_ymd_opt(2000, 2, 28).unwrap().and_hms_opt(12, 0, 0).unwrap();
 /// let due = moment_after(moment, "1d 1h", Options::off()).unwrap();
 /// assert_eq!(due.to_string(), "2000-02-29 13:00:00");
 /// ```
-pub fn moment_after(moment: NaiveDateTime, input: &str, options: Options) -> Result<NaiveDateTime, Fault<'_>> {
-    moved(input, after(input, options.flags(), moment_of(moment)))
+pub fn moment_after(
+    moment: NaiveDateTime,
+    input: &str,
+    options: Options,
+) -> Result<NaiveDateTime, Fault<'_>> {
+    let length = signed(parse_with(input, options)?);
+    moment
+        .checked_add_signed(length)
+        .ok_or(Fault::out_of_range(input, options))
 }
 
 /// The moment that comes before this one by the value of a text. All else is as with [`moment_after`].
 ///
 /// ```
 /// use chrono::NaiveDate;
-/// use duration_str::{moment_before, Options};
+/// use duration_str::{Options, moment_before};
 ///
 /// let moment = NaiveDate::from_ymd_opt(2000, 3, 1).unwrap().and_hms_opt(0, 0, 0).unwrap();
 /// let past = moment_before(moment, "1d", Options::off()).unwrap();
 /// assert_eq!(past.to_string(), "2000-02-29 00:00:00");
 /// ```
-pub fn moment_before(moment: NaiveDateTime, input: &str, options: Options) -> Result<NaiveDateTime, Fault<'_>> {
-    moved(input, before(input, options.flags(), moment_of(moment)))
+pub fn moment_before(
+    moment: NaiveDateTime,
+    input: &str,
+    options: Options,
+) -> Result<NaiveDateTime, Fault<'_>> {
+    let length = signed(parse_with(input, options)?);
+    moment
+        .checked_sub_signed(length)
+        .ok_or(Fault::out_of_range(input, options))
 }
 
 /// The moment, in UTC, that comes after now by the value of a text, which is read as [`parse`](crate::parse) reads it.
@@ -61,7 +59,7 @@ pub fn moment_before(moment: NaiveDateTime, input: &str, options: Options) -> Re
 /// assert!(due <= Utc::now().naive_utc() + Duration::days(180));
 /// ```
 pub fn after_naive_date_time(input: impl AsRef<str>) -> Result<NaiveDateTime, String> {
-    moment_after(now(), input.as_ref(), Options::of_features()).map_err(|fault| fault.to_string())
+    moment_after(now(), input.as_ref(), Options::of_features()).map_err(|fault| fault.message())
 }
 
 /// The moment, in UTC, that comes before now by the value of a text, which is read as [`parse`](crate::parse) reads it.
@@ -73,7 +71,7 @@ pub fn after_naive_date_time(input: impl AsRef<str>) -> Result<NaiveDateTime, St
 /// assert!(past <= Utc::now().naive_utc() - Duration::days(180));
 /// ```
 pub fn before_naive_date_time(input: impl AsRef<str>) -> Result<NaiveDateTime, String> {
-    moment_before(now(), input.as_ref(), Options::of_features()).map_err(|fault| fault.to_string())
+    moment_before(now(), input.as_ref(), Options::of_features()).map_err(|fault| fault.message())
 }
 
 /// The date of [`after_naive_date_time`].

@@ -1,5 +1,5 @@
 //! Printing.
-use crate::ffi;
+pub use crate::proved::ext::{MAX_PRINTED_LEN, write_human};
 use alloc::string::String;
 use core::time::Duration;
 
@@ -26,17 +26,6 @@ pub trait HumanFormat {
     fn human_format(&self) -> String;
 }
 
-/// Prints a duration into the caller's buffer, as [`HumanFormat`] does, without taking memory.
-///
-/// ```
-/// let mut buffer = [0; 64];
-/// let text = duration_str::write_human(&std::time::Duration::from_millis(600), &mut buffer);
-/// assert_eq!(text, "600ms");
-/// ```
-pub fn write_human<'b>(duration: &Duration, buffer: &'b mut [u8; 64]) -> &'b str {
-    ffi::format(duration.as_secs(), duration.subsec_nanos(), buffer)
-}
-
 impl HumanFormat for Duration {
     fn human_format(&self) -> String {
         String::from(write_human(self, &mut [0; 64]))
@@ -46,7 +35,8 @@ impl HumanFormat for Duration {
 /// A minus where the duration is negative, and the text of its magnitude.
 #[cfg(any(feature = "chrono", feature = "time"))]
 fn signed_text(is_negative: bool, secs: i64, nanos: i64) -> String {
-    let magnitude = Duration::from_secs(secs.unsigned_abs()) + Duration::from_nanos(nanos.unsigned_abs());
+    let magnitude =
+        Duration::from_secs(secs.unsigned_abs()) + Duration::from_nanos(nanos.unsigned_abs());
     let mut text = String::from(if is_negative { "-" } else { "" });
     text.push_str(write_human(&magnitude, &mut [0; 64]));
     text
@@ -57,7 +47,9 @@ impl HumanFormat for chrono::Duration {
     fn human_format(&self) -> String {
         let secs = self.num_seconds();
         let after_secs = *self - chrono::Duration::seconds(secs);
-        let nanos = after_secs.num_nanoseconds().expect("less than a second is left");
+        let nanos = after_secs
+            .num_nanoseconds()
+            .expect("less than a second is left");
         signed_text(*self < chrono::Duration::zero(), secs, nanos)
     }
 }
@@ -65,6 +57,10 @@ impl HumanFormat for chrono::Duration {
 #[cfg(feature = "time")]
 impl HumanFormat for time::Duration {
     fn human_format(&self) -> String {
-        signed_text(self.is_negative(), self.whole_seconds(), self.subsec_nanoseconds().into())
+        signed_text(
+            self.is_negative(),
+            self.whole_seconds(),
+            self.subsec_nanoseconds().into(),
+        )
     }
 }

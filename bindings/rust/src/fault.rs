@@ -1,98 +1,17 @@
-//! Why a text is refused.
+//! A refused text, with the options under which it was read.
 use crate::error::DError;
-use crate::ffi::{self, Answer};
+use crate::options::Options;
+use crate::proved::parser as proved;
+pub use crate::proved::parser::{Cause, Expected};
 use alloc::string::{String, ToString};
 use alloc::vec;
 use core::fmt;
-
-/// An operator.
-#[derive(Clone, Copy, Debug, PartialEq, Eq, Hash)]
-pub enum CondUnit {
-    /// `+`, which a left-out operator is too.
-    Plus,
-    /// `*`
-    Star,
-}
-
-impl CondUnit {
-    fn of(sign: u8) -> CondUnit {
-        match sign {
-            b'*' => CondUnit::Star,
-            _ => CondUnit::Plus,
-        }
-    }
-}
-
-impl fmt::Display for CondUnit {
-    fn fmt(&self, f: &mut fmt::Formatter<'_>) -> fmt::Result {
-        f.write_str(match self {
-            CondUnit::Plus => "+",
-            CondUnit::Star => "*",
-        })
-    }
-}
-
-/// What could stand at the place of a syntax fault.
-#[derive(Clone, Copy, Debug, PartialEq, Eq, Hash)]
-pub struct Expected {
-    /// A number.
-    pub number: bool,
-    /// A unit.
-    pub unit_word: bool,
-    /// `+` or `*`.
-    pub operator: bool,
-    /// The end of the text.
-    pub text_end: bool,
-}
-
-impl Expected {
-    fn of(kinds: u32) -> Expected {
-        Expected {
-            number: kinds & ffi::NUMBER != 0,
-            unit_word: kinds & ffi::UNIT != 0,
-            operator: kinds & ffi::OPERATOR != 0,
-            text_end: kinds & ffi::END != 0,
-        }
-    }
-}
-
-/// Why a text is refused. A place is a byte of the text, from 0 to its length, at a character's border.
-#[derive(Clone, Copy, Debug, PartialEq, Eq, Hash)]
-pub enum Cause {
-    /// The text is empty.
-    Empty,
-    /// No expression goes on as the text does at the place.
-    Syntax {
-        /// Where the first piece stands with which none goes on, or the text's length.
-        place: usize,
-        /// What could stand there.
-        expected: Expected,
-    },
-    /// A number is 2^64 or more.
-    NumberTooLarge {
-        /// 0 for the first number, `None` for a later one.
-        place: Option<usize>,
-    },
-    /// A term, a step or the value is 2^64 nanoseconds or more.
-    Overflow {
-        /// 0 for the first term, `None` for a later one and for a step.
-        place: Option<usize>,
-    },
-    /// `+` and `*` are mixed.
-    Mixed {
-        /// The operator that came first.
-        first: CondUnit,
-        /// The one that came later.
-        later: CondUnit,
-    },
-    /// A moment is out of range; from the calls with a moment alone.
-    OutOfRange,
-}
+use core::hash::{Hash, Hasher};
 
 /// A refused text: why and where. Its `Display` is the message for a person, with the text and a caret below the place.
 ///
 /// ```
-/// use duration_str::{parse_with, Cause, Options};
+/// use duration_str::{Cause, Options, parse_with};
 ///
 /// let fault = parse_with("3h 2 hurs", Options::off()).unwrap_err();
 /// assert_eq!(fault.place(), Some(5));
@@ -101,48 +20,71 @@ pub enum Cause {
 /// assert!(fault.to_string().starts_with("3h 2 hurs\n     ^\nexpected "));
 /// ```
 ///
-/// It borrows the text; [`Fault::to_derror`] and `to_string` give what outlives it.
+/// It borrows the text; [`Fault::into_owned`] gives a fault that outlives it.
 #[derive(Clone, Copy, PartialEq, Eq)]
 pub struct Fault<'a> {
-    text: &'a str,
-    answer: Answer,
+    // Private, since the place must be a character's border within the text.
+    fault: proved::Fault<'a>,
+    options: Options,
 }
 
 impl<'a> Fault<'a> {
-    /// The fault that the library told of this text.
-    pub(crate) fn new(text: &'a str, answer: Answer) -> Fault<'a> {
-        Fault { text, answer }
+    pub(crate) fn new(fault: proved::Fault<'a>, options: Options) -> Fault<'a> {
+        Fault { fault, options }
+    }
+
+    /// The fault of a text whose moment is out of range.
+    #[cfg(feature = "chrono")]
+    pub(crate) fn out_of_range(text: &'a str, options: Options) -> Fault<'a> {
+        Fault::new(
+            proved::Fault {
+                text,
+                cause: Cause::OutOfRange,
+            },
+            options,
+        )
     }
 
     /// The whole text that was read.
+    ///
+    /// ```
+    /// use duration_str::{Options, parse_with};
+    ///
+    /// assert_eq!(parse_with("1x", Options::off()).unwrap_err().text(), "1x");
+    /// ```
     pub fn text(&self) -> &'a str {
-        self.text
+        self.fault.text()
     }
 
     /// Why it is refused.
+    ///
+    /// ```
+    /// use duration_str::{Cause, Options, parse_with};
+    ///
+    /// assert_eq!(parse_with("", Options::off()).unwrap_err().cause(), Cause::Empty);
+    /// ```
     pub fn cause(&self) -> Cause {
-        let answer = self.answer;
-        let place = self.place();
-        match answer.cause {
-            1 => Cause::Empty,
-            2 => Cause::Syntax { place: answer.place, expected: Expected::of(answer.expected) },
-            3 => Cause::NumberTooLarge { place },
-            4 => Cause::Overflow { place },
-            5 => {
-                Cause::Mixed { first: CondUnit::of(answer.first_operator), later: CondUnit::of(answer.later_operator) }
-            }
-            6 => Cause::OutOfRange,
-            // 7 is for bytes that are no UTF-8, which a `str` has none of.
-            other => unreachable!("the library told the cause {other}, which its header has not for texts"),
-        }
+        self.fault.cause()
     }
 
     /// Where the fault stands: the byte of the text, or `None` where the fault is none of a place.
+    ///
+    /// ```
+    /// use duration_str::{Options, parse_with};
+    ///
+    /// assert_eq!(parse_with("1m 3-5", Options::off()).unwrap_err().place(), Some(4));
+    /// ```
     pub fn place(&self) -> Option<usize> {
-        (self.answer.has_place != 0).then_some(self.answer.place)
+        self.cause().place()
     }
 
     /// For a syntax fault: what could stand at its place.
+    ///
+    /// ```
+    /// use duration_str::{Options, parse_with};
+    ///
+    /// assert!(parse_with("1m+", Options::off()).unwrap_err().expected().unwrap().number);
+    /// ```
     pub fn expected(&self) -> Option<Expected> {
         match self.cause() {
             Cause::Syntax { expected, .. } => Some(expected),
@@ -150,49 +92,238 @@ impl<'a> Fault<'a> {
         }
     }
 
-    /// For a syntax fault: the piece of the text that stands at its place, or `None` at the end.
+    /// For a syntax fault: the token that stands at its place, or `None` at the end of the text.
+    ///
+    /// ```
+    /// use duration_str::{Options, parse_with};
+    ///
+    /// assert_eq!(parse_with("1m 3-5", Options::off()).unwrap_err().found(), Some("-"));
+    /// ```
     pub fn found(&self) -> Option<&'a str> {
-        let rest = self.text.get(self.answer.place..)?;
-        rest.get(..self.answer.found_length).filter(|piece| !piece.is_empty())
+        self.fault.found(self.options)
     }
 
-    /// The last line of the message, which says what is wrong, such as `overflow error`.
+    /// The last line of the message, which says what is wrong.
+    ///
+    /// ```
+    /// use duration_str::{Options, parse_with};
+    ///
+    /// assert_eq!(parse_with("600y", Options::off()).unwrap_err().line(), "overflow error");
+    /// ```
     pub fn line(&self) -> String {
-        with_text(|buffer| ffi::line(&self.answer, buffer), str::to_string)
+        self.cause().line().to_string()
+    }
+
+    /// The length of the message in bytes.
+    ///
+    /// ```
+    /// use duration_str::{Options, parse_with};
+    ///
+    /// assert_eq!(parse_with("3ms-2ms", Options::off()).unwrap_err().message_len(), 32);
+    /// ```
+    pub fn message_len(&self) -> usize {
+        self.fault.message_len()
+    }
+
+    /// Writes the message to the start of a buffer, and returns its length in bytes. `None` where the buffer is shorter;
+    /// it is unchanged then. Takes no memory, and less time than `Display`.
+    ///
+    /// ```
+    /// use duration_str::{Options, parse_with};
+    ///
+    /// let mut buffer = [0; 64];
+    /// let length = parse_with("", Options::off()).unwrap_err().write_message(&mut buffer);
+    /// assert_eq!(length, Some(11));
+    /// assert_eq!(&buffer[..11], b"Empty input");
+    /// ```
+    pub fn write_message(&self, buffer: &mut [u8]) -> Option<usize> {
+        self.fault.write_message(buffer)
     }
 
     /// The error of the Rust crate for this fault.
+    ///
+    /// ```
+    /// use duration_str::{DError, Options, parse_with};
+    ///
+    /// assert_eq!(parse_with("600y", Options::off()).unwrap_err().to_derror(), DError::OverflowError);
+    /// ```
     pub fn to_derror(&self) -> DError {
         match self.cause() {
             Cause::Overflow { .. } => DError::OverflowError,
             _ => DError::ParseError(self.line()),
         }
     }
+
+    /// The same fault with a text of its own.
+    ///
+    /// ```
+    /// use duration_str::{Options, OwnedFault, parse_with};
+    ///
+    /// fn read(text: String) -> Result<(), OwnedFault> {
+    ///     parse_with(&text, Options::off()).map(|_| ()).map_err(|fault| fault.into_owned())
+    /// }
+    ///
+    /// assert_eq!(read("1m 3-5".to_string()).unwrap_err().found(), Some("-"));
+    /// ```
+    pub fn into_owned(self) -> OwnedFault {
+        OwnedFault {
+            text: self.text().to_string(),
+            cause: self.cause(),
+            options: self.options,
+        }
+    }
+
+    /// The message.
+    pub(crate) fn message(&self) -> String {
+        let mut message = vec![0; self.message_len()];
+        match self.write_message(&mut message) {
+            Some(_) => String::from_utf8(message).unwrap_or_else(|_| self.to_string()),
+            None => self.to_string(),
+        }
+    }
 }
 
 impl fmt::Display for Fault<'_> {
     fn fmt(&self, f: &mut fmt::Formatter<'_>) -> fmt::Result {
-        with_text(|buffer| ffi::message(self.text, &self.answer, buffer), |message| f.write_str(message))
+        self.fault.fmt(f)
     }
 }
 
 impl fmt::Debug for Fault<'_> {
     fn fmt(&self, f: &mut fmt::Formatter<'_>) -> fmt::Result {
-        f.debug_struct("Fault").field("text", &self.text).field("cause", &self.cause()).finish()
+        self.fault.fmt(f)
     }
 }
 
 impl core::error::Error for Fault<'_> {}
 
-/// What `use_text` makes of the text that `write` writes into a buffer where it fits, and whose length it returns.
-fn with_text<R>(write: impl Fn(&mut [u8]) -> usize, use_text: impl FnOnce(&str) -> R) -> R {
-    const PROMISE: &str = "the library writes UTF-8";
-    let mut short = [0; 256];
-    let length = write(&mut short);
-    if let Some(text) = short.get(..length) {
-        return use_text(core::str::from_utf8(text).expect(PROMISE));
+/// A [`Fault`] that owns its text. Its `Display` is the same message.
+///
+/// ```
+/// use duration_str::{HumanDuration, OwnedFault};
+///
+/// fn timeout(text: &str) -> Result<HumanDuration, Box<dyn std::error::Error>> {
+///     Ok(text.parse()?)
+/// }
+///
+/// let error = timeout("3h 2 hurs").unwrap_err();
+/// let fault: &OwnedFault = error.downcast_ref().unwrap();
+/// assert_eq!((fault.place(), fault.found()), (Some(5), Some("hurs")));
+/// assert!(fault.to_string().starts_with("3h 2 hurs\n     ^\nexpected "));
+/// ```
+#[derive(Clone, PartialEq, Eq)]
+pub struct OwnedFault {
+    text: String,
+    cause: Cause,
+    options: Options,
+}
+
+impl OwnedFault {
+    /// The fault, which borrows the text.
+    ///
+    /// ```
+    /// use duration_str::{Options, parse_with};
+    ///
+    /// let fault = parse_with("1x", Options::off()).unwrap_err();
+    /// assert_eq!(fault.into_owned().as_fault(), fault);
+    /// ```
+    pub fn as_fault(&self) -> Fault<'_> {
+        Fault::new(
+            proved::Fault {
+                text: &self.text,
+                cause: self.cause,
+            },
+            self.options,
+        )
     }
-    let mut long = vec![0; length];
-    write(&mut long);
-    use_text(core::str::from_utf8(&long).expect(PROMISE))
+
+    /// The whole text that was read.
+    ///
+    /// ```
+    /// assert_eq!("1x".parse::<duration_str::HumanDuration>().unwrap_err().text(), "1x");
+    /// ```
+    pub fn text(&self) -> &str {
+        &self.text
+    }
+
+    /// Why it is refused.
+    ///
+    /// ```
+    /// use duration_str::{Cause, HumanDuration};
+    ///
+    /// assert_eq!("".parse::<HumanDuration>().unwrap_err().cause(), Cause::Empty);
+    /// ```
+    pub fn cause(&self) -> Cause {
+        self.cause
+    }
+
+    /// Where the fault stands, as [`Fault::place`] says it.
+    ///
+    /// ```
+    /// assert_eq!("1x".parse::<duration_str::HumanDuration>().unwrap_err().place(), Some(1));
+    /// ```
+    pub fn place(&self) -> Option<usize> {
+        self.cause.place()
+    }
+
+    /// What could stand at the place, as [`Fault::expected`] says it.
+    ///
+    /// ```
+    /// let fault = "1x".parse::<duration_str::HumanDuration>().unwrap_err();
+    /// assert!(fault.expected().unwrap().unit_word);
+    /// ```
+    pub fn expected(&self) -> Option<Expected> {
+        self.as_fault().expected()
+    }
+
+    /// What stands at the place, as [`Fault::found`] says it.
+    ///
+    /// ```
+    /// assert_eq!("1x".parse::<duration_str::HumanDuration>().unwrap_err().found(), Some("x"));
+    /// ```
+    pub fn found(&self) -> Option<&str> {
+        self.as_fault().found()
+    }
+}
+
+impl fmt::Display for OwnedFault {
+    fn fmt(&self, f: &mut fmt::Formatter<'_>) -> fmt::Result {
+        self.as_fault().fmt(f)
+    }
+}
+
+impl fmt::Debug for OwnedFault {
+    fn fmt(&self, f: &mut fmt::Formatter<'_>) -> fmt::Result {
+        f.debug_struct("OwnedFault")
+            .field("text", &self.text)
+            .field("cause", &self.cause)
+            .finish()
+    }
+}
+
+impl core::error::Error for OwnedFault {}
+
+impl From<Fault<'_>> for OwnedFault {
+    fn from(fault: Fault<'_>) -> OwnedFault {
+        fault.into_owned()
+    }
+}
+
+impl Hash for Expected {
+    fn hash<H: Hasher>(&self, state: &mut H) {
+        (self.number, self.unit_word, self.operator, self.text_end).hash(state);
+    }
+}
+
+impl Hash for Cause {
+    fn hash<H: Hasher>(&self, state: &mut H) {
+        core::mem::discriminant(self).hash(state);
+        match *self {
+            Cause::Syntax { place, expected } => (place, expected).hash(state),
+            Cause::NumberTooLarge { place } | Cause::Overflow { place } => place.hash(state),
+            Cause::Mixed { first, later } => (first as u8, later as u8).hash(state),
+            Cause::NotText { optional } => optional.hash(state),
+            Cause::Empty | Cause::OutOfRange => {}
+        }
+    }
 }

@@ -1,10 +1,13 @@
 //! Durations as people write them: `3m 13s 29ms` is read as a duration, or refused with a fault that points at its place,
 //! and a duration is printed as `3min 13s 29ms`.
 //!
-//! This crate has the public interface of `duration-str` 0.19.0 from crates.io, over a proved library; the crate itself,
-//! which calls it, is tested. What it adds: [`parse_with`], whose options are chosen at each call and whose [`Fault`] says why and where;
-//! [`write_human`], which takes no memory; and `moment_after` and `moment_before` for any moment. Faults' texts are
-//! the proved library's, whose caret stands at the first piece with which no expression goes on.
+//! This crate has the public interface of `duration-str` 0.19.0 from crates.io. What reads and prints is proved: it is the
+//! source of a proved library with its contracts taken out. What it adds: [`parse_with`], whose options are chosen at each
+//! call and whose [`Fault`] says why and where; [`OwnedFault`]; [`HumanDuration`], for command lines and serde;
+//! [`write_human`], which takes no memory; [`Tokens`]; and `moment_after` and `moment_before` for any moment. A message's
+//! caret stands at the first token with which no expression continues.
+//!
+//! There is one `unsafe` block, in [`write_human`], which is proved with the rest of it.
 //!
 //! ```
 //! use duration_str::{parse, HumanFormat};
@@ -49,35 +52,57 @@
 extern crate alloc;
 
 #[cfg(feature = "chrono")]
+#[forbid(unsafe_code)]
 mod dates;
-#[cfg(feature = "serde")]
-mod deserialize;
+#[forbid(unsafe_code)]
 mod error;
+#[forbid(unsafe_code)]
 mod ext;
+#[forbid(unsafe_code)]
 mod fault;
-mod ffi;
+#[forbid(unsafe_code)]
+mod human_duration;
+#[forbid(unsafe_code)]
 mod options;
+#[forbid(unsafe_code)]
 mod parser;
+// `parse_std` is not used, since the features choose the options here. The toolchain writes some things otherwise.
+#[allow(dead_code)]
+#[allow(
+    clippy::precedence,
+    clippy::question_mark,
+    clippy::while_let_on_iterator
+)]
+mod proved;
+#[cfg(feature = "serde")]
+#[forbid(unsafe_code)]
+mod serde_texts;
 
 #[cfg(feature = "chrono")]
 pub use dates::{
-    after_naive_date, after_naive_date_time, before_naive_date, before_naive_date_time, moment_after, moment_before,
+    after_naive_date, after_naive_date_time, before_naive_date, before_naive_date_time,
+    moment_after, moment_before,
 };
-#[cfg(feature = "serde")]
-#[allow(deprecated)]
-pub use deserialize::{deserialize_duration, deserialize_option_duration, DeserializeDuration};
-#[cfg(all(feature = "serde", feature = "chrono"))]
-#[allow(deprecated)]
-pub use deserialize::{deserialize_duration_chrono, deserialize_option_duration_chrono};
-#[cfg(all(feature = "serde", feature = "time"))]
-#[allow(deprecated)]
-pub use deserialize::{deserialize_duration_time, deserialize_option_duration_time};
 pub use error::{DError, DResult};
-pub use ext::{write_human, HumanFormat};
-pub use fault::{Cause, CondUnit, Expected, Fault};
+pub use ext::{HumanFormat, MAX_PRINTED_LEN, write_human};
+pub use fault::{Cause, Expected, Fault, OwnedFault};
+pub use human_duration::HumanDuration;
 pub use options::Options;
 #[cfg(feature = "chrono")]
 pub use parser::parse_chrono;
 #[cfg(feature = "time")]
 pub use parser::parse_time;
 pub use parser::{parse, parse_std, parse_with};
+pub use proved::token::{Token, Tokens, What};
+pub use proved::unit::{CondUnit, TimeUnit};
+#[cfg(feature = "serde")]
+#[allow(deprecated)]
+pub use serde_texts::{
+    DeserializeDuration, deserialize_duration, deserialize_option_duration, human,
+};
+#[cfg(all(feature = "serde", feature = "chrono"))]
+#[allow(deprecated)]
+pub use serde_texts::{deserialize_duration_chrono, deserialize_option_duration_chrono};
+#[cfg(all(feature = "serde", feature = "time"))]
+#[allow(deprecated)]
+pub use serde_texts::{deserialize_duration_time, deserialize_option_duration_time};

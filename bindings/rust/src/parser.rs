@@ -1,14 +1,14 @@
 //! Reading.
 use crate::fault::Fault;
-use crate::ffi;
 use crate::options::Options;
-use alloc::string::{String, ToString};
+use crate::proved::parser;
+use alloc::string::String;
 use core::time::Duration;
 
 /// Reads a text under these options. The fault, where it is refused, says why and where.
 ///
 /// ```
-/// use duration_str::{parse_with, Options};
+/// use duration_str::{Options, parse_with};
 /// use std::time::Duration;
 ///
 /// assert_eq!(parse_with("1m*10", Options::off()), Ok(Duration::from_secs(600)));
@@ -16,29 +16,35 @@ use core::time::Duration;
 /// assert_eq!(parse_with("1m*10", no_calc).unwrap_err().found(), Some("*"));
 /// ```
 pub fn parse_with(input: &str, options: Options) -> Result<Duration, Fault<'_>> {
-    let answer = ffi::parse_with(input, options.flags());
-    match answer.cause {
-        0 => Ok(Duration::from_nanos(answer.nanos)),
-        _ => Err(Fault::new(input, answer)),
+    match answer(input, options) {
+        Ok(duration) => Ok(duration),
+        Err(fault) => Err(Fault::new(fault, options)),
+    }
+}
+
+/// What the proved source answers. Where all options are off the compiler knows them, and leaves the tests of them out.
+#[inline(always)]
+fn answer(text: &str, options: Options) -> Result<Duration, parser::Fault<'_>> {
+    if options.are_off() {
+        parser::parse(text)
+    } else {
+        parser::parse_with(text, options)
     }
 }
 
 /// Reads a text, as [`parse`] does.
 fn read(text: &str) -> Result<Duration, String> {
     const OPTIONS: Options = Options::of_features();
-    // The call that knows its options is the faster one, but doesn't tell why it refuses.
-    if OPTIONS.flags() == 0 {
-        if let Some(nanos) = ffi::parse(text) {
-            return Ok(Duration::from_nanos(nanos));
-        }
+    match answer(text, OPTIONS) {
+        Ok(duration) => Ok(duration),
+        Err(fault) => Err(message(fault)),
     }
-    parse_with(text, OPTIONS).map_err(message)
 }
 
 /// A fault's message.
 #[cold]
-fn message(fault: Fault<'_>) -> String {
-    fault.to_string()
+fn message(fault: parser::Fault<'_>) -> String {
+    Fault::new(fault, Options::of_features()).message()
 }
 
 /// Reads a text under the options that the features turn on. The error is the message of the fault.
@@ -84,9 +90,14 @@ pub fn parse_std(input: impl AsRef<str>) -> Result<Duration, String> {
 /// ```
 #[cfg(feature = "chrono")]
 pub fn parse_chrono(input: impl AsRef<str>) -> Result<chrono::Duration, String> {
-    read(input.as_ref()).map(|length| {
-        chrono::Duration::from_std(length).expect("2^64 nanoseconds are 584 years, and chrono's durations go beyond")
-    })
+    read(input.as_ref()).map(signed)
+}
+
+/// The value of a text as a duration of `chrono`.
+#[cfg(feature = "chrono")]
+pub(crate) fn signed(length: Duration) -> chrono::Duration {
+    chrono::Duration::from_std(length)
+        .expect("a value is below 2^64 nanoseconds, 584 years, and chrono's durations go beyond")
 }
 
 /// Reads a text as [`parse`] does, into a duration of `time`.
@@ -97,6 +108,7 @@ pub fn parse_chrono(input: impl AsRef<str>) -> Result<chrono::Duration, String> 
 #[cfg(feature = "time")]
 pub fn parse_time(input: impl AsRef<str>) -> Result<time::Duration, String> {
     read(input.as_ref()).map(|length| {
-        time::Duration::try_from(length).expect("2^64 nanoseconds are 584 years, and time's durations go beyond")
+        time::Duration::try_from(length)
+            .expect("2^64 nanoseconds are 584 years, and time's durations go beyond")
     })
 }

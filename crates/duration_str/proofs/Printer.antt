@@ -1,5 +1,5 @@
 -- The printer writes the printed text.
-pub mod DecimalLemmas
+pub mod MessageLemmas
 pub mod PrintingLemmas
 pub mod DigitLemmas
 pub mod SpaceLemmas

@@ -1,21 +1,9 @@
 -- Worked examples, computed: what texts are read as, why others are refused, and what durations print as.
-use Rattle.std.specs.Prelude.{◌≡◌, ℕ, Bool, true, false, List, [], ◌∷◌, ◌++◌, Some, None, Ok, Err, refl, ⊤, length, flat_map, map, encode_utf8_all}
+use Rattle.std.proofs.Common.{◌≡◌, ℕ, Bool, true, false, List, [], ◌∷◌, ◌++◌, Some, None, Ok, Err, refl, length, flat_map, map, encode_utf8_all, codes}
+use Rattle.duration_str.proofs.Common.{⊤, Options, TimeUnit, Quarter, Plus, Star, Empty, Syntax, NumberTooLarge, Overflow, Mixed, Expected, off, row_of, units, unit_of_word, unit_lengths, older_units, older_unit_of_word, printed_counts, counts_of, max_printed_len, answer, fault_text}
 use Rattle.std.specs.Fmt.{digits}
 use Rattle.std.specs.Str.{chars}
-use lib.Chars.{codes}
 use lib.Utf8.{encode}
-use Rattle.duration_str.specs.declared.options.Options.{Options}
-use Rattle.duration_str.specs.declared.unit.TimeUnit.{TimeUnit}
-use Rattle.duration_str.specs.declared.unit.TimeUnit.TheVariants.{Quarter}
-use Rattle.duration_str.specs.declared.operator.CondUnit.TheVariants.{Plus, Star}
-use Rattle.duration_str.specs.declared.fault.Cause.TheVariants.{Empty, Syntax, NumberTooLarge, Overflow, Mixed}
-use Rattle.duration_str.specs.declared.fault.Expected.{Expected}
-use Rattle.duration_str.specs.Units.{off, row_of, units, unit_among, unit_of_word, unit_lengths}
-use Rattle.duration_str.specs.Older.{older_units}
-use Rattle.duration_str.specs.Printing.{printed_counts, counts_of}
-use Rattle.duration_str.specs.Internal.PrintedBytes.{max_printed_len}
-use Rattle.duration_str.specs.Answer.{answer}
-use Rattle.duration_str.specs.FaultText.{fault_text}
 
 abbrev with_no_calc : Options
 with_no_calc = record { no_calc = true; lowercase = false; cn_unit = false }
@@ -43,269 +31,93 @@ after_number-no_calc = record { number = false; unit_word = true; operator = fal
 abbrev after_unit-no_calc : Expected
 after_unit-no_calc = record { number = true; unit_word = false; operator = false; text_end = true }
 
--- ---- Terms and sums
-
-pub sum_with_plus : answer off (codes "3m + 13s + 29ms") ≡ Ok 193_029_000_000
-sum_with_plus = refl
-
-pub sum_without_plus : answer off (codes "1d2h3min4s") ≡ Ok 93_784_000_000_000
-sum_without_plus = refl
-
-pub sum_of_many_units : answer off (codes "751d 1mon 3week 5d 2ns") ≡ Ok 69_724_800_000_000_002
-sum_of_many_units = refl
-
-pub all_blanks : answer off (9 ∷ codes "1m" ++ 13 ∷ 10 ∷ []) ≡ Ok 60_000_000_000
-all_blanks = refl
-
-pub number_alone-seconds : answer off (codes "1") ≡ Ok 1_000_000_000
-number_alone-seconds = refl
-
-pub last_number-seconds : answer off (codes "1m 2") ≡ Ok 62_000_000_000
-last_number-seconds = refl
-
-pub sum-overflow : answer off (codes "580y 580y") ≡ Err (Overflow None)
-sum-overflow = refl
-
--- ---- Products
-
-pub product_by_one : answer off (codes "580y*1") ≡ Ok 18_290_880_000_000_000_000
-product_by_one = refl
-
-pub product-overflow : answer off (codes "580y*2") ≡ Err (Overflow None)
-product-overflow = refl
-
-pub product-zero_last : answer off (codes "580y*2*0") ≡ Ok 0
-product-zero_last = refl
-
-pub product-zero_first : answer off (codes "0*580y*2") ≡ Err (Overflow None)
-product-zero_first = refl
-
-pub product-first_last : answer off (codes "1ns*1ns*1000000000") ≡ Ok 1
-product-first_last = refl
-
-pub product-steps_rounded : answer off (codes "1000000000*1ns*1ns") ≡ Ok 0
-product-steps_rounded = refl
-
--- each step is rounded down, not just the last one
-pub product-middle_step_rounded : answer off (codes "1*1ns*1ns*1000000000") ≡ Ok 0
-product-middle_step_rounded = refl
-
-pub plus_then_star : answer off (codes "1m 2s*3") ≡ Err (Mixed Plus Star)
-plus_then_star = refl
-
-pub star_then_plus : answer off (codes "1m*2*3+4") ≡ Err (Mixed Star Plus)
-star_then_plus = refl
-
--- ---- The limits of numbers
-
-pub leading_zeros : answer off (codes "00000000000000000000000001") ≡ Ok 1_000_000_000
-leading_zeros = refl
-
-pub greatest_number : answer off (codes "18446744073709551615ns") ≡ Ok 18_446_744_073_709_551_615
-greatest_number = refl
-
-pub number_above_limit : answer off (codes "18446744073709551616ns") ≡ Err (NumberTooLarge (Some 0))
-number_above_limit = refl
-
-pub first_term-overflow : answer off (codes "10000000000000000y+60") ≡ Err (Overflow (Some 0))
-first_term-overflow = refl
-
-pub later_number-no_place : answer off (codes "1s + 99999999999999999999") ≡ Err (NumberTooLarge None)
-later_number-no_place = refl
-
--- ---- Syntax faults, their places, and what is expected there
-
-pub empty-refused : answer off [] ≡ Err Empty
-empty-refused = refl
-
-pub blanks-refused : answer off (codes "   ") ≡ Err (Syntax 3 number_alone)
-blanks-refused = refl
-
-pub two_numbers-refused : answer off (codes "1 2") ≡ Err (Syntax 2 after_number)
-two_numbers-refused = refl
-
-pub unknown_word-refused : answer off (codes "0mxyz") ≡ Err (Syntax 1 after_number)
-unknown_word-refused = refl
-
-pub longer_word-refused : answer off (codes "1mx") ≡ Err (Syntax 1 after_number)
-longer_word-refused = refl
-
-pub minus_after_number-refused : answer off (codes "0m+3-5") ≡ Err (Syntax 4 after_number)
-minus_after_number-refused = refl
-
-pub minus_after_unit-refused : answer off (codes "3ms-2ms") ≡ Err (Syntax 3 after_unit)
-minus_after_unit-refused = refl
-
-pub minus_after_later_number-refused : answer off (codes "1m 3-5") ≡ Err (Syntax 4 after_number)
-minus_after_later_number-refused = refl
-
-pub last_operator-refused : answer off (codes "1m+") ≡ Err (Syntax 3 number_alone)
-last_operator-refused = refl
-
-pub first_operator-refused : answer off (codes "+1m") ≡ Err (Syntax 0 number_alone)
-first_operator-refused = refl
-
-pub two_operators-refused : answer off (codes "1m++2") ≡ Err (Syntax 3 number_alone)
-two_operators-refused = refl
-
-pub place_after_line_feeds : answer off (codes "1m" ++ 10 ∷ codes "+" ++ 10 ∷ codes "x") ≡ Err (Syntax 5 number_alone)
-place_after_line_feeds = refl
-
-pub place_in_bytes : answer off (codes "1µs 分") ≡ Err (Syntax 5 after_unit)
-place_in_bytes = refl
-
-pub vertical_tab-refused : answer off (codes "1m" ++ 11 ∷ codes "2") ≡ Err (Syntax 2 after_unit)
-vertical_tab-refused = refl
-
-pub form_feed-refused : answer off (codes "1m" ++ 12 ∷ codes "2") ≡ Err (Syntax 2 after_unit)
-form_feed-refused = refl
-
-pub no_break_space-refused : answer off (codes "1m" ++ 0xA0 ∷ codes "2") ≡ Err (Syntax 2 after_unit)
-no_break_space-refused = refl
-
-pub wide_space-refused : answer off (codes "1m" ++ 0x3000 ∷ codes "2") ≡ Err (Syntax 2 after_unit)
-wide_space-refused = refl
-
--- ---- The order of refusals
-
-pub syntax-before_standing_number : answer off (codes "99999999999999999999 2") ≡ Err (Syntax 21 after_number)
-syntax-before_standing_number = refl
-
-pub first_term-before_syntax : answer off (codes "99999999999999999999y-") ≡ Err (NumberTooLarge (Some 0))
-first_term-before_syntax = refl
-
-pub syntax-before_sum : answer off (codes "580y 580y x") ≡ Err (Syntax 10 after_unit)
-syntax-before_sum = refl
-
-pub syntax-before_sum-at_sign : answer off (codes "580y 580y-") ≡ Err (Syntax 9 after_unit)
-syntax-before_sum-at_sign = refl
-
-pub number-before_later_operator : answer off (codes "1m+99999999999999999999*2") ≡ Err (NumberTooLarge None)
-number-before_later_operator = refl
-
-pub operator-before_later_number : answer off (codes "1m+2*99999999999999999999") ≡ Err (Mixed Plus Star)
-operator-before_later_number = refl
-
--- ---- The option `no_calc`
-
-pub no_calc-sum : answer with_no_calc (codes "2h 37m") ≡ Ok 9_420_000_000_000
-no_calc-sum = refl
-
-pub no_calc-plus_after_number : answer with_no_calc (codes "1+2") ≡ Err (Syntax 1 after_number-no_calc)
-no_calc-plus_after_number = refl
-
-pub no_calc-plus_after_unit : answer with_no_calc (codes "1m+2") ≡ Err (Syntax 2 after_unit-no_calc)
-no_calc-plus_after_unit = refl
-
-pub no_calc-minus_after_number : answer with_no_calc (codes "0m3-5") ≡ Err (Syntax 3 after_number-no_calc)
-no_calc-minus_after_number = refl
-
-pub no_calc-number_stands_not : answer with_no_calc (codes "99999999999999999999+1") ≡ Err (Syntax 20 after_number-no_calc)
-no_calc-number_stands_not = refl
-
-pub no_calc-first_term_before_syntax : answer with_no_calc (codes "99999999999999999999m+1") ≡ Err (NumberTooLarge (Some 0))
-no_calc-first_term_before_syntax = refl
-
-pub no_calc-sum_before_word : answer with_no_calc (codes "580y 580y x") ≡ Err (Overflow None)
-no_calc-sum_before_word = refl
-
-pub no_calc-sum_before_plus : answer with_no_calc (codes "580y 580y+1") ≡ Err (Overflow None)
-no_calc-sum_before_plus = refl
-
-pub no_calc-sum_before_minus : answer with_no_calc (codes "580y 580y-") ≡ Err (Overflow None)
-no_calc-sum_before_minus = refl
-
-pub no_calc-later_number_no_place : answer with_no_calc (codes "1m 99999999999999999999") ≡ Err (NumberTooLarge None)
-no_calc-later_number_no_place = refl
-
--- ---- The options `lowercase` and `cn_unit`
-
-pub capitals_folded : answer off (codes "1MS") ≡ Ok 1_000_000
-capitals_folded = refl
-
-pub capital_minute : answer off (codes "1M") ≡ Ok 60_000_000_000
-capital_minute = refl
-
-pub capital_after_micro : answer off (codes "1µS") ≡ Ok 1_000
-capital_after_micro = refl
-
-pub lowercase-capital_refused : answer with_lowercase (codes "1M") ≡ Err (Syntax 1 after_number)
-lowercase-capital_refused = refl
-
--- the Greek letter U+03BC, which is not the micro sign U+00B5
-pub greek_mu-refused : answer off (49 ∷ 0x3BC ∷ 115 ∷ []) ≡ Err (Syntax 1 after_number)
-greek_mu-refused = refl
-
-pub micro_alone-refused : answer off (codes "1µ s") ≡ Err (Syntax 1 after_number)
-micro_alone-refused = refl
-
-pub cn_unit-chinese_read : answer with_cn_unit (codes " 1分+   31秒 + 2毫秒+  3纳秒  ") ≡ Ok 91_002_000_003
-cn_unit-chinese_read = refl
-
-pub cn_unit-all_read : answer with_cn_unit (codes "1年1月1周1日1天1时1分1秒1毫秒1微秒1纳秒") ≡ Ok 34_909_261_001_001_001
-cn_unit-all_read = refl
-
-pub chinese-refused : answer off (codes " 1分+   31秒 + 2毫秒+  3纳秒  ") ≡ Err (Syntax 2 after_number)
-chinese-refused = refl
-
--- ---- The texts of faults
-
-pub caret-by_characters : fault_text (encode_utf8_all (codes "1µs 分")) (Syntax 5 after_unit)
-    ≡ encode_utf8_all (codes "1µs 分" ++ 10 ∷ codes "    ^" ++ 10 ∷ codes "expected ['+', '*']")
-unfolding encode chars
-caret-by_characters = refl
-
-pub byte-after_line_feeds : fault_text (codes "1m" ++ 10 ∷ codes "+" ++ 10 ∷ codes "x") (Syntax 5 number_alone)
-    ≡ codes "byte 5: expected number"
-unfolding digits encode
-byte-after_line_feeds = refl
-
-pub line-alone : fault_text (codes "1m 2s*3") (Mixed Plus Star) ≡ codes "not support '+' with '*' calculate"
-unfolding encode
-line-alone = refl
-
--- ---- Printed texts
-
-abbrev printed : ℕ → List ℕ
-printed nanos = printed_counts (counts_of unit_lengths nanos)
-
-pub printed-zero : printed 0 ≡ codes "0s"
-unfolding digits
-printed-zero = refl
-
-pub printed-milliseconds : printed 193_029_000_000 ≡ codes "3min 13s 29ms"
-unfolding digits
-printed-milliseconds = refl
-
-pub printed-day_to_second : printed 93_784_000_000_000 ≡ codes "1d 2h 3min 4s"
-unfolding digits
-printed-day_to_second = refl
-
-pub printed-807_days : printed 69_724_800_000_000_002 ≡ codes "2y 2mon 2w 3d 2ns"
-unfolding digits
-printed-807_days = refl
-
-pub printed-90_days : printed 7_776_000_000_000_000 ≡ codes "3mon"
-unfolding digits
-printed-90_days = refl
-
-pub printed-91_days : printed 7_862_400_000_000_000 ≡ codes "1q"
-unfolding digits
-printed-91_days = refl
-
-pub printed-364_days : printed 31_449_600_000_000_000 ≡ codes "4q"
-unfolding digits
-printed-364_days = refl
-
-pub printed-35_days : printed 3_024_000_000_000_000 ≡ codes "1mon 5d"
-unfolding digits
-printed-35_days = refl
-
-pub printed-377_days : printed 32_572_803_000_000_000 ≡ codes "1y 1w 5d 3s"
-unfolding digits
-printed-377_days = refl
-
--- ---- Printed texts around 2^64 nanoseconds
+-- ---- What texts are read as, and why others are refused
+
+pub record Answers : Type 0 where
+  -- ---- Terms and sums
+  pub sum_with_plus : answer off (codes "3m + 13s + 29ms") ≡ Ok 193_029_000_000
+  pub sum_without_plus : answer off (codes "1d2h3min4s") ≡ Ok 93_784_000_000_000
+  pub sum_of_many_units : answer off (codes "751d 1mon 3week 5d 2ns") ≡ Ok 69_724_800_000_000_002
+  pub all_blanks : answer off (9 ∷ codes "1m" ++ 13 ∷ 10 ∷ []) ≡ Ok 60_000_000_000
+  pub number_alone-seconds : answer off (codes "1") ≡ Ok 1_000_000_000
+  pub last_number-seconds : answer off (codes "1m 2") ≡ Ok 62_000_000_000
+  pub sum-overflow : answer off (codes "580y 580y") ≡ Err (Overflow None)
+  -- ---- Products
+  pub product_by_one : answer off (codes "580y*1") ≡ Ok 18_290_880_000_000_000_000
+  pub product-overflow : answer off (codes "580y*2") ≡ Err (Overflow None)
+  pub product-zero_last : answer off (codes "580y*2*0") ≡ Ok 0
+  pub product-zero_first : answer off (codes "0*580y*2") ≡ Err (Overflow None)
+  pub product-first_last : answer off (codes "1ns*1ns*1000000000") ≡ Ok 1
+  pub product-steps_rounded : answer off (codes "1000000000*1ns*1ns") ≡ Ok 0
+  -- each step is rounded down, not just the last one
+  pub product-middle_step_rounded : answer off (codes "1*1ns*1ns*1000000000") ≡ Ok 0
+  pub plus_then_star : answer off (codes "1m 2s*3") ≡ Err (Mixed Plus Star)
+  pub star_then_plus : answer off (codes "1m*2*3+4") ≡ Err (Mixed Star Plus)
+  -- ---- The limits of numbers
+  pub leading_zeros : answer off (codes "00000000000000000000000001") ≡ Ok 1_000_000_000
+  pub greatest_number : answer off (codes "18446744073709551615ns") ≡ Ok 18_446_744_073_709_551_615
+  pub number_above_limit : answer off (codes "18446744073709551616ns") ≡ Err (NumberTooLarge (Some 0))
+  pub first_term-overflow : answer off (codes "10000000000000000y+60") ≡ Err (Overflow (Some 0))
+  pub later_number-no_place : answer off (codes "1s + 99999999999999999999") ≡ Err (NumberTooLarge None)
+  -- ---- Syntax faults, their places, and what is expected there
+  pub empty-refused : answer off [] ≡ Err Empty
+  pub blanks-refused : answer off (codes "   ") ≡ Err (Syntax 3 number_alone)
+  pub two_numbers-refused : answer off (codes "1 2") ≡ Err (Syntax 2 after_number)
+  pub unknown_word-refused : answer off (codes "0mxyz") ≡ Err (Syntax 1 after_number)
+  pub longer_word-refused : answer off (codes "1mx") ≡ Err (Syntax 1 after_number)
+  pub minus_after_number-refused : answer off (codes "0m+3-5") ≡ Err (Syntax 4 after_number)
+  pub minus_after_unit-refused : answer off (codes "3ms-2ms") ≡ Err (Syntax 3 after_unit)
+  pub minus_after_later_number-refused : answer off (codes "1m 3-5") ≡ Err (Syntax 4 after_number)
+  pub last_operator-refused : answer off (codes "1m+") ≡ Err (Syntax 3 number_alone)
+  pub first_operator-refused : answer off (codes "+1m") ≡ Err (Syntax 0 number_alone)
+  pub two_operators-refused : answer off (codes "1m++2") ≡ Err (Syntax 3 number_alone)
+  pub place_after_line_feeds : answer off (codes "1m" ++ 10 ∷ codes "+" ++ 10 ∷ codes "x") ≡ Err (Syntax 5 number_alone)
+  pub place_in_bytes : answer off (codes "1µs 分") ≡ Err (Syntax 5 after_unit)
+  pub vertical_tab-refused : answer off (codes "1m" ++ 11 ∷ codes "2") ≡ Err (Syntax 2 after_unit)
+  pub form_feed-refused : answer off (codes "1m" ++ 12 ∷ codes "2") ≡ Err (Syntax 2 after_unit)
+  pub no_break_space-refused : answer off (codes "1m" ++ 0xA0 ∷ codes "2") ≡ Err (Syntax 2 after_unit)
+  pub wide_space-refused : answer off (codes "1m" ++ 0x3000 ∷ codes "2") ≡ Err (Syntax 2 after_unit)
+  -- ---- The order of refusals
+  pub syntax-before_standing_number : answer off (codes "99999999999999999999 2") ≡ Err (Syntax 21 after_number)
+  pub first_term-before_syntax : answer off (codes "99999999999999999999y-") ≡ Err (NumberTooLarge (Some 0))
+  pub syntax-before_sum : answer off (codes "580y 580y x") ≡ Err (Syntax 10 after_unit)
+  pub syntax-before_sum-at_sign : answer off (codes "580y 580y-") ≡ Err (Syntax 9 after_unit)
+  pub number-before_later_operator : answer off (codes "1m+99999999999999999999*2") ≡ Err (NumberTooLarge None)
+  pub operator-before_later_number : answer off (codes "1m+2*99999999999999999999") ≡ Err (Mixed Plus Star)
+  -- ---- The option `no_calc`
+  pub no_calc-sum : answer with_no_calc (codes "2h 37m") ≡ Ok 9_420_000_000_000
+  pub no_calc-plus_after_number : answer with_no_calc (codes "1+2") ≡ Err (Syntax 1 after_number-no_calc)
+  pub no_calc-plus_after_unit : answer with_no_calc (codes "1m+2") ≡ Err (Syntax 2 after_unit-no_calc)
+  pub no_calc-minus_after_number : answer with_no_calc (codes "0m3-5") ≡ Err (Syntax 3 after_number-no_calc)
+  pub no_calc-number_stands_not : answer with_no_calc (codes "99999999999999999999+1")
+      ≡ Err (Syntax 20 after_number-no_calc)
+  pub no_calc-first_term_before_syntax : answer with_no_calc (codes "99999999999999999999m+1")
+      ≡ Err (NumberTooLarge (Some 0))
+  pub no_calc-sum_before_word : answer with_no_calc (codes "580y 580y x") ≡ Err (Overflow None)
+  pub no_calc-sum_before_plus : answer with_no_calc (codes "580y 580y+1") ≡ Err (Overflow None)
+  pub no_calc-sum_before_minus : answer with_no_calc (codes "580y 580y-") ≡ Err (Overflow None)
+  pub no_calc-later_number_no_place : answer with_no_calc (codes "1m 99999999999999999999") ≡ Err (NumberTooLarge None)
+  -- ---- The options `lowercase` and `cn_unit`
+  pub capitals_folded : answer off (codes "1MS") ≡ Ok 1_000_000
+  pub capital_minute : answer off (codes "1M") ≡ Ok 60_000_000_000
+  pub capital_after_micro : answer off (codes "1µS") ≡ Ok 1_000
+  pub lowercase-capital_refused : answer with_lowercase (codes "1M") ≡ Err (Syntax 1 after_number)
+  -- the Greek letter U+03BC, which is not the micro sign U+00B5
+  pub greek_mu-refused : answer off (49 ∷ 0x3BC ∷ 115 ∷ []) ≡ Err (Syntax 1 after_number)
+  pub micro_alone-refused : answer off (codes "1µ s") ≡ Err (Syntax 1 after_number)
+  pub cn_unit-chinese_read : answer with_cn_unit (codes " 1分+   31秒 + 2毫秒+  3纳秒  ") ≡ Ok 91_002_000_003
+  pub cn_unit-all_read : answer with_cn_unit (codes "1年1月1周1日1天1时1分1秒1毫秒1微秒1纳秒") ≡ Ok 34_909_261_001_001_001
+  pub chinese-refused : answer off (codes " 1分+   31秒 + 2毫秒+  3纳秒  ") ≡ Err (Syntax 2 after_number)
+  -- ---- The quarter
+  pub quarter-read : answer off (codes "1q") ≡ Ok 7_862_400_000_000_000
+  pub capital_quarters-read : answer off (codes "2 Quarters") ≡ Ok 15_724_800_000_000_000
+  pub capital_quarter-lowercase_refused : answer with_lowercase (codes "1Q") ≡ Err (Syntax 1 after_number)
+  pub longer_word_than_quarter-refused : answer off (codes "1qs") ≡ Err (Syntax 1 after_number)
+  -- Before the quarter was added, its names named no unit, and there were 40 others.
+  pub quarter_was_no_unit : map (older_unit_of_word off) (row_of Quarter).names ≡ None ∷ None ∷ None ∷ []
+
+pub answers : Answers
+answers = assumption
 
 abbrev last_that_reads_back : List ℕ
 last_that_reads_back = codes "584y 3q 2mon 1w 3d 23h 34min 33s 709ms 551µs 615ns"
@@ -313,22 +125,9 @@ last_that_reads_back = codes "584y 3q 2mon 1w 3d 23h 34min 33s 709ms 551µs 615n
 abbrev first_that_overflows : List ℕ
 first_that_overflows = codes "584y 3q 2mon 1w 3d 23h 34min 33s 709ms 551µs 616ns"
 
-abbrev greatest_duration : List ℕ
-greatest_duration = codes "584942417355y 3w 5d 7h 15s 999ms 999µs 999ns"
-
-pub printed-last_that_reads_back : printed 18_446_744_073_709_551_615 ≡ last_that_reads_back
-unfolding digits
-printed-last_that_reads_back = refl
-
-pub reads_back-last : answer off last_that_reads_back ≡ Ok 18_446_744_073_709_551_615
-reads_back-last = refl
-
-pub printed-first_that_overflows : printed 18_446_744_073_709_551_616 ≡ first_that_overflows
-unfolding digits
-printed-first_that_overflows = refl
-
 pub overflows-first : (no_calc lowercase cn_unit : Bool)
-    → answer (record { no_calc = no_calc; lowercase = lowercase; cn_unit = cn_unit }) first_that_overflows ≡ Err (Overflow None)
+    → answer (record { no_calc = no_calc; lowercase = lowercase; cn_unit = cn_unit }) first_that_overflows
+    ≡ Err (Overflow None)
 overflows-first true true true = refl
 overflows-first true true false = refl
 overflows-first true false true = refl
@@ -338,28 +137,48 @@ overflows-first false true false = refl
 overflows-first false false true = refl
 overflows-first false false false = refl
 
-pub printed-greatest_duration : printed 18_446_744_073_709_551_615_999_999_999 ≡ greatest_duration
-unfolding digits
-printed-greatest_duration = refl
+-- ---- What faults and durations print
+
+abbrev printed : ℕ → List ℕ
+printed nanos = printed_counts (counts_of unit_lengths nanos)
+
+abbrev greatest_duration : List ℕ
+greatest_duration = codes "584942417355y 3w 5d 7h 15s 999ms 999µs 999ns"
 
 abbrev longest : List ℕ
 longest = codes "100000000000y 3q 2mon 3w 6d 23h 59min 59s 999ms 999µs 999ns"
 
-pub printed-longest : printed 3_153_600_000_031_190_399_999_999_999 ≡ longest
-unfolding digits
-printed-longest = refl
+pub record PrintedTexts : Type 0 where
+  -- ---- The texts of faults
+  pub caret-by_characters : fault_text (encode_utf8_all (codes "1µs 分")) (Syntax 5 after_unit)
+      ≡ encode_utf8_all (codes "1µs 分" ++ 10 ∷ codes "    ^" ++ 10 ∷ codes "expected ['+', '*']")
+  pub byte-after_line_feeds : fault_text (codes "1m" ++ 10 ∷ codes "+" ++ 10 ∷ codes "x") (Syntax 5 number_alone)
+      ≡ codes "byte 5: expected number"
+  pub line-alone : fault_text (codes "1m 2s*3") (Mixed Plus Star) ≡ codes "not support '+' with '*' calculate"
+  -- ---- Printed texts
+  pub printed-zero : printed 0 ≡ codes "0s"
+  pub printed-milliseconds : printed 193_029_000_000 ≡ codes "3min 13s 29ms"
+  pub printed-day_to_second : printed 93_784_000_000_000 ≡ codes "1d 2h 3min 4s"
+  pub printed-807_days : printed 69_724_800_000_000_002 ≡ codes "2y 2mon 2w 3d 2ns"
+  pub printed-90_days : printed 7_776_000_000_000_000 ≡ codes "3mon"
+  pub printed-91_days : printed 7_862_400_000_000_000 ≡ codes "1q"
+  pub printed-364_days : printed 31_449_600_000_000_000 ≡ codes "4q"
+  pub printed-35_days : printed 3_024_000_000_000_000 ≡ codes "1mon 5d"
+  pub printed-377_days : printed 32_572_803_000_000_000 ≡ codes "1y 1w 5d 3s"
+  -- ---- Printed texts around 2^64 nanoseconds
+  pub printed-last_that_reads_back : printed 18_446_744_073_709_551_615 ≡ last_that_reads_back
+  pub reads_back-last : answer off last_that_reads_back ≡ Ok 18_446_744_073_709_551_615
+  pub printed-first_that_overflows : printed 18_446_744_073_709_551_616 ≡ first_that_overflows
+  pub printed-greatest_duration : printed 18_446_744_073_709_551_615_999_999_999 ≡ greatest_duration
+  pub printed-longest : printed 3_153_600_000_031_190_399_999_999_999 ≡ longest
+  -- The bound on printed bytes is reached.
+  pub longest-bytes : length (encode_utf8_all longest) ≡ max_printed_len
+  pub sixty_bytes : max_printed_len ≡ 60
+  pub overflows-greatest_duration : answer off greatest_duration ≡ Err (Overflow (Some 0))
 
--- The bound on printed bytes is reached.
-pub longest-bytes : length (encode_utf8_all longest) ≡ max_printed_len
-unfolding digits encode
-longest-bytes = refl
-
-pub sixty_bytes : max_printed_len ≡ 60
-unfolding digits
-sixty_bytes = refl
-
-pub overflows-greatest_duration : answer off greatest_duration ≡ Err (Overflow (Some 0))
-overflows-greatest_duration = refl
+pub printed_texts : PrintedTexts
+unfolding chars digits encode
+printed_texts = assumption
 
 -- ---- The names of the units
 
@@ -381,24 +200,6 @@ names_of_one_unit = assumption
 
 pub forty_three_names : length (flat_map (λ u. (row_of u).names) units) ≡ 43
 forty_three_names = refl
-
--- ---- The quarter
-
-pub quarter-read : answer off (codes "1q") ≡ Ok 7_862_400_000_000_000
-quarter-read = refl
-
-pub capital_quarters-read : answer off (codes "2 Quarters") ≡ Ok 15_724_800_000_000_000
-capital_quarters-read = refl
-
-pub capital_quarter-lowercase_refused : answer with_lowercase (codes "1Q") ≡ Err (Syntax 1 after_number)
-capital_quarter-lowercase_refused = refl
-
-pub longer_word_than_quarter-refused : answer off (codes "1qs") ≡ Err (Syntax 1 after_number)
-longer_word_than_quarter-refused = refl
-
--- Before the quarter was added, its names named no unit, and there were 40 others.
-pub quarter_was_no_unit : map (unit_among older_units off) (row_of Quarter).names ≡ None ∷ None ∷ None ∷ []
-quarter_was_no_unit = refl
 
 pub forty_older_names : length (flat_map (λ u. (row_of u).names) older_units) ≡ 40
 forty_older_names = refl

@@ -1,6 +1,6 @@
 -- The texts of faults.
-use Rattle.std.specs.Prelude.{ℕ, Bool, List, ◌++◌, Option, Some, None, if◌then◌else◌, length, take, replicate, decimal, encode_utf8_all, ◌==◌}
-use Rattle.std.specs.List.{list_any}
+use Rattle.std.specs.Prelude.{◌≢◌, ℕ, Bool, List, ◌++◌, Option, Some, None, if◌then◌else◌, length, take, replicate, decimal, encode_utf8_all, ◌==◌}
+use Rattle.std.specs.List.{list_any, last_or}
 use Rattle.std.specs.Str.{chars}
 use lib.Chars.{codes}
 use Rattle.duration_str.specs.declared.operator.CondUnit.{CondUnit}
@@ -55,6 +55,10 @@ chars_before text place = length (chars (take place text))
 abbrev pub placed_text : List ℕ → Option ℕ → List ℕ → List ℕ
 placed_text text None line = line
 placed_text text (Some place) line = if has_line_feed text then byte_text place line else caret_text text (chars_before text place) line
+
+-- The last byte, if there is one, is no line feed.
+abbrev pub EndsInsideLine : List ℕ → Type 0
+EndsInsideLine bytes = last_or None bytes ≢ Some 10
 
 -- the bytes that a fault prints as, given the bytes of the text that was read
 abbrev pub fault_text : List ℕ → Cause → List ℕ

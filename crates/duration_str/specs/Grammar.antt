@@ -5,7 +5,7 @@ use Rattle.duration_str.specs.declared.options.Options.{Options}
 use Rattle.duration_str.specs.declared.unit.TimeUnit.{TimeUnit}
 use Rattle.duration_str.specs.declared.operator.CondUnit.{CondUnit}
 use Rattle.duration_str.specs.Text.{is_digit, is_unit_letter, operator_of, IsBlank, number_of}
-use Rattle.duration_str.specs.Units.{units, unit_among}
+use Rattle.duration_str.specs.Units.{unit_of_word}
 
 -- A symbol of the grammar. No sentence contains `other`, or a word that names no unit.
 pub data Terminal : Type 0 where
@@ -24,17 +24,17 @@ abbrev pub sign_terminal : List ℕ → Terminal
 sign_terminal (c ∷ []) = operator_or_other (operator_of c)
 sign_terminal _ = other
 
--- Digits are a number, unit letters are a word that may name one of these units, and `+` and `*` are operators.
-abbrev pub terminal_among : List TimeUnit → Options → List ℕ → Terminal
-terminal_among us o [] = other
-terminal_among us o (c ∷ cs) =
+-- Digits are a number, unit letters are a word with the unit that it names, and `+` and `*` are operators.
+abbrev pub terminal_by : (Options → List ℕ → Option TimeUnit) → Options → List ℕ → Terminal
+terminal_by unit_of o [] = other
+terminal_by unit_of o (c ∷ cs) =
     if list_all is_digit (c ∷ cs) then number (number_of (c ∷ cs))
-    else if list_all (is_unit_letter o) (c ∷ cs) then word (unit_among us o (c ∷ cs))
+    else if list_all (is_unit_letter o) (c ∷ cs) then word (unit_of o (c ∷ cs))
     else sign_terminal (c ∷ cs)
 
 -- the terminal that these characters stand for
 abbrev pub terminal_of : Options → List ℕ → Terminal
-terminal_of o w = terminal_among units o w
+terminal_of o w = terminal_by unit_of_word o w
 
 -- S = Number | Number Unit | Number Op S | Number Unit Op S | Number Unit S;
 -- under `no_calc` S = Number | Number Unit | Number Unit S

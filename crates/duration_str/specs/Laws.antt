@@ -6,19 +6,20 @@ use Rattle.std.specs.Duration.{FitsDuration}
 use Rattle.duration_str.specs.declared.options.Options.{Options}
 use Rattle.duration_str.specs.declared.operator.CondUnit.{CondUnit}
 use Rattle.duration_str.specs.declared.operator.CondUnit.TheVariants.{Star}
+use Rattle.duration_str.specs.declared.unit.TimeUnit.{TimeUnit}
 use Rattle.duration_str.specs.declared.unit.TimeUnit.TheVariants.{Year}
 use Rattle.duration_str.specs.declared.fault.Cause.{Cause}
 use Rattle.duration_str.specs.declared.fault.Cause.TheVariants.{Overflow}
 use Rattle.duration_str.specs.declared.fault.Expected.{Expected}
 use Rattle.duration_str.specs.Text.{operator_of, is_chinese}
-use Rattle.duration_str.specs.Units.{unit_lengths, nanos_of}
+use Rattle.duration_str.specs.Units.{UnitRow, row_of, unit_lengths, nanos_of}
 use Rattle.duration_str.specs.Grammar.{Terminal, operator, IsSentence, IsSentenceOf, Spells, terminal_of}
 use Rattle.duration_str.specs.Tokens.{Token, tokens_of, lexemes_of, AreTokens}
 use Rattle.duration_str.specs.Place.{BeginsSentence, CanFollow, IsFront}
-use Rattle.duration_str.specs.Value.{AllPlus, Term, value_of_term, terms_of, second}
+use Rattle.duration_str.specs.Value.{AllPlus, Term, value_of_term, written_terms, second}
 use Rattle.duration_str.specs.Reading.{IsRead, IsRefused}
 use Rattle.duration_str.specs.Answer.{answer, kinds_after, last_of, front_of}
-use Rattle.duration_str.specs.Older.{older_terminals, WasSentenceOf, WasRead, WasRefused}
+use Rattle.duration_str.specs.Older.{older_row_of, older_terminals, WasSentenceOf, WasRead, WasRefused}
 use Rattle.duration_str.specs.Printing.{IsPrinted, IsGreatestBreakdown, counts_of}
 
 -- whether a character is `+` or `*`
@@ -44,8 +45,10 @@ HasNoChinese text = IsTrue (list_all (λ c. not (is_chinese c)) text)
 -- Two sentences that spell one text are equal, and a sentence spells a text exactly if its lexemes are those of the
 -- text's tokens.
 pub record OneSentence : Type 0 where
-  pub equal : (o : Options) (text : List ℕ) (lexemes others : List (List ℕ)) → IsSentenceOf o lexemes text → IsSentenceOf o others text → lexemes ≡ others
-  pub tokens : (o : Options) (text : List ℕ) (lexemes : List (List ℕ)) → IsSentence o.no_calc (map (terminal_of o) lexemes)
+  pub equal : (o : Options) (text : List ℕ) (lexemes others : List (List ℕ))
+      → IsSentenceOf o lexemes text → IsSentenceOf o others text → lexemes ≡ others
+  pub tokens : (o : Options) (text : List ℕ) (lexemes : List (List ℕ))
+      → IsSentence o.no_calc (map (terminal_of o) lexemes)
       → (Spells lexemes text ↔ (lexemes ≡ lexemes_of (tokens_of o text)))
 
 -- The tokens of a text are those that `tokens_of` gives, and no others.
@@ -55,10 +58,12 @@ pub record OneCut : Type 0 where
 
 -- A text is read as one value or refused for one cause, not both.
 pub record OneAnswer : Type 0 where
-  pub some : (o : Options) (text : List ℕ) → ((nanos : ℕ) × IsRead o text nanos) ⊎ ((cause : Cause) × IsRefused o text cause)
+  pub some : (o : Options) (text : List ℕ)
+      → ((nanos : ℕ) × IsRead o text nanos) ⊎ ((cause : Cause) × IsRefused o text cause)
   pub one_value : (o : Options) (text : List ℕ) (m n : ℕ) → IsRead o text m → IsRead o text n → m ≡ n
   pub one_cause : (o : Options) (text : List ℕ) (c d : Cause) → IsRefused o text c → IsRefused o text d → c ≡ d
-  pub not_both : (o : Options) (text : List ℕ) (nanos : ℕ) (cause : Cause) → IsRead o text nanos → IsRefused o text cause → ⊥
+  pub not_both : (o : Options) (text : List ℕ) (nanos : ℕ) (cause : Cause)
+      → IsRead o text nanos → IsRefused o text cause → ⊥
 
 -- The computed answer is the value of the text, or the cause of its refusal.
 pub record IsAnswer : Type 0 where
@@ -70,9 +75,10 @@ pub record IsAnswer : Type 0 where
 pub record PlaceAndKinds : Type 0 where
   pub kinds : (no_calc : Bool) (front : List Terminal) (expected : Expected) → BeginsSentence no_calc front
       → (CanFollow no_calc front expected ↔ (expected ≡ kinds_after no_calc (last_of None front)))
-  pub no_operator : (no_calc : Bool) (front : List Terminal) (op : CondUnit) → no_calc ≡ true → BeginsSentence no_calc front
-      → last_of None front ≢ Some (operator op)
-  pub front : (no_calc : Bool) (terminals : List Terminal) → IsFront no_calc terminals (take (front_of no_calc terminals) terminals) (drop (front_of no_calc terminals) terminals)
+  pub no_operator : (no_calc : Bool) (front : List Terminal) (op : CondUnit)
+      → no_calc ≡ true → BeginsSentence no_calc front → last_of None front ≢ Some (operator op)
+  pub front : (no_calc : Bool) (terminals : List Terminal) →
+      IsFront no_calc terminals (take (front_of no_calc terminals) terminals) (drop (front_of no_calc terminals) terminals)
   pub only : (no_calc : Bool) (terminals front rest : List Terminal) → IsFront no_calc terminals front rest
       → (front ≡ take (front_of no_calc terminals) terminals) × (rest ≡ drop (front_of no_calc terminals) terminals)
 
@@ -81,30 +87,29 @@ abbrev pub NoCalcAgrees : Type 0
 NoCalcAgrees = (o : Options) (text : List ℕ) (nanos : ℕ) → HasNoOperator text
     → (IsRead (record o { no_calc = true }) text nanos ↔ IsRead (record o { no_calc = false }) text nanos)
 
+-- With the option on and with it off, the text has the same values and is refused for the same causes.
+pub record IsIdle (choice : Bool → Options) (text : List ℕ) : Type 0 where
+  pub value : (nanos : ℕ) → (IsRead (choice true) text nanos ↔ IsRead (choice false) text nanos)
+  pub cause : (cause : Cause) → (IsRefused (choice true) text cause ↔ IsRefused (choice false) text cause)
+
 -- `lowercase` changes nothing without ASCII capitals, and `cn_unit` nothing without Chinese characters.
 pub record OptionsIdle : Type 0 where
-  pub lowercase_value : (o : Options) (text : List ℕ) (nanos : ℕ) → HasNoCapital text
-      → (IsRead (record o { lowercase = true }) text nanos ↔ IsRead (record o { lowercase = false }) text nanos)
-  pub lowercase_cause : (o : Options) (text : List ℕ) (cause : Cause) → HasNoCapital text
-      → (IsRefused (record o { lowercase = true }) text cause ↔ IsRefused (record o { lowercase = false }) text cause)
-  pub cn_unit_value : (o : Options) (text : List ℕ) (nanos : ℕ) → HasNoChinese text
-      → (IsRead (record o { cn_unit = true }) text nanos ↔ IsRead (record o { cn_unit = false }) text nanos)
-  pub cn_unit_cause : (o : Options) (text : List ℕ) (cause : Cause) → HasNoChinese text
-      → (IsRefused (record o { cn_unit = true }) text cause ↔ IsRefused (record o { cn_unit = false }) text cause)
+  pub lowercase : (o : Options) (text : List ℕ) → HasNoCapital text → IsIdle (λ on. record o { lowercase = on }) text
+  pub cn_unit : (o : Options) (text : List ℕ) → HasNoChinese text → IsIdle (λ on. record o { cn_unit = on }) text
 
 -- Texts that one sentence spells have the same value, or are refused for the same cause.
 pub record BlanksFree : Type 0 where
-  pub value : (o : Options) (a b : List ℕ) (lexemes : List (List ℕ)) (nanos : ℕ) → IsSentenceOf o lexemes a → Spells lexemes b
-      → IsRead o a nanos → IsRead o b nanos
-  pub cause : (o : Options) (a b : List ℕ) (lexemes : List (List ℕ)) (cause : Cause) → IsSentenceOf o lexemes a → Spells lexemes b
-      → IsRefused o a cause → IsRefused o b cause
+  pub value : (o : Options) (a b : List ℕ) (lexemes : List (List ℕ)) (nanos : ℕ)
+      → IsSentenceOf o lexemes a → Spells lexemes b → IsRead o a nanos → IsRead o b nanos
+  pub cause : (o : Options) (a b : List ℕ) (lexemes : List (List ℕ)) (cause : Cause)
+      → IsSentenceOf o lexemes a → Spells lexemes b → IsRefused o a cause → IsRefused o b cause
 
 -- With `no_calc` off, two accepted texts without `*`, joined by a plus, have the sum of their values, or overflow.
 pub record SumOfTexts : Type 0 where
-  pub below : (o : Options) (a b : List ℕ) (m n : ℕ) → o.no_calc ≡ false → HasNoStar a → HasNoStar b → IsRead o a m → IsRead o b n
-      → m + n < 2 ^ 64 → IsRead o (a ++ codes "+" ++ b) (m + n)
-  pub above : (o : Options) (a b : List ℕ) (m n : ℕ) → o.no_calc ≡ false → HasNoStar a → HasNoStar b → IsRead o a m → IsRead o b n
-      → 2 ^ 64 ≤ m + n → IsRefused o (a ++ codes "+" ++ b) (Overflow None)
+  pub below : (o : Options) (a b : List ℕ) (m n : ℕ) → o.no_calc ≡ false → HasNoStar a → HasNoStar b
+      → IsRead o a m → IsRead o b n → m + n < 2 ^ 64 → IsRead o (a ++ codes "+" ++ b) (m + n)
+  pub above : (o : Options) (a b : List ℕ) (m n : ℕ) → o.no_calc ≡ false → HasNoStar a → HasNoStar b
+      → IsRead o a m → IsRead o b n → 2 ^ 64 ≤ m + n → IsRefused o (a ++ codes "+" ++ b) (Overflow None)
 
 -- how often a number is in a list
 abbrev pub times_in : ℕ → List ℕ → ℕ
@@ -113,22 +118,26 @@ times_in n (m ∷ ms) = (if m == n then 1 else 0) + times_in n ms
 
 -- Two sums with the same values of terms, each equally often, are accepted alike and have the same value.
 abbrev pub Reorder : Type 0
-Reorder = (o : Options) (a b : List ℕ) (lexemes others : List (List ℕ)) (nanos : ℕ) → IsSentenceOf o lexemes a → IsSentenceOf o others b
+Reorder = (o : Options) (a b : List ℕ) (lexemes others : List (List ℕ)) (nanos : ℕ)
+    → IsSentenceOf o lexemes a → IsSentenceOf o others b
     → AllPlus (map (terminal_of o) lexemes) → AllPlus (map (terminal_of o) others)
-    → ((n : ℕ) → times_in n (map value_of_term (terms_of (map (terminal_of o) lexemes))) ≡ times_in n (map value_of_term (terms_of (map (terminal_of o) others))))
+    → ((n : ℕ) → times_in n (map value_of_term (written_terms o lexemes))
+    ≡ times_in n (map value_of_term (written_terms o others)))
     → IsRead o a nanos → IsRead o b nanos
 
 -- A text of two terms joined by `*` is read exactly if both numbers, both terms and the product of the terms in
 -- seconds, rounded down to nanoseconds, are below 2^64, and then as that product. With the terms exchanged it is read
 -- as the same value.
 pub record TwoFactors : Type 0 where
-  pub product : (o : Options) (text : List ℕ) (lexemes : List (List ℕ)) (t u : Term) (nanos : ℕ) → IsSentenceOf o lexemes text
-      → terms_of (map (terminal_of o) lexemes) ≡ t ∷ u ∷ [] → u.operator ≡ Star
-      → (IsRead o text nanos ↔ ((t.number < 2 ^ 64) × (value_of_term t < 2 ^ 64) × (u.number < 2 ^ 64) × (value_of_term u < 2 ^ 64)
+  pub product : (o : Options) (text : List ℕ) (lexemes : List (List ℕ)) (t u : Term) (nanos : ℕ)
+      → IsSentenceOf o lexemes text → written_terms o lexemes ≡ t ∷ u ∷ [] → u.operator ≡ Star
+      → (IsRead o text nanos ↔ ((t.number < 2 ^ 64) × (value_of_term t < 2 ^ 64)
+      × (u.number < 2 ^ 64) × (value_of_term u < 2 ^ 64)
       × (nanos < 2 ^ 64) × (nanos ≡ value_of_term t * value_of_term u / second)))
-  pub exchanged : (o : Options) (a b : List ℕ) (lexemes others : List (List ℕ)) (t u v w : Term) (nanos : ℕ) → IsSentenceOf o lexemes a → IsSentenceOf o others b
-      → terms_of (map (terminal_of o) lexemes) ≡ t ∷ u ∷ [] → u.operator ≡ Star
-      → terms_of (map (terminal_of o) others) ≡ v ∷ w ∷ [] → w.operator ≡ Star
+  pub exchanged : (o : Options) (a b : List ℕ) (lexemes others : List (List ℕ)) (t u v w : Term) (nanos : ℕ)
+      → IsSentenceOf o lexemes a → IsSentenceOf o others b
+      → written_terms o lexemes ≡ t ∷ u ∷ [] → u.operator ≡ Star
+      → written_terms o others ≡ v ∷ w ∷ [] → w.operator ≡ Star
       → v.number ≡ u.number → v.length ≡ u.length → w.number ≡ t.number → w.length ≡ t.length
       → IsRead o a nanos → IsRead o b nanos
 
@@ -144,15 +153,19 @@ EqualTexts = (m n : ℕ) (a b : List ℕ) → FitsDuration m → FitsDuration n 
 -- on in its first term.
 pub record ReadsBack : Type 0 where
   pub below : (o : Options) (nanos : ℕ) (text : List ℕ) → nanos < 2 ^ 64 → IsPrinted nanos text → IsRead o text nanos
-  pub above : (o : Options) (nanos : ℕ) (text : List ℕ) → 2 ^ 64 ≤ nanos → nanos < 585 * nanos_of Year → IsPrinted nanos text
-      → IsRefused o text (Overflow None)
-  pub far_above : (o : Options) (nanos : ℕ) (text : List ℕ) → 585 * nanos_of Year ≤ nanos → FitsDuration nanos → IsPrinted nanos text
-      → IsRefused o text (Overflow (Some 0))
+  pub above : (o : Options) (nanos : ℕ) (text : List ℕ) → 2 ^ 64 ≤ nanos → nanos < 585 * nanos_of Year
+      → IsPrinted nanos text → IsRefused o text (Overflow None)
+  pub far_above : (o : Options) (nanos : ℕ) (text : List ℕ) → 585 * nanos_of Year ≤ nanos → FitsDuration nanos
+      → IsPrinted nanos text → IsRefused o text (Overflow (Some 0))
 
--- A sentence over the units without the quarter is a sentence over all units, with the same terminals. So a text that
--- was read is read as the same value, and one whose evaluation was refused is refused for the same cause.
+-- Each row of the table before the quarter is a row of today's. A sentence over those units is a sentence over all
+-- units, with the same terminals. So a text that was read is read as the same value, and one whose evaluation was
+-- refused is refused for the same cause.
 pub record OlderTexts : Type 0 where
-  pub terminals : (o : Options) (lexemes : List (List ℕ)) (text : List ℕ) → WasSentenceOf o lexemes text → older_terminals o lexemes ≡ map (terminal_of o) lexemes
-  pub sentence : (o : Options) (lexemes : List (List ℕ)) (text : List ℕ) → WasSentenceOf o lexemes text → IsSentenceOf o lexemes text
+  pub rows : (u : TimeUnit) (row : UnitRow) → older_row_of u ≡ Some row → row_of u ≡ row
+  pub terminals : (o : Options) (lexemes : List (List ℕ)) (text : List ℕ)
+      → WasSentenceOf o lexemes text → older_terminals o lexemes ≡ map (terminal_of o) lexemes
+  pub sentence : (o : Options) (lexemes : List (List ℕ)) (text : List ℕ)
+      → WasSentenceOf o lexemes text → IsSentenceOf o lexemes text
   pub value : (o : Options) (text : List ℕ) (nanos : ℕ) → WasRead o text nanos → IsRead o text nanos
   pub cause : (o : Options) (text : List ℕ) (cause : Cause) → WasRefused o text cause → IsRefused o text cause

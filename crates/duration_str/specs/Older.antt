@@ -1,20 +1,56 @@
--- The units before the quarter was added, and what texts were read as with them.
-use Rattle.std.specs.Prelude.{◌≡◌, ℕ, List, [], ◌∷◌, Some, map}
+-- The table of units before the quarter was added, and what texts were read as with it.
+use Rattle.std.specs.Prelude.{◌≡◌, ℕ, Bool, false, List, [], ◌∷◌, Option, Some, None, if◌then◌else◌, map}
+use Rattle.std.specs.List.{find}
+use Rattle.std.specs.Option.{option_map_or}
+use lib.Chars.{codes}
 use Rattle.duration_str.specs.declared.options.Options.{Options}
+use Rattle.duration_str.specs.declared.operator.CondUnit.TheVariants.{Plus}
 use Rattle.duration_str.specs.declared.unit.TimeUnit.{TimeUnit}
-use Rattle.duration_str.specs.declared.unit.TimeUnit.TheVariants.{Year, Month, Week, Day, Hour, Minute, Second, MilliSecond, MicroSecond, NanoSecond}
+use Rattle.duration_str.specs.declared.unit.TimeUnit.TheVariants.{Year, Quarter, Month, Week, Day, Hour, Minute, Second, MilliSecond, MicroSecond, NanoSecond}
 use Rattle.duration_str.specs.declared.fault.Cause.{Cause}
-use Rattle.duration_str.specs.Grammar.{Terminal, terminal_among, IsSentence, Spells}
-use Rattle.duration_str.specs.Value.{Evaluates, terms_of, value_of}
-use Rattle.duration_str.specs.Reading.{IsRefusedAt}
+use Rattle.duration_str.specs.Units.{UnitRow, is_in_row}
+use Rattle.duration_str.specs.Grammar.{Terminal, terminal_by, IsSentence, Spells}
+use Rattle.duration_str.specs.Value.{Term, Evaluates, terms_by, value_of, or_else, evaluation_fault}
+use Rattle.duration_str.specs.Reading.{first_fault, running_fault}
 
--- the units before the quarter was added, the longest first
+-- The table before the quarter was added; `None` for the quarter, which was no unit. It does not change with today's
+-- table.
+abbrev pub older_row_of : TimeUnit → Option UnitRow
+older_row_of Year = Some (record { nanos = 31_536_000_000_000_000; printed = codes "y"; names = codes "y" ∷ codes "year" ∷ codes "years" ∷ []; chinese = codes "年" ∷ [] })
+older_row_of Quarter = None
+older_row_of Month = Some (record { nanos = 2_592_000_000_000_000; printed = codes "mon"; names = codes "mon" ∷ codes "month" ∷ codes "months" ∷ []; chinese = codes "月" ∷ [] })
+older_row_of Week = Some (record { nanos = 604_800_000_000_000; printed = codes "w"; names = codes "w" ∷ codes "week" ∷ codes "weeks" ∷ []; chinese = codes "周" ∷ [] })
+older_row_of Day = Some (record { nanos = 86_400_000_000_000; printed = codes "d"; names = codes "d" ∷ codes "day" ∷ codes "days" ∷ []; chinese = codes "日" ∷ codes "天" ∷ [] })
+older_row_of Hour = Some (record { nanos = 3_600_000_000_000; printed = codes "h"; names = codes "h" ∷ codes "hr" ∷ codes "hour" ∷ codes "hours" ∷ []; chinese = codes "时" ∷ [] })
+older_row_of Minute = Some (record { nanos = 60_000_000_000; printed = codes "min"; names = codes "m" ∷ codes "min" ∷ codes "minute" ∷ codes "minutes" ∷ []; chinese = codes "分" ∷ [] })
+older_row_of Second = Some (record { nanos = 1_000_000_000; printed = codes "s"; names = codes "s" ∷ codes "sec" ∷ codes "second" ∷ codes "seconds" ∷ []; chinese = codes "秒" ∷ [] })
+older_row_of MilliSecond = Some (record { nanos = 1_000_000; printed = codes "ms"; names = codes "ms" ∷ codes "msec" ∷ codes "millisecond" ∷ codes "milliseconds" ∷ []; chinese = codes "毫秒" ∷ [] })
+older_row_of MicroSecond = Some (record { nanos = 1_000; printed = codes "µs"; names = codes "µs" ∷ codes "µsec" ∷ codes "µsecond" ∷ codes "us" ∷ codes "usec" ∷ codes "usecond" ∷ codes "microsecond" ∷ codes "microseconds" ∷ []; chinese = codes "微秒" ∷ [] })
+older_row_of NanoSecond = Some (record { nanos = 1; printed = codes "ns"; names = codes "ns" ∷ codes "nsec" ∷ codes "nanosecond" ∷ codes "nanoseconds" ∷ []; chinese = codes "纳秒" ∷ [] })
+
+-- the units of that table, the longest first
 abbrev pub older_units : List TimeUnit
 older_units = Year ∷ Month ∷ Week ∷ Day ∷ Hour ∷ Minute ∷ Second ∷ MilliSecond ∷ MicroSecond ∷ NanoSecond ∷ []
 
+-- a unit's length in nanoseconds
+abbrev pub older_nanos_of : TimeUnit → ℕ
+older_nanos_of u = option_map_or (λ row. row.nanos) (older_row_of u) 0
+
+-- whether the word was a name of the unit
+abbrev pub was_named : Options → List ℕ → TimeUnit → Bool
+was_named o word u = option_map_or (is_in_row o word) (older_row_of u) false
+
+-- the unit that a word named
+abbrev pub older_unit_of_word : Options → List ℕ → Option TimeUnit
+older_unit_of_word o word = find (was_named o word) older_units
+
 -- the terminals that these lexemes stood for
 abbrev pub older_terminals : Options → List (List ℕ) → List Terminal
-older_terminals o lexemes = map (terminal_among older_units o) lexemes
+older_terminals o lexemes = map (terminal_by older_unit_of_word o) lexemes
+
+-- the terms of a sentence of these lexemes
+abbrev pub older_terms : Options → List (List ℕ) → List Term
+older_terms o lexemes = terms_by older_nanos_of Plus (older_terminals o lexemes)
 
 -- The lexemes were a sentence of the options' grammar, and spell the text.
 pub record WasSentenceOf (o : Options) (lexemes : List (List ℕ)) (text : List ℕ) : Type 0 where
@@ -25,12 +61,16 @@ pub record WasSentenceOf (o : Options) (lexemes : List (List ℕ)) (text : List 
 pub record WasRead (o : Options) (text : List ℕ) (nanos : ℕ) : Type 0 where
   pub lexemes : List (List ℕ)
   pub spells : WasSentenceOf o lexemes text
-  pub evaluates : Evaluates (terms_of (older_terminals o lexemes))
-  pub value : value_of (terms_of (older_terminals o lexemes)) ≡ Some nanos
+  pub evaluates : Evaluates (older_terms o lexemes)
+  pub value : value_of (older_terms o lexemes) ≡ Some nanos
 
--- A sentence spelled the text, and its evaluation was refused for this cause. No rest follows the sentence, so its
--- place is arbitrary.
+-- the fault of a sentence with these terms: under `no_calc` the first of adding them, otherwise that of the first term,
+-- and then that of the evaluation
+abbrev pub sentence_fault : Bool → List Term → Option Cause
+sentence_fault no_calc terms = if no_calc then running_fault [] terms else or_else (first_fault terms) (evaluation_fault terms)
+
+-- A sentence spelled the text, and its evaluation was refused for this cause.
 pub record WasRefused (o : Options) (text : List ℕ) (cause : Cause) : Type 0 where
   pub lexemes : List (List ℕ)
   pub spells : WasSentenceOf o lexemes text
-  pub refused : (place : ℕ) → IsRefusedAt o.no_calc place (older_terminals o lexemes) [] cause
+  pub refused : sentence_fault o.no_calc (older_terms o lexemes) ≡ Some cause

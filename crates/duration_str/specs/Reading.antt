@@ -1,21 +1,21 @@
 -- What a text is read as: the value of the sentence that spells it, or a refusal.
-use Rattle.std.specs.Prelude.{◌≡◌, ℕ, Bool, List, [], ◌∷◌, ◌++◌, Option, Some, None, if◌then◌else◌, map, length}
+use Rattle.std.specs.Prelude.{◌≡◌, ℕ, Bool, List, [], ◌∷◌, ◌++◌, Option, Some, None, if◌then◌else◌, length}
 use Rattle.duration_str.specs.declared.options.Options.{Options}
 use Rattle.duration_str.specs.declared.fault.Cause.{Cause}
 use Rattle.duration_str.specs.declared.fault.Cause.TheVariants.{Empty, Syntax, Overflow}
 use Rattle.duration_str.specs.declared.fault.Expected.{Expected}
 use Rattle.duration_str.specs.Text.{byte_len}
-use Rattle.duration_str.specs.Grammar.{Terminal, terminal_of, IsSentence, IsSentenceOf, number}
+use Rattle.duration_str.specs.Grammar.{Terminal, IsSentence, IsSentenceOf, number}
 use Rattle.duration_str.specs.Tokens.{tokens_of}
 use Rattle.duration_str.specs.Place.{IsFront, CanFollow, start_after, terminals_of}
-use Rattle.duration_str.specs.Value.{Term, term_fault, sum_of, fits, or_else, unless, terms_of, value_of, evaluation_fault, Evaluates}
+use Rattle.duration_str.specs.Value.{Term, term_fault, sum_of, fits, or_else, unless, terms_of, written_terms, value_of, evaluation_fault, Evaluates}
 
 -- A sentence spells the text, evaluates, and has this value in nanoseconds.
 pub record IsRead (o : Options) (text : List ℕ) (nanos : ℕ) : Type 0 where
   pub lexemes : List (List ℕ)
   pub spells : IsSentenceOf o lexemes text
-  pub evaluates : Evaluates (terms_of (map (terminal_of o) lexemes))
-  pub value : value_of (terms_of (map (terminal_of o) lexemes)) ≡ Some nanos
+  pub evaluates : Evaluates (written_terms o lexemes)
+  pub value : value_of (written_terms o lexemes) ≡ Some nanos
 
 -- the terminals, less a number at the end
 abbrev pub without_last_number : List Terminal → List Terminal

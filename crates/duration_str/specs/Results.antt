@@ -1,5 +1,6 @@
 -- What a call that reads a text returns.
-use Rattle.std.specs.Prelude.{◌≡◌, ℕ, ◌^◌, ◌<◌, ◌≤◌, ℤ, pos, List, Option, Result, Ok, Err, IfOk, IfErr, IsOk, IsSomeAnd, length, take}
+use denote.Ref.{Bor}
+use Rattle.std.specs.Prelude.{◌≡◌, ℕ, ◌^◌, ◌<◌, ◌≤◌, ◌↔◌, ℤ, pos, List, Option, Result, Ok, Err, IfOk, IfErr, IsOk, IsNone, IsSomeAnd, length, take}
 use Rattle.std.specs.Duration.{as_nanos}
 use Rattle.std.specs.declared.time.Duration.{Duration}
 use Rattle.std.specs.Str.{chars}
@@ -34,6 +35,13 @@ pub record ParsesText (o : Options) (bytes : List ℕ) (result : Result Duration
 abbrev pub ReachesPlace : List ℕ → Cause → ℕ → Type 0
 ReachesPlace bytes cause looks =
     (place : ℕ) (expected : Expected) → cause ≡ Syntax place expected → length (chars (take place bytes)) ≤ looks
+
+-- Of a syntax fault for which the bytes are refused under these options, no token is found exactly if it stands at their
+-- end.
+abbrev pub IsMissingAtEnd : Options → List ℕ → Cause → Option (Bor (List ℕ)) → Type 0
+IsMissingAtEnd o bytes cause token =
+    (place : ℕ) (expected : Expected) → cause ≡ Syntax place expected → IsRefused o (chars bytes) cause
+    → (IsNone token ↔ (place ≡ length bytes))
 
 -- With all options off, the bytes are read as a value that the result shows, or refused for its cause.
 abbrev pub AnswersBy : {T : Type 0} → (T → ℕ → Type 0) → List ℕ → Result T Fault → Type 0

@@ -49,15 +49,15 @@ unit_lengths = map nanos_of units
 abbrev pub comparison_form : Options → List ℕ → List ℕ
 comparison_form o word = if o.lowercase then word else map to_ascii_lowercase word
 
+-- whether the word is a name in the row
+abbrev pub is_in_row : Options → List ℕ → UnitRow → Bool
+is_in_row o word row =
+    list_any (bytes_eq (comparison_form o word)) row.names || (o.cn_unit && list_any (bytes_eq (comparison_form o word)) row.chinese)
+
 -- whether the word is a name of the unit
 abbrev pub is_named : Options → List ℕ → TimeUnit → Bool
-is_named o word u =
-    list_any (bytes_eq (comparison_form o word)) (row_of u).names || (o.cn_unit && list_any (bytes_eq (comparison_form o word)) (row_of u).chinese)
-
--- the first of these units that a word names
-abbrev pub unit_among : List TimeUnit → Options → List ℕ → Option TimeUnit
-unit_among us o word = find (is_named o word) us
+is_named o word u = is_in_row o word (row_of u)
 
 -- the unit that a word names
 abbrev pub unit_of_word : Options → List ℕ → Option TimeUnit
-unit_of_word o word = unit_among units o word
+unit_of_word o word = find (is_named o word) units

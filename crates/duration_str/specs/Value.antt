@@ -1,13 +1,15 @@
 -- The terms of a sentence, their value, and their faults.
-use Rattle.std.specs.Prelude.{◌≡◌, ℕ, ◌+◌, ◌*◌, ◌/◌, ◌^◌, Bool, true, false, List, [], ◌∷◌, ◌++◌, Option, Some, None, if◌then◌else◌, nat_lt}
+use Rattle.std.specs.Prelude.{◌≡◌, ℕ, ◌+◌, ◌*◌, ◌/◌, ◌^◌, Bool, true, false, List, [], ◌∷◌, ◌++◌, Option, Some, None, if◌then◌else◌, nat_lt, ⊤, map}
 use Rattle.std.specs.List.{list_all, fold}
+use Rattle.duration_str.specs.declared.options.Options.{Options}
+use Rattle.duration_str.specs.declared.unit.TimeUnit.{TimeUnit}
 use Rattle.duration_str.specs.declared.unit.TimeUnit.TheVariants.{Second}
 use Rattle.duration_str.specs.declared.operator.CondUnit.{CondUnit}
 use Rattle.duration_str.specs.declared.operator.CondUnit.TheVariants.{Plus, Star}
 use Rattle.duration_str.specs.declared.fault.Cause.{Cause}
 use Rattle.duration_str.specs.declared.fault.Cause.TheVariants.{NumberTooLarge, Overflow, Mixed}
 use Rattle.duration_str.specs.Units.{nanos_of}
-use Rattle.duration_str.specs.Grammar.{Terminal, number, word, operator}
+use Rattle.duration_str.specs.Grammar.{Terminal, number, word, operator, terminal_of}
 
 -- a term: the operator before it, its number, and its unit's length in nanoseconds
 pub record Term : Type 0 where
@@ -19,24 +21,33 @@ pub record Term : Type 0 where
 abbrev pub value_of_term : Term → ℕ
 value_of_term t = t.number * t.length
 
--- the length of a unit that is left out
+-- the length of a second
 abbrev pub second : ℕ
 second = nanos_of Second
 
--- the terms after the operator `op`; an operator that is left out is plus
+-- the terms after the operator `op`, with these lengths of the units; an operator that is left out is plus, and a unit
+-- that is left out is the second
+abbrev pub terms_by : (TimeUnit → ℕ) → CondUnit → List Terminal → List Term
+terms_by length_of op (number n ∷ word (Some u) ∷ more) = record { operator = op; number = n; length = length_of u } ∷ terms_by length_of Plus more
+terms_by length_of op (number n ∷ more) = record { operator = op; number = n; length = length_of Second } ∷ terms_by length_of Plus more
+terms_by length_of op (operator next ∷ more) = terms_by length_of next more
+terms_by length_of op _ = []
+
+-- the terms after the operator `op`
 abbrev pub terms_after : CondUnit → List Terminal → List Term
-terms_after op (number n ∷ word (Some u) ∷ more) = record { operator = op; number = n; length = nanos_of u } ∷ terms_after Plus more
-terms_after op (number n ∷ more) = record { operator = op; number = n; length = second } ∷ terms_after Plus more
-terms_after op (operator next ∷ more) = terms_after next more
-terms_after op _ = []
+terms_after op terminals = terms_by nanos_of op terminals
 
 -- the terms of a sentence; the first one's operator is plus, and has no meaning
 abbrev pub terms_of : List Terminal → List Term
 terms_of terminals = terms_after Plus terminals
 
+-- the terms that the lexemes of a sentence write
+abbrev pub written_terms : Options → List (List ℕ) → List Term
+written_terms o lexemes = terms_of (map (terminal_of o) lexemes)
+
 -- Every operator that is written is plus.
 abbrev pub AllPlus : List Terminal → Type 0
-AllPlus [] = Unit {0}
+AllPlus [] = ⊤
 AllPlus (operator op ∷ terminals) = (op ≡ Plus) × AllPlus terminals
 AllPlus (terminal ∷ terminals) = AllPlus terminals
 

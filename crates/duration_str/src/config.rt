@@ -11,7 +11,7 @@ ghost use Rattle.duration_str.specs.declared.fault.Fault.{Fault as PlainFault};
 
 use crate::fault::{Cause, Fault};
 use crate::parser::parse;
-use crate::top::parse_chrono;
+use crate::signed::parse_chrono;
 use jiff::SignedDuration;
 use serde_json::Value;
 use std::time::Duration;

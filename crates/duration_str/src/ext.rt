@@ -15,6 +15,14 @@ use std::alloc::{AllocError, Allocator};
 use std::time::Duration;
 
 /// The most bytes in a printed duration: `100000000000y 3q 2mon 3w 6d 23h 59min 59s 999ms 999µs 999ns`.
+///
+/// ```
+/// use duration_str::{MAX_PRINTED_LEN, write_human};
+/// use std::time::Duration;
+///
+/// let longest = Duration::new(3_153_600_000_031_190_399, 999_999_999);
+/// assert_eq!(write_human(&longest, &mut [0; 64]).len(), MAX_PRINTED_LEN);
+/// ```
 pub const MAX_PRINTED_LEN: usize = 60;
 
 /// Writes a digit at `at`, and returns where it ends.
@@ -189,10 +197,13 @@ fn fill(d: Duration, buffer: &mut [u8; 64]) -> usize
 /// Prints a duration to the start of a buffer, whatever the buffer holds. The text has at most `MAX_PRINTED_LEN` bytes.
 /// Allocates nothing and cannot fail.
 ///
-/// ```text
+/// ```
+/// use duration_str::write_human;
+/// use std::time::Duration;
+///
 /// let mut buffer = [0; 64];
-/// write_human(&Duration::new(193, 29_000_000), &mut buffer) // "3min 13s 29ms"
-/// write_human(&Duration::ZERO, &mut buffer)                 // "0s"
+/// assert_eq!(write_human(&Duration::new(193, 29_000_000), &mut buffer), "3min 13s 29ms");
+/// assert_eq!(write_human(&Duration::ZERO, &mut buffer), "0s");
 /// ```
 #[tactic(auto, unfolding(crate::specs::Internal::PrintedBytes::digits))]
 pub fn write_human<'b>(d: &Duration, buffer: &'b mut [u8; 64]) -> &'b str

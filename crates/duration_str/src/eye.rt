@@ -1,5 +1,5 @@
 //! The only access to the text while it is cut: one character after the other, and every look is counted.
-ghost use Rattle.std.specs.Prelude.{◌≡◌, ◌+◌, ◌<◌, ◌≤◌, ◌^◌, [], is_some, IfSome, IfNone, if◌then◌else◌, slice_range, IsUtf8, length};
+ghost use Rattle.std.specs.Prelude.{◌≡◌, ◌+◌, ◌<◌, ◌≤◌, ◌^◌, [], is_some, IsSome, IfSome, IfNone, if◌then◌else◌, slice_range, IsUtf8, length};
 ghost use Rattle.std.specs.Str.{IsCharBoundary};
 ghost use Rattle.duration_str.specs.Internal.Cutting.{ahead, StandsAt};
 
@@ -59,11 +59,10 @@ impl<'a> Eye<'a> {
         ensures place { self.new.place ≡ self.old.place }
         ensures looks { self.new.looks ≡ self.old.looks + (if is_some result then 1 else 0) }
     {
-        if self.place == self.text.len() {
-            return None;
-        }
         let mut next = self.place;
-        let c = character_at(self.text, self.place, &mut next);
+        let Some(c) = character_at(self.text, self.place, &mut next) else {
+            return None;
+        };
         self.next = next;
         self.looks += 1;
         Some(c)
@@ -88,25 +87,36 @@ impl<'a> Eye<'a> {
     {
         &self.text[start..self.place]
     }
+
+    /// The bytes of `since`, which take no test for characters' boundaries.
+    #[inline(always)]
+    pub(crate) fn bytes_since(&self, start: usize) -> &'a [u8]
+        requires order { start ≤ self.now.place }
+        requires boundary { IsCharBoundary self.now.text.now start }
+        ensures slice { result.now ≡ slice_range self.now.text.now start self.now.place }
+        ensures utf8 { IsUtf8 result.now }
+    {
+        &self.text.as_bytes()[start..self.place]
+    }
 }
 
-/// The character at a place. `next` becomes the place after it; if both were returned as a pair, the compiler would
-/// keep the pair together as one value.
+/// The character at a place, and `None` at the end of the text. `next` becomes the place after it; if both were returned
+/// as a pair, the compiler would keep the pair together as one value.
 #[inline]
-fn character_at(text: &str, place: usize, next: &mut usize) -> char
-    requires boundary { IsCharBoundary text.now place }
-    requires inside { place < length text.now }
-    ensures stands { StandsAt text.now place next.new result }
-    ensures boundary { IsCharBoundary text.now next.new }
+fn character_at(text: &str, place: usize, next: &mut usize) -> Option<char>
+    requires { IsCharBoundary text.now place }
+    ensures some { IfSome result (StandsAt text.now place next.new) }
+    ensures none { IfNone result (ahead text.now place ≡ []) }
+    ensures boundary { IsSome result → IsCharBoundary text.now next.new }
 {
-    let byte = text.as_bytes()[place];
+    let byte = *text.as_bytes().get(place)?;
     if byte < 128 {
         *next = place + 1;
-        char::from(byte)
+        Some(char::from(byte))
     } else {
         let (c, end) = decoded_at(text, place);
         *next = end;
-        c
+        Some(c)
     }
 }
 

@@ -2,19 +2,18 @@
 #![tactic(auto)]
 
 mod config;
+mod dates;
 pub mod error;
 pub mod ext;
 mod eye;
 mod fault;
 pub mod laws;
-mod line;
-mod message;
-mod number;
 mod operator;
 mod options;
 mod packed;
 pub mod parser;
 mod reader;
+mod signed;
 pub mod token;
 pub mod top;
 pub mod unit;

@@ -6,6 +6,10 @@ ghost use Rattle.duration_str.specs.Text.{operator_of};
 use std::fmt;
 
 /// An operator between two terms.
+///
+/// ```
+/// assert_eq!(duration_str::CondUnit::Star.to_string(), "*");
+/// ```
 #[derive(Clone, Copy, Debug, PartialEq, Eq)]
 pub enum CondUnit {
     /// `+`
@@ -16,6 +20,13 @@ pub enum CondUnit {
 
 impl CondUnit {
     /// The operator that a character stands for, if any.
+    ///
+    /// ```
+    /// use duration_str::CondUnit;
+    ///
+    /// assert_eq!(CondUnit::from_char('+'), Some(CondUnit::Plus));
+    /// assert_eq!(CondUnit::from_char('-'), None);
+    /// ```
     pub fn from_char(c: char) -> Option<CondUnit>
         ensures { result ≡ operator_of c }
     {

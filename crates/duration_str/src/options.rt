@@ -3,6 +3,13 @@ ghost use Rattle.std.specs.Prelude.{◌≡◌};
 ghost use Rattle.duration_str.specs.Units.{off};
 
 /// Which grammar is read, and which words name units.
+///
+/// ```
+/// use duration_str::{Options, parse_with};
+///
+/// let chinese = Options { cn_unit: true, ..Options::off() };
+/// assert_eq!(parse_with("1分 31秒", chinese).unwrap().as_secs(), 91);
+/// ```
 #[derive(Clone, Copy, Debug, PartialEq, Eq)]
 pub struct Options {
     /// Operators are not read, and the terms are added one by one.
@@ -15,6 +22,10 @@ pub struct Options {
 
 impl Options {
     /// All three options off.
+    ///
+    /// ```
+    /// assert!(!duration_str::Options::off().no_calc);
+    /// ```
     pub fn off() -> Options
         ensures { result ≡ off }
     {

@@ -4,8 +4,6 @@ ghost use Rattle.std.specs.Duration.{as_nanos};
 ghost use Rattle.std.specs.Str.{chars};
 ghost use Rattle.duration_str.specs.Answer.{answer};
 ghost use Rattle.duration_str.specs.Results.{IsAnswered, ParsesText, ReachesPlace};
-ghost use Rattle.duration_str.specs.Faults.{IsSliceOf, found, token_at};
-ghost use Rattle.duration_str.specs.Tokenizer.{source, left};
 ghost use Rattle.duration_str.specs.Units.{off};
 
 pub use crate::fault::{Cause, Expected, Fault};
@@ -19,10 +17,12 @@ use std::time::Duration;
 /// It returns what `parse_with` returns for `Options::off()`. Terms such as `3m`, `29ms` or `10`, which is seconds, are
 /// joined by `+` or by `*`; an operator that is left out is a plus. The value is below 2^64 nanoseconds.
 ///
-/// ```text
-/// parse("3m + 13s + 29ms") // Ok(Duration::from_millis(193_029))
-/// parse("1m*60*20")        // Ok(Duration::from_secs(72_000))
-/// parse("1m 3-5")          // Err, Syntax at byte 4: a unit, an operator or the end could stand there
+/// ```
+/// use duration_str::parse;
+/// use std::time::Duration;
+///
+/// assert_eq!(parse("3m 13s 29ms").unwrap(), Duration::from_millis(193_029));
+/// assert!(parse("1m 3-5").is_err());
 /// ```
 #[inline(always)]
 pub fn parse(input: &str) -> Result<Duration, Fault<'_>>
@@ -33,6 +33,10 @@ pub fn parse(input: &str) -> Result<Duration, Fault<'_>>
 }
 
 /// What `parse` returns.
+///
+/// ```
+/// assert_eq!(duration_str::parse_std("2h 37m").unwrap().as_secs(), 9_420);
+/// ```
 pub fn parse_std(input: &str) -> Result<Duration, Fault<'_>>
     ensures { ParsesText off input.now result }
 {
@@ -47,9 +51,14 @@ pub fn parse_std(input: &str) -> Result<Duration, Fault<'_>>
 /// fault of the evaluation. Under `no_calc` the terms are added one by one, and their faults precede later syntax
 /// faults. Allocates nothing.
 ///
-/// ```text
-/// parse_with("2h 37m", Options { no_calc: true, ..Options::off() }) // Ok(Duration::from_secs(9_420))
-/// parse_with("1+2", Options { no_calc: true, ..Options::off() })    // Err, Syntax at byte 1
+/// ```
+/// use duration_str::{Options, parse_with};
+/// use std::time::Duration;
+///
+/// assert_eq!(parse_with("1m*60*20", Options::off()), Ok(Duration::from_secs(72_000)));
+/// let no_calc = Options { no_calc: true, ..Options::off() };
+/// assert_eq!(parse_with("2h 37m", no_calc), Ok(Duration::from_secs(9_420)));
+/// assert_eq!(parse_with("1+2", no_calc).unwrap_err().cause().place(), Some(1));
 /// ```
 pub fn parse_with(input: &str, o: Options) -> Result<Duration, Fault<'_>>
     ensures { ParsesText o input.now result }
@@ -94,39 +103,4 @@ fn read_text(input: &str, o: Options) -> (Result<Duration, Fault<'_>>, u64)
         Ok(nanos) => (Ok(Duration::from_nanos(nanos)), looked),
         Err(cause) => (Err(Fault { text: input, cause }), looked),
     }
-}
-
-impl<'a> Fault<'a> {
-    /// The token that starts at the place of a syntax fault, as a slice of the text.
-    ///
-    /// The text is cut under these options. `None` if no token starts at the place, and for every other cause. With the
-    /// options of the reading that is only at the end of the text, since a syntax fault is placed at the start of a
-    /// token if one is left.
-    ///
-    /// ```text
-    /// parse("3ms-2ms").unwrap_err().found(Options::off()) // Some("-")
-    /// ```
-    pub fn found(&self, o: Options) -> Option<&'a str>
-        ensures { IsSliceOf self.now.text.now
-            (found o (chars self.now.text.now) self.now.cause) result }
-    {
-        let Cause::Syntax { place, .. } = self.cause else {
-            return None;
-        };
-        // To find a token at the place it is enough to cut from the character before it on.
-        let from = self.text.floor_char_boundary(place.saturating_sub(1));
-        token_at(Tokens::new(&self.text[from..], o), place - from)
-    }
-}
-
-/// The token that starts at the place, among those that are left.
-fn token_at<'a>(mut tokens: Tokens<'a>, place: usize) -> Option<&'a str>
-    ensures { IsSliceOf (source tokens.entry) (token_at place (left tokens.entry)) result }
-{
-    while let Some(token) = tokens.next() {
-        if token.start == place {
-            return Some(token.text);
-        }
-    }
-    None
 }

@@ -7,17 +7,25 @@ ghost use Rattle.std.specs.Iterator.{item_count};
 ghost use Rattle.duration_str.specs.Text.{is_blank, is_digit, is_unit_letter, is_chinese, IsNumber, number_of};
 ghost use Rattle.duration_str.specs.Tokens.{tokens_of};
 ghost use Rattle.duration_str.specs.Internal.Cutting.{ahead, StandsAt, Passes, Stops, TakesDigits, TakesLetters};
+ghost use Rattle.duration_str.specs.Internal.Numbers.{u64_from};
 ghost use Rattle.duration_str.specs.Internal.Sorts.{sort_at};
 ghost use Rattle.duration_str.specs.Units.{unit_of_word};
 ghost use Rattle.duration_str.specs.declared.token.Sort.{Sort};
 ghost use Rattle.duration_str.specs.declared.token.Sort.TheVariants.{Number as a_number, Word as a_word};
 
 use crate::eye::Eye;
-use crate::number::number_of;
 use crate::packed::unit_of_packed;
 use crate::unit::{CondUnit, Options, TimeUnit};
 
 /// The sort of a token.
+///
+/// ```
+/// use duration_str::{Options, TimeUnit, Tokens, What};
+///
+/// let mut tokens = Tokens::new("3 hours", Options::off());
+/// assert_eq!(tokens.next().unwrap().what, What::Number);
+/// assert_eq!(tokens.next().unwrap().what, What::Word(Some(TimeUnit::Hour)));
+/// ```
 #[derive(Clone, Copy, Debug, PartialEq, Eq)]
 pub enum What {
     /// Digits.
@@ -31,6 +39,13 @@ pub enum What {
 }
 
 /// A token of a text.
+///
+/// ```
+/// use duration_str::{CondUnit, Options, Token, Tokens, What};
+///
+/// let plus = Token { start: 2, text: "+", what: What::Operator(CondUnit::Plus) };
+/// assert_eq!(Tokens::new("1s+2m", Options::off()).nth(2), Some(plus));
+/// ```
 #[derive(Clone, Copy, Debug, PartialEq, Eq)]
 pub struct Token<'a> {
     /// The byte of the source at which it starts.
@@ -53,7 +68,7 @@ pub(crate) enum Sort {
 /// A run of digits and its value modulo 2^64.
 #[derive(Clone, Copy)]
 pub(crate) struct Number<'a> {
-    digits: &'a str,
+    digits: &'a [u8],
     low: u64,
     ghost utf8: { ∥ IsUtf8 digits.now ∥₁ },
     ghost number: { IsNumber (chars digits.now) },
@@ -96,6 +111,13 @@ impl Letters {
 }
 
 /// The tokens of a text, in order. Each character is looked at once, when it is reached.
+///
+/// ```
+/// use duration_str::{Options, Tokens};
+///
+/// let texts: Vec<&str> = Tokens::new("13s + 29ms", Options::off()).map(|token| token.text).collect();
+/// assert_eq!(texts, ["13", "s", "+", "29", "ms"]);
+/// ```
 #[derive(Drop)]
 pub struct Tokens<'a> {
     eye: Eye<'a>,
@@ -111,9 +133,15 @@ pub struct Tokens<'a> {
 impl<'a> Tokens<'a> {
     ghost use Rattle.duration_str.specs.Grammar.{Terminal, word};
     ghost use Rattle.duration_str.specs.Tokenizer.{source, options_of, place_of, looks_of, left, what_of, KeepsInput};
-    ghost use Rattle.duration_str.specs.Internal.Tokenizer.{IsAhead, LooksAhead, LooksForNumber, IsSignAhead, u64_of, TakesNumber, TakesToken, TakesTokenWith, TakesSign};
+    ghost use Rattle.duration_str.specs.Internal.Tokenizer.{IsAhead, LooksAhead, LooksForNumber, u64_of, TakesNumber, TakesToken, TakesTokenWith, TakesSign};
 
     /// The tokens of a text, cut under these options.
+    ///
+    /// ```
+    /// use duration_str::{Options, Tokens};
+    ///
+    /// assert_eq!(Tokens::new("13s", Options::off()).count(), 2);
+    /// ```
     #[inline(always)]
     pub fn new(text: &'a str, o: Options) -> Tokens<'a>
         ensures source { source result ≡ text.now }
@@ -130,6 +158,14 @@ impl<'a> Tokens<'a> {
     }
 
     /// How many times a character of the text was looked at.
+    ///
+    /// ```
+    /// use duration_str::{Options, Tokens};
+    ///
+    /// let mut tokens = Tokens::new("13s", Options::off());
+    /// assert_eq!(tokens.by_ref().count(), 2);
+    /// assert_eq!(tokens.looked(), 3);
+    /// ```
     #[inline(always)]
     pub fn looked(&self) -> u64
         ensures count { result ≡ looks_of self.now }
@@ -147,13 +183,15 @@ impl<'a> Tokens<'a> {
         self.eye.place()
     }
 
-    /// Moves past the character ahead, and looks at the next one.
+    /// Moves past the character ahead, and looks at the next one. So an operator, or a character that is neither a digit
+    /// nor a unit letter, is taken as a token.
     #[inline(always)]
-    fn advance(&mut self)
+    pub(crate) fn advance(&mut self)
         requires { IsSome self.old.head }
         ensures kept { KeepsInput self.old self.new }
         ensures past { ForSome self.old.head
             (StandsAt (source self.old) (place_of self.old) (place_of self.new)) }
+        ensures sign { TakesSign self.old self.new }
     {
         self.eye.step();
         self.head = self.eye.look();
@@ -200,7 +238,7 @@ impl<'a> Tokens<'a> {
         let start = self.eye.place();
         let low = self.take_digits();
         Number {
-            digits: self.eye.since(start),
+            digits: self.eye.bytes_since(start),
             low,
         }
     }
@@ -285,16 +323,6 @@ impl<'a> Tokens<'a> {
         }
     }
 
-    /// Takes the single character ahead: an operator, or one that is neither a digit nor a unit letter.
-    #[inline(always)]
-    pub(crate) fn take_sign(&mut self)
-        requires { IsSignAhead self.old }
-        ensures kept { KeepsInput self.old self.new }
-        ensures sign { TakesSign self.old self.new }
-    {
-        self.advance();
-    }
-
     /// Takes the token ahead, which is of this sort.
     #[inline(always)]
     fn take_token(&mut self, sort: Sort) -> What
@@ -308,11 +336,11 @@ impl<'a> Tokens<'a> {
             }
             Sort::Word => What::Word(self.take_word()),
             Sort::Operator(operator) => {
-                self.take_sign();
+                self.advance();
                 What::Operator(operator)
             }
             Sort::Other => {
-                self.take_sign();
+                self.advance();
                 What::Other
             }
         }
@@ -449,4 +477,18 @@ fn is_blank(c: char) -> bool
     ensures { result ≡ is_blank c }
 {
     c <= ' ' && matches!(c, ' ' | '\t' | '\r' | '\n')
+}
+
+/// The number that digits write; `None` from 2^64 on.
+#[cold]
+#[inline(never)]
+pub(crate) fn number_of(digits: &[u8]) -> Option<u64>
+    requires utf8 { IsUtf8 digits.now }
+    requires number { IsNumber (chars digits.now) }
+    ensures { result ≡ u64_from (number_of (chars digits.now)) }
+{
+    match str::from_utf8(digits) {
+        Ok(text) => text.parse::<u64>().ok(),
+        Err(_) => None,
+    }
 }

@@ -5,19 +5,27 @@ ghost use Rattle.std.specs.Option.{ForSome, option_to_list};
 ghost use Rattle.std.specs.Str.{bytes_eq, chars};
 ghost use Rattle.duration_str.specs.Text.{IsNumber, number_of};
 ghost use Rattle.duration_str.specs.declared.unit.TimeUnit.{TimeUnit};
+ghost use Rattle.duration_str.specs.declared.unit.TimeUnit.TheVariants.{Second};
 ghost use Rattle.duration_str.specs.Units.{nanos_of, row_of, comparison_form, is_named, unit_of_word};
 ghost use Rattle.duration_str.specs.Internal.UnitTable.{IsRow};
 ghost use Rattle.duration_str.specs.Internal.Numbers.{term_value};
 ghost use Rattle.duration_str.specs.Terms.{term_of, term_answer};
 
 use crate::fault::Cause;
-use crate::number::number_of;
 pub use crate::operator::CondUnit;
 pub use crate::options::Options;
+use crate::token::number_of;
 use std::fmt;
 
 /// A unit of time.
-#[derive(Clone, Copy, Debug, PartialEq, Eq, Default)]
+///
+/// ```
+/// use duration_str::TimeUnit;
+///
+/// assert_eq!(TimeUnit::default(), TimeUnit::Second);
+/// assert_eq!(TimeUnit::Minute.to_string(), "min");
+/// ```
+#[derive(Clone, Copy, Debug, PartialEq, Eq)]
 pub enum TimeUnit {
     /// 365 days.
     Year,
@@ -34,7 +42,6 @@ pub enum TimeUnit {
     /// 60 seconds.
     Minute,
     /// 1,000,000,000 nanoseconds.
-    #[default]
     Second,
     /// 1,000,000 nanoseconds.
     MilliSecond,
@@ -44,8 +51,21 @@ pub enum TimeUnit {
     NanoSecond,
 }
 
+/// The second, which a number without a unit counts.
+impl Default for TimeUnit {
+    ghost is_default = { λ unit. unit ≡ Second };
+
+    fn default() -> TimeUnit {
+        TimeUnit::Second
+    }
+}
+
 impl TimeUnit {
     /// The length in nanoseconds.
+    ///
+    /// ```
+    /// assert_eq!(duration_str::TimeUnit::Minute.nanos(), 60_000_000_000);
+    /// ```
     #[inline]
     pub fn nanos(self) -> u64
         ensures { result ≡ nanos_of self }
@@ -148,7 +168,11 @@ impl TimeUnit {
 
     /// The unit that a word names under these options, if any. No word names two units.
     ///
-    /// `from_word("Minutes", Options::off())` is `Some(TimeUnit::Minute)`.
+    /// ```
+    /// use duration_str::{Options, TimeUnit};
+    ///
+    /// assert_eq!(TimeUnit::from_word("Minutes", Options::off()), Some(TimeUnit::Minute));
+    /// ```
     #[tactic(auto, using(crate::proofs::Characters::UnitLemmas::named_unit))]
     pub fn from_word(word: &str, o: Options) -> Option<TimeUnit>
         ensures unit { result ≡ unit_of_word o (chars word.now) }
@@ -167,11 +191,15 @@ impl TimeUnit {
     ///
     /// `NumberTooLarge` for a number of 2^64 or more, otherwise `Overflow` for a value of 2^64 or more, both without a
     /// place.
+    ///
+    /// ```
+    /// assert_eq!(duration_str::TimeUnit::Hour.value("2"), Ok(7_200_000_000_000));
+    /// ```
     pub fn value(self, number: &str) -> Result<u64, Cause>
         requires { IsNumber (chars number.now) }
         ensures { result ≡ term_answer None (term_of (number_of (chars number.now)) self) }
     {
-        self.times(number_of(number), None)
+        self.times(number_of(number.as_bytes()), None)
     }
 
     /// The value of a term in nanoseconds. `number` is `None` if it exceeds `u64`; `place` goes into the error.

@@ -108,10 +108,14 @@ bool duration_str_before(const uint8_t *text, size_t length, uint32_t options, s
  *
  * `*answer` is the answer of one of the calls above for this text. If the fault has a place, the message is the text,
  * below it a caret under the place, and a line that says what is wrong; or, if the text has a line feed, `byte N: ` and
- * the line. Without a place it is only the line. Any other answer is safe too: the message is only the line if the text
- * is not UTF-8, or if the place is not one of its character boundaries; and it is empty if the answer is not a refusal
- * (its cause is not from 1 to 7, or it is DURATION_STR_MIXED with an operator that is neither '+' nor '*'). A length of
- * 2^64 bytes or more, which no memory has, is returned as SIZE_MAX. */
+ * the line. Without a place it is only the line, which for DURATION_STR_NOT_TEXT is `not UTF-8`.
+ *
+ * Any other answer is safe too. `cause` decides which other fields count: for DURATION_STR_SYNTAX `place` and the four
+ * bits of `expected`; for DURATION_STR_NUMBER_TOO_LARGE and DURATION_STR_OVERFLOW `place`, unless `has_place` is 0; for
+ * DURATION_STR_MIXED the operators. What the others hold has no effect. The message is only the line if the text is not
+ * UTF-8, or if the place is not one of its character boundaries; and it is empty if `cause` is not from 1 to 7, or is
+ * DURATION_STR_MIXED with an operator that is neither '+' nor '*'. A length of 2^64 bytes or more, which no memory has,
+ * is returned as SIZE_MAX. */
 size_t duration_str_message(const uint8_t *text, size_t length, const struct duration_str_answer *answer,
                             uint8_t *buffer, size_t room);
 

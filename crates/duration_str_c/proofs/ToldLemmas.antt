@@ -11,7 +11,8 @@ use Rattle.duration_str_c.specs.Told.{bits_of, expected_of, refusal_told, cause_
 use Rattle.duration_str_c.proofs.CauseLemmas.{IsOfText}
 
 abbrev kinds : Bool → Bool → Bool → Bool → Expected
-kinds number unit_word operator text_end = record { number = number; unit_word = unit_word; operator = operator; text_end = text_end }
+kinds number unit_word operator text_end =
+    record { number = number; unit_word = unit_word; operator = operator; text_end = text_end }
 
 -- The kinds are recovered from their bits.
 kinds_again : (a b c d : Bool) → expected_of (bits_of (kinds a b c d)) ≡ kinds a b c d
@@ -32,7 +33,8 @@ kinds_again false false true false = refl
 kinds_again false false false true = refl
 kinds_again false false false false = refl
 
-mixed_again : (first later : CondUnit) (n : ℕ) → cause_told (refusal_told (Mixed first later) n) ≡ Some (Mixed first later)
+mixed_again : (first later : CondUnit) (n : ℕ)
+    → cause_told (refusal_told (Mixed first later) n) ≡ Some (Mixed first later)
 mixed_again Plus Plus n = refl
 mixed_again Plus Star n = refl
 mixed_again Star Plus n = refl
@@ -41,7 +43,8 @@ mixed_again Star Star n = refl
 -- The cause of a text is recovered from its answer.
 pub told_again : (cause : Cause) (n : ℕ) → IsOfText cause → cause_told (refusal_told cause n) ≡ Some cause
 told_again Empty n h = refl
-told_again (Syntax place e) n h = ap (λ (e : Expected). Some (Syntax place e)) (kinds_again e.number e.unit_word e.operator e.text_end)
+told_again (Syntax place e) n h =
+    ap (λ (e : Expected). Some (Syntax place e)) (kinds_again e.number e.unit_word e.operator e.text_end)
 told_again (NumberTooLarge None) n h = refl
 told_again (NumberTooLarge (Some place)) n h = refl
 told_again (Overflow None) n h = refl
@@ -54,4 +57,5 @@ told_again (NotText optional) n h = absurd h
 pub refusal_moves : (o p : Options) (bytes same : List ℕ) (cause : Cause) (answer : Answer) → o ≡ p → bytes ≡ same
     → IsRefusalTold o bytes cause answer → IsRefusalTold p same cause answer
 refusal_moves o p bytes same cause answer e f told =
-    subst (λ (b : List ℕ). IsRefusalTold p b cause answer) f (subst (λ (q : Options). IsRefusalTold q bytes cause answer) e told)
+    subst (λ (b : List ℕ). IsRefusalTold p b cause answer) f
+    (subst (λ (q : Options). IsRefusalTold q bytes cause answer) e told)

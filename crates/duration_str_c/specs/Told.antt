@@ -106,7 +106,8 @@ abbrev pub mixed_told : Option CondUnit → Option CondUnit → Option Cause
 mixed_told (Some first) (Some later) = Some (Mixed first later)
 mixed_told _ _ = None
 
--- the cause in an answer; `None` if it has a value, or is one that no call gives
+-- The cause in any answer, also in one that a caller made. Its number decides which other fields count, and those that
+-- the cause does not use have no effect. `None` if the number is no cause's, or an operator that counts is none.
 abbrev pub cause_told : Answer → Option Cause
 cause_told a =
     if a.cause == 1 then Some Empty

@@ -86,7 +86,8 @@ impl Answer {
         }
     }
 
-    /// The cause in this answer; `None` if it has a value, or is one that no call gives.
+    /// The cause in this answer, in which the fields that the cause does not use have no effect; `None` if the number is
+    /// no cause's, or an operator that counts is none.
     pub(crate) fn cause(self) -> Option<Cause>
         ensures { result ≡ cause_told self }
     {

@@ -67,6 +67,7 @@ pub extern "C" fn duration_str_parse(text: &[u8], nanos: &mut u64) -> bool
 pub extern "C" fn duration_str_format(secs: u64, nanos: u32, buffer: &mut [u8; 64]) -> usize
     ensures text { nanos < 1_000_000_000
         → IsPrinted (secs * 1_000_000_000 + nanos) (chars (take result buffer.new)) }
+    ensures utf8 { IsUtf8 (take result buffer.new) }
     ensures short { result ≤ MAX_PRINTED_LEN }
     ensures refused { 1_000_000_000 ≤ nanos → (result ≡ 0) × (buffer.new ≡ buffer.old) }
 {

@@ -225,6 +225,54 @@ fn shows_the_line_where_the_place_is_not_the_texts(rt: HostRuntime) {
 }
 
 #[test]
+fn shows_bytes_that_are_no_text(rt: HostRuntime) {
+    let answer = answer_to(b"1m\xff", 0);
+    for text in [&b"1m\xff"[..], b"1m", b""] {
+        let mut buffer = [b'#'; 10];
+        assert_eq!(rt; duration_str_message(text, &answer, &mut buffer), 9);
+        assert!(rt; buffer == *b"not UTF-8#");
+        assert_eq!(rt; duration_str_message(text, &answer, &mut buffer[..8]), 9);
+    }
+    let mut buffer = [b'#'; 9];
+    assert_eq!(rt; duration_str_line(&answer, &mut buffer), 9);
+    assert!(rt; buffer == *b"not UTF-8");
+}
+
+#[test]
+fn lets_the_cause_decide_which_fields_count(rt: HostRuntime) {
+    // The cause and whether there is a place, and the length of the message about `1m 3-5`: the text, a line feed, four
+    // spaces, a caret and a line feed are 13 bytes.
+    for (cause, has_place, length) in [
+        (1, 1, 11),
+        (SYNTAX, 0, 13 + 15),
+        (3, 0, 38),
+        (3, 255, 13 + 38),
+        (4, 0, 14),
+        (4, 2, 13 + 14),
+        (5, 1, 34),
+        (OUT_OF_RANGE, 1, 17),
+        (NOT_TEXT, 1, 9),
+    ] {
+        let answer = Answer {
+            nanos: 7,
+            place: 4,
+            found_length: 99,
+            cause,
+            expected: 1 + 16,
+            has_place,
+            first_operator: b'+',
+            later_operator: b'*',
+        };
+        let mut none = [];
+        assert_eq!(rt;
+            duration_str_message(b"1m 3-5", &answer, &mut none),
+            length,
+            "{cause}"
+        );
+    }
+}
+
+#[test]
 fn shows_nothing_of_what_is_no_refusal(rt: HostRuntime) {
     let mut buffer = [b'#'; 32];
     let mut answer = answer_to(b"1m", 0);

@@ -97,8 +97,11 @@ fn becomes_an_error(rt: HostRuntime) -> Result<(), Fail> {
 #[test]
 fn takes_no_memory_for_an_overflow(rt: HostRuntime) {
     for text in ["580y*2", "10000000000000000y"] {
-        let memory = Refusing::new(rt.alloc(), 0);
+        let memory = Refusing::new(rt.alloc(), 1);
         let error = refusal(&rt, text, OFF).to_derror(&memory);
         assert!(rt; matches!(error, Ok(DError::OverflowError)), "{text}");
+        // The one request is still granted, so none was made.
+        assert!(rt; String::from_str(&memory, text).is_ok(), "{text}");
+        assert!(rt; String::from_str(&memory, text).is_err(), "{text}");
     }
 }

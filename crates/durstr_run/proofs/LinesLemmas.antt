@@ -14,7 +14,8 @@ abbrev is_line_feed : ℕ → Bool
 is_line_feed b = b == 10
 
 -- A part that is not the last one is kept.
-less_empty_last-cons : (part : List ℕ) (parts : List (List ℕ)) → 0 < length parts → less_empty_last (part ∷ parts) ≡ part ∷ less_empty_last parts
+less_empty_last-cons : (part : List ℕ) (parts : List (List ℕ)) → 0 < length parts
+    → less_empty_last (part ∷ parts) ≡ part ∷ less_empty_last parts
 less_empty_last-cons part [] h = absurd (omega arith)
 less_empty_last-cons [] (next ∷ parts) h = refl
 less_empty_last-cons (b ∷ part) (next ∷ parts) h = refl
@@ -25,20 +26,25 @@ less_empty_last-one [] h = absurd (omega arith)
 less_empty_last-one (b ∷ part) h = refl
 
 -- The first line ends at the first line feed.
-pub lines_of-Some : (bytes : List ℕ) (i : ℕ) → position is_line_feed bytes ≡ Some i → lines_of bytes ≡ take i bytes ∷ lines_of (drop (i + 1) bytes)
+pub lines_of-Some : (bytes : List ℕ) (i : ℕ) → position is_line_feed bytes ≡ Some i
+    → lines_of bytes ≡ take i bytes ∷ lines_of (drop (i + 1) bytes)
 unfolding lines_of
 lines_of-Some bytes i e =
     let found = position-Some is_line_feed bytes i 0 e in
-    let at : position_or_len is_line_feed bytes ≡ i = position_or_len_is is_line_feed bytes i 0 (omega (arith, found.0)) found.2 (λ h. found.1) in
-    let split : slice_split is_line_feed bytes ≡ before_first is_line_feed bytes ∷ slice_split is_line_feed (after_first is_line_feed bytes) =
+    let at : position_or_len is_line_feed bytes ≡ i =
+    position_or_len_is is_line_feed bytes i 0 (omega (arith, found.0)) found.2 (λ h. found.1) in
+    let split : slice_split is_line_feed bytes ≡ before_first is_line_feed bytes ∷ slice_split is_line_feed
+    (after_first is_line_feed bytes) =
     slice_split_first is_line_feed bytes 0 (omega (arith, found.0, at)) in
-    let known : slice_split is_line_feed bytes ≡ take i bytes ∷ slice_split is_line_feed (drop (i + 1) bytes) = rw at at split in
+    let known : slice_split is_line_feed bytes ≡ take i bytes ∷ slice_split is_line_feed (drop (i + 1) bytes) =
+    rw at at split in
     ap less_empty_last known
     ∙ less_empty_last-cons (take i bytes) (slice_split is_line_feed (drop (i + 1) bytes))
     (omega (arith, length-slice_split is_line_feed (drop (i + 1) bytes)))
 
 -- Without a line feed, all bytes are one line.
-pub lines_of-None : (bytes : List ℕ) → 0 < length bytes → All (λ b. is_line_feed b ≡ false) bytes → lines_of bytes ≡ bytes ∷ lines_of []
+pub lines_of-None : (bytes : List ℕ) → 0 < length bytes → All (λ b. is_line_feed b ≡ false) bytes
+    → lines_of bytes ≡ bytes ∷ lines_of []
 unfolding lines_of
 lines_of-None bytes h e = ap less_empty_last (slice_split_none is_line_feed bytes e) ∙ less_empty_last-one bytes h
 
@@ -50,7 +56,8 @@ FirstPlace bytes (Some i) = (others : List ℕ) × (places is_line_feed bytes �
 first_place : (bytes : List ℕ) (first : Option ℕ) → position is_line_feed bytes ≡ first → FirstPlace bytes first
 first_place bytes None e =
     let beyond : length bytes ≤ position_or_len is_line_feed bytes = grind (arith, common_steps) in
-    let none : All (λ b. is_line_feed b ≡ false) bytes = λ k d h. fails_before_first is_line_feed bytes k d (omega (arith, beyond, h)) in (
+    let none : All (λ b. is_line_feed b ≡ false) bytes =
+    λ k d h. fails_before_first is_line_feed bytes k d (omega (arith, beyond, h)) in (
       places_between-none is_line_feed bytes 0 (length bytes) (omega arith)
           (λ k low high passes. absurd (false≢true (sym (none k 0 high) ∙ passes))),
       none,
@@ -71,9 +78,11 @@ yielded_first : (bytes rest : List ℕ) (yielded first : Option ℕ) → FirstPl
 yielded_first bytes rest None None known taken = (refl, known.1)
 yielded_first bytes rest None (Some i) known taken = absurd (omega (arith, ap length (sym known.1 ∙ taken.0)))
 yielded_first bytes rest (Some k) None known taken = absurd (omega (arith, ap length (sym taken ∙ known.0)))
-yielded_first bytes rest (Some k) (Some i) known taken = (ap (λ places. Some (get_or places 0 0)) (sym taken ∙ known.1), tt)
+yielded_first bytes rest (Some k) (Some i) known taken =
+    (ap (λ places. Some (get_or places 0 0)) (sym taken ∙ known.1), tt)
 
 pub first_line_feed : (bytes rest : List ℕ) (yielded : Option ℕ) → TakesFirst (places is_line_feed bytes) yielded rest
     → (yielded ≡ position is_line_feed bytes) × IfNone yielded (All (λ b. is_line_feed b ≡ false) bytes)
 first_line_feed bytes rest yielded taken =
-    yielded_first bytes rest yielded (position is_line_feed bytes) (first_place bytes (position is_line_feed bytes) refl) taken
+    yielded_first bytes rest yielded (position is_line_feed bytes)
+    (first_place bytes (position is_line_feed bytes) refl) taken

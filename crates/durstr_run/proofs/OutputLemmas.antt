@@ -8,23 +8,25 @@ use Rattle.durstr_run.specs.Output.{IsLineOutput, AreOutputs, IsOutput}
 -- What is written so far, followed by any output for the bytes that are left, is an output for the whole input.
 abbrev pub Continues : Options → List ℕ → List ℕ → List ℕ → Bool → Type 0
 Continues o input left written so_far =
-    (tail : List ℕ) (others : Bool) → IsOutput o left tail others → IsOutput o input (written ++ tail) (so_far && others)
+    (tail : List ℕ) (others : Bool) → IsOutput o left tail others → IsOutput o input (written ++ tail)
+    (so_far && others)
 
 -- The output for the first line and the output for the rest are an output for the whole.
 first_and_rest : (o : Options) (bytes line rest text tail : List ℕ) (accepted others : Bool)
     → lines_of bytes ≡ line ∷ lines_of rest → IsLineOutput o line text accepted → IsOutput o rest tail others
     → IsOutput o bytes (text ++ (10 ∷ tail)) (accepted && others)
 first_and_rest o bytes line rest text tail accepted others cut here after =
-    subst (λ lines. AreOutputs o lines (text ++ (10 ∷ tail)) (accepted && others)) (sym cut) (text, tail, accepted, others, here, after, refl, refl)
+    subst (λ lines. AreOutputs o lines (text ++ (10 ∷ tail)) (accepted && others)) (sym cut)
+    (text, tail, accepted, others, here, after, refl, refl)
 
 -- The output for one more line was written.
 pub Continues-line : (o : Options) (input left line rest written longer : List ℕ) (so_far accepted : Bool)
-    → Continues o input left written so_far
-    → lines_of left ≡ line ∷ lines_of rest
+    → Continues o input left written so_far → lines_of left ≡ line ∷ lines_of rest
     → ((text : List ℕ) × IsLineOutput o line text accepted × (longer ≡ written ++ (text ++ (10 ∷ []))))
     → Continues o input rest longer (so_far && accepted)
 Continues-line o input left line rest written longer so_far accepted before cut (text, here, grown) tail others after =
-    let whole = before (text ++ (10 ∷ tail)) (accepted && others) (first_and_rest o left line rest text tail accepted others cut here after) in
+    let whole = before (text ++ (10 ∷ tail)) (accepted && others)
+    (first_and_rest o left line rest text tail accepted others cut here after) in
     let joined : written ++ (text ++ (10 ∷ tail)) ≡ longer ++ tail =
     ap (λ t. written ++ t) (sym (append_assoc text (10 ∷ []) tail))
     ∙ sym (append_assoc written (text ++ (10 ∷ [])) tail)
@@ -47,8 +49,7 @@ Continues-end o input left written so_far before e =
 
 -- A number, a space, a printed duration and a line feed were pushed one by one.
 pub pushed_parts : (before digits number space shown human feed with_number with_space with_human after : List ℕ)
-    → digits ≡ number → space ≡ 32 ∷ [] → shown ≡ human → feed ≡ 10 ∷ []
-    → with_number ≡ before ++ digits → with_space ≡ with_number ++ space
-    → with_human ≡ with_space ++ shown → after ≡ with_human ++ feed
+    → digits ≡ number → space ≡ 32 ∷ [] → shown ≡ human → feed ≡ 10 ∷ [] → with_number ≡ before ++ digits
+    → with_space ≡ with_number ++ space → with_human ≡ with_space ++ shown → after ≡ with_human ++ feed
     → after ≡ before ++ ((number ++ (32 ∷ human)) ++ (10 ∷ []))
 pushed_parts _ _ _ _ _ _ _ _ _ _ _ e1 e2 e3 e4 h1 h2 h3 h4 = simp (h4, h3, h2, h1, e1, e2, e3, e4, append_assoc)

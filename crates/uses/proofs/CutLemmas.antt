@@ -1,150 +1,107 @@
 -- How a text is cut that is split at a token, or joined at a blank.
-use Rattle.std.proofs.Common.{◌≡◌, ℕ, zero, suc, ◌+◌, Bool, true, false, ◌&&◌, ◌||◌, List, [], ◌∷◌, ◌++◌, take, map, arith, refl, sym, ap, subst, ◌∙◌, append-nil, append_assoc}
-use Rattle.std.proofs.lemmas.Bool.{and_from}
-use Rattle.std.proofs.lemmas.List.Folds.{list_all-append}
-use Rattle.duration_str.specs.declared.options.Options.{Options}
-use Rattle.duration_str.specs.Text.{is_blank, is_digit, is_unit_letter, IsBlank, byte_len}
-use Rattle.duration_str.specs.Tokens.{Token, IsLexeme, EndsRun, AreTokens}
-use Rattle.duration_str.specs.Place.{start_after}
+use Rattle.std.proofs.Common.{◌≡◌, ℕ, zero, suc, ◌+◌, List, [], ◌∷◌, ◌++◌, take, arith, refl, sym, ap, ◌∙◌, append-nil, append_assoc, add_assoc, add-zero}
+use Rattle.duration_str.proofs.Common.{and_parts, false_from_ne_true, map-append, list_all, width, byte_len, is_blank, IsBlank, IsLexeme, EndsRun, AreTokens, tokens_from, tokens_of, lexemes_of, start_after}
+use Rattle.uses.proofs.Common.{Options, Token, run-not_blank}
+use Rattle.duration_str.proofs.Characters.TextLemmas.{byte_len-append}
+use Rattle.duration_str.proofs.Cutting.TokenLemmas.{tokens_step}
 
-byte_len_both : (xs ys : List ℕ) → byte_len (xs ++ ys) ≡ byte_len xs + byte_len ys
-byte_len_both [] ys = omega arith
-byte_len_both (x ∷ xs) ys = let rest = byte_len_both xs ys in omega (arith, rest)
-
--- ---- Where a run ends
-
-falls : (a b d : Bool) → ((a && false) || (b && (d && false))) ≡ false
-falls true true true = refl
-falls true true false = refl
-falls true false d = refl
-falls false true true = refl
-falls false true false = refl
-falls false false d = refl
-
-ends_before_blank : (o : Options) (cs rest more : List ℕ) → EndsRun o cs rest → EndsRun o cs (rest ++ 32 ∷ more)
-ends_before_blank o [] rest more h = tt
-ends_before_blank o (c ∷ cs) [] more h = falls (is_digit c) (is_unit_letter o c) o.cn_unit
-ends_before_blank o (c ∷ cs) (d ∷ rest) more h = h
-
-ends_earlier : (o : Options) (cs front rest : List ℕ) → EndsRun o cs (front ++ rest) → EndsRun o cs front
-ends_earlier o [] front rest h = tt
-ends_earlier o (c ∷ cs) [] rest h = refl
-ends_earlier o (c ∷ cs) (d ∷ front) rest h = h
-
--- ---- Split at a token
-
--- The text up to the n-th token, and the rest.
-pub record IsSplit (o : Options) (at : ℕ) (text : List ℕ) (tokens : List Token) (n : ℕ) : Type 0 where
+-- The text up to the token after the first n, and the rest. The text starts at byte `at` and ends at byte `end`.
+pub record IsSplit (o : Options) (at end : ℕ) (text : List ℕ) (tokens : List Token) (n : ℕ) : Type 0 where
   pub front : List ℕ
   pub rest : List ℕ
   pub parts : text ≡ front ++ rest
-  pub place : at + byte_len front ≡ start_after n (at + byte_len text) tokens
+  pub place : at + byte_len front ≡ start_after n end tokens
   pub are : AreTokens o at front (take n tokens)
 
-pub split_at : (o : Options) (at : ℕ) (text : List ℕ) (tokens : List Token) (n : ℕ) → AreTokens o at text tokens → IsSplit o at text tokens n
-split_at o at text [] zero h = record { front = text; rest = []; parts = sym (append-nil text); place = refl; are = h }
-split_at o at text [] (suc n) h = record { front = text; rest = []; parts = sym (append-nil text); place = refl; are = h }
-split_at o at text (token ∷ tokens) zero h = record {
-  front = h.1.blanks;
-  rest = token.characters ++ h.0;
-  parts = h.1.parts;
-  place = sym h.1.start;
-  are = h.1.blank;
-}
-split_at o at text (token ∷ tokens) (suc n) h =
-    let cs : List ℕ = token.characters in
-    let more : IsSplit o (token.start + byte_len cs) h.0 tokens n = split_at o (token.start + byte_len cs) h.0 tokens n h.2 in
-    let whole : at + byte_len text ≡ token.start + byte_len cs + byte_len h.0 =
-    omega (arith, ap byte_len h.1.parts, byte_len_both h.1.blanks (cs ++ h.0), byte_len_both cs h.0, h.1.start) in
-    let front : List ℕ = h.1.blanks ++ (cs ++ more.front) in
-    let up_to : at + byte_len front ≡ token.start + byte_len cs + byte_len more.front =
-    omega (arith, byte_len_both h.1.blanks (cs ++ more.front), byte_len_both cs more.front, h.1.start) in
-    record {
-      front = front;
-      rest = more.rest;
-      parts = h.1.parts ∙ ap (λ (r : List ℕ). h.1.blanks ++ (cs ++ r)) more.parts ∙ simp append_assoc;
-      place = up_to ∙ more.place ∙ sym (ap (λ (len : ℕ). start_after n len tokens) whole);
-      are = (
-        more.front,
-        record {
-          blanks = h.1.blanks;
-          blank = h.1.blank;
-          parts = refl;
-          start = h.1.start;
-          is_lexeme = h.1.is_lexeme;
-          ends = ends_earlier o cs more.front more.rest (subst (EndsRun o cs) more.parts h.1.ends);
-        },
-        more.are,
-      );
-    }
+module _ (o : Options) where
+  -- ---- Where a run ends
 
--- ---- Joined at a blank
+  ends_at_blank : (cs rest more : List ℕ) → EndsRun o cs rest → EndsRun o cs (rest ++ 32 ∷ more)
+  ends_at_blank [] rest more h = tt
+  ends_at_blank (c ∷ cs) [] more h = false_from_ne_true _ (λ run. cc (run-not_blank o c 32 run))
+  ends_at_blank (c ∷ cs) (d ∷ rest) more h = h
 
-blanks_before : (o : Options) (at : ℕ) (blanks text : List ℕ) (tokens : List Token) → IsBlank blanks
-    → AreTokens o (at + byte_len blanks) text tokens → AreTokens o at (blanks ++ text) tokens
-blanks_before o at blanks text [] b h = list_all-append is_blank blanks text ∙ and_from _ _ b h
-blanks_before o at blanks text (token ∷ tokens) b h = (
-  h.0,
-  record {
-    blanks = blanks ++ h.1.blanks;
-    blank = list_all-append is_blank blanks h.1.blanks ∙ and_from _ _ b h.1.blank;
-    parts = ap (λ (r : List ℕ). blanks ++ r) h.1.parts ∙ simp append_assoc;
-    start = omega (arith, h.1.start, byte_len_both blanks h.1.blanks);
-    is_lexeme = h.1.is_lexeme;
-    ends = h.1.ends;
-  },
-  h.2,
-)
+  ends_earlier : (cs front rest : List ℕ) → EndsRun o cs (front ++ rest) → EndsRun o cs front
+  ends_earlier [] front rest h = tt
+  ends_earlier (c ∷ cs) [] rest h = refl
+  ends_earlier (c ∷ cs) (d ∷ front) rest h = h
 
-pub joined : (o : Options) (at : ℕ) (text more : List ℕ) (tokens others : List Token) → AreTokens o at text tokens
-    → AreTokens o (at + byte_len text) (32 ∷ more) others → AreTokens o at (text ++ 32 ∷ more) (tokens ++ others)
-joined o at text more [] others h k = blanks_before o at text (32 ∷ more) others h k
-joined o at text more (token ∷ tokens) others h k =
-    let cs : List ℕ = token.characters in
-    let whole : at + byte_len text ≡ token.start + byte_len cs + byte_len h.0 =
-    omega (arith, ap byte_len h.1.parts, byte_len_both h.1.blanks (cs ++ h.0), byte_len_both cs h.0, h.1.start) in (
-      h.0 ++ 32 ∷ more,
+  -- ---- Split at a token
+
+  pub split_at : (at end : ℕ) (text : List ℕ) (tokens : List Token) (n : ℕ) → end ≡ at + byte_len text
+      → AreTokens o at text tokens → IsSplit o at end text tokens n
+  split_at at end text [] zero e h =
+      record { front = text; rest = []; parts = sym (append-nil text); place = sym e; are = h }
+  split_at at end text [] (suc n) e h =
+      record { front = text; rest = []; parts = sym (append-nil text); place = sym e; are = h }
+  split_at at end text (token ∷ tokens) zero e (rest, next, are) = record {
+    front = next.blanks;
+    rest = token.characters ++ rest;
+    parts = next.parts;
+    place = sym next.start;
+    are = next.blank;
+  }
+  split_at at end text (token ∷ tokens) (suc n) e (rest, next, are) =
+      let cs = token.characters in
+      let len : byte_len text ≡ byte_len next.blanks + (byte_len cs + byte_len rest) =
+      rw (next.parts, byte_len-append, byte_len-append) refl in
+      let s : IsSplit o (token.start + byte_len cs) end rest tokens n =
+      split_at (token.start + byte_len cs) end rest tokens n (omega (arith, e, len, next.start)) are in
+      let ends : EndsRun o cs s.front = ends_earlier cs s.front s.rest (rw s.parts at next.ends) in
       record {
-        blanks = h.1.blanks;
-        blank = h.1.blank;
-        parts = ap (λ (r : List ℕ). r ++ 32 ∷ more) h.1.parts ∙ simp append_assoc;
-        start = h.1.start;
-        is_lexeme = h.1.is_lexeme;
-        ends = ends_before_blank o cs h.0 more h.1.ends;
-      },
-      joined o (token.start + byte_len cs) h.0 more tokens others h.2 (subst (λ (n : ℕ). AreTokens o n (32 ∷ more) others) whole k),
-    )
+        front = next.blanks ++ (cs ++ s.front);
+        rest = s.rest;
+        parts = rw (append_assoc, append_assoc, ← s.parts) next.parts;
+        place = simp byte_len-append (omega (arith, next.start, s.place));
+        are = (
+          s.front,
+          record {
+            blanks = next.blanks;
+            blank = next.blank;
+            parts = refl;
+            start = next.start;
+            is_lexeme = next.is_lexeme;
+            ends = ends;
+          },
+          s.are,
+        );
+      }
 
--- A blank before a text.
-pub blank_before : (o : Options) (at : ℕ) (text : List ℕ) (tokens : List Token) → AreTokens o (at + 1) text tokens → AreTokens o at (32 ∷ text) tokens
-blank_before o at text tokens h = blanks_before o at (32 ∷ []) text tokens refl h
+  -- ---- Joined at a blank
 
--- A text that starts further on.
-abbrev later : ℕ → Token → Token
-later by token = record token { start = token.start + by }
+  blanks_first : (at : ℕ) (blanks text : List ℕ) → IsBlank blanks
+      → tokens_from o at (blanks ++ text) ≡ tokens_from o (at + byte_len blanks) text
+  blanks_first at [] text h = rw add-zero
+  blanks_first at (c ∷ blanks) text h =
+      let parts = and_parts (is_blank c) (list_all is_blank blanks) h in
+      rw (parts.0, blanks_first (at + width c) blanks text parts.1, add_assoc)
 
-moved : (o : Options) (at by : ℕ) (text : List ℕ) (tokens : List Token) → AreTokens o at text tokens → AreTokens o (at + by) text (map (later by) tokens)
-moved o at by text [] h = h
-moved o at by text (token ∷ tokens) h =
-    let start : token.start + by ≡ at + by + byte_len h.1.blanks = omega (arith, h.1.start) in
-    let next : token.start + byte_len token.characters + by ≡ token.start + by + byte_len token.characters = omega arith in (
-      h.0,
-      record {
-        blanks = h.1.blanks;
-        blank = h.1.blank;
-        parts = h.1.parts;
-        start = start;
-        is_lexeme = h.1.is_lexeme;
-        ends = h.1.ends;
-      },
-      subst (λ (n : ℕ). AreTokens o n h.0 (map (later by) tokens)) next (moved o (token.start + byte_len token.characters) by h.0 tokens h.2),
-    )
+  joined : (at : ℕ) (text more : List ℕ) (tokens : List Token) → AreTokens o at text tokens
+      → (start : ℕ) × (tokens_from o at (text ++ 32 ∷ more) ≡ tokens ++ tokens_from o start more)
+  joined at text more [] h = (at + byte_len text + 1, blanks_first at text (32 ∷ more) h)
+  joined at text more (token ∷ tokens) (rest, next, are) =
+      let later = joined (token.start + byte_len token.characters) rest more tokens are in
+      let parts : text ++ 32 ∷ more ≡ next.blanks ++ (token.characters ++ (rest ++ 32 ∷ more)) =
+      rw next.parts (simp append_assoc) in
+      let first = tokens_step o at next.blanks token.characters (rest ++ 32 ∷ more) next.blank next.is_lexeme
+      (ends_at_blank token.characters rest more next.ends) in
+      (later.0, rw parts (rw (← next.start) at first ∙ ap (λ (ts : List Token). token ∷ ts) later.1))
 
--- A text that starts at any byte, given its tokens from the first.
-pub at_any : (o : Options) (at : ℕ) (text : List ℕ) (tokens : List Token) → AreTokens o 0 text tokens → (others : List Token) × AreTokens o at text others
-at_any o at text tokens h = (map (later at) tokens, subst (λ (n : ℕ). AreTokens o n text (map (later at) tokens)) (omega arith) (moved o 0 at text tokens h))
+  -- The lexemes of a text, a blank, a lexeme, a blank and more.
+  pub typed_lexemes : (text w more : List ℕ) (tokens : List Token) → AreTokens o 0 text tokens → IsLexeme o w
+      → (others : List (List ℕ))
+      × (lexemes_of (tokens_of o (text ++ 32 ∷ (w ++ 32 ∷ more))) ≡ lexemes_of tokens ++ w ∷ others)
+  typed_lexemes text [] more tokens are h = absurd h
+  typed_lexemes text (c ∷ cs) more tokens are h =
+      let before = joined 0 text ((c ∷ cs) ++ 32 ∷ more) tokens are in
+      let next = tokens_step o before.0 [] (c ∷ cs) (32 ∷ more) refl h (ends_at_blank (c ∷ cs) [] more refl) in
+      (_, ap lexemes_of (before.1 ∙ ap (λ (ts : List Token). tokens ++ ts) next) ∙ map-append _ tokens _)
 
--- A lexeme is one token.
-pub one_token : (o : Options) (at : ℕ) (w : List ℕ) → IsLexeme o w → AreTokens o at w (record { start = at; characters = w } ∷ [])
-one_token o at [] h = absurd h
-one_token o at (c ∷ cs) h = ([], record { blanks = []; blank = refl; parts = sym (append-nil (c ∷ cs)); start = omega arith; is_lexeme = h; ends = refl }, refl)
+  -- A lexeme is one token.
+  pub one_token : (w : List ℕ) → IsLexeme o w → AreTokens o 0 w (record { start = 0; characters = w } ∷ [])
+  one_token [] h = absurd h
+  one_token (c ∷ cs) h = (
+    [],
+    record { blanks = []; blank = refl; parts = sym (append-nil (c ∷ cs)); start = refl; is_lexeme = h; ends = refl },
+    refl,
+  )

@@ -1,14 +1,14 @@
-pub mod AcceptedLemmas
-pub mod BlankLemmas
 pub mod CacheLemmas
+pub mod Common
 pub mod CompletionLemmas
 pub mod CutLemmas
+pub mod DateLemmas
 pub mod FollowLemmas
 pub mod HelpLemmas
+pub mod LineLemmas
 pub mod PortableLemmas
 pub mod ProductLemmas
 pub mod StoredLemmas
 pub mod SumLemmas
 pub mod SyntaxLemmas
 pub mod TextLemmas
-pub mod WrittenLemmas

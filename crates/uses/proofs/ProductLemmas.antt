@@ -1,58 +1,42 @@
 -- Texts that multiply two parts, in either order.
-use Rattle.std.proofs.Common.{◌≡◌, ℕ, ◌*◌, ◌/◌, ◌^◌, ◌<◌, List, inl, inr, arith, refl, sym, subst, ap, ◌∙◌, mul_comm}
-use Rattle.duration_str.specs.declared.options.Options.{Options}
-use Rattle.duration_str.specs.declared.operator.CondUnit.TheVariants.{Plus, Star}
+use Rattle.std.proofs.Common.{◌≡◌, ℕ, ◌*◌, ◌/◌, ◌^◌, ◌<◌, ◌↔◌, List, inl, inr, arith, refl, ap, ◌∙◌, mul_comm}
+use Rattle.duration_str.proofs.Common.{nanos_of, second, IsRead, TwoFactors}
+use Rattle.uses.proofs.Common.{Options, Plus, Star, Part, nanos_in, term_of_part, MultipliesInEitherOrder}
 use Rattle.duration_str.specs.declared.unit.TimeUnit.{TimeUnit}
 use Rattle.duration_str.specs.declared.unit.TimeUnit.TheVariants.{Year}
-use Rattle.duration_str.specs.Units.{nanos_of}
-use Rattle.duration_str.specs.Value.{second}
-use Rattle.duration_str.specs.Reading.{IsRead}
-use Rattle.duration_str.specs.Laws.{TwoFactors}
-use Rattle.uses.specs.declared.product.Part.{Part}
-use Rattle.uses.specs.Product.{nanos_in, term_of_part, MultipliesInEitherOrder}
+use Rattle.uses.specs.Product.{Multiplies}
 
 -- A part whose length is below 2^64 has such a number.
-pub number_below : (n : ℕ) (u : TimeUnit) → n * nanos_of u < 2 ^ 64 → n < 2 ^ 64
+number_below : (n : ℕ) (u : TimeUnit) → n * nanos_of u < 2 ^ 64 → n < 2 ^ 64
 number_below n Year h = omega arith
 number_below n _ h = omega arith
 
--- Both lengths and their product, in seconds, are below 2^64 nanoseconds.
-pub record Fit (a b : Part) : Type 0 where
-  pub length : nanos_in a < 2 ^ 64
-  pub other_length : nanos_in b < 2 ^ 64
-  pub product : nanos_in a * nanos_in b / second < 2 ^ 64
+-- The number is the product, in seconds, of the two lengths, and all are below 2^64 nanoseconds.
+pub record IsProduct (a b nanos : ℕ) : Type 0 where
+  pub length : a < 2 ^ 64
+  pub other_length : b < 2 ^ 64
+  pub product : nanos < 2 ^ 64
+  pub is : nanos ≡ a * b / second
 
-exchanged : (a b : Part) → nanos_in a * nanos_in b / second ≡ nanos_in b * nanos_in a / second
-exchanged a b = ap (λ (n : ℕ). n / second) (mul_comm (nanos_in a) (nanos_in b))
+exchanged : (a b nanos : ℕ) → IsProduct a b nanos → IsProduct b a nanos
+exchanged a b nanos p = record {
+  length = p.other_length;
+  other_length = p.length;
+  product = p.product;
+  is = p.is ∙ ap (λ (n : ℕ). n / second) (mul_comm a b);
+}
 
--- If all fit, the product is read as their product.
-pub product_read : TwoFactors → (o : Options) (text : List ℕ) (a b : Part) (nanos : ℕ) → Fit a b → nanos ≡ nanos_in a * nanos_in b / second
-    → MultipliesInEitherOrder o a b text → IsRead o text nanos
-product_read law o text a b nanos f e (inl m) =
-    (law.product o text m.lexemes (term_of_part Plus a) (term_of_part Star b) nanos m.spells m.terms refl).1
-    (number_below _ a.unit f.length, f.length, number_below _ b.unit f.other_length, f.other_length, subst (λ (n : ℕ). n < 2 ^ 64) (sym e) f.product, e)
-product_read law o text a b nanos f e (inr m) =
-    (law.product o text m.lexemes (term_of_part Plus b) (term_of_part Star a) nanos m.spells m.terms refl).1 (
-      number_below _ b.unit f.other_length,
-      f.other_length,
-      number_below _ a.unit f.length,
-      f.length,
-      subst (λ (n : ℕ). n < 2 ^ 64) (sym e) f.product,
-      e ∙
-          exchanged a b,
+in_order : TwoFactors → (o : Options) (text : List ℕ) (a b : Part) (nanos : ℕ) → Multiplies o a b text
+    → (IsRead o text nanos ↔ IsProduct (nanos_in a) (nanos_in b) nanos)
+in_order law o text a b nanos m =
+    let read = law.product o text m.lexemes (term_of_part Plus a) (term_of_part Star b) nanos m.spells m.terms refl in (
+      λ r. let h = read.0 r in record { length = h.1; other_length = h.3; product = h.4; is = h.5 },
+      λ p. read.1 (number_below _ a.unit p.length, p.length, number_below _ b.unit p.other_length, p.other_length, p.product, p.is),
     )
 
--- If the product is read, all fit.
-pub read_product : TwoFactors → (o : Options) (text : List ℕ) (a b : Part) (nanos : ℕ) → MultipliesInEitherOrder o a b text → IsRead o text nanos → Fit a b
-read_product law o text a b nanos (inl m) r =
-    let h = (law.product o text m.lexemes (term_of_part Plus a) (term_of_part Star b) nanos m.spells m.terms refl).0 r in record {
-      length = h.1;
-      other_length = h.3;
-      product = subst (λ (n : ℕ). n < 2 ^ 64) h.5 h.4;
-    }
-read_product law o text a b nanos (inr m) r =
-    let h = (law.product o text m.lexemes (term_of_part Plus b) (term_of_part Star a) nanos m.spells m.terms refl).0 r in record {
-      length = h.3;
-      other_length = h.1;
-      product = subst (λ (n : ℕ). n < 2 ^ 64) (h.5 ∙ exchanged b a) h.4;
-    }
+-- The text is read exactly as the product.
+pub read_as_product : TwoFactors → (o : Options) (text : List ℕ) (a b : Part) (nanos : ℕ)
+    → MultipliesInEitherOrder o a b text → (IsRead o text nanos ↔ IsProduct (nanos_in a) (nanos_in b) nanos)
+read_as_product law o text a b nanos (inl m) = in_order law o text a b nanos m
+read_as_product law o text a b nanos (inr m) =
+    let read = in_order law o text b a nanos m in (λ r. exchanged _ _ _ (read.0 r), λ p. read.1 (exchanged _ _ _ p))

@@ -1,33 +1,27 @@
 -- Results of reading, given what the text is read as or refused for.
-use Rattle.std.proofs.Common.{◌≡◌, ℕ, List, Result, Ok, Err, IsOkAnd, IsErrAnd, map, ap, ◌∙◌}
-use Rattle.std.specs.declared.time.Duration.{Duration}
-use Rattle.std.specs.Duration.{as_nanos}
-use Rattle.std.specs.Str.{chars}
-use Rattle.duration_str.specs.declared.options.Options.{Options}
-use Rattle.duration_str.specs.declared.fault.Cause.{Cause}
-use Rattle.duration_str.specs.declared.fault.Fault.{Fault}
-use Rattle.duration_str.specs.Reading.{IsRead, IsRefused}
-use Rattle.duration_str.specs.Results.{ParsesText}
-use Rattle.duration_str.specs.Grammar.{terminal_of, IsSentenceOf}
-use Rattle.duration_str.specs.Tokens.{Token, tokens_of, lexemes_of}
-use Rattle.duration_str.specs.Older.{older_terminals, WasSentenceOf}
-use Rattle.duration_str.specs.Laws.{OneAnswer, OneSentence, OlderTexts}
+use Rattle.std.proofs.Common.{◌≡◌, ℕ, List, Result, Ok, Err, IsOkAnd, IsErrAnd, map, ap, sym, ◌∙◌, chars}
+use Rattle.duration_str.proofs.Common.{as_nanos, IsRead, IsRefused, ParsesText, terminal_of, IsSentenceOf, tokens_of, lexemes_of, older_terminals, WasSentenceOf, OneAnswer, OneSentence, OlderTexts}
+use Rattle.uses.proofs.Common.{Duration, Options, Cause, Fault, Token}
+use Rattle.uses.specs.Stored.{unit_of_first}
 
--- A text that is read as a value is answered by it.
-pub value_answered : OneAnswer → (o : Options) (bytes : List ℕ) (result : Result Duration Fault) (nanos : ℕ) → ParsesText o bytes result
-    → IsRead o (chars bytes) nanos → IsOkAnd result (λ d. as_nanos d ≡ nanos)
-value_answered law o bytes (Ok d) nanos parsed read = law.one_value o (chars bytes) (as_nanos d) nanos parsed.read read
-value_answered law o bytes (Err f) nanos parsed read = absurd (law.not_both o (chars bytes) nanos f.cause read parsed.refused.1)
+module _ (law : OneAnswer) (o : Options) (bytes : List ℕ) where
+  -- A text that is read as a value is answered by it.
+  pub value_answered : (result : Result Duration Fault) (nanos : ℕ) → ParsesText o bytes result
+      → IsRead o (chars bytes) nanos → IsOkAnd result (λ d. as_nanos d ≡ nanos)
+  value_answered (Ok d) nanos parsed read = law.one_value o (chars bytes) (as_nanos d) nanos parsed.read read
+  value_answered (Err f) nanos parsed read = absurd (law.not_both o (chars bytes) nanos f.cause read parsed.refused.1)
 
--- A text that is refused for a cause is answered by it.
-pub cause_answered : OneAnswer → (o : Options) (bytes : List ℕ) (result : Result Duration Fault) (cause : Cause) → ParsesText o bytes result
-    → IsRefused o (chars bytes) cause → IsErrAnd result (λ f. f.cause ≡ cause)
-cause_answered law o bytes (Ok d) cause parsed refused = absurd (law.not_both o (chars bytes) (as_nanos d) cause parsed.read refused)
-cause_answered law o bytes (Err f) cause parsed refused = law.one_cause o (chars bytes) f.cause cause parsed.refused.1 refused
+  -- A text that is refused for a cause is answered by it.
+  pub cause_answered : (result : Result Duration Fault) (cause : Cause) → ParsesText o bytes result
+      → IsRefused o (chars bytes) cause → IsErrAnd result (λ f. f.cause ≡ cause)
+  cause_answered (Ok d) cause parsed r = absurd (law.not_both o (chars bytes) (as_nanos d) cause parsed.read r)
+  cause_answered (Err f) cause parsed r = law.one_cause o (chars bytes) f.cause cause parsed.refused.1 r
 
--- The terminals that a text had are those of its tokens.
-pub older_terminals_of_tokens : OneSentence → OlderTexts → (o : Options) (lexemes : List (List ℕ)) (text : List ℕ) (tokens : List Token)
-    → WasSentenceOf o lexemes text → tokens_of o text ≡ tokens → older_terminals o lexemes ≡ map (terminal_of o) (lexemes_of tokens)
-older_terminals_of_tokens one older o lexemes text tokens was e =
-    let sentence : IsSentenceOf o lexemes text = older.sentence o lexemes text was in
-    older.terminals o lexemes text was ∙ ap (map (terminal_of o)) ((one.tokens o text lexemes sentence.0).0 sentence.1 ∙ ap lexemes_of e)
+-- The unit that was found first is that of the tokens.
+pub first_kept : OneSentence → OlderTexts → (o : Options) (lexemes : List (List ℕ)) (text : List ℕ)
+    (tokens : List Token) → WasSentenceOf o lexemes text → tokens_of o text ≡ tokens
+    → unit_of_first (map (terminal_of o) (lexemes_of tokens)) ≡ unit_of_first (older_terminals o lexemes)
+first_kept one older o lexemes text tokens was e =
+    let s : IsSentenceOf o lexemes text = older.sentence o lexemes text was in
+    let cut = (one.tokens o text lexemes s.0).0 s.1 ∙ ap lexemes_of e in
+    sym (ap unit_of_first (older.terminals o lexemes text was ∙ ap (map (terminal_of o)) cut))

@@ -1,26 +1,19 @@
 -- Sums whose parts are exchanged.
-use Rattle.std.proofs.Common.{◌≡◌, ℕ, ◌+◌, ◌==◌, List, [], ◌∷◌, map, if◌then◌else◌, refl, sym, ap, ◌∙◌}
+use Rattle.std.proofs.Common.{◌≡◌, ℕ, ◌==◌, List, [], ◌∷◌, map, if◌then◌else◌, refl, sym, ap, ◌∙◌}
 use Rattle.std.specs.List.{sum_by}
-use Rattle.std.specs.List.Sorted.{IsPermutation}
+use Rattle.duration_str.proofs.Common.{Term, value_of_term, times_in, IsRead, Reorder}
+use Rattle.uses.proofs.Common.{IsPermutation, sum_by-IsPermutation, Options, Plus, Part, nanos_in, term_of_part}
 use Rattle.std.proofs.lemmas.List.Sums.{sum_by-cons}
-use Rattle.std.proofs.lemmas.List.Sorted.{sum_by-IsPermutation}
-use Rattle.duration_str.specs.declared.options.Options.{Options}
-use Rattle.duration_str.specs.declared.operator.CondUnit.TheVariants.{Plus}
-use Rattle.duration_str.specs.Value.{Term, value_of_term}
-use Rattle.duration_str.specs.Laws.{times_in}
-use Rattle.duration_str.specs.Reading.{IsRead}
-use Rattle.duration_str.specs.Laws.{Reorder}
-use Rattle.uses.specs.declared.product.Part.{Part}
-use Rattle.uses.specs.Product.{nanos_in, term_of_part}
 use Rattle.uses.specs.Sum.{Adds}
 
 -- how often the list of a part alone has the length n
 abbrev is_times : ℕ → Part → ℕ
 is_times n part = if nanos_in part == n then 1 else 0
 
-times_in_parts : (n : ℕ) (parts : List Part) → times_in n (map value_of_term (map (term_of_part Plus) parts)) ≡ sum_by (is_times n) parts
+times_in_parts : (n : ℕ) (parts : List Part)
+    → times_in n (map value_of_term (map (term_of_part Plus) parts)) ≡ sum_by (is_times n) parts
 times_in_parts n [] = refl
-times_in_parts n (part ∷ parts) = ap (λ (k : ℕ). is_times n part + k) (times_in_parts n parts) ∙ sym (sum_by-cons (is_times n) part parts)
+times_in_parts n (part ∷ parts) = rw (sum_by-cons, ← times_in_parts n parts)
 
 times_in_terms : (n : ℕ) (terms : List Term) (parts : List Part) → terms ≡ map (term_of_part Plus) parts
     → times_in n (map value_of_term terms) ≡ sum_by (is_times n) parts

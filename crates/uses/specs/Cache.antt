@@ -1,14 +1,6 @@
 -- The one text of a value, and what printed texts are read as.
-use Rattle.std.specs.Prelude.{◌≡◌, ℕ, List, Result, Ok, Err}
-use Rattle.std.specs.declared.time.Duration.{Duration}
-use Rattle.std.specs.Duration.{as_nanos}
-use Rattle.std.specs.Str.{chars}
-use Rattle.duration_str.specs.declared.options.Options.{Options}
-use Rattle.duration_str.specs.declared.fault.Cause.{Cause}
-use Rattle.duration_str.specs.declared.fault.Fault.{Fault}
-use Rattle.duration_str.specs.Units.{off, unit_lengths}
-use Rattle.duration_str.specs.Reading.{IsRead, IsRefused}
-use Rattle.duration_str.specs.Printing.{IsGreatestBreakdown, counts_of, printed_counts}
+use Rattle.std.specs.Prelude.{◌≡◌, ℕ, List, Result, Ok, Err, chars}
+use Rattle.uses.specs.Common.{Duration, as_nanos, Options, Cause, Fault, off, unit_lengths, IsRead, IsRefused, IsGreatestBreakdown, counts_of, printed_counts}
 
 -- the text that prints how often each unit goes into what the longer units leave
 abbrev pub canonical_text : ℕ → List ℕ

@@ -1,11 +1,6 @@
 -- What can be typed at a place of a text.
 use Rattle.std.specs.Prelude.{◌≡◌, ℕ, List, ◌++◌, ◌↔◌, IsTrue, codes}
-use Rattle.duration_str.specs.declared.options.Options.{Options}
-use Rattle.duration_str.specs.declared.fault.Expected.{Expected}
-use Rattle.duration_str.specs.Text.{byte_len}
-use Rattle.duration_str.specs.Grammar.{IsSentenceOf, terminal_of}
-use Rattle.duration_str.specs.Tokens.{IsLexeme}
-use Rattle.duration_str.specs.Answer.{allows}
+use Rattle.uses.specs.Common.{Options, Expected, byte_len, IsSentenceOf, terminal_of, IsLexeme, allows}
 
 -- The text is an expression, whatever its value.
 abbrev pub IsExpression : Options → List ℕ → Type 0

@@ -1,10 +1,6 @@
 -- What the text of an example is read as or refused for.
 use Rattle.std.specs.Prelude.{◌≡◌, ℕ, List, ◌↔◌, Result, Ok, Err}
-use Rattle.std.specs.declared.time.Duration.{Duration}
-use Rattle.std.specs.Duration.{as_nanos}
-use Rattle.duration_str.specs.declared.options.Options.{Options}
-use Rattle.duration_str.specs.declared.fault.Cause.{Cause}
-use Rattle.duration_str.specs.Reading.{IsRead, IsRefused}
+use Rattle.uses.specs.Common.{Duration, as_nanos, Options, Cause, IsRead, IsRefused}
 
 -- the answer with its duration in nanoseconds
 abbrev pub in_nanos : Result Duration Cause → Result ℕ Cause

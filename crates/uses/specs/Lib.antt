@@ -1,11 +1,11 @@
-pub mod Accepted
-pub mod Blanks
 pub mod Cache
+pub mod Common
 pub mod Completion
+pub mod Configuration
+pub mod Dates
 pub mod Help
+pub mod Line
 pub mod Portable
 pub mod Product
-pub mod Settings
 pub mod Stored
 pub mod Sum
-pub mod Table

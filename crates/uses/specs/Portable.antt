@@ -1,12 +1,8 @@
 -- Expressions that mean the same under several choices of options.
-use Rattle.std.specs.Prelude.{◌≡◌, ℕ, Bool, not, ◌&&◌, ◌||◌, List, ◌↔◌}
+use Rattle.std.specs.Prelude.{ℕ, Bool, not, ◌&&◌, ◌||◌, List, ◌↔◌}
 use Rattle.std.specs.Bool.{beq}
 use Rattle.std.specs.Char.{is_ascii_uppercase}
-use Rattle.duration_str.specs.declared.options.Options.{Options}
-use Rattle.duration_str.specs.declared.fault.Cause.{Cause}
-use Rattle.duration_str.specs.Laws.{is_operator}
-use Rattle.duration_str.specs.Text.{is_chinese}
-use Rattle.duration_str.specs.Reading.{IsRead, IsRefused}
+use Rattle.uses.specs.Common.{Options, Cause, is_operator, is_chinese, IsRead, IsRefused}
 
 -- whether the character means the same under both choices: an operator if `no_calc` is the same, an ASCII capital if
 -- `lowercase` is, one of the Chinese characters of the units if `cn_unit` is, and any other character
@@ -23,15 +19,3 @@ HasSameValue o p text = (nanos : ℕ) → (IsRead o text nanos ↔ IsRead p text
 -- The text is refused for the same causes under both choices.
 abbrev pub HasSameCause : Options → Options → List ℕ → Type 0
 HasSameCause o p text = (cause : Cause) → (IsRefused o text cause ↔ IsRefused p text cause)
-
--- The text has the same values under any two choices of options.
-abbrev pub MeansTheSame : List ℕ → Type 0
-MeansTheSame text = (o p : Options) → HasSameValue o p text
-
--- The text has this value under every choice of options.
-abbrev pub IsReadAlways : List ℕ → ℕ → Type 0
-IsReadAlways text nanos = (o : Options) → IsRead o text nanos
-
--- The text is refused for the same causes under any two choices of options with the same `no_calc`.
-abbrev pub IsRefusedTheSame : List ℕ → Type 0
-IsRefusedTheSame text = (o p : Options) → o.no_calc ≡ p.no_calc → HasSameCause o p text

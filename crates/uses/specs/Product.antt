@@ -1,11 +1,7 @@
 -- A number of units, and the texts that multiply two of them.
 use Rattle.std.specs.Prelude.{◌≡◌, ℕ, ◌*◌, List, [], ◌∷◌, map, ◌⊎◌}
-use Rattle.duration_str.specs.declared.options.Options.{Options}
+use Rattle.uses.specs.Common.{Options, Plus, Star, nanos_of, terminal_of, IsSentenceOf, Term, terms_of}
 use Rattle.duration_str.specs.declared.operator.CondUnit.{CondUnit}
-use Rattle.duration_str.specs.declared.operator.CondUnit.TheVariants.{Plus, Star}
-use Rattle.duration_str.specs.Units.{nanos_of}
-use Rattle.duration_str.specs.Grammar.{terminal_of, IsSentenceOf}
-use Rattle.duration_str.specs.Value.{Term, terms_of}
 use Rattle.uses.specs.declared.product.Part.{Part}
 
 -- the length in nanoseconds

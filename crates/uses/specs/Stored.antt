@@ -1,7 +1,7 @@
 -- The unit in which a stored duration is written.
 use Rattle.std.specs.Prelude.{List, ◌∷◌, Option, None}
 use Rattle.duration_str.specs.declared.unit.TimeUnit.{TimeUnit}
-use Rattle.duration_str.specs.Grammar.{Terminal, word}
+use Rattle.uses.specs.Common.{Terminal, word}
 
 -- the unit that a terminal names
 abbrev pub unit_named : Terminal → Option TimeUnit

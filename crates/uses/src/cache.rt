@@ -1,11 +1,8 @@
 //! The key of a cache: one text for each value.
-ghost use Rattle.std.specs.Prelude.{◌≡◌, ℕ, List, ◌↔◌, IsTrue, IfOk, IfErr, ◌⊎◌};
-ghost use Rattle.std.specs.Duration.{as_nanos};
-ghost use Rattle.std.specs.Str.{chars};
-ghost use Rattle.duration_str.specs.declared.options.Options.{Options as Choice};
-ghost use Rattle.duration_str.specs.Reading.{IsRead};
-ghost use Rattle.duration_str.specs.Printing.{IsPrinted};
-ghost use Rattle.duration_str.specs.Units.{off};
+#![tactic(auto, using(crate::proofs::CacheLemmas::key_is_canonical))]
+
+ghost use Rattle.std.specs.Prelude.{◌≡◌, ℕ, List, ◌↔◌, IsTrue, IfOk, IfErr, ◌⊎◌, chars};
+ghost use Rattle.uses.specs.Common.{as_nanos, Options as Choice, IsRead, IsPrinted, off};
 ghost use Rattle.uses.specs.Cache.{IsKey, IsCanonical, IsAnswerTo, Refuses};
 
 use duration_str::laws::{equal_texts, greatest_breakdown, one_sentence, reads_back};
@@ -51,14 +48,8 @@ pub fn share_entry<'a>(text: &'a str, other: &'a str) -> Result<bool, Fault<'a>>
 {
     equal_texts();
     one_sentence();
-    let length = match parse(text) {
-        Ok(length) => length,
-        Err(fault) => return Err(fault),
-    };
-    let other_length = match parse(other) {
-        Ok(length) => length,
-        Err(fault) => return Err(fault),
-    };
+    let length = parse(text)?;
+    let other_length = parse(other)?;
     let mut buffer = [0u8; 64];
     let mut other_buffer = [0u8; 64];
     Ok(key(length, &mut buffer) == key(other_length, &mut other_buffer))

@@ -1,13 +1,8 @@
 //! What a person may type next.
-ghost use Rattle.std.specs.Prelude.{◌≡◌, ℕ, IfSome, IfNone};
-ghost use Rattle.std.specs.Str.{chars};
-ghost use Rattle.duration_str.specs.declared.fault.Cause.TheVariants.{Syntax};
-ghost use Rattle.duration_str.specs.declared.fault.Expected.{Expected as Kinds};
-ghost use Rattle.duration_str.specs.Reading.{IsRefused};
-ghost use Rattle.duration_str.specs.Grammar.{Terminal, terminal_of};
-ghost use Rattle.duration_str.specs.Tokens.{IsLexeme};
-ghost use Rattle.duration_str.specs.Tokenizer.{what_of};
-ghost use Rattle.duration_str.specs.Answer.{allows};
+#![tactic(auto, using(crate::proofs::CompletionLemmas::refused_completion))]
+
+ghost use Rattle.std.specs.Prelude.{◌≡◌, ◌↔◌, ℕ, length, IsTrue, IfSome, IfNone, chars};
+ghost use Rattle.uses.specs.Common.{Syntax, Expected as Kinds, IsRefused, Terminal, terminal_of, IsLexeme, what_of, allows};
 ghost use Rattle.uses.specs.Completion.{IsCompletion};
 
 use duration_str::laws::{one_sentence, place_and_kinds};
@@ -22,9 +17,9 @@ pub struct Completion {
     pub expected: Expected,
 }
 
-/// What a person may type at the place of a syntax fault; `None` for a text without one. With a number, a unit's name
-/// or an operator of the expected kinds put there, the text up to it begins an expression, and with nothing else; and
-/// if the end is expected, the text up to the place is an expression already.
+/// What a person may type at the place of a syntax fault; `None` for a text without one. With a blank and a number, a
+/// unit's name or an operator of the expected kinds put there, the text up to it begins an expression, and with nothing
+/// else; and if the end is expected, the text up to the place is an expression already.
 ///
 /// ```text
 /// complete("1m 3-5", Options::off()) // after `1m 3`: a unit, an operator or nothing more
@@ -43,6 +38,23 @@ pub fn complete(text: &str, o: Options) -> Option<Completion>
             Cause::Syntax { place, expected } => Some(Completion { place, expected }),
             _ => None,
         },
+    }
+}
+
+/// Whether a text is refused only because it ends too early, so that a prompt waits for more.
+///
+/// ```text
+/// is_unfinished("1m +", Options::off()) // true
+/// is_unfinished("1m -", Options::off()) // false
+/// ```
+pub fn is_unfinished(text: &str, o: Options) -> bool
+    ensures { (place : ℕ) (expected : Kinds) → IsRefused o (chars text.now) (Syntax place expected)
+        → (IsTrue result ↔ (place ≡ length text.now)) }
+{
+    one_sentence();
+    match parse_with(text, o) {
+        Ok(_) => false,
+        Err(fault) => matches!(fault.cause(), Cause::Syntax { .. }) && fault.found(o).is_none(),
     }
 }
 

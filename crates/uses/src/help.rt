@@ -1,9 +1,7 @@
 //! The examples of a help page.
-ghost use Rattle.std.specs.List.{AllByRecursion};
-ghost use Rattle.std.specs.Str.{chars};
+ghost use Rattle.uses.specs.Common.{AllByRecursion, chars};
 ghost use Rattle.uses.specs.Help.{IsOnlyAnswerTo};
 
-use crate::portable::OFF;
 use duration_str::laws::one_sentence;
 use duration_str::{Cause, Expected, Options};
 use std::time::Duration;
@@ -19,17 +17,23 @@ pub struct Example {
     pub answer: Result<Duration, Cause>,
 }
 
-const NO_CALC: Options = Options {
+pub(crate) const OFF: Options = Options {
+    no_calc: false,
+    lowercase: false,
+    cn_unit: false,
+};
+
+pub(crate) const NO_CALC: Options = Options {
     no_calc: true,
     ..OFF
 };
 
-const LOWERCASE: Options = Options {
+pub(crate) const LOWERCASE: Options = Options {
     lowercase: true,
     ..OFF
 };
 
-const CN_UNIT: Options = Options {
+pub(crate) const CN_UNIT: Options = Options {
     cn_unit: true,
     ..OFF
 };

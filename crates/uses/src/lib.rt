@@ -1,34 +1,33 @@
 //! Callers of `duration_str`. They rely on its contracts and its laws, and not on how it works.
 #![tactic(auto)]
 
-pub mod accepted;
-pub mod blanks;
-mod buffer;
 pub mod cache;
 pub mod completion;
+pub mod configuration;
+pub mod cost;
+pub mod dates;
 pub mod help;
+pub mod line;
+pub mod log;
 pub mod portable;
 pub mod product;
-pub mod retention;
-pub mod scheduler;
-pub mod settings;
+pub mod signed;
 pub mod stored;
 pub mod sum;
-pub mod table;
 
-pub use accepted::Accepted;
-pub use blanks::{compact, write_line};
 pub use cache::{canonical, key, read_back, share_entry};
-pub use completion::{Completion, complete, is_offered};
+pub use completion::{Completion, complete, is_offered, is_unfinished};
+pub use configuration::configured;
+pub use cost::price;
+pub use dates::{cut_off, cut_off_day, due, due_day};
 pub use help::{Example, examples};
-pub use portable::{is_portable, keeps_value};
+pub use line::{without_line_feed, write_line};
+pub use log::log_entry;
+pub use portable::keeps_value;
 pub use product::{Part, scaled};
-pub use retention::{Period, total_of};
-pub use scheduler::{is_outdated, remaining, show};
-pub use settings::{Settings, SettingsFault};
+pub use signed::difference;
 pub use stored::{Stored, first_unit, stored_duration};
-pub use sum::{longest_first, sorted};
-pub use table::{Key, Table};
+pub use sum::{longest_first, total_of};
 
 #[cfg(test)]
 mod tests;

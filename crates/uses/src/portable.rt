@@ -1,45 +1,12 @@
 //! Expressions that mean the same under several choices of options.
-ghost use Rattle.std.specs.Prelude.{◌≡◌, ℕ, IsTrue};
-ghost use Rattle.std.specs.List.{list_all};
-ghost use Rattle.std.specs.Str.{chars};
-ghost use Rattle.duration_str.specs.Text.{is_chinese};
-ghost use Rattle.uses.specs.Portable.{is_unaffected, HasSameValue, HasSameCause, MeansTheSame, IsReadAlways, IsRefusedTheSame};
+#![tactic(auto, using(crate::proofs::PortableLemmas::unaffected_has_same_value, crate::proofs::PortableLemmas::unaffected_has_same_cause))]
+
+ghost use Rattle.std.specs.Prelude.{◌≡◌, ℕ, IsTrue, chars};
+ghost use Rattle.uses.specs.Common.{list_all, is_chinese};
+ghost use Rattle.uses.specs.Portable.{is_unaffected, HasSameValue, HasSameCause};
 
 use duration_str::laws::{no_calc_agrees, options_idle};
 use duration_str::{CondUnit, Options};
-
-/// All three options off.
-pub(crate) const OFF: Options = Options {
-    no_calc: false,
-    lowercase: false,
-    cn_unit: false,
-};
-
-/// All three options on.
-const ALL: Options = Options {
-    no_calc: true,
-    lowercase: true,
-    cn_unit: true,
-};
-
-/// Whether an accepted expression has one value under all eight choices of options, so that it may be handed to a
-/// program that chose others. Only its characters are looked at: it has no operator, no ASCII capital and no Chinese
-/// character. If it is refused, then for the same cause under all choices with the same `no_calc`.
-///
-/// ```text
-/// is_portable("2h 37m")   // true
-/// is_portable("2h + 37m") // false: refused under `no_calc`
-/// is_portable("2H 37m")   // false: refused under `lowercase`
-/// ```
-pub fn is_portable(text: &str) -> bool
-    ensures value { IsTrue result → MeansTheSame (chars text.now) }
-    ensures only { (nanos : ℕ) → IsReadAlways (chars text.now) nanos → IsTrue result }
-    ensures cause { IsTrue result → IsRefusedTheSame (chars text.now) }
-{
-    no_calc_agrees();
-    options_idle();
-    are_unaffected(text, OFF, ALL)
-}
 
 /// Whether a text keeps its value when a program changes its options from `before` to `after`: it is read under the one
 /// choice exactly if under the other, as the same value, and if `no_calc` stays, it is refused for the same cause. Only

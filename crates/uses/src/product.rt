@@ -1,8 +1,6 @@
 //! A rate times a length.
 ghost use Rattle.std.specs.Prelude.{◌≡◌, ℕ, ◌^◌, ◌≤◌, List, IfSome, IfNone};
-ghost use Rattle.std.specs.Duration.{as_nanos};
-ghost use Rattle.duration_str.specs.declared.options.Options.{Options as Choice};
-ghost use Rattle.duration_str.specs.Reading.{IsRead};
+ghost use Rattle.uses.specs.Common.{as_nanos, Options as Choice, IsRead};
 
 use duration_str::TimeUnit;
 use duration_str::laws::two_factors;

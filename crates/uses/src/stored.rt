@@ -1,12 +1,10 @@
 //! Durations that an older version of a program stored as texts.
-ghost use Rattle.std.specs.Prelude.{◌≡◌, ℕ, List, IsOkAnd, IsErrAnd};
-ghost use Rattle.std.specs.Duration.{as_nanos};
-ghost use Rattle.std.specs.Str.{chars};
-ghost use Rattle.duration_str.specs.Grammar.{Terminal};
-ghost use Rattle.duration_str.specs.Tokenizer.{what_of};
+#![tactic(auto, using(crate::proofs::StoredLemmas::value_answered, crate::proofs::StoredLemmas::cause_answered))]
+
+ghost use Rattle.std.specs.Prelude.{◌≡◌, ℕ, List, IsOkAnd, IsErrAnd, chars};
+ghost use Rattle.uses.specs.Common.{as_nanos, Terminal, what_of, Cause as AnyCause};
 ghost use Rattle.duration_str.specs.Older.{older_terminals, WasSentenceOf, WasRead, WasRefused};
 ghost use Rattle.uses.specs.Stored.{unit_named, unit_of_first};
-ghost use Rattle.duration_str.specs.declared.fault.Cause.{Cause as AnyCause};
 
 use duration_str::laws::{older_texts, one_sentence};
 use duration_str::{Fault, Options, TimeUnit, Tokens, What, parse_with};
@@ -23,7 +21,8 @@ pub struct Stored {
 
 impl Stored {
     /// Reads the two texts under the options that they were stored with, and returns the fault of the first that is
-    /// refused. What an older version accepted is accepted, with the same values.
+    /// refused. What an older version accepted is accepted, with the same values, and what its evaluation refused is
+    /// refused for the same cause.
     ///
     /// ```text
     /// Stored::read("30", "1y 2mon", Options::off()) // 30 s and 425 days, as before
@@ -33,6 +32,9 @@ impl Stored {
             → WasRead o (chars retention.now) n
             → IsOkAnd result (λ s. (as_nanos s.timeout ≡ m) × (as_nanos s.retention ≡ n)) }
         ensures refused { (cause : AnyCause) → WasRefused o (chars timeout.now) cause
+            → IsErrAnd result (λ f. f.cause ≡ cause) }
+        ensures refused_later { (m : ℕ) (cause : AnyCause) → WasRead o (chars timeout.now) m
+            → WasRefused o (chars retention.now) cause
             → IsErrAnd result (λ f. f.cause ≡ cause) }
     {
         let timeout = match stored_duration(timeout, o) {

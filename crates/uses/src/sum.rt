@@ -1,44 +1,14 @@
-//! The terms of a sum, from the longest to the shortest.
-ghost use Rattle.std.specs.Prelude.{◌≡◌, ◌↔◌, ◌≤◌, ℕ, ◌++◌, false, List, IfSome, reverse, length, take, encode_utf8_all};
-ghost use Rattle.std.specs.List.{All};
+//! Sums of durations, added without being written, and written in another order.
+ghost use Rattle.std.specs.Prelude.{◌≡◌, ◌↔◌, ℕ, false, ◌==◌, ◌++◌, None, List, not, codes, reverse, IfSome, IfNone, chars};
+ghost use Rattle.uses.specs.Common.{as_nanos, list_all, Options as Choice, HasNoStar, IsRead, IsRefused, Overflow};
 ghost use Rattle.std.specs.List.Sorted.{IsPermutation, IsNonDecreasingBy};
-ghost use Rattle.std.specs.Str.{chars};
-ghost use Rattle.duration_str.specs.declared.options.Options.{Options as Choice};
-ghost use Rattle.duration_str.specs.Units.{row_of};
-ghost use Rattle.duration_str.specs.Reading.{IsRead};
-ghost use Rattle.duration_str.specs.Buffers.{IsInFront};
 ghost use Rattle.uses.specs.Product.{nanos_in};
-ghost use Rattle.uses.specs.Sum.{Adds, part_text, later_text, NumberFits, IsSumInFront};
+ghost use Rattle.uses.specs.Sum.{Adds};
 
-use crate::buffer::put;
-use crate::cache::key;
 use crate::product::Part;
-use duration_str::TimeUnit;
-use duration_str::laws::reorder;
-use itoa::Buffer;
+use duration_str::laws::{one_sentence, reorder, sum_of_texts};
+use duration_str::{Options, parse_with};
 use std::time::Duration;
-
-/// Writes the sum of parts, the longest first, to the start of a buffer, and returns its length; `None` if there is no
-/// part, or the buffer is too short. The parts are sorted in place. Where operators are read, the text is read exactly
-/// as any text that adds the parts in the order in which they were.
-///
-/// ```text
-/// // 29ms, 3min and 13s
-/// sorted(&mut parts, &mut buffer) // Some(13): "3min+13s+29ms"
-/// ```
-pub fn sorted(parts: &mut [Part], buffer: &mut [u8]) -> Option<usize>
-    ensures permuted { IsPermutation parts.old parts.new }
-    ensures order { IsNonDecreasingBy nanos_in (reverse parts.new) }
-    ensures bytes { IsSumInFront parts.new result buffer.new }
-    ensures adds { IfSome result (λ end. (o : Choice) → o.no_calc ≡ false
-        → Adds o parts.new (chars (take end buffer.new))) }
-    ensures same { IfSome result (λ end. (o : Choice) (text : List ℕ) (nanos : ℕ)
-        → o.no_calc ≡ false → Adds o parts.old text
-        → (IsRead o text nanos ↔ IsRead o (chars (take end buffer.new)) nanos)) }
-{
-    longest_first(parts);
-    put_sum(buffer, parts)
-}
 
 /// Sorts the terms of a sum in place, the longest first, as a list of laps or of items on a bill is shown. The sum that
 /// they write is accepted exactly as before, with the same value.
@@ -57,50 +27,40 @@ pub fn longest_first(parts: &mut [Part])
     parts.reverse();
 }
 
-/// Writes the sum of the parts in this order.
-fn put_sum(buffer: &mut [u8], parts: &[Part]) -> Option<usize>
-    ensures bytes { IsSumInFront parts.now result buffer.new }
-    ensures fit { IfSome result (λ _. All NumberFits parts.now) }
+/// The duration that two texts, joined by a plus, are read as under these options; `None` if one of them is refused or
+/// has a `*`, if operators are not read, or if the joined text is refused because the sum is 2^64 nanoseconds or more.
+///
+/// ```text
+/// total_of("1m 2s", "3", Options::off()) // Some(Duration::from_secs(65))
+/// ```
+pub fn total_of(text: &str, other: &str, o: Options) -> Option<Duration>
+    ensures read { IfSome result (λ d. IsRead o
+        (chars text.now ++ codes "+" ++ chars other.now) (as_nanos d)) }
+    ensures refused { IfNone result ((m n : ℕ) → o.no_calc ≡ false
+        → HasNoStar (chars text.now) → HasNoStar (chars other.now)
+        → IsRead o (chars text.now) m → IsRead o (chars other.now) n
+        → IsRefused o (chars text.now ++ codes "+" ++ chars other.now) (Overflow None)) }
 {
-    let (first, later) = parts.split_first()?;
-    let end = put_part(buffer, 0, *first)?;
-    put_later(buffer, end, later)
-}
-
-/// Writes each part with a `+` before it after the first `at` bytes, and returns where the last one ends; `None` if
-/// there is no room.
-fn put_later(buffer: &mut [u8], at: usize, parts: &[Part]) -> Option<usize>
-    requires { at ≤ length buffer.old }
-    ensures bytes { IsInFront (take at buffer.old ++ encode_utf8_all (later_text parts.now))
-        result buffer.new }
-    ensures fit { IfSome result (λ _. All NumberFits parts.now) }
-{
-    let mut end = at;
-    for part in parts {
-        let sign = put(buffer, end, b"+")?;
-        end = put_part(buffer, sign, *part)?;
+    sum_of_texts();
+    one_sentence();
+    if o.no_calc || !has_no_star(text) || !has_no_star(other) {
+        return None;
     }
-    Some(end)
+    let Ok(length) = parse_with(text, o) else {
+        return None;
+    };
+    let Ok(other_length) = parse_with(other, o) else {
+        return None;
+    };
+    match u64::try_from(length.as_nanos() + other_length.as_nanos()) {
+        Ok(nanos) => Some(Duration::from_nanos(nanos)),
+        Err(_) => None,
+    }
 }
 
-/// Writes a part after the first `at` bytes, and returns where it ends; `None` if there is no room.
-fn put_part(buffer: &mut [u8], at: usize, part: Part) -> Option<usize>
-    requires { at ≤ length buffer.old }
-    ensures bytes { IsInFront (take at buffer.old ++ encode_utf8_all (part_text part))
-        result buffer.new }
-    ensures fits { NumberFits part }
+/// Whether a text has no `*`.
+fn has_no_star(text: &str) -> bool
+    ensures { result ≡ list_all (λ c. not (c == 42)) (chars text.now) }
 {
-    let end = put(buffer, at, Buffer::new().format(part.number).as_bytes())?;
-    put_name(buffer, end, part.unit)
-}
-
-/// Writes the printed name of a unit: what is printed after the `1` of its length.
-fn put_name(buffer: &mut [u8], at: usize, unit: TimeUnit) -> Option<usize>
-    requires { at ≤ length buffer.old }
-    ensures { IsInFront (take at buffer.old ++ encode_utf8_all (row_of unit).printed)
-        result buffer.new }
-{
-    let mut one = [0u8; 64];
-    let printed = key(Duration::from_nanos(unit.nanos()), &mut one);
-    put(buffer, at, &printed.as_bytes()[1..])
+    text.chars().all(|c| c != '*')
 }

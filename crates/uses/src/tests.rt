@@ -1,73 +1,44 @@
-// Texts that are read once, added and looked up.
+// What the callers answer, for texts whose meaning was worked out by hand.
 use super::*;
-use duration_str::{Cause, Options, TimeUnit, parse, parse_with};
-use std::process::Abort;
+use crate::help::{CN_UNIT, LOWERCASE, NO_CALC, OFF};
+use duration_str::{Cause, DError, Options, TimeUnit, parse, parse_with};
+use jiff::civil::{Date, DateTime};
+use jiff::{SignedDuration, Timestamp};
+use serde_json::{Value, json};
+use std::test::Fail;
 use std::time::Duration;
 
-/// The period of an accepted text without `*`.
-fn period<'a>(rt: &impl Abort, text: &'a str) -> Period<'a> {
-    let accepted = Accepted::read(text).ok().expect(rt, "an accepted text");
-    Period::new(accepted).expect(rt, "a text without a star")
+const OVERFLOW: Cause = Cause::Overflow { place: None };
+
+/// The greatest duration that is read.
+fn greatest() -> Duration {
+    Duration::new(18_446_744_073, 709_551_615)
 }
 
-#[test]
-fn keeps_what_was_read(rt: HostRuntime) {
-    let accepted = Accepted::read("1m*2").ok().expect(&rt, "an accepted text");
-    assert_eq!(rt; accepted.length(), Duration::from_secs(120));
-    assert_eq!(rt; accepted.read_again(), Duration::from_secs(120));
-    assert!(rt; Period::new(accepted).is_none());
-    let refused = Accepted::read("580y*2").err().map(|fault| fault.cause());
-    assert_eq!(rt; refused, Some(Cause::Overflow { place: None }));
+/// The value of a text, or the cause of its refusal.
+fn read(text: &str, o: Options) -> Result<Duration, Cause> {
+    parse_with(text, o).map_err(|fault| fault.cause())
+}
+
+fn part(number: u64, unit: TimeUnit) -> Part {
+    Part { number, unit }
 }
 
 #[test]
 fn totals_as_the_joined_text_is_read(rt: HostRuntime) {
-    let seconds = Duration::from_secs(65);
-    assert_eq!(rt;
-        period(&rt, "1m 2s").total(&period(&rt, "3")),
-        Some(seconds)
-    );
-    assert_eq!(rt; parse("1m 2s+3"), Ok(seconds));
-    let off = Options::off();
-    assert_eq!(rt; total_of("1M 2s", "3", off), Some(seconds));
-    assert_eq!(rt;
-        total_of(
-            "1M 2s",
-            "3",
-            Options {
-                lowercase: true,
-                ..off
-            }
-        ),
-        None
-    );
-    assert_eq!(rt; total_of("1m*2", "3", off), None);
-    let long = period(&rt, "580y");
-    assert_eq!(rt; long.total(&long), None);
-    let refused = parse("580y+580y").err().map(|fault| fault.cause());
-    assert_eq!(rt; refused, Some(Cause::Overflow { place: None }));
-    let last = period(&rt, "18446744073709551615ns");
-    let greatest = Duration::new(18_446_744_073, 709_551_615);
-    assert_eq!(rt; last.total(&period(&rt, "0")), Some(greatest));
-    assert_eq!(rt; last.total(&period(&rt, "1ns")), None);
-}
-
-#[test]
-fn looks_up_without_reading(rt: HostRuntime) {
-    let table = Table::read("30s", "5m", "2h 30m")
-        .ok()
-        .expect(&rt, "a table");
-    for (key, secs) in [(Key::Connect, 30), (Key::Idle, 300), (Key::Session, 9_000)] {
-        assert_eq!(rt; table.get(key), Duration::from_secs(secs));
-    }
-    for (connect, idle, session, refused) in [
-        ("1x", "", "", "1x"),
-        ("1s", "1y-", "", "1y-"),
-        ("1s", "1y", " ", " "),
+    for (text, other, o, total) in [
+        ("1M 2s", "3", OFF, Some(Duration::from_secs(65))),
+        ("1M 2s", "3", LOWERCASE, None),
+        ("1m*2", "3", OFF, None),
+        ("580y", "580y", OFF, None),
+        ("18446744073709551615ns", "0", OFF, Some(greatest())),
+        ("18446744073709551615ns", "1ns", OFF, None),
     ] {
-        let fault = Table::read(connect, idle, session).err();
-        assert_eq!(rt; fault.map(|fault| fault.text()), Some(refused));
+        assert_eq!(rt; total_of(text, other, o), total);
     }
+    assert_eq!(rt; read("1M 2s+3", OFF), Ok(Duration::from_secs(65)));
+    assert_eq!(rt; read("18446744073709551615ns+0", OFF), Ok(greatest()));
+    assert_eq!(rt; read("580y+580y", OFF), Err(OVERFLOW));
 }
 
 #[test]
@@ -81,137 +52,85 @@ fn has_one_key_for_each_value(rt: HostRuntime) {
     let refused = share_entry("90s", "90x").err().map(|fault| fault.text());
     assert_eq!(rt; refused, Some("90x"));
     let refused = canonical("580y*2", &mut buffer).err();
-    assert!(rt; refused.is_some_and(|fault| fault.cause() == Cause::Overflow { place: None }));
+    assert!(rt; refused.is_some_and(|fault| fault.cause() == OVERFLOW));
 }
 
 #[test]
 fn knows_what_is_read_back(rt: HostRuntime) {
-    let last = Duration::new(18_446_744_073, 709_551_615);
     let year = 31_536_000;
+    let in_first_term = Err(Cause::Overflow { place: Some(0) });
     for (length, answer) in [
-        (last, Ok(last)),
-        (
-            Duration::new(18_446_744_073, 709_551_616),
-            Err(Cause::Overflow { place: None }),
-        ),
-        (
-            Duration::new(585 * year - 1, 999_999_999),
-            Err(Cause::Overflow { place: None }),
-        ),
-        (
-            Duration::from_secs(585 * year),
-            Err(Cause::Overflow { place: Some(0) }),
-        ),
+        (greatest(), Ok(greatest())),
+        (Duration::new(18_446_744_073, 709_551_616), Err(OVERFLOW)),
+        (Duration::new(585 * year - 1, 999_999_999), Err(OVERFLOW)),
+        (Duration::from_secs(585 * year), in_first_term),
     ] {
         let mut buffer = [0u8; 64];
         let printed = duration_str::write_human(&length, &mut buffer);
         assert_eq!(rt; read_back(length), answer);
-        assert_eq!(rt; parse(printed).map_err(|fault| fault.cause()), answer);
+        assert_eq!(rt; read(printed, OFF), answer);
     }
 }
 
 #[test]
 fn scales_in_either_order(rt: HostRuntime) {
-    let part = |number, unit| Part { number, unit };
     let product = Some(Duration::from_millis(600));
+    let longest = Some(Duration::from_secs(584 * 31_536_000));
     let rate = part(10, TimeUnit::MilliSecond);
     let length = part(1, TimeUnit::Minute);
-    assert_eq!(rt; scaled(rate, length), product);
-    assert_eq!(rt; scaled(length, rate), product);
+    let twice = part(2, TimeUnit::Second);
+    for (rate, length, answer) in [
+        (rate, length, product),
+        (length, rate, product),
+        (part(292, TimeUnit::Year), twice, longest),
+        (part(293, TimeUnit::Year), twice, None),
+        (part(585, TimeUnit::Year), part(0, TimeUnit::Second), None),
+    ] {
+        assert_eq!(rt; scaled(rate, length), answer);
+    }
     assert_eq!(rt; parse("10ms*1m").ok(), product);
     assert_eq!(rt; parse("1m * 10 ms").ok(), product);
-    let twice = part(2, TimeUnit::Second);
-    assert_eq!(rt;
-        scaled(part(292, TimeUnit::Year), twice),
-        Some(Duration::from_secs(584 * 31_536_000))
-    );
-    assert_eq!(rt; scaled(part(293, TimeUnit::Year), twice), None);
-    assert_eq!(rt;
-        scaled(part(585, TimeUnit::Year), part(0, TimeUnit::Second)),
-        None
-    );
-}
-
-#[test]
-fn knows_what_is_portable(rt: HostRuntime) {
-    for (text, portable) in [
-        ("2h 37m", true),
-        ("1µs 3", true),
-        ("2h + 37m", false),
-        ("2h*3", false),
-        ("2H 37m", false),
-        ("2天", false),
-    ] {
-        assert_eq!(rt; is_portable(text), portable);
-    }
 }
 
 #[test]
 fn keeps_a_value_if_options_change(rt: HostRuntime) {
-    let off = Options::off();
-    let no_calc = Options {
-        no_calc: true,
-        ..off
-    };
-    let lowercase = Options {
-        lowercase: true,
-        ..off
-    };
-    let cn_unit = Options {
-        cn_unit: true,
-        ..off
-    };
     for (text, after, kept) in [
-        ("2H 37m", no_calc, true),
-        ("2H 37m", lowercase, false),
-        ("2h + 37m", no_calc, false),
-        ("2h + 37m", lowercase, true),
-        ("2天", cn_unit, false),
+        ("2H 37m", NO_CALC, true),
+        ("2H 37m", LOWERCASE, false),
+        ("2h + 37m", NO_CALC, false),
+        ("2h + 37m", LOWERCASE, true),
+        ("2天", CN_UNIT, false),
     ] {
-        assert_eq!(rt; keeps_value(text, off, after), kept);
-        let is_same = parse_with(text, off).ok() == parse_with(text, after).ok();
-        assert_eq!(rt; is_same, kept);
+        assert_eq!(rt; keeps_value(text, OFF, after), kept);
+        assert_eq!(rt; read(text, OFF).ok() == read(text, after).ok(), kept);
     }
-    assert!(rt; keeps_value("2H + 3天", no_calc, no_calc));
+    assert!(rt; keeps_value("2H + 3天", NO_CALC, NO_CALC));
 }
 
 #[test]
 fn shows_examples_as_they_are_read(rt: HostRuntime) {
     assert_eq!(rt; examples()[0].answer, Ok(Duration::from_millis(193_029)));
     for example in examples() {
-        let answer = parse_with(example.text, example.options).map_err(|fault| fault.cause());
-        assert_eq!(rt; answer, example.answer);
+        assert_eq!(rt; read(example.text, example.options), example.answer);
     }
 }
 
 #[test]
 fn keeps_what_was_stored(rt: HostRuntime) {
-    let stored = Stored::read("30", "1y 2mon", Options::off());
-    assert_eq!(rt;
-        stored.ok(),
-        Some(Stored {
-            timeout: Duration::from_secs(30),
-            retention: Duration::from_secs(425 * 86_400)
-        })
-    );
-    let refused = Stored::read("1s", "580y*2", Options::off()).err();
-    assert!(rt; refused.is_some_and(|fault| fault.cause() == Cause::Overflow { place: None }));
+    let (timeout, retention) = (Duration::from_secs(30), Duration::from_secs(425 * 86_400));
+    let stored = Stored::read("30", "1y 2mon", OFF);
+    assert_eq!(rt; stored.ok(), Some(Stored { timeout, retention }));
+    let refused = Stored::read("1s", "580y*2", OFF).err();
+    assert!(rt; refused.is_some_and(|fault| fault.cause() == OVERFLOW));
 }
 
 #[test]
-fn leaves_the_blanks_out(rt: HostRuntime) {
-    for (text, short) in [
-        ("3 m + 31 s", "3m+31s"),
-        (" 1\t\r\n2µs ", "12µs"),
-        ("3m", "3m"),
-        (" ", ""),
-    ] {
-        let mut buffer = [0u8; 8];
-        let end = compact(text, &mut buffer).expect(&rt, "enough room");
-        assert_eq!(rt; &buffer[..end], short.as_bytes());
-        assert_eq!(rt; compact("1 2 3", &mut buffer[..2]), None);
+fn reads_a_line_as_its_text(rt: HostRuntime) {
+    for line in ["90s\n", "90s"] {
+        assert_eq!(rt; without_line_feed(line), "90s");
     }
-    assert_eq!(rt; parse("3 m + 31 s").ok(), parse("3m+31s").ok());
+    assert_eq!(rt; without_line_feed("90s\n\n"), "90s\n");
+    assert_eq!(rt; without_line_feed(""), "");
     let mut buffer = [0u8; 4];
     assert_eq!(rt; write_line("90s", &mut buffer), Some(4));
     assert_eq!(rt; &buffer, b"90s\n");
@@ -220,62 +139,52 @@ fn leaves_the_blanks_out(rt: HostRuntime) {
 
 #[test]
 fn sorts_the_longest_first(rt: HostRuntime) {
-    let part = |number, unit| Part { number, unit };
-    let mut parts = [
-        part(29, TimeUnit::MilliSecond),
-        part(3, TimeUnit::Minute),
-        part(13, TimeUnit::Second),
+    let laps = [
+        (29, TimeUnit::MilliSecond),
+        (3, TimeUnit::Minute),
+        (13, TimeUnit::Second),
     ];
+    let [short, long, middle] = laps.map(|(number, unit)| part(number, unit));
+    let mut parts = [short, long, middle];
     longest_first(&mut parts);
-    assert_eq!(rt; parts[0], part(3, TimeUnit::Minute));
-    assert_eq!(rt; parts[1], part(13, TimeUnit::Second));
-    assert_eq!(rt; parts[2], part(29, TimeUnit::MilliSecond));
-}
-
-#[test]
-fn writes_the_longest_first(rt: HostRuntime) {
-    let part = |number, unit| Part { number, unit };
-    let mut parts = [
-        part(29, TimeUnit::MilliSecond),
-        part(3, TimeUnit::Minute),
-        part(13, TimeUnit::Second),
-    ];
-    let mut buffer = [0u8; 13];
-    assert_eq!(rt; sorted(&mut parts, &mut buffer), Some(13));
-    assert_eq!(rt; &buffer, b"3min+13s+29ms");
-    assert_eq!(rt; parse("3min+13s+29ms").ok(), parse("29ms+3min+13s").ok());
-    assert_eq!(rt; sorted(&mut parts, &mut buffer[..12]), None);
-    assert_eq!(rt; sorted(&mut [], &mut buffer), None);
-    let mut one = [part(10, TimeUnit::MicroSecond)];
-    assert_eq!(rt; sorted(&mut one, &mut buffer), Some(5));
-    assert_eq!(rt; &buffer[..5], "10µs".as_bytes());
+    assert_eq!(rt; parts, [long, middle, short]);
 }
 
 #[test]
 fn offers_what_can_follow(rt: HostRuntime) {
-    let off = Options::off();
-    for (text, place, offered) in [
-        ("1m 3-5", 4, [false, true, true, true]),
-        ("1m+", 3, [true, false, false, false]),
-        ("1m x", 3, [true, false, true, true]),
+    for (text, place, offered, text_end) in [
+        ("1m 3-5", 4, [false, true, true, false, false], true),
+        ("1m+", 3, [true, false, false, false, false], false),
+        ("1m x", 3, [true, false, true, false, false], true),
     ] {
-        let completion = complete(text, off).expect(&rt, "a syntax fault");
-        let expected = completion.expected;
+        let completion = complete(text, OFF).expect(&rt, "a syntax fault");
         assert_eq!(rt; completion.place, place);
-        for (word, is) in [
-            ("7", offered[0]),
-            ("Minutes", offered[1]),
-            ("*", offered[2]),
-            ("x", false),
-            ("-", false),
-        ] {
-            assert_eq!(rt; is_offered(expected, word, off), is);
+        assert_eq!(rt; completion.expected.text_end, text_end);
+        for (i, word) in ["7", "Minutes", "*", "x", "-"].iter().enumerate() {
+            assert_eq!(rt; is_offered(completion.expected, word, OFF), offered[i]);
         }
-        assert_eq!(rt; expected.text_end, offered[3]);
     }
     for text in ["1m", "580y*2", ""] {
-        assert!(rt; complete(text, off).is_none());
+        assert!(rt; complete(text, OFF).is_none());
     }
+}
+
+#[test]
+fn waits_for_what_is_missing(rt: HostRuntime) {
+    for text in ["1m +", " "] {
+        assert!(rt; is_unfinished(text, OFF));
+    }
+    for text in ["1m -", "1m", ""] {
+        assert!(rt; !is_unfinished(text, OFF));
+    }
+}
+
+#[test]
+fn ends_an_entry_with_its_line(rt: HostRuntime) {
+    let fault = parse("580y*2").err().expect(&rt, "an overflow");
+    let mut buffer = [0u8; 15];
+    assert_eq!(rt; log_entry(&fault, &mut buffer), Some("overflow error\n"));
+    assert_eq!(rt; log_entry(&fault, &mut buffer[..14]), None);
 }
 
 #[test]
@@ -286,6 +195,59 @@ fn knows_the_unit_of_a_stored_text(rt: HostRuntime) {
         ("90 + 1h", None),
         ("90", None),
     ] {
-        assert_eq!(rt; first_unit(text, Options::off()), unit);
+        assert_eq!(rt; first_unit(text, OFF), unit);
     }
+}
+
+/// Whether the text moves the start of 1970 back to this date and time, and on to that one.
+fn moves(text: &str, back: DateTime, on: DateTime) -> bool {
+    let start = Timestamp::UNIX_EPOCH;
+    cut_off(start, text) == Ok(back)
+        && cut_off_day(start, text) == Ok(back.date())
+        && due(start, text) == Ok(on)
+        && due_day(start, text) == Ok(on.date())
+}
+
+/// Whether no date and time is this long after the moment.
+fn is_out_of_range(moment: Timestamp, text: &str) -> bool {
+    match due(moment, text) {
+        Ok(_) => false,
+        Err(fault) => fault.cause() == Cause::OutOfRange,
+    }
+}
+
+#[test]
+fn finds_the_cut_off_and_the_due_date(rt: HostRuntime) {
+    let midnight = |year, month, day| Date::constant(year, month, day).at(0, 0, 0, 0);
+    assert!(rt; moves("90d", midnight(1969, 10, 3), midnight(1970, 4, 1)));
+    assert!(rt; moves("1y", midnight(1969, 1, 1), midnight(1971, 1, 1)));
+    assert!(rt; is_out_of_range(Timestamp::MAX, "1ns"));
+    assert!(rt; !is_out_of_range(Timestamp::MAX, "0"));
+}
+
+#[test]
+fn prices_every_look(rt: HostRuntime) {
+    assert_eq!(rt; price("3m 13s", 5, OFF), 30);
+    assert_eq!(rt; price("", 5, OFF), 0);
+    assert!(rt; (20..=30).contains(&price("1m 3-5", 5, OFF)));
+}
+
+#[test]
+fn subtracts_a_longer_duration(rt: HostRuntime) {
+    assert_eq!(rt; difference("1m", "90s"), Ok(SignedDuration::from_secs(-30)));
+    let refused = difference("1m", "x").err().map(|fault| fault.text());
+    assert_eq!(rt; refused, Some("x"));
+}
+
+#[test]
+fn hands_a_refusal_on(rt: HostRuntime) -> Result<(), Fail> {
+    let value = json!(in rt.alloc(); "1min+30")?;
+    let answer = Ok(Duration::from_secs(90));
+    assert_eq!(rt; configured(&value, rt.alloc())?, answer);
+    let value = json!(in rt.alloc(); "580y*2")?;
+    assert_eq!(rt; configured(&value, rt.alloc())?, Err(DError::OverflowError));
+    let line = String::from_str(rt.alloc(), "expect duration string, e.g: '1min+30'")?;
+    let answer = Err(DError::ParseError(line));
+    assert_eq!(rt; configured(&Value::Null, rt.alloc())?, answer);
+    Ok(())
 }

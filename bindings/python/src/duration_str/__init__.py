@@ -10,16 +10,35 @@ datetime.timedelta(seconds=193, microseconds=29000)
 A text is terms, each a number and a unit, joined by `+` or by `*`, or following one another, which adds them. A product
 multiplies its terms in seconds. After a number the unit may be left out before an operator and at the end, and is seconds.
 Blanks may stand anywhere but inside a number or a unit. Numbers stay below 2**64, and values below 2**64 nanoseconds.
+
+The units, and their Chinese names, which are read with `cn_unit`:
+
+    365 days     y, year, years                                                    年
+    91 days      q, quarter, quarters
+    30 days      mon, month, months                                                月
+    7 days       w, week, weeks                                                    周
+    day          d, day, days                                                      日, 天
+    hour         h, hr, hour, hours                                                时
+    minute       m, min, minute, minutes                                           分
+    second       s, sec, second, seconds                                           秒
+    millisecond  ms, msec, millisecond, milliseconds                               毫秒
+    microsecond  µs, µsec, µsecond, us, usec, usecond, microsecond, microseconds   微秒
+    nanosecond   ns, nsec, nanosecond, nanoseconds                                 纳秒
+
+`parse` reads a text as a timedelta, `parse_ns` as a number of nanoseconds, and `format` prints either.
 """
 
 from __future__ import annotations
 
+import argparse
 import datetime
 import enum
 
 from . import _library
 
-__all__ = ["Cause", "DurationError", "Expected", "format", "parse", "parse_ns"]
+# `format` is left out, so that `from duration_str import *` doesn't hide the builtin function.
+__all__ = ["Cause", "DurationError", "Expected", "parse", "parse_ns"]
+__version__ = "0.19.0"
 
 _NANOS_A_SECOND = 10**9
 
@@ -30,7 +49,7 @@ class Cause(enum.IntEnum):
     EMPTY = 1
     """The text is empty."""
     SYNTAX = 2
-    """No expression goes on as the text does at the place."""
+    """No expression continues as the text does at the place."""
     NUMBER_TOO_LARGE = 3
     """A number is 2**64 or more."""
     OVERFLOW = 4
@@ -50,8 +69,9 @@ class Expected(enum.Flag):
     END = 8
 
 
-class DurationError(ValueError):
+class DurationError(ValueError, argparse.ArgumentTypeError):
     """A refused text. As a string it is the message for a person: the text, a caret below the place, and what is wrong.
+    `argparse` shows it where `parse` or `parse_ns` is the type of an argument.
 
     >>> try:
     ...     duration_str.parse("3h 2 hurs")
@@ -71,7 +91,7 @@ class DurationError(ValueError):
     expected: Expected
     """What could stand at the place of a syntax fault; for other faults no flag is set."""
     found: str | None
-    """The piece of the text that stands at the place of a syntax fault, or None at the end and for other faults."""
+    """The token that stands at the place of a syntax fault, or None at the end and for other faults."""
 
     def __init__(
         self, message: str, text: str, cause: Cause, place: int | None, expected: Expected, found: str | None
@@ -80,8 +100,9 @@ class DurationError(ValueError):
         self.text, self.cause, self.place, self.expected, self.found = text, cause, place, expected, found
         self.column = None if place is None else len(text.encode()[:place].decode())
 
-    def __reduce__(self) -> tuple[type[DurationError], tuple[object, ...]]:
-        return type(self), (str(self), self.text, self.cause, self.place, self.expected, self.found)
+    def __reduce__(self) -> tuple[type[DurationError], tuple[object, ...], dict[str, object]]:
+        made_of = (str(self), self.text, self.cause, self.place, self.expected, self.found)
+        return type(self), made_of, self.__dict__
 
 
 def _error(text: str, encoded: bytes, answer: _library.Answer) -> DurationError:

@@ -3,7 +3,7 @@
 from __future__ import annotations
 
 import ctypes
-import pathlib
+import os
 
 #: The version of the header that this module is written by.
 VERSION = 19000
@@ -24,7 +24,7 @@ class Answer(ctypes.Structure):
     ]
 
 
-_loaded = ctypes.CDLL(str(pathlib.Path(__file__).with_name("libduration_str.so")))
+_loaded = ctypes.CDLL(os.path.join(os.path.dirname(os.path.abspath(__file__)), "libduration_str.so.0"))
 
 version = _loaded.duration_str_version
 version.argtypes = []

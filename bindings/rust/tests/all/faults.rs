@@ -1,10 +1,13 @@
 //! Texts that are refused, and what their faults tell.
 use crate::all_options;
 use crate::vectors::vectors;
-use duration_str::{parse, parse_with, Cause, CondUnit, DError, Expected, Fault, Options};
+use duration_str::{Cause, CondUnit, DError, Expected, Fault, Options, parse, parse_with};
 use std::error::Error;
 
-const NO_CALC: Options = Options { no_calc: true, ..Options::off() };
+const NO_CALC: Options = Options {
+    no_calc: true,
+    ..Options::off()
+};
 
 /// The line of this name.
 fn line(name: &str) -> String {
@@ -45,9 +48,24 @@ fn tells_what_is_wrong() {
     check("under no_calc", |options| options.no_calc);
 }
 
-const NONE: Expected = Expected { number: false, unit_word: false, operator: false, text_end: false };
-const AFTER_NUMBER: Expected = Expected { unit_word: true, operator: true, text_end: true, ..NONE };
-const AFTER_UNIT: Expected = Expected { number: true, operator: true, text_end: true, ..NONE };
+const NONE: Expected = Expected {
+    number: false,
+    unit_word: false,
+    operator: false,
+    text_end: false,
+};
+const AFTER_NUMBER: Expected = Expected {
+    unit_word: true,
+    operator: true,
+    text_end: true,
+    ..NONE
+};
+const AFTER_UNIT: Expected = Expected {
+    number: true,
+    operator: true,
+    text_end: true,
+    ..NONE
+};
 
 #[test]
 fn points_at_what_it_found() {
@@ -55,17 +73,57 @@ fn points_at_what_it_found() {
     let rows = [
         ("0mxyz", off, 1, Some("mxyz"), AFTER_NUMBER),
         ("1m 3-5", off, 4, Some("-"), AFTER_NUMBER),
-        ("1m+", off, 3, None, Expected { number: true, ..NONE }),
-        ("1m+…", off, 3, Some("…"), Expected { number: true, ..NONE }),
+        (
+            "1m+",
+            off,
+            3,
+            None,
+            Expected {
+                number: true,
+                ..NONE
+            },
+        ),
+        (
+            "1m+…",
+            off,
+            3,
+            Some("…"),
+            Expected {
+                number: true,
+                ..NONE
+            },
+        ),
         ("1m 2s ?", off, 6, Some("?"), AFTER_UNIT),
         ("1 12", off, 2, Some("12"), AFTER_NUMBER),
-        ("3ms*2ms", NO_CALC, 3, Some("*"), Expected { operator: false, ..AFTER_UNIT }),
-        ("1分s", Options { cn_unit: true, ..off }, 1, Some("分s"), AFTER_NUMBER),
+        (
+            "3ms*2ms",
+            NO_CALC,
+            3,
+            Some("*"),
+            Expected {
+                operator: false,
+                ..AFTER_UNIT
+            },
+        ),
+        (
+            "1分s",
+            Options {
+                cn_unit: true,
+                ..off
+            },
+            1,
+            Some("分s"),
+            AFTER_NUMBER,
+        ),
     ];
     for (text, options, place, found, expected) in rows {
         let fault = fault(text, options);
         assert_eq!(fault.cause(), Cause::Syntax { place, expected }, "{text}");
-        assert_eq!((fault.place(), fault.expected(), fault.found()), (Some(place), Some(expected), found), "{text}");
+        assert_eq!(
+            (fault.place(), fault.expected(), fault.found()),
+            (Some(place), Some(expected), found),
+            "{text}"
+        );
     }
 }
 
@@ -73,13 +131,42 @@ fn points_at_what_it_found() {
 fn tells_the_cause() {
     let rows = [
         ("", Cause::Empty, None),
-        ("99999999999999999999 x", Cause::Syntax { place: 21, expected: AFTER_NUMBER }, Some("x")),
-        ("99999999999999999999y", Cause::NumberTooLarge { place: Some(0) }, None),
-        ("1s 99999999999999999999", Cause::NumberTooLarge { place: None }, None),
+        (
+            "99999999999999999999 x",
+            Cause::Syntax {
+                place: 21,
+                expected: AFTER_NUMBER,
+            },
+            Some("x"),
+        ),
+        (
+            "99999999999999999999y",
+            Cause::NumberTooLarge { place: Some(0) },
+            None,
+        ),
+        (
+            "1s 99999999999999999999",
+            Cause::NumberTooLarge { place: None },
+            None,
+        ),
         ("600y", Cause::Overflow { place: Some(0) }, None),
         ("1s 600y", Cause::Overflow { place: None }, None),
-        ("1s+2*3", Cause::Mixed { first: CondUnit::Plus, later: CondUnit::Star }, None),
-        ("1s*2+3", Cause::Mixed { first: CondUnit::Star, later: CondUnit::Plus }, None),
+        (
+            "1s+2*3",
+            Cause::Mixed {
+                first: CondUnit::Plus,
+                later: CondUnit::Star,
+            },
+            None,
+        ),
+        (
+            "1s*2+3",
+            Cause::Mixed {
+                first: CondUnit::Star,
+                later: CondUnit::Plus,
+            },
+            None,
+        ),
     ];
     for (text, cause, found) in rows {
         let fault = fault(text, Options::off());
@@ -91,7 +178,10 @@ fn tells_the_cause() {
 
 #[test]
 fn tells_the_byte_where_the_text_has_lines() {
-    assert_eq!(fault("1m\n2x", Options::off()).to_string(), format!("byte 4: {}", line("units")));
+    assert_eq!(
+        fault("1m\n2x", Options::off()).to_string(),
+        format!("byte 4: {}", line("units"))
+    );
 }
 
 #[test]
@@ -126,6 +216,9 @@ fn becomes_an_error() {
 #[test]
 fn shows_faults_to_programmers() {
     let shown = format!("{:?}", fault("1s+2*3", Options::off()));
-    assert_eq!(shown, r#"Fault { text: "1s+2*3", cause: Mixed { first: Plus, later: Star } }"#);
+    assert_eq!(
+        shown,
+        r#"Fault { text: "1s+2*3", cause: Mixed { first: Plus, later: Star } }"#
+    );
     assert_eq!(format!("{} {}", CondUnit::Plus, CondUnit::Star), "+ *");
 }

@@ -4,6 +4,7 @@ mod config;
 #[cfg(feature = "chrono")]
 mod dates;
 mod faults;
+mod owned;
 mod printing;
 mod values;
 mod vectors;
@@ -12,5 +13,9 @@ use duration_str::Options;
 
 /// The eight choices of options.
 fn all_options() -> impl Iterator<Item = Options> {
-    (0..8).map(|bits| Options { no_calc: bits & 1 != 0, lowercase: bits & 2 != 0, cn_unit: bits & 4 != 0 })
+    (0..8).map(|bits| Options {
+        no_calc: bits & 1 != 0,
+        lowercase: bits & 2 != 0,
+        cn_unit: bits & 4 != 0,
+    })
 }

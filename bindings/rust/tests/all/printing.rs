@@ -1,6 +1,6 @@
 //! Printed durations.
 use crate::vectors::vectors;
-use duration_str::{parse_with, write_human, Cause, HumanFormat, Options};
+use duration_str::{Cause, HumanFormat, Options, parse_with, write_human};
 use proptest::prelude::*;
 use std::time::Duration;
 
@@ -11,9 +11,15 @@ fn prints_what_was_read() {
         assert_eq!(length.human_format(), printed);
         assert_eq!(write_human(&length, &mut [0xff; 64]), printed);
         #[cfg(feature = "chrono")]
-        assert_eq!(chrono::Duration::from_std(length).unwrap().human_format(), printed);
+        assert_eq!(
+            chrono::Duration::from_std(length).unwrap().human_format(),
+            printed
+        );
         #[cfg(feature = "time")]
-        assert_eq!(time::Duration::try_from(length).unwrap().human_format(), printed);
+        assert_eq!(
+            time::Duration::try_from(length).unwrap().human_format(),
+            printed
+        );
     }
 }
 
@@ -25,7 +31,10 @@ fn longest(secs: u64) -> String {
 #[test]
 fn prints_the_longest() {
     for secs in [i64::MAX as u64, u64::MAX] {
-        assert_eq!(Duration::new(secs, 999_999_999).human_format(), longest(secs));
+        assert_eq!(
+            Duration::new(secs, 999_999_999).human_format(),
+            longest(secs)
+        );
     }
 }
 
@@ -34,9 +43,19 @@ fn prints_the_longest() {
 fn prints_negative_durations_of_chrono() {
     use chrono::Duration as Signed;
     assert_eq!(Signed::nanoseconds(-1).human_format(), "-1ns");
-    assert_eq!(Signed::milliseconds(-193_029).human_format(), "-3min 13s 29ms");
+    assert_eq!(
+        Signed::milliseconds(-193_029).human_format(),
+        "-3min 13s 29ms"
+    );
     for length in [Signed::min_value(), Signed::max_value()] {
-        let magnitude = if length < Signed::zero() { -length } else { length }.to_std().unwrap().human_format();
+        let magnitude = if length < Signed::zero() {
+            -length
+        } else {
+            length
+        }
+        .to_std()
+        .unwrap()
+        .human_format();
         let sign = if length < Signed::zero() { "-" } else { "" };
         assert_eq!(length.human_format(), format!("{sign}{magnitude}"));
     }
@@ -47,12 +66,18 @@ fn prints_negative_durations_of_chrono() {
 fn prints_negative_durations_of_time() {
     use time::Duration as Signed;
     assert_eq!(Signed::nanoseconds(-1).human_format(), "-1ns");
-    assert_eq!(Signed::milliseconds(-193_029).human_format(), "-3min 13s 29ms");
+    assert_eq!(
+        Signed::milliseconds(-193_029).human_format(),
+        "-3min 13s 29ms"
+    );
     let longest = longest(i64::MAX as u64);
     assert_eq!(Signed::MAX.human_format(), longest);
     assert_eq!((-Signed::MAX).human_format(), format!("-{longest}"));
     // One second more than the longest one.
-    assert_eq!(Signed::MIN.human_format(), format!("-{longest}").replace(" 7s", " 8s"));
+    assert_eq!(
+        Signed::MIN.human_format(),
+        format!("-{longest}").replace(" 7s", " 8s")
+    );
 }
 
 proptest! {

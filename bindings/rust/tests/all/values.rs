@@ -1,7 +1,7 @@
 //! Texts that are read, and their values.
 use crate::all_options;
 use crate::vectors::vectors;
-use duration_str::{parse, parse_std, parse_with, Options};
+use duration_str::{Options, parse, parse_std, parse_with};
 use std::time::Duration;
 
 /// A text's answer by each call that takes no options.
@@ -29,7 +29,11 @@ fn check(name: &str, reads: impl Fn(Options) -> bool) {
                 assert_eq!(answer.ok(), wanted, "{text:?} under {options:?}");
                 if options == Options::of_features() {
                     let wanted = answer.map_err(|fault| fault.to_string());
-                    assert!(answers(text).iter().all(|answer| *answer == wanted), "{text:?}: {:?}", answers(text));
+                    assert!(
+                        answers(text).iter().all(|answer| *answer == wanted),
+                        "{text:?}: {:?}",
+                        answers(text)
+                    );
                 }
             }
         }
@@ -49,7 +53,9 @@ fn reads_operators_without_no_calc() {
 #[test]
 fn reads_chinese_names_under_cn_unit() {
     check("under cn_unit", |options| options.cn_unit);
-    check("under cn_unit without no_calc", |options| options.cn_unit && !options.no_calc);
+    check("under cn_unit without no_calc", |options| {
+        options.cn_unit && !options.no_calc
+    });
 }
 
 #[test]

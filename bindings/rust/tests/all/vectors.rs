@@ -18,5 +18,6 @@ pub struct Vectors {
 }
 
 pub fn vectors() -> Vectors {
-    serde_json::from_str(include_str!("../../../vectors.json")).expect("vectors.json is laid out as the struct")
+    serde_json::from_str(include_str!("../../vectors.json"))
+        .expect("vectors.json is laid out as the struct")
 }

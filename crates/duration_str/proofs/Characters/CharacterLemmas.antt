@@ -1,14 +1,14 @@
 -- The classes of characters exclude one another, and a run is of one class.
-use Rattle.std.proofs.Common.{◌≡◌, ℕ, ◌≤◌, Bool, true, false, ◌&&◌, ◌||◌, ◌⊎◌, inl, inr, ◌==◌, Some, None, if◌then◌else◌, arith, refl, sym, ◌∙◌}
-use Rattle.std.proofs.lemmas.Bool.{true≢false, false_from_ne_true, or_cases, and_parts, eqb-true}
-use Rattle.std.proofs.lemmas.Bool.Decides.{nat_tests}
-use Rattle.std.specs.Prelude.{nat_lt}
-use Rattle.std.specs.Char.{is_ascii, is_ascii_alphabetic, is_ascii_uppercase}
-use Rattle.duration_str.specs.declared.options.Options.{Options}
-use Rattle.duration_str.specs.declared.operator.CondUnit.{CondUnit}
-use Rattle.duration_str.specs.declared.operator.CondUnit.TheVariants.{Plus, Star}
-use Rattle.duration_str.specs.Text.{is_blank, is_digit, is_unit_letter, operator_of}
-use Rattle.duration_str.specs.Tokens.{are_of_one_run}
+use Rattle.std.proofs.Common.{◌≡◌, ℕ, ◌≤◌, Bool, true, false, ◌&&◌, ◌||◌, inl, inr, List, [], ◌∷◌, Some, IsTrue, arith, refl, nat_lt}
+use Rattle.duration_str.proofs.Common.{cases_Bool, false_from_ne_true, or_cases, and_parts, and_from, list_all, nat_tests, is_ascii_alphabetic, is_ascii_uppercase, Options, CondUnit, is_blank, is_digit, is_unit_letter, operator_of, are_of_one_run}
+use Rattle.std.specs.Char.{is_ascii}
+
+-- Characters that pass a test also pass a weaker one.
+pub all_weaker : (p q : ℕ → Bool) (cs : List ℕ) → ((c : ℕ) → p c ≡ true → q c ≡ true) → IsTrue (list_all p cs)
+    → IsTrue (list_all q cs)
+all_weaker p q [] weaker h = refl
+all_weaker p q (c ∷ cs) weaker h =
+    and_from _ _ (weaker c (and_parts _ _ h).0) (all_weaker p q cs weaker (and_parts _ _ h).1)
 
 letter_above : (o : Options) (c : ℕ) → is_unit_letter o c ≡ true → 65 ≤ c
 letter_above o c e = grind (arith, nat_tests)
@@ -26,13 +26,7 @@ pub letter-not_blank : (o : Options) (c : ℕ) → is_unit_letter o c ≡ true �
 letter-not_blank o c e = above_blank c (letter_above o c e)
 
 pub operator-not_blank : (c : ℕ) (op : CondUnit) → operator_of c ≡ Some op → is_blank c ≡ false
-operator-not_blank c op e = by_tests _ _ refl refl e
-  where
-    by_tests : (plus star : Bool) → c == 43 ≡ plus → c == 42 ≡ star → (if plus then Some Plus else if star then Some Star else None) ≡ Some op
-        → is_blank c ≡ false
-    by_tests true star p s h = rw (eqb-true c 43 p)
-    by_tests false true p s h = rw (eqb-true c 42 s)
-    by_tests false false p s h = cc
+operator-not_blank c op e = grind (arith, nat_tests)
 
 pub digit-not_letter : (o : Options) (c : ℕ) → is_digit c ≡ true → is_unit_letter o c ≡ false
 digit-not_letter o c e =
@@ -52,15 +46,13 @@ pub letter_of_ascii : (o : Options) (c : ℕ) → is_ascii_alphabetic c ≡ true
 letter_of_ascii o c e = rw e refl
 
 -- an ASCII character that is not a letter is not a unit letter
-pub no_letter_of_ascii : (o : Options) (c : ℕ) → is_ascii c ≡ true → is_ascii_alphabetic c ≡ false → is_unit_letter o c ≡ false
+pub no_letter_of_ascii : (o : Options) (c : ℕ) → is_ascii c ≡ true → is_ascii_alphabetic c ≡ false
+    → is_unit_letter o c ≡ false
 no_letter_of_ascii o c small e = grind (arith, nat_tests)
 
 pub ascii_letter : (o : Options) (c : ℕ) → is_unit_letter o c ≡ true → is_ascii c ≡ true → is_ascii_alphabetic c ≡ true
-ascii_letter o c letter small = by_test (is_ascii_alphabetic c) refl
-  where
-    by_test : (b : Bool) → is_ascii_alphabetic c ≡ b → b ≡ true
-    by_test true e = refl
-    by_test false e = absurd (true≢false (sym letter ∙ no_letter_of_ascii o c small e))
+ascii_letter o c letter small =
+    elim (cases_Bool (is_ascii_alphabetic c)) [ inl e ↦ e | inr e ↦ cc (no_letter_of_ascii o c small e) ]
 
 -- The tests a, b, c are for digits and p, q, r for unit letters, at three characters of which the first two are of one
 -- run.
@@ -73,8 +65,7 @@ pub same_run : (o : Options) (c d e : ℕ) → are_of_one_run o c d ≡ true →
 same_run o c d e h = same_class _ _ _ _ _ _ (digit-not_letter o c) (digit-not_letter o d) h
 
 pub run-not_blank : (o : Options) (c d : ℕ) → are_of_one_run o c d ≡ true → is_blank d ≡ false
-run-not_blank o c d h = not_blank_of (or_cases _ _ h)
-  where
-    not_blank_of : ((is_digit c && is_digit d) ≡ true) ⊎ ((is_unit_letter o c && is_unit_letter o d) ≡ true) → is_blank d ≡ false
-    not_blank_of (inl b) = digit-not_blank d (and_parts _ _ b).1
-    not_blank_of (inr b) = letter-not_blank o d (and_parts _ _ b).1
+run-not_blank o c d h = elim (or_cases (is_digit c && is_digit d) (is_unit_letter o c && is_unit_letter o d) h) [
+  | inl both ↦ digit-not_blank d (and_parts (is_digit c) _ both).1
+  | inr both ↦ letter-not_blank o d (and_parts (is_unit_letter o c) _ both).1
+]

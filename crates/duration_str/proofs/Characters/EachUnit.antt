@@ -1,11 +1,6 @@
 -- A property that holds of each unit in the table holds of every unit.
 use Rattle.std.proofs.Common.{◌≡◌, Bool, true, List, [], ◌∷◌}
-use Rattle.std.proofs.lemmas.Bool.{and_parts}
-use Rattle.std.specs.Prelude.{⊤}
-use Rattle.std.specs.List.{list_all}
-use Rattle.duration_str.specs.declared.unit.TimeUnit.{TimeUnit}
-use Rattle.duration_str.specs.declared.unit.TimeUnit.TheVariants.{Year, Quarter, Month, Week, Day, Hour, Minute, Second, MilliSecond, MicroSecond, NanoSecond}
-use Rattle.duration_str.specs.Units.{units}
+use Rattle.duration_str.proofs.Common.{and_parts, ⊤, list_all, TimeUnit, Year, Quarter, Month, Week, Day, Hour, Minute, Second, MilliSecond, MicroSecond, NanoSecond, units}
 
 abbrev pub Each : (TimeUnit → Type 0) → List TimeUnit → Type 0
 Each P [] = ⊤
@@ -26,7 +21,8 @@ each_unit P each NanoSecond = each.1.1.1.1.1.1.1.1.1.1.0
 
 each_passes : (test : TimeUnit → Bool) (us : List TimeUnit) → list_all test us ≡ true → Each (λ u. test u ≡ true) us
 each_passes test [] h = tt
-each_passes test (u ∷ us) h = let parts = and_parts (test u) (list_all test us) h in (parts.0, each_passes test us parts.1)
+each_passes test (u ∷ us) h =
+    let parts = and_parts (test u) (list_all test us) h in (parts.0, each_passes test us parts.1)
 
 -- A test passed by each unit of the table is passed by every unit.
 pub all_units : (test : TimeUnit → Bool) → list_all test units ≡ true → (u : TimeUnit) → test u ≡ true

@@ -1,9 +1,7 @@
 -- The printed names: their lengths in bytes, and that they are characters.
 use Rattle.std.proofs.Common.{◌≡◌, true, length, encode_utf8_all, refl}
+use Rattle.duration_str.proofs.Common.{TimeUnit, byte_len, row_of}
 use Rattle.std.proofs.Math.Utf8.{scalars}
-use Rattle.duration_str.specs.declared.unit.TimeUnit.{TimeUnit}
-use Rattle.duration_str.specs.Text.{byte_len}
-use Rattle.duration_str.specs.Units.{row_of}
 use Rattle.duration_str.proofs.Characters.EachUnit.{each_unit, all_units}
 
 pub length_name : (u : TimeUnit) → length (encode_utf8_all (row_of u).printed) ≡ byte_len (row_of u).printed

@@ -1,16 +1,10 @@
 -- Characters and bytes: widths, and the character at a place.
-use Rattle.std.proofs.Common.{◌≡◌, ℕ, ◌+◌, ◌<◌, ◌≤◌, true, false, Option, None, Some, ◌&&◌, ◌⊎◌, inl, inr, List, [], ◌∷◌, ◌++◌, length, drop, get_or, IsUtf8, ap, sym, subst, ◌∙◌, arith, leb}
-use Rattle.std.proofs.lemmas.Bool.{and_parts}
-use Rattle.std.proofs.lemmas.Bool.Decides.{nat_tests}
+use Rattle.std.proofs.Common.{◌≡◌, ℕ, ◌+◌, ◌<◌, ◌≤◌, true, false, Option, None, Some, ◌&&◌, ◌⊎◌, inl, inr, List, [], ◌∷◌, ◌++◌, length, drop, get_or, IsUtf8, subst, arith, leb, encode_utf8, MatchOption, option_to_list, IsCharBoundary, chars}
+use Rattle.duration_str.proofs.Common.{cases_Bool, and_parts, nat_tests, chars-nil, encode_ascii, scalars-chars, IsUtf8-drop, scalar, scalars, width, byte_len, ahead, StandsAt}
 use Rattle.std.proofs.lemmas.List.{drop_more, drop_all, nil_from_length}
-use Rattle.std.proofs.lemmas.Str.{chars-nil, encode_ascii, len_utf8_ascii, len_utf8_bounds, scalars-chars, IsUtf8-drop, IsUtf8-past_char, IsCharBoundary-past_char, chars_past_char, drop_past_char}
-use Rattle.std.specs.Prelude.{encode_utf8, if◌then◌else◌}
+use Rattle.std.proofs.lemmas.Str.{len_utf8_ascii, len_utf8_bounds, IsUtf8-past_char, IsCharBoundary-past_char, chars_past_char, drop_past_char}
 use Rattle.std.specs.Char.{len_utf8}
-use Rattle.std.specs.Option.{MatchOption, option_to_list}
-use Rattle.std.specs.Str.{IsCharBoundary, chars}
-use lib.Utf8.{scalar, scalars, scalar_cases}
-use Rattle.duration_str.specs.Text.{width, byte_len}
-use Rattle.duration_str.specs.Internal.Cutting.{ahead, StandsAt}
+use lib.Utf8.{scalar_cases}
 
 not_surrogate : (c : ℕ) → (c < 55296) ⊎ ((57344 ≤ c) × (c < 1114112)) → (leb 55296 c && leb c 57343) ≡ false
 not_surrogate c (inl h) = grind (arith, nat_tests)
@@ -18,32 +12,29 @@ not_surrogate c (inr h) = grind (arith, nat_tests)
 
 -- the width of a character is the length of its UTF-8
 pub width-scalar : (c : ℕ) → scalar c ≡ true → width c ≡ len_utf8 c
-width-scalar c e = ap (λ b. if b then 4 else len_utf8 c) (not_surrogate c (scalar_cases c e))
+width-scalar c e = rw (not_surrogate c (scalar_cases c e))
 
 -- the character whose UTF-8 is at a place
-pub stands_char : (text rest : List ℕ) (place c : ℕ) → IsUtf8 (drop place text) → drop place text ≡ encode_utf8 c ++ rest
-    → StandsAt text place (place + len_utf8 c) c
+pub stands_char : (text rest : List ℕ) (place c : ℕ) → IsUtf8 (drop place text)
+    → drop place text ≡ encode_utf8 c ++ rest → StandsAt text place (place + len_utf8 c) c
 stands_char text rest place c utf8 begins =
     let all : ahead text place ≡ c ∷ chars rest = chars_past_char (drop place text) rest c utf8 begins in
-    let is_char : scalar c ≡ true = (and_parts (scalar c) (scalars (chars rest)) (ap scalars (sym all) ∙ scalars-chars (drop place text) utf8)).0 in
-    record {
-      head = all ∙ ap (λ bytes. c ∷ chars bytes) (sym (drop_past_char text rest place c begins));
-      bytes = ap (λ n. place + n) (sym (width-scalar c is_char));
-    }
+    let are_chars = rw all at (scalars-chars (drop place text) utf8) in
+    let is_char = (and_parts (scalar c) (scalars (chars rest)) are_chars).0 in
+    record { head = rw (all, drop_past_char text rest place c begins); bytes = rw (width-scalar c is_char) }
 
 -- an ASCII byte at a place is the UTF-8 of its character
 ascii_begins : (text : List ℕ) (place b : ℕ) → place < length text → b ≡ get_or text place 0 → b < 128
     → drop place text ≡ encode_utf8 b ++ drop (place + 1) text
-ascii_begins text place b inside is small =
-    drop_more text place 0 inside ∙ ap (λ x. x ∷ drop (place + 1) text) (sym is) ∙ ap (λ l. l ++ drop (place + 1) text) (sym (encode_ascii b small))
+ascii_begins text place b inside is small = rw (drop_more text place 0 inside, ← is, encode_ascii b small)
 
 -- nothing is ahead of the end
 pub end_ahead : (text : List ℕ) (place : ℕ) → length text ≤ place → ahead text place ≡ []
-end_ahead text place end = ap chars (drop_all place text end) ∙ chars-nil
+end_ahead text place end = rw (drop_all place text end) chars-nil
 
 -- an ASCII character at a place, and the place after it
-pub ascii_stands : (text : List ℕ) (place b : ℕ) → IsUtf8 text → IsCharBoundary text place → place < length text → b ≡ get_or text place 0 → b < 128
-    → StandsAt text place (place + 1) b × IsCharBoundary text (place + 1)
+pub ascii_stands : (text : List ℕ) (place b : ℕ) → IsUtf8 text → IsCharBoundary text place → place < length text
+    → b ≡ get_or text place 0 → b < 128 → StandsAt text place (place + 1) b × IsCharBoundary text (place + 1)
 ascii_stands text place b utf8 boundary inside is small =
     let ahead_utf8 = IsUtf8-drop text place utf8 boundary in
     let begins = ascii_begins text place b inside is small in
@@ -53,22 +44,25 @@ ascii_stands text place b utf8 boundary inside is small =
     )
 
 -- the characters of a text of which one step of an iterator leaves nothing
-last_chars : (X : Type 0) (rest after : List ℕ) (r : Option ℕ) → IsUtf8 rest → MatchOption r ((length rest ≡ 0) × X) (λ c. rest ≡ encode_utf8 c ++ after)
-    → length after ≡ 0 → chars rest ≡ option_to_list r
-last_chars X rest after None utf8 step end = ap chars (nil_from_length rest step.0) ∙ chars-nil
+last_chars : (X : Type 0) (rest after : List ℕ) (r : Option ℕ) → IsUtf8 rest
+    → MatchOption r ((length rest ≡ 0) × X) (λ c. rest ≡ encode_utf8 c ++ after) → length after ≡ 0
+    → chars rest ≡ option_to_list r
+last_chars X rest after None utf8 step end = rw (nil_from_length rest step.0) chars-nil
 last_chars X rest after (Some c) utf8 step end =
-    chars_past_char rest after c utf8 step ∙ ap (λ bytes. c ∷ chars bytes) (nil_from_length after end) ∙ ap (λ cs. c ∷ cs) chars-nil
+    rw (chars_past_char rest after c utf8 step, nil_from_length after end, chars-nil)
 
 -- the characters of a text that two steps of an iterator pass
-pub one_or_two_chars : (X : Type 0) (text rest after : List ℕ) (first : ℕ) (second : Option ℕ) → IsUtf8 text → text ≡ encode_utf8 first ++ rest
-    → MatchOption second ((length rest ≡ 0) × X) (λ c. rest ≡ encode_utf8 c ++ after) → length after ≡ 0 → chars text ≡ first ∷ option_to_list second
+pub one_or_two_chars : (X : Type 0) (text rest after : List ℕ) (first : ℕ) (second : Option ℕ) → IsUtf8 text
+    → text ≡ encode_utf8 first ++ rest → MatchOption second ((length rest ≡ 0) × X) (λ c. rest ≡ encode_utf8 c ++ after)
+    → length after ≡ 0 → chars text ≡ first ∷ option_to_list second
 one_or_two_chars X text rest after first second utf8 begins step end =
-    chars_past_char text rest first utf8 begins
-    ∙ ap (λ cs. first ∷ cs) (last_chars X rest after second (IsUtf8-past_char text rest first utf8 begins) step end)
+    let after_first = IsUtf8-past_char text rest first utf8 begins in
+    rw (chars_past_char text rest first utf8 begins, last_chars X rest after second after_first step end)
 
 -- the width of a character is not 0
 pub width_some : (c : ℕ) → 1 ≤ width c
-width_some c = elim (leb 55296 c && leb c 57343) as (λ b. 1 ≤ (if b then 4 else len_utf8 c)) [ true ↦ omega arith | false ↦ (len_utf8_bounds c).0 ]
+width_some c =
+    elim (cases_Bool (leb 55296 c && leb c 57343)) [ inl e ↦ rw e (omega arith) | inr e ↦ rw e (len_utf8_bounds c).0 ]
 
 pub byte_len-append : (xs ys : List ℕ) → byte_len (xs ++ ys) ≡ byte_len xs + byte_len ys
 byte_len-append [] ys = omega arith

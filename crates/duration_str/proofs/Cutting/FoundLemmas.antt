@@ -1,16 +1,7 @@
 -- A token is found by cutting from a character before it.
-use Rattle.std.proofs.Common.{◌≡◌, ℕ, ◌+◌, ◌-◌, ◌<◌, ◌≤◌, ◌==◌, Bool, true, false, List, [], ◌∷◌, ◌++◌, map, length, drop, take, Option, Some, None, IsUtf8, if◌then◌else◌, slice_range, arith, refl, sym, ap, ◌∙◌}
-use Rattle.std.proofs.lemmas.Bool.{true≢false}
-use Rattle.std.proofs.lemmas.Bool.Decides.{nat_tests}
-use Rattle.std.proofs.lemmas.List.{take-append-drop, length-take-le, drop-drop}
-use Rattle.std.proofs.lemmas.Str.{chars-append, IsUtf8-take}
-use denote.Ref.{Bor}
-use Rattle.std.specs.Option.{option_map}
-use Rattle.std.specs.Str.{chars, IsCharBoundary}
-use Rattle.duration_str.specs.declared.options.Options.{Options}
-use Rattle.duration_str.specs.Text.{width, is_blank, byte_len}
-use Rattle.duration_str.specs.Tokens.{Token, goes_on, join, tokens_from, tokens_of}
-use Rattle.duration_str.specs.Faults.{token_at, IsSliceOf}
+use Rattle.std.proofs.Common.{◌≡◌, ℕ, ◌+◌, ◌-◌, ◌<◌, ◌≤◌, ◌==◌, inl, inr, true, false, List, [], ◌∷◌, ◌++◌, map, length, drop, take, Option, Some, None, IsUtf8, slice_range, arith, refl, sym, ap, ◌∙◌, take-append-drop, length-take-le, drop-drop, Bor, option_map, chars, IsCharBoundary}
+use Rattle.duration_str.proofs.Common.{cases_Bool, nat_tests, chars-append, IsUtf8-take, Options, width, is_blank, byte_len, goes_on, tokens_from, tokens_of, token_at, IsSliceOf}
+use Rattle.duration_str.specs.Tokens.{Token, join}
 use Rattle.duration_str.proofs.Characters.CharacterLemmas.{run-not_blank}
 use Rattle.duration_str.proofs.Characters.TextLemmas.{width_some}
 use Rattle.duration_str.proofs.OnePass.PlaceLemmas.{byte_count}
@@ -23,34 +14,36 @@ elsewhere : (place at : ℕ) (cs : List ℕ) (tokens : List Token) → at < plac
     → token_at place (record { start = at; characters = cs } ∷ tokens) ≡ token_at place tokens
 elsewhere place at cs tokens before = let no : (at == place) ≡ false = grind (arith, nat_tests) in rw no refl
 
--- The token at the place is found without a character that ends before it.
-without_first : (o : Options) (at place c : ℕ) (text : List ℕ) → at + width c < place
-    → token_at place (tokens_from o at (c ∷ text)) ≡ token_at place (tokens_from o (at + width c) text)
-without_first o at place c text before = by_class (is_blank c) (goes_on o c text) refl
-  where
-    by_class : (blank more : Bool) → goes_on o c text ≡ more
-        → token_at place (if blank then tokens_from o (at + width c) text else if more then join at c (tokens_from o (at + width c) text)
-        else record { start = at; characters = c ∷ [] } ∷ tokens_from o (at + width c) text) ≡ token_at place (tokens_from o (at + width c) text)
-    by_class true more e = refl
-    by_class false false e = elsewhere place at (c ∷ []) (tokens_from o (at + width c) text) (omega (arith, before))
-    by_class false true e = joined text e
-      where
-        joined : (text : List ℕ) → goes_on o c text ≡ true
-            → token_at place (join at c (tokens_from o (at + width c) text)) ≡ token_at place (tokens_from o (at + width c) text)
-        joined [] e = absurd (true≢false (sym e))
-        joined (d ∷ more) e =
-            let (cs, rest, is, _) = first_token o (at + width c) d more (run-not_blank o c d e) in
-            rw is (elsewhere place at (c ∷ cs) rest (omega (arith, before)) ∙ sym (elsewhere place (at + width c) cs rest before))
+module _ (o : Options) where
+  without_joined : (at place c : ℕ) (text : List ℕ) → at + width c < place → goes_on o c text ≡ true
+      → token_at place (join at c (tokens_from o (at + width c) text))
+      ≡ token_at place (tokens_from o (at + width c) text)
+  without_joined at place c [] before e = cc e
+  without_joined at place c (d ∷ more) before e =
+      let (cs, rest, is, _) = first_token o (at + width c) d more (run-not_blank o c d e) in
+      rw is (elsewhere place at (c ∷ cs) rest (omega (arith, before)) ∙ sym (elsewhere place (at + width c) cs rest before))
 
--- The same for some first characters.
-without_front : (o : Options) (at place : ℕ) (front text : List ℕ) → (0 < byte_len front → at + byte_len front < place)
-    → token_at place (tokens_from o at (front ++ text)) ≡ token_at place (tokens_from o (at + byte_len front) text)
-without_front o at place [] text before = ap (λ (n : ℕ). token_at place (tokens_from o n text)) (omega arith)
-without_front o at place (c ∷ front) text before =
-    let some : 0 < width c + byte_len front = omega (arith, width_some c) in
-    without_first o at place c (front ++ text) (omega (arith, before some))
-    ∙ without_front o (at + width c) place front text (λ _. omega (arith, before some))
-    ∙ ap (λ (n : ℕ). token_at place (tokens_from o n text)) (omega arith)
+  -- The token at the place is found without a character that ends before it.
+  without_first : (at place c : ℕ) (text : List ℕ) → at + width c < place
+      → token_at place (tokens_from o at (c ∷ text)) ≡ token_at place (tokens_from o (at + width c) text)
+  without_first at place c text before = elim (cases_Bool (is_blank c)) [
+    | inl blank ↦ rw blank
+    | inr solid ↦ elim (cases_Bool (goes_on o c text)) [
+      | inl more ↦ rw (solid, more) (without_joined at place c text before more)
+      | inr alone ↦
+          rw (solid, alone) (elsewhere place at (c ∷ []) (tokens_from o (at + width c) text) (omega (arith, before)))
+    ]
+  ]
+
+  -- The same for some first characters.
+  without_front : (at place : ℕ) (front text : List ℕ) → (0 < byte_len front → at + byte_len front < place)
+      → token_at place (tokens_from o at (front ++ text)) ≡ token_at place (tokens_from o (at + byte_len front) text)
+  without_front at place [] text before = ap (λ (n : ℕ). token_at place (tokens_from o n text)) (omega arith)
+  without_front at place (c ∷ front) text before =
+      let some : 0 < width c + byte_len front = omega (arith, width_some c) in
+      without_first at place c (front ++ text) (omega (arith, before some))
+      ∙ without_front (at + width c) place front text (λ _. omega (arith, before some))
+      ∙ ap (λ (n : ℕ). token_at place (tokens_from o n text)) (omega arith)
 
 -- ---- Tokens so many bytes later
 
@@ -58,72 +51,74 @@ without_front o at place (c ∷ front) text before =
 abbrev later_token : ℕ → Token → Token
 later_token by token = record { start = by + token.start; characters = token.characters }
 
-join_later : (by at c : ℕ) (tokens : List Token) → join (by + at) c (map (later_token by) tokens) ≡ map (later_token by) (join at c tokens)
+join_later : (by at c : ℕ) (tokens : List Token)
+    → join (by + at) c (map (later_token by) tokens) ≡ map (later_token by) (join at c tokens)
 join_later by at c [] = refl
 join_later by at c (token ∷ tokens) = refl
 
 -- The tokens of a text that starts later.
-tokens_later : (o : Options) (by at : ℕ) (text : List ℕ) → tokens_from o (by + at) text ≡ map (later_token by) (tokens_from o at text)
+tokens_later : (o : Options) (by at : ℕ) (text : List ℕ)
+    → tokens_from o (by + at) text ≡ map (later_token by) (tokens_from o at text)
 tokens_later o by at [] = refl
 tokens_later o by at (c ∷ text) =
-    step (is_blank c) (goes_on o c text) (ap (λ (n : ℕ). tokens_from o n text) (omega arith) ∙ tokens_later o by (at + width c) text)
-  where
-    step : (blank more : Bool) → tokens_from o (by + at + width c) text ≡ map (later_token by) (tokens_from o (at + width c) text)
-        → (if blank then tokens_from o (by + at + width c) text else if more then join (by + at) c (tokens_from o (by + at + width c) text)
-        else record { start = by + at; characters = c ∷ [] } ∷ tokens_from o (by + at + width c) text)
-        ≡ map (later_token by) (if blank then tokens_from o (at + width c) text else if more then join at c (tokens_from o (at + width c) text)
-        else record { start = at; characters = c ∷ [] } ∷ tokens_from o (at + width c) text)
-    step true more e = e
-    step false true e = ap (join (by + at) c) e ∙ join_later by at c (tokens_from o (at + width c) text)
-    step false false e = ap (λ (tokens : List Token). record { start = by + at; characters = c ∷ [] } ∷ tokens) e
+    let moved : by + at + width c ≡ by + (at + width c) = omega arith in
+    let rest = rw (← moved) at (tokens_later o by (at + width c) text) in
+    elim (cases_Bool (is_blank c)) [
+      | inl blank ↦ rw (blank, rest)
+      | inr solid ↦ elim (cases_Bool (goes_on o c text)) [
+        | inl more ↦ rw (solid, more, rest, join_later by at c (tokens_from o (at + width c) text))
+        | inr alone ↦ rw (solid, alone, rest)
+      ]
+    ]
 
 -- A token is found in the same way among later ones.
-found_later : (by place : ℕ) (tokens : List Token) → token_at (by + place) (map (later_token by) tokens) ≡ option_map (later_token by) (token_at place tokens)
+found_later : (by place : ℕ) (tokens : List Token)
+    → token_at (by + place) (map (later_token by) tokens) ≡ option_map (later_token by) (token_at place tokens)
 found_later by place [] = refl
 found_later by place (token ∷ tokens) =
     let same : (by + token.start == by + place) ≡ (token.start == place) = grind (arith, nat_tests) in
-    rw same (step (token.start == place) (found_later by place tokens))
-  where
-    step : (here : Bool) → token_at (by + place) (map (later_token by) tokens) ≡ option_map (later_token by) (token_at place tokens)
-        → (if here then Some (later_token by token) else token_at (by + place) (map (later_token by) tokens))
-        ≡ option_map (later_token by) (if here then Some token else token_at place tokens)
-    step true e = refl
-    step false e = e
+    elim (cases_Bool (token.start == place)) [
+      | inl here ↦ rw (same, here)
+      | inr other ↦ rw (same, other, found_later by place tokens)
+    ]
 
 -- ---- The token at the place, cut from a boundary before it
 
-found_after : (o : Options) (bs : List ℕ) (from place : ℕ) → IsUtf8 bs → IsCharBoundary bs from → from ≤ place → (0 < from → from < place)
-    → token_at place (tokens_of o (chars bs)) ≡ option_map (later_token from) (token_at (place - from) (tokens_of o (chars (drop from bs))))
+found_after : (o : Options) (bs : List ℕ) (from place : ℕ) → IsUtf8 bs → IsCharBoundary bs from → from ≤ place
+    → (0 < from → from < place)
+    → token_at place (tokens_of o (chars bs))
+    ≡ option_map (later_token from) (token_at (place - from) (tokens_of o (chars (drop from bs))))
 found_after o bs from place utf8 boundary within before =
     let front = chars (take from bs) in
     let text = chars (drop from bs) in
-    let parts : chars bs ≡ front ++ text =
-    sym (ap chars (take-append-drop from bs)) ∙ chars-append (take from bs) (drop from bs) (IsUtf8-take bs from utf8 boundary) in
-    let bytes : byte_len front ≡ from = byte_count (take from bs) (IsUtf8-take bs from utf8 boundary) ∙ length-take-le from bs boundary.0 in
+    let front_utf8 = IsUtf8-take bs from utf8 boundary in
+    let parts = rw take-append-drop at (chars-append (take from bs) (drop from bs) front_utf8) in
+    let bytes : byte_len front ≡ from =
+    rw (byte_count (take from bs) (IsUtf8-take bs from utf8 boundary)) (length-take-le from bs boundary.0) in
     let there : place ≡ from + (place - from) = omega (arith, within) in
     let start : 0 + byte_len front ≡ from + 0 = omega (arith, bytes) in
-    ap (λ (cs : List ℕ). token_at place (tokens_of o cs)) parts
-    ∙ without_front o 0 place front text (λ some. omega (arith, bytes, before (omega (arith, bytes, some))))
-    ∙ ap (λ (n : ℕ). token_at place (tokens_from o n text)) start
-    ∙ ap (token_at place) (tokens_later o from 0 text)
-    ∙ ap (λ (n : ℕ). token_at n (map (later_token from) (tokens_of o text))) there
-    ∙ found_later from (place - from) (tokens_of o text)
+    let later : 0 < byte_len front → 0 + byte_len front < place =
+    λ some. omega (arith, bytes, before (omega (arith, bytes, some))) in
+    let found = rw (← there) at (found_later from (place - from) (tokens_of o text)) in
+    rw (parts, without_front o 0 place front text later, start, tokens_later o from 0 text)
+    found
 
 -- The slice of a text from a boundary on is one of the text.
-slice_after : (bs : List ℕ) (from start n : ℕ) → slice_range (drop from bs) start (start + n) ≡ slice_range bs (from + start) (from + start + n)
+slice_after : (bs : List ℕ) (from start n : ℕ)
+    → slice_range (drop from bs) start (start + n) ≡ slice_range bs (from + start) (from + start + n)
 slice_after bs from start n =
     let same : start + n - start ≡ from + start + n - (from + start) = omega arith in
-    rw same (ap (take (from + start + n - (from + start))) (drop-drop start from bs))
+    rw (same, drop-drop start from bs)
 
-pub slice_found : (o : Options) (bs : List ℕ) (from place : ℕ) (slice : Option (Bor (List ℕ))) → IsUtf8 bs → IsCharBoundary bs from
-    → from ≤ place → (0 < from → from < place)
+pub slice_found : (o : Options) (bs : List ℕ) (from place : ℕ) (slice : Option (Bor (List ℕ))) → IsUtf8 bs
+    → IsCharBoundary bs from → from ≤ place → (0 < from → from < place)
     → IsSliceOf (drop from bs) (token_at (place - from) (tokens_of o (chars (drop from bs)))) slice
     → IsSliceOf bs (token_at place (tokens_of o (chars bs))) slice
 slice_found o bs from place None utf8 boundary within before none =
-    found_after o bs from place utf8 boundary within before ∙ ap (option_map (later_token from)) none
+    rw (found_after o bs from place utf8 boundary within before, none)
 slice_found o bs from place (Some slice) utf8 boundary within before (token, is, characters, at) = (
   later_token from token,
-  found_after o bs from place utf8 boundary within before ∙ ap (option_map (later_token from)) is,
+  rw (found_after o bs from place utf8 boundary within before, is),
   characters,
   at ∙ slice_after bs from token.start (length slice.now),
 )

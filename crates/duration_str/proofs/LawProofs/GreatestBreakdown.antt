@@ -1,9 +1,6 @@
 -- The counts by quotients and remainders are the greatest breakdown, and the only one.
-use Rattle.std.proofs.Common.{◌≡◌, ℕ, ◌+◌, ◌*◌, ◌/◌, ◌%◌, ◌≤◌, ◌<◌, ◌⊎◌, inl, inr, ⊎_elim, List, [], ◌∷◌, length, arith, refl, sym, ap, ap₂, subst, suc, le-div_iff_mul-le, div-add-mod'}
-use Rattle.std.proofs.lemmas.Bool.{cases_lt}
-use Rattle.duration_str.specs.Units.{unit_lengths}
-use Rattle.duration_str.specs.Printing.{weighted_sum, IsBefore, IsGreatestBreakdown, counts_of}
-use Rattle.duration_str.specs.Laws.{GreatestBreakdown}
+use Rattle.std.proofs.Common.{◌≡◌, ℕ, ◌+◌, ◌*◌, ◌/◌, ◌%◌, ◌≤◌, ◌<◌, ◌⊎◌, inl, inr, List, [], ◌∷◌, length, arith, refl, sym, le-div_iff_mul-le, div-add-mod'}
+use Rattle.duration_str.proofs.Common.{cases_lt, unit_lengths, weighted_sum, IsBefore, IsGreatestBreakdown, counts_of, GreatestBreakdown}
 
 -- Each length is above 0, and the last is 1.
 abbrev EndInOne : List ℕ → Type 0
@@ -12,17 +9,19 @@ EndInOne (l ∷ []) = l ≡ 1
 EndInOne (l ∷ m ∷ lengths) = (1 ≤ l) × EndInOne (m ∷ lengths)
 
 -- The counts times their lengths add up to the duration.
-counts_whole : (lengths : List ℕ) (nanos : ℕ) → EndInOne lengths → weighted_sum lengths (counts_of lengths nanos) ≡ nanos
+counts_whole : (lengths : List ℕ) (nanos : ℕ) → EndInOne lengths
+    → weighted_sum lengths (counts_of lengths nanos) ≡ nanos
 counts_whole [] nanos h = absurd h
 counts_whole (l ∷ []) nanos h = rw h (omega arith)
 counts_whole (l ∷ m ∷ lengths) nanos h =
-    let rest : weighted_sum (m ∷ lengths) (counts_of (m ∷ lengths) (nanos % l)) ≡ nanos % l = counts_whole (m ∷ lengths) (nanos % l) h.1 in
+    let rest : weighted_sum (m ∷ lengths) (counts_of (m ∷ lengths) (nanos % l)) ≡ nanos % l =
+    counts_whole (m ∷ lengths) (nanos % l) h.1 in
     omega arith
 
 -- There is one count for each length.
 counts_each : (lengths : List ℕ) (nanos : ℕ) → length (counts_of lengths nanos) ≡ length lengths
 counts_each [] nanos = refl
-counts_each (l ∷ lengths) nanos = ap suc (counts_each lengths (nanos % l))
+counts_each (l ∷ lengths) nanos = rw (counts_each lengths (nanos % l))
 
 -- No breakdown has a greater first count than the quotient.
 first_within : (m l rest nanos : ℕ) → 1 ≤ l → m * l + rest ≡ nanos → m ≤ nanos / l
@@ -33,32 +32,30 @@ first_within m l rest nanos h e =
 -- If the first count is the quotient, the others total the remainder.
 rest_same : (m l rest nanos : ℕ) → m * l + rest ≡ nanos → m ≡ nanos / l → rest ≡ nanos % l
 rest_same m l rest nanos e s =
-    let product : nanos / l * l + rest ≡ nanos = subst (λ (x : ℕ). x * l + rest ≡ nanos) s e in
-    omega (arith, div-add-mod' nanos l)
+    let product = rw s at e in omega (arith, div-add-mod' nanos l)
 
 -- The only count of length 1 is the number of nanoseconds.
 only_count : (n l nanos : ℕ) → l ≡ 1 → n * l + 0 ≡ nanos → n ≡ nanos / l
 only_count n l nanos h e =
-    let one : n * 1 + 0 ≡ nanos = subst (λ (x : ℕ). n * x + 0 ≡ nanos) h e in
-    rw h (omega arith)
+    let one = rw h at e in rw h (omega arith)
 
 -- A list is compared with the counts by its first count, then by the others.
 by_first : (x n nanos : ℕ) (others counts : List ℕ) → 1 ≤ x → (rest : ℕ) → n * x + rest ≡ nanos
-    → (rest ≡ nanos % x → (others ≡ counts) ⊎ IsBefore others counts)
-    → (n < nanos / x) ⊎ (nanos / x ≤ n)
+    → (rest ≡ nanos % x → (others ≡ counts) ⊎ IsBefore others counts) → (n < nanos / x) ⊎ (nanos / x ≤ n)
     → (n ∷ others ≡ nanos / x ∷ counts) ⊎ IsBefore (n ∷ others) (nanos / x ∷ counts)
 by_first x n nanos others counts h rest e more (inl less) = inr (inl less)
 by_first x n nanos others counts h rest e more (inr up) =
     let within : n ≤ nanos / x = first_within n x rest nanos h e in
     let same : n ≡ nanos / x = omega arith in
-    ⊎_elim (λ s. inl (ap₂ ◌∷◌ same s)) (λ before. inr (inr (same, before))) (more (rest_same n x rest nanos e same))
+    elim (more (rest_same n x rest nanos e same)) [ inl s ↦ inl cc | inr before ↦ inr (inr (same, before)) ]
 
 counts_greatest : (lengths : List ℕ) (nanos : ℕ) (others : List ℕ) → EndInOne lengths → length others ≡ length lengths
-    → weighted_sum lengths others ≡ nanos → (others ≡ counts_of lengths nanos) ⊎ IsBefore others (counts_of lengths nanos)
+    → weighted_sum lengths others ≡ nanos
+    → (others ≡ counts_of lengths nanos) ⊎ IsBefore others (counts_of lengths nanos)
 counts_greatest [] nanos others h l e = absurd h
 counts_greatest (x ∷ lengths) nanos [] h l e = absurd (omega arith)
 counts_greatest (x ∷ []) nanos (n ∷ m ∷ others) h l e = absurd (omega arith)
-counts_greatest (x ∷ []) nanos (n ∷ []) h l e = inl (ap (λ (c : ℕ). c ∷ []) (only_count n x nanos h e))
+counts_greatest (x ∷ []) nanos (n ∷ []) h l e = inl (rw (only_count n x nanos h e))
 counts_greatest (x ∷ y ∷ lengths) nanos (n ∷ others) h l e =
     by_first x n nanos others (counts_of (y ∷ lengths) (nanos % x)) h.0 (weighted_sum (y ∷ lengths) others) e
     (λ left. counts_greatest (y ∷ lengths) (nanos % x) others h.1 (omega arith) left) (cases_lt n (nanos / x))
@@ -68,7 +65,8 @@ units_end_in_one = omega arith
 
 pub greatest_breakdown_holds : GreatestBreakdown
 greatest_breakdown_holds nanos = record {
-  breakdown = record { one_each = counts_each unit_lengths nanos; whole = counts_whole unit_lengths nanos units_end_in_one };
+  breakdown =
+      record { one_each = counts_each unit_lengths nanos; whole = counts_whole unit_lengths nanos units_end_in_one };
   greatest = λ others b. counts_greatest unit_lengths nanos others units_end_in_one b.one_each b.whole;
 }
 
@@ -83,6 +81,11 @@ not_before_each_other (m ∷ ms) (n ∷ ns) (inr h) (inr k) = not_before_each_ot
 -- A duration has only one greatest breakdown.
 pub one_greatest : (lengths : List ℕ) (nanos : ℕ) (a b : List ℕ) → IsGreatestBreakdown lengths nanos a
     → IsGreatestBreakdown lengths nanos b → a ≡ b
-one_greatest lengths nanos a b h k = ⊎_elim (λ same. same)
-    (λ before. ⊎_elim (λ same. sym same) (λ after. absurd (not_before_each_other a b before after)) (h.greatest b k.breakdown))
-    (k.greatest a h.breakdown)
+one_greatest lengths nanos a b h k = elim (k.greatest a h.breakdown) [
+  | inl same ↦ same
+  | inr before ↦
+      elim (h.greatest b k.breakdown) [
+        | inl same ↦ sym same
+        | inr after ↦ absurd (not_before_each_other a b before after)
+      ]
+]

@@ -1,9 +1,6 @@
 -- Without operators `no_calc` changes neither what is accepted nor its value.
-use Rattle.std.proofs.Common.{ℕ, true, false, not, List, [], ◌∷◌, map, Some, is_some, sym, ap, ◌∙◌}
-use Rattle.std.proofs.lemmas.Bool.{true≢false, and_parts}
-use Rattle.duration_str.specs.declared.options.Options.{Options}
-use Rattle.duration_str.specs.Grammar.{Terminal, number, word, operator, terminal_of, IsSentence}
-use Rattle.duration_str.specs.Laws.{NoCalcAgrees, HasNoOperator, is_operator}
+use Rattle.std.proofs.Common.{ℕ, ◌≡◌, ◌⊎◌, inl, inr, refl, Bool, true, false, not, List, [], ◌∷◌, map, Some}
+use Rattle.duration_str.proofs.Common.{and_parts, Options, Terminal, number, word, operator, terminal_of, IsSentence, NoCalcAgrees, HasNoOperator, is_operator}
 use Rattle.duration_str.proofs.Cutting.TerminalLemmas.{terminal_cases}
 use Rattle.duration_str.proofs.Sentences.SpellingLemmas.{EachPasses, lexemes_pass}
 
@@ -12,45 +9,43 @@ HaveNoOperator [] = Unit {0}
 HaveNoOperator (operator op ∷ terminals) = ⊥
 HaveNoOperator (t ∷ terminals) = HaveNoOperator terminals
 
-no_operator_sentence : (terminals : List Terminal) → HaveNoOperator terminals → IsSentence false terminals → IsSentence true terminals
-no_operator_sentence (number n ∷ []) h s = tt
-no_operator_sentence (number n ∷ operator op ∷ more) h s = absurd h
-no_operator_sentence (number n ∷ word (Some u) ∷ []) h s = tt
-no_operator_sentence (number n ∷ word (Some u) ∷ operator op ∷ more) h s = absurd h
-no_operator_sentence (number n ∷ word (Some u) ∷ number m ∷ more) h s = no_operator_sentence (number m ∷ more) h s
-no_operator_sentence _ h s = absurd s
+-- A sentence under one option is one under the other, if it has no operator or the other allows operators.
+sentence_for : (a b : Bool) (terminals : List Terminal) → HaveNoOperator terminals ⊎ (b ≡ false)
+    → IsSentence a terminals → IsSentence b terminals
+sentence_for a b (number n ∷ []) h s = tt
+sentence_for a b (number n ∷ operator op ∷ more) (inl h) s = absurd h
+sentence_for a b (number n ∷ operator op ∷ more) (inr e) s = (e, sentence_for a b more (inr e) s.1)
+sentence_for a b (number n ∷ word (Some u) ∷ []) h s = tt
+sentence_for a b (number n ∷ word (Some u) ∷ operator op ∷ more) (inl h) s = absurd h
+sentence_for a b (number n ∷ word (Some u) ∷ operator op ∷ more) (inr e) s = (e, sentence_for a b more (inr e) s.1)
+sentence_for a b (number n ∷ word (Some u) ∷ number m ∷ more) h s = sentence_for a b (number m ∷ more) h s
+sentence_for a b _ h s = absurd assumption
 
-default_sentence : (terminals : List Terminal) → IsSentence true terminals → IsSentence false terminals
-default_sentence (number n ∷ []) s = tt
-default_sentence (number n ∷ operator op ∷ more) s = absurd (true≢false s.0)
-default_sentence (number n ∷ word (Some u) ∷ []) s = tt
-default_sentence (number n ∷ word (Some u) ∷ operator op ∷ more) s = absurd (true≢false s.0)
-default_sentence (number n ∷ word (Some u) ∷ number m ∷ more) s = default_sentence (number m ∷ more) s
-default_sentence _ s = absurd s
-
-no_operator_terminal : (o : Options) (terminals : List Terminal) → HaveNoOperator terminals → (w : List ℕ) → HasNoOperator w
-    → HaveNoOperator (terminal_of o w ∷ terminals)
+no_operator_terminal : (o : Options) (terminals : List Terminal) → HaveNoOperator terminals → (w : List ℕ)
+    → HasNoOperator w → HaveNoOperator (terminal_of o w ∷ terminals)
 no_operator_terminal o terminals h = terminal_cases o (λ w t. HasNoOperator w → HaveNoOperator (t ∷ terminals))
     (λ plain. h) (λ c cs digits plain. h) (λ c cs letters plain. h)
-    (λ c op _ _ sign plain. true≢false (sym (and_parts (not (is_operator c)) _ plain).0 ∙ ap (λ found. not (is_some found)) sign))
-    (λ c cs _ _ plain. h)
+    (λ c op _ _ sign plain. cc (rw sign at (and_parts (not (is_operator c)) _ plain).0)) (λ c cs _ _ plain. h)
 
-no_operator_terminals : (o : Options) (lexemes : List (List ℕ)) → EachPasses (λ c. not (is_operator c)) lexemes → HaveNoOperator (map (terminal_of o) lexemes)
+no_operator_terminals : (o : Options) (lexemes : List (List ℕ)) → EachPasses (λ c. not (is_operator c)) lexemes
+    → HaveNoOperator (map (terminal_of o) lexemes)
 no_operator_terminals o [] h = tt
-no_operator_terminals o (w ∷ lexemes) h = no_operator_terminal o (map (terminal_of o) lexemes) (no_operator_terminals o lexemes h.1) w h.0
+no_operator_terminals o (w ∷ lexemes) h =
+    no_operator_terminal o (map (terminal_of o) lexemes) (no_operator_terminals o lexemes h.1) w h.0
 
 pub no_calc_agrees_holds : NoCalcAgrees
 no_calc_agrees_holds o text nanos plain = (
   λ r. record {
     lexemes = r.lexemes;
-    spells = (default_sentence (map (terminal_of o) r.lexemes) r.spells.0, r.spells.1);
+    spells = (sentence_for true false (map (terminal_of o) r.lexemes) (inr refl) r.spells.0, r.spells.1);
     evaluates = r.evaluates;
     value = r.value;
   },
   λ r. let passes = lexemes_pass (λ c. not (is_operator c)) r.lexemes text plain r.spells.1 in
+      let plus = no_operator_terminals o r.lexemes passes in
       record {
         lexemes = r.lexemes;
-        spells = (no_operator_sentence (map (terminal_of o) r.lexemes) (no_operator_terminals o r.lexemes passes) r.spells.0, r.spells.1);
+        spells = (sentence_for false true (map (terminal_of o) r.lexemes) (inl plus) r.spells.0, r.spells.1);
         evaluates = r.evaluates;
         value = r.value;
       },

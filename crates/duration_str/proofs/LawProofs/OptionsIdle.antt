@@ -1,21 +1,9 @@
 -- `lowercase` changes nothing without ASCII capitals, and `cn_unit` nothing without Chinese characters.
-use Rattle.std.proofs.Common.{◌≡◌, ℕ, ◌+◌, ◌<◌, ◌⊎◌, ⊎_elim, Bool, true, false, not, ◌&&◌, ◌||◌, ◌==◌, ◌↔◌, List, [], ◌∷◌, map, length, Option, Some, IsTrue, if◌then◌else◌, bytes_eq, arith, refl, sym, ap, ap₂, subst, subst₂, ◌∙◌}
-use Rattle.std.proofs.lemmas.Bool.{true≢false, and_parts, and_from, not-true, eqb-true, or_from}
-use Rattle.std.proofs.lemmas.Bool.Decides.{nat_tests}
-use Rattle.std.specs.Char.{is_ascii_uppercase, is_ascii_alphabetic, to_ascii_lowercase}
-use Rattle.std.specs.List.{list_all, list_any, find}
-use Rattle.duration_str.specs.declared.options.Options.{Options}
-use Rattle.duration_str.specs.declared.unit.TimeUnit.{TimeUnit}
-use Rattle.duration_str.specs.declared.fault.Cause.{Cause}
-use Rattle.duration_str.specs.Text.{width, is_blank, is_digit, is_unit_letter, is_chinese, number_of, byte_len}
-use Rattle.duration_str.specs.Units.{row_of, units, comparison_form, unit_of_word}
-use Rattle.duration_str.specs.Grammar.{Terminal, number, word, terminal_of, sign_terminal}
-use Rattle.duration_str.specs.Tokens.{Token, goes_on, join, tokens_from, tokens_of, lexemes_of}
-use Rattle.duration_str.specs.Place.{IsFront, start_after, terminals_of}
-use Rattle.duration_str.specs.Reading.{IsRead, IsRefusedAt, IsRefused}
-use Rattle.duration_str.specs.Laws.{OptionsIdle, HasNoCapital, HasNoChinese}
+use Rattle.std.proofs.Common.{◌≡◌, ℕ, ◌+◌, ◌<◌, ◌⊎◌, inl, inr, Bool, true, false, not, ◌&&◌, ◌||◌, ◌==◌, ◌↔◌, List, [], ◌∷◌, map, IsTrue, if◌then◌else◌, bytes_eq, arith, refl, sym, eqb-true, find}
+use Rattle.duration_str.proofs.Common.{cases_Bool, and_parts, and_from, not-true, nat_tests, is_ascii_uppercase, to_ascii_lowercase, list_all, list_any, Options, TimeUnit, Cause, width, is_unit_letter, is_chinese, row_of, units, comparison_form, unit_of_word, terminal_of, goes_on, tokens_from, tokens_of, terminals_of, IsRead, IsRefused, OptionsIdle, HasNoCapital, HasNoChinese}
+use Rattle.std.proofs.lemmas.Bool.{or_from}
 use Rattle.duration_str.proofs.Sentences.SpellingLemmas.{tokens_spell, EachPasses, lexemes_pass}
-use Rattle.duration_str.proofs.Sentences.AnswerLemmas.{IsReadAs, read_terminals, terminals_read}
+use Rattle.duration_str.proofs.Sentences.AnswerLemmas.{read_terminals, terminals_read}
 
 -- ---- Options that give the same tokens and terminals give the same answer
 
@@ -25,22 +13,17 @@ record AreAlike (o p : Options) (text : List ℕ) : Type 0 where
   tokens : tokens_of o text ≡ tokens_of p text
   terminals : terminals_of o text ≡ terminals_of p text
 
-alike_back : (o p : Options) (text : List ℕ) → AreAlike o p text → AreAlike p o text
-alike_back o p text h = record { grammar = sym h.grammar; tokens = sym h.tokens; terminals = sym h.terminals }
+alike_back : {o p : Options} {text : List ℕ} → AreAlike o p text → AreAlike p o text
+alike_back h = record { grammar = sym h.grammar; tokens = sym h.tokens; terminals = sym h.terminals }
 
-read_alike : (o p : Options) (text : List ℕ) (nanos : ℕ) → AreAlike o p text → IsRead o text nanos → IsRead p text nanos
-read_alike o p text nanos h r =
-    terminals_read p text nanos (subst₂ (λ (nc : Bool) (ts : List Terminal). IsReadAs nc ts nanos) h.grammar h.terminals (read_terminals o text nanos r))
+read_alike : {o p : Options} {text : List ℕ} (nanos : ℕ) → AreAlike o p text → IsRead o text nanos → IsRead p text nanos
+read_alike {p = p} {text = text} nanos h r =
+    terminals_read p text nanos (rw (h.grammar, h.terminals) at (read_terminals r))
 
-refused_alike : (o p : Options) (text : List ℕ) (cause : Cause) → AreAlike o p text → IsRefused o text cause → IsRefused p text cause
-refused_alike o p [] cause h r = r
-refused_alike o p (c ∷ text) cause h r =
-    let place = λ (tokens : List Token). start_after (length r.0) (byte_len (c ∷ text)) tokens in (
-      r.0,
-      r.1,
-      subst₂ (λ (nc : Bool) (ts : List Terminal). IsFront nc ts r.0 r.1) h.grammar h.terminals r.2,
-      subst₂ (λ (nc : Bool) (ps : List Token). IsRefusedAt nc (place ps) r.0 r.1 cause) h.grammar h.tokens r.3,
-    )
+refused_alike : {o p : Options} (text : List ℕ) (cause : Cause) → AreAlike o p text → IsRefused o text cause
+    → IsRefused p text cause
+refused_alike [] cause h r = r
+refused_alike (c ∷ text) cause h r = (r.0, r.1, rw (h.grammar, h.terminals) at r.2, rw (h.grammar, h.tokens) at r.3)
 
 -- ---- Options that agree on characters and words give the same tokens and terminals
 
@@ -49,49 +32,40 @@ record Agree (test : ℕ → Bool) (o p : Options) : Type 0 where
   letter : (c : ℕ) → test c ≡ true → is_unit_letter o c ≡ is_unit_letter p c
   unit : (w : List ℕ) → IsTrue (list_all test w) → unit_of_word o w ≡ unit_of_word p w
 
-goes_on_alike : (test : ℕ → Bool) (o p : Options) (c : ℕ) (text : List ℕ) → Agree test o p → IsTrue (list_all test (c ∷ text))
-    → goes_on o c text ≡ goes_on p c text
-goes_on_alike test o p c [] same h = refl
-goes_on_alike test o p c (d ∷ text) same h =
-    ap₂ (λ (a b : Bool). (is_digit c && is_digit d) || (a && b)) (same.letter c (and_parts _ _ h).0)
-    (same.letter d (and_parts _ _ (and_parts _ _ h).1).0)
+module _ (test : ℕ → Bool) (o p : Options) (same : Agree test o p) where
+  goes_on_alike : (c : ℕ) (text : List ℕ) → IsTrue (list_all test (c ∷ text)) → goes_on o c text ≡ goes_on p c text
+  goes_on_alike c [] h = refl
+  goes_on_alike c (d ∷ text) h =
+      let (first, more) = and_parts (test c) (list_all test (d ∷ text)) h in
+      rw (same.letter c first, same.letter d (and_parts _ _ more).0)
 
-tokens_alike : (test : ℕ → Bool) (o p : Options) (at : ℕ) (text : List ℕ) → Agree test o p → IsTrue (list_all test text)
-    → tokens_from o at text ≡ tokens_from p at text
-tokens_alike test o p at [] same h = refl
-tokens_alike test o p at (c ∷ text) same h =
-    ap₂ (λ (goes : Bool) (ps : List Token).
-    if is_blank c then ps else if goes then join at c ps else record { start = at; characters = c ∷ [] } ∷ ps)
-    (goes_on_alike test o p c text same h) (tokens_alike test o p (at + width c) text same (and_parts _ _ h).1)
+  tokens_alike : (at : ℕ) (text : List ℕ) → IsTrue (list_all test text) → tokens_from o at text ≡ tokens_from p at text
+  tokens_alike at [] h = refl
+  tokens_alike at (c ∷ text) h =
+      let parts = and_parts _ _ h in rw (goes_on_alike c text h, tokens_alike (at + width c) text parts.1)
 
-letters_alike : (test : ℕ → Bool) (o p : Options) (w : List ℕ) → Agree test o p → IsTrue (list_all test w)
-    → list_all (is_unit_letter o) w ≡ list_all (is_unit_letter p) w
-letters_alike test o p [] same h = refl
-letters_alike test o p (c ∷ w) same h = ap₂ ◌&&◌ (same.letter c (and_parts _ _ h).0) (letters_alike test o p w same (and_parts _ _ h).1)
+  letters_alike : (w : List ℕ) → IsTrue (list_all test w)
+      → list_all (is_unit_letter o) w ≡ list_all (is_unit_letter p) w
+  letters_alike [] h = refl
+  letters_alike (c ∷ w) h = let parts = and_parts _ _ h in rw (same.letter c parts.0, letters_alike w parts.1)
 
-terminal_alike : (test : ℕ → Bool) (o p : Options) (w : List ℕ) → Agree test o p → IsTrue (list_all test w) → terminal_of o w ≡ terminal_of p w
-terminal_alike test o p [] same h = refl
-terminal_alike test o p (c ∷ cs) same h =
-    ap₂ (λ (letters : Bool) (u : Option TimeUnit).
-    if list_all is_digit (c ∷ cs) then number (number_of (c ∷ cs)) else if letters then word u else sign_terminal (c ∷ cs))
-    (letters_alike test o p (c ∷ cs) same h) (same.unit (c ∷ cs) h)
+  terminal_alike : (w : List ℕ) → IsTrue (list_all test w) → terminal_of o w ≡ terminal_of p w
+  terminal_alike [] h = refl
+  terminal_alike (c ∷ cs) h = rw (letters_alike (c ∷ cs) h, same.unit (c ∷ cs) h)
 
-lexemes_alike : (test : ℕ → Bool) (o p : Options) (lexemes : List (List ℕ)) → Agree test o p → EachPasses test lexemes
-    → map (terminal_of o) lexemes ≡ map (terminal_of p) lexemes
-lexemes_alike test o p [] same h = refl
-lexemes_alike test o p (w ∷ lexemes) same h = ap₂ ◌∷◌ (terminal_alike test o p w same h.0) (lexemes_alike test o p lexemes same h.1)
+  lexemes_alike : (lexemes : List (List ℕ)) → EachPasses test lexemes
+      → map (terminal_of o) lexemes ≡ map (terminal_of p) lexemes
+  lexemes_alike [] h = refl
+  lexemes_alike (w ∷ lexemes) h = rw (terminal_alike w h.0, lexemes_alike lexemes h.1)
 
-agree_alike : (test : ℕ → Bool) (o p : Options) (text : List ℕ) → o.no_calc ≡ p.no_calc → Agree test o p → IsTrue (list_all test text)
-    → AreAlike o p text
-agree_alike test o p text grammar same h =
-    let lexemes : List (List ℕ) = lexemes_of (tokens_of o text) in
-    let tokens : tokens_of o text ≡ tokens_of p text = tokens_alike test o p 0 text same h in
-    record {
-      grammar = grammar;
-      tokens = tokens;
-      terminals = lexemes_alike test o p lexemes same (lexemes_pass test lexemes text h (tokens_spell o text))
-          ∙ ap (λ (ps : List Token). map (terminal_of p) (lexemes_of ps)) tokens;
-    }
+  agree_alike : (text : List ℕ) → o.no_calc ≡ p.no_calc → IsTrue (list_all test text) → AreAlike o p text
+  agree_alike text grammar h =
+      let tokens = tokens_alike 0 text h in
+      record {
+        grammar = grammar;
+        tokens = tokens;
+        terminals = rw (← tokens) (lexemes_alike _ (lexemes_pass test _ text h (tokens_spell o text)));
+      }
 
 -- ---- ASCII capitals
 
@@ -100,22 +74,19 @@ lower_same c h = grind (arith, nat_tests)
 
 all_lower : (w : List ℕ) → HasNoCapital w → map to_ascii_lowercase w ≡ w
 all_lower [] h = refl
-all_lower (c ∷ w) h = ap₂ ◌∷◌ (lower_same c (and_parts _ _ h).0) (all_lower w (and_parts _ _ h).1)
+all_lower (c ∷ w) h = let parts = and_parts _ _ h in rw (lower_same c parts.0, all_lower w parts.1)
 
--- the unit with exactly this name, capitals included
-abbrev unit_of_name : Bool → List ℕ → Option TimeUnit
-unit_of_name cn_unit w = find (λ u. list_any (bytes_eq w) (row_of u).names || (cn_unit && list_any (bytes_eq w) (row_of u).chinese)) units
-
-lowercase_alike : (o : Options) (text : List ℕ) → HasNoCapital text → AreAlike (record o { lowercase = true }) (record o { lowercase = false }) text
+lowercase_alike : (o : Options) (text : List ℕ) → HasNoCapital text
+    → AreAlike (record o { lowercase = true }) (record o { lowercase = false }) text
 lowercase_alike o text h =
-    agree_alike (λ c. not (is_ascii_uppercase c)) (record o { lowercase = true }) (record o { lowercase = false }) text refl
-    (record { letter = λ c e. refl; unit = λ w e. ap (unit_of_name o.cn_unit) (sym (all_lower w e)) }) h
+    agree_alike (λ c. not (is_ascii_uppercase c)) _ _
+    (record { letter = λ c e. refl; unit = λ w e. rw (all_lower w e) }) text refl h
 
 -- ---- Chinese characters
 
 chinese_letter : (o : Options) (c : ℕ) → not (is_chinese c) ≡ true
     → is_unit_letter (record o { cn_unit = true }) c ≡ is_unit_letter (record o { cn_unit = false }) c
-chinese_letter o c h = ap (λ (b : Bool). (is_ascii_alphabetic c || (c == 0xB5)) || b) (not-true (is_chinese c) h)
+chinese_letter o c h = rw (not-true (is_chinese c) h)
 
 lower_or_ascii : (c : ℕ) → (to_ascii_lowercase c ≡ c) ⊎ (to_ascii_lowercase c < 128)
 lower_or_ascii c = grind (arith, nat_tests)
@@ -124,15 +95,18 @@ ascii_not_chinese : (c : ℕ) → c < 128 → is_chinese c ≡ false
 ascii_not_chinese c h = grind (arith, nat_tests)
 
 lower_not_chinese : (c : ℕ) → not (is_chinese c) ≡ true → not (is_chinese (to_ascii_lowercase c)) ≡ true
-lower_not_chinese c h = ⊎_elim
-    (λ (same : to_ascii_lowercase c ≡ c). subst (λ (x : ℕ). not (is_chinese x) ≡ true) (sym same) h)
-    (λ (ascii : to_ascii_lowercase c < 128). ap not (ascii_not_chinese (to_ascii_lowercase c) ascii)) (lower_or_ascii c)
+lower_not_chinese c h = elim (lower_or_ascii c) [
+  | inl same ↦ rw same h
+  | inr ascii ↦ rw (ascii_not_chinese (to_ascii_lowercase c) ascii)
+]
 
 all_lower_not_chinese : (w : List ℕ) → HasNoChinese w → HasNoChinese (map to_ascii_lowercase w)
 all_lower_not_chinese [] h = refl
-all_lower_not_chinese (c ∷ w) h = and_from _ _ (lower_not_chinese c (and_parts _ _ h).0) (all_lower_not_chinese w (and_parts _ _ h).1)
+all_lower_not_chinese (c ∷ w) h =
+    and_from _ _ (lower_not_chinese c (and_parts _ _ h).0) (all_lower_not_chinese w (and_parts _ _ h).1)
 
-form_not_chinese : (lowercase : Bool) (w : List ℕ) → HasNoChinese w → HasNoChinese (if lowercase then w else map to_ascii_lowercase w)
+form_not_chinese : (lowercase : Bool) (w : List ℕ) → HasNoChinese w
+    → HasNoChinese (if lowercase then w else map to_ascii_lowercase w)
 form_not_chinese true w h = h
 form_not_chinese false w h = all_lower_not_chinese w h
 
@@ -142,59 +116,66 @@ begins_chinese (d ∷ ds) = is_chinese d
 
 -- A name that starts with a Chinese character is not a word without them.
 other_name : (w name : List ℕ) → HasNoChinese w → IsTrue (begins_chinese name) → bytes_eq w name ≡ false
-other_name [] [] h k = absurd (true≢false (sym k))
+other_name [] [] h k = cc k
 other_name [] (d ∷ ds) h k = refl
 other_name (f ∷ fs) [] h k = refl
-other_name (f ∷ fs) (d ∷ ds) h k = by_first (f == d) refl
-  where
-    by_first : (same : Bool) → f == d ≡ same → (same && bytes_eq fs ds) ≡ false
-    by_first true e = absurd (true≢false (sym (and_parts _ _ h).0 ∙ ap (λ (x : ℕ). not (is_chinese x)) (eqb-true f d e) ∙ ap not k))
-    by_first false e = refl
+other_name (f ∷ fs) (d ∷ ds) h k =
+    elim (cases_Bool (f == d)) [ inl e ↦ cc (rw (eqb-true f d e, k) at h) | inr e ↦ rw e ]
 
-other_names : (w : List ℕ) (names : List (List ℕ)) → HasNoChinese w → IsTrue (list_all begins_chinese names) → list_any (bytes_eq w) names ≡ false
+other_names : (w : List ℕ) (names : List (List ℕ)) → HasNoChinese w → IsTrue (list_all begins_chinese names)
+    → list_any (bytes_eq w) names ≡ false
 other_names w [] h k = refl
-other_names w (name ∷ names) h k = or_from _ _ (other_name w name h (and_parts _ _ k).0) (other_names w names h (and_parts _ _ k).1)
+other_names w (name ∷ names) h k =
+    or_from _ _ (other_name w name h (and_parts _ _ k).0) (other_names w names h (and_parts _ _ k).1)
 
 -- The word is not a Chinese name of these units.
 abbrev NamesNoChinese : List ℕ → List TimeUnit → Type 0
 NamesNoChinese w [] = Unit {0}
 NamesNoChinese w (u ∷ us) = (list_any (bytes_eq w) (row_of u).chinese ≡ false) × NamesNoChinese w us
 
-no_chinese_name : (w : List ℕ) (us : List TimeUnit) → HasNoChinese w → IsTrue (list_all (λ u. list_all begins_chinese (row_of u).chinese) us)
-    → NamesNoChinese w us
+no_chinese_name : (w : List ℕ) (us : List TimeUnit) → HasNoChinese w
+    → IsTrue (list_all (λ u. list_all begins_chinese (row_of u).chinese) us) → NamesNoChinese w us
 no_chinese_name w [] h k = tt
 no_chinese_name w (u ∷ us) h k =
-    let parts = and_parts (list_all begins_chinese (row_of u).chinese) (list_all (λ v. list_all begins_chinese (row_of v).chinese) us) k in
+    let parts = and_parts (list_all begins_chinese (row_of u).chinese)
+    (list_all (λ v. list_all begins_chinese (row_of v).chinese) us) k in
     (other_names w (row_of u).chinese h parts.0, no_chinese_name w us h parts.1)
 
 find_alike : (w : List ℕ) (us : List TimeUnit) → NamesNoChinese w us
     → find (λ u. list_any (bytes_eq w) (row_of u).names || (true && list_any (bytes_eq w) (row_of u).chinese)) us
     ≡ find (λ u. list_any (bytes_eq w) (row_of u).names || (false && list_any (bytes_eq w) (row_of u).chinese)) us
 find_alike w [] h = refl
-find_alike w (u ∷ us) h =
-    ap₂ (λ (b : Bool) (found : Option TimeUnit). if list_any (bytes_eq w) (row_of u).names || b then Some u else found) h.0 (find_alike w us h.1)
+find_alike w (u ∷ us) h = rw (h.0, find_alike w us h.1)
 
 cn_unit_unit : (o : Options) (w : List ℕ) → HasNoChinese w
     → unit_of_word (record o { cn_unit = true }) w ≡ unit_of_word (record o { cn_unit = false }) w
-cn_unit_unit o w h = find_alike (comparison_form o w) units (no_chinese_name (comparison_form o w) units (form_not_chinese o.lowercase w h) refl)
+cn_unit_unit o w h =
+    let form = comparison_form o w in
+    find_alike form units (no_chinese_name form units (form_not_chinese o.lowercase w h) refl)
 
-cn_unit_alike : (o : Options) (text : List ℕ) → HasNoChinese text → AreAlike (record o { cn_unit = true }) (record o { cn_unit = false }) text
+cn_unit_alike : (o : Options) (text : List ℕ) → HasNoChinese text
+    → AreAlike (record o { cn_unit = true }) (record o { cn_unit = false }) text
 cn_unit_alike o text h =
-    agree_alike (λ c. not (is_chinese c)) (record o { cn_unit = true }) (record o { cn_unit = false }) text refl
-    (record { letter = chinese_letter o; unit = cn_unit_unit o }) h
+    agree_alike (λ c. not (is_chinese c)) _ _ (record { letter = chinese_letter o; unit = cn_unit_unit o }) text refl h
 
 -- ---- The law
 
-same_value : (o p : Options) (text : List ℕ) (nanos : ℕ) → AreAlike o p text → (IsRead o text nanos ↔ IsRead p text nanos)
-same_value o p text nanos h = (read_alike o p text nanos h, read_alike p o text nanos (alike_back o p text h))
+same_value : {o p : Options} {text : List ℕ} (nanos : ℕ) → AreAlike o p text
+    → (IsRead o text nanos ↔ IsRead p text nanos)
+same_value nanos h = (read_alike nanos h, read_alike nanos (alike_back h))
 
-same_cause : (o p : Options) (text : List ℕ) (cause : Cause) → AreAlike o p text → (IsRefused o text cause ↔ IsRefused p text cause)
-same_cause o p text cause h = (refused_alike o p text cause h, refused_alike p o text cause (alike_back o p text h))
+same_cause : {o p : Options} {text : List ℕ} (cause : Cause) → AreAlike o p text
+    → (IsRefused o text cause ↔ IsRefused p text cause)
+same_cause cause h = (refused_alike _ cause h, refused_alike _ cause (alike_back h))
 
 pub options_idle_holds : OptionsIdle
 options_idle_holds = record {
-  lowercase_value = λ o text nanos h. same_value _ _ text nanos (lowercase_alike o text h);
-  lowercase_cause = λ o text cause h. same_cause _ _ text cause (lowercase_alike o text h);
-  cn_unit_value = λ o text nanos h. same_value _ _ text nanos (cn_unit_alike o text h);
-  cn_unit_cause = λ o text cause h. same_cause _ _ text cause (cn_unit_alike o text h);
+  lowercase = λ o text h. record {
+    value = λ nanos. same_value nanos (lowercase_alike o text h);
+    cause = λ cause. same_cause cause (lowercase_alike o text h);
+  };
+  cn_unit = λ o text h. record {
+    value = λ nanos. same_value nanos (cn_unit_alike o text h);
+    cause = λ cause. same_cause cause (cn_unit_alike o text h);
+  };
 }

@@ -1,10 +1,6 @@
 -- The table says what can follow the beginning of a sentence, and finds the front.
-use Rattle.std.proofs.Common.{◌≡◌, Bool, true, ◌≢◌, List, [], ◌∷◌, Option, Some, None, IsTrue, sym, ◌∙◌}
-use Rattle.std.proofs.lemmas.Bool.{true≢false}
-use Rattle.duration_str.specs.declared.operator.CondUnit.{CondUnit}
-use Rattle.duration_str.specs.Grammar.{Terminal, operator}
-use Rattle.duration_str.specs.Answer.{kinds_after, allows, last_of}
-use Rattle.duration_str.specs.Laws.{PlaceAndKinds}
+use Rattle.std.proofs.Common.{◌≡◌, Bool, true, ◌≢◌, List, [], ◌∷◌, Option, Some, None, IsTrue, sym, ◌∙◌, true≢false}
+use Rattle.duration_str.proofs.Common.{CondUnit, Terminal, operator, kinds_after, allows, last_of, PlaceAndKinds}
 use Rattle.duration_str.proofs.Sentences.FrontLemmas.{AreAllowed, begins_allowed, kinds_by_table, no_operators, table_front, one_front}
 
 allowed_no_operator : (no_calc : Bool) (last : Option Terminal) (t : Terminal) (op : CondUnit) → no_calc ≡ true
@@ -12,15 +8,18 @@ allowed_no_operator : (no_calc : Bool) (last : Option Terminal) (t : Terminal) (
 allowed_no_operator no_calc last (operator other_op) op e h = λ q. true≢false (sym h ∙ no_operators no_calc last e)
 allowed_no_operator no_calc last _ op e h = λ q. cc
 
-no_operator_last : (no_calc : Bool) (last : Option Terminal) (terminals : List Terminal) (op : CondUnit) → no_calc ≡ true
-    → last ≢ Some (operator op) → AreAllowed no_calc last terminals → last_of last terminals ≢ Some (operator op)
+no_operator_last : (no_calc : Bool) (last : Option Terminal) (terminals : List Terminal) (op : CondUnit)
+    → no_calc ≡ true → last ≢ Some (operator op) → AreAllowed no_calc last terminals
+    → last_of last terminals ≢ Some (operator op)
 no_operator_last no_calc last [] op e n h = n
-no_operator_last no_calc last (t ∷ terminals) op e n h = no_operator_last no_calc (Some t) terminals op e (allowed_no_operator no_calc last t op e h.0) h.1
+no_operator_last no_calc last (t ∷ terminals) op e n h =
+    no_operator_last no_calc (Some t) terminals op e (allowed_no_operator no_calc last t op e h.0) h.1
 
 pub place_and_kinds_hold : PlaceAndKinds
 place_and_kinds_hold = record {
   kinds = kinds_by_table;
-  no_operator = λ no_calc front op e b. no_operator_last no_calc None front op e (λ q. cc) (begins_allowed no_calc front b);
+  no_operator =
+      λ no_calc front op e b. no_operator_last no_calc None front op e (λ q. cc) (begins_allowed no_calc front b);
   front = table_front;
-  only = λ no_calc terminals front rest h. one_front no_calc terminals front rest _ _ h (table_front no_calc terminals);
+  only = λ no_calc terminals front rest h. one_front h (table_front no_calc terminals);
 }

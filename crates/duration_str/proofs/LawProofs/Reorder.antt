@@ -1,8 +1,6 @@
 -- Sums with the same values of terms, each equally often, are equal.
-use Rattle.std.proofs.Common.{◌≡◌, ℕ, ◌+◌, ◌≤◌, Bool, true, false, ◌==◌, List, [], ◌∷◌, map, if◌then◌else◌, arith, refl, sym, ap, ◌∙◌}
-use Rattle.std.proofs.lemmas.Bool.{eqb-true, eq-eqb, cond-true}
-use Rattle.duration_str.specs.Value.{Term, value_of_term, sum_of}
-use Rattle.duration_str.specs.Laws.{Reorder, times_in}
+use Rattle.std.proofs.Common.{◌≡◌, ℕ, ◌+◌, ◌≤◌, inl, inr, ◌==◌, List, [], ◌∷◌, map, if◌then◌else◌, arith, refl, ◌∙◌, eqb-true, eq-eqb}
+use Rattle.duration_str.proofs.Common.{cases_Bool, cond-true, Term, value_of_term, sum_of, Reorder, times_in}
 use Rattle.duration_str.proofs.Sentences.AnswerLemmas.{read_below}
 use Rattle.duration_str.proofs.Sentences.SumReadings.{terms_of_lexemes, sum_read, read_sum}
 
@@ -21,22 +19,17 @@ is_times x n = if x == n then 1 else 0
 
 without_total : (n : ℕ) (ms : List ℕ) → 1 ≤ times_in n ms → total ms ≡ n + total (without n ms)
 without_total n [] h = absurd (omega arith)
-without_total n (m ∷ ms) h = step (m == n) refl h (without_total n ms)
-  where
-    step : (b : Bool) → m == n ≡ b → 1 ≤ (if b then 1 else 0) + times_in n ms → (1 ≤ times_in n ms → total ms ≡ n + total (without n ms))
-        → m + total ms ≡ n + total (if b then ms else m ∷ without n ms)
-    step true e h more = ap (λ (x : ℕ). x + total ms) (eqb-true m n e)
-    step false e h more = let rest : total ms ≡ n + total (without n ms) = more (omega arith) in omega arith
+without_total n (m ∷ ms) h = elim (cases_Bool (m == n)) [
+  | inl e ↦ rw (e, eqb-true m n e)
+  | inr e ↦ let some = rw e at h in let rest = without_total n ms (omega arith) in rw e (omega arith)
+]
 
 without_times : (n k : ℕ) (ms : List ℕ) → 1 ≤ times_in n ms → times_in k ms ≡ is_times n k + times_in k (without n ms)
 without_times n k [] h = absurd (omega arith)
-without_times n k (m ∷ ms) h = step (m == n) refl h (without_times n k ms)
-  where
-    step : (b : Bool) → m == n ≡ b → 1 ≤ (if b then 1 else 0) + times_in n ms
-        → (1 ≤ times_in n ms → times_in k ms ≡ is_times n k + times_in k (without n ms))
-        → is_times m k + times_in k ms ≡ is_times n k + times_in k (if b then ms else m ∷ without n ms)
-    step true e h more = ap (λ (x : ℕ). is_times x k + times_in k ms) (eqb-true m n e)
-    step false e h more = let rest : times_in k ms ≡ is_times n k + times_in k (without n ms) = more (omega arith) in omega arith
+without_times n k (m ∷ ms) h = elim (cases_Bool (m == n)) [
+  | inl e ↦ rw (e, eqb-true m n e)
+  | inr e ↦ let some = rw e at h in let rest = without_times n k ms (omega arith) in rw e (omega arith)
+]
 
 is_times_one : (n : ℕ) → is_times n n ≡ 1
 is_times_one n = cond-true (n == n) 1 0 (eq-eqb n n refl)
@@ -61,13 +54,13 @@ same_total (x ∷ xs) ys h =
 
 sum_total : (terms : List Term) → sum_of terms ≡ total (map value_of_term terms)
 sum_total [] = refl
-sum_total (t ∷ terms) = ap (λ (n : ℕ). value_of_term t + n) (sum_total terms)
+sum_total (t ∷ terms) = rw (sum_total terms)
 
 pub reorder_holds : Reorder
 reorder_holds o a b lexemes others nanos s t plus other_plus counts r =
     let xs : List Term = terms_of_lexemes o lexemes in
     let ys : List Term = terms_of_lexemes o others in
-    let sums : sum_of ys ≡ sum_of xs =
-    sum_total ys ∙ sym (same_total (map value_of_term xs) (map value_of_term ys) counts) ∙ sym (sum_total xs) in
-    let found : sum_of xs ≡ nanos = read_sum o lexemes a nanos (record { sentence = s; plus = plus }) r in
-    sum_read o others b nanos (record { sentence = t; plus = other_plus }) (sums ∙ found) (read_below o a nanos r)
+    let same = same_total (map value_of_term xs) (map value_of_term ys) counts in
+    let sums : sum_of ys ≡ sum_of xs = rw (sum_total ys, sum_total xs, same) in
+    let found : sum_of xs ≡ nanos = read_sum (record { sentence = s; plus = plus }) r in
+    sum_read (record { sentence = t; plus = other_plus }) (sums ∙ found) (read_below r)

@@ -1,19 +1,7 @@
 -- Two accepted texts without `*`, joined by a plus, have the sum of their values, or overflow.
-use Rattle.std.proofs.Common.{◌≡◌, ℕ, ◌+◌, ◌^◌, ◌<◌, ◌≤◌, Bool, true, false, not, ◌==◌, List, [], ◌∷◌, ◌++◌, map, Option, Some, None, if◌then◌else◌, codes, refl, sym, ap, ap₂, subst, ◌∙◌, append_assoc}
-use Rattle.std.proofs.lemmas.Bool.{true≢false, and_parts, and_from}
-use Rattle.std.proofs.lemmas.List.{map-append}
-use Rattle.std.proofs.lemmas.List.Folds.{list_all-append}
-use Rattle.duration_str.specs.declared.options.Options.{Options}
-use Rattle.duration_str.specs.declared.operator.CondUnit.{CondUnit}
-use Rattle.duration_str.specs.declared.operator.CondUnit.TheVariants.{Plus, Star}
-use Rattle.duration_str.specs.Text.{IsBlank, operator_of}
-use Rattle.duration_str.specs.Units.{nanos_of}
-use Rattle.duration_str.specs.Grammar.{Terminal, number, word, operator, other, terminal_of, IsSentence, Spells}
-use Rattle.duration_str.specs.Value.{AllPlus, Term, sum_of, terms_of, terms_after, second}
-use Rattle.duration_str.specs.Reading.{IsRead}
-use Rattle.duration_str.specs.Laws.{SumOfTexts, HasNoStar}
+use Rattle.std.proofs.Common.{◌≡◌, ℕ, ◌+◌, Bool, true, false, not, ◌==◌, List, [], ◌∷◌, ◌++◌, map, Some, codes, arith, refl, ◌∙◌, append_assoc}
+use Rattle.duration_str.proofs.Common.{and_parts, and_from, nat_tests, map-append, list_all-append, Options, CondUnit, Plus, IsBlank, operator_of, Terminal, number, word, operator, terminal_of, IsSentence, Spells, AllPlus, Term, sum_of, terms_of, terms_after, IsRead, SumOfTexts, HasNoStar}
 use Rattle.duration_str.proofs.Cutting.TerminalLemmas.{terminal_cases}
-use Rattle.duration_str.proofs.Sentences.FrontLemmas.{AreAllowedWhole, after_operator, sentence_allowed, allowed_sentence}
 use Rattle.duration_str.proofs.Sentences.SpellingLemmas.{EachPasses, lexemes_pass}
 use Rattle.duration_str.proofs.Sentences.SumLemmas.{sum-append}
 use Rattle.duration_str.proofs.Sentences.AnswerLemmas.{read_below}
@@ -21,97 +9,77 @@ use Rattle.duration_str.proofs.Sentences.SumReadings.{IsSumOf, terms_of_lexemes,
 
 -- ---- The joined lexemes spell the joined text
 
-spells_after_blanks : (lexemes : List (List ℕ)) (s t : List ℕ) → IsBlank s → Spells lexemes t → Spells lexemes (s ++ t)
+pub spells_after_blanks : (lexemes : List (List ℕ)) (s t : List ℕ) → IsBlank s → Spells lexemes t
+    → Spells lexemes (s ++ t)
 spells_after_blanks [] s t h k = list_all-append _ s t ∙ and_from _ _ h k
 spells_after_blanks (w ∷ lexemes) s t h k = (
   s ++ k.0,
   k.1,
   list_all-append _ s k.0 ∙ and_from _ _ h k.2,
-  ap (λ (x : List ℕ). s ++ x) k.3 ∙ sym (append_assoc s k.0 (w ++ k.1)),
+  rw k.3 (simp append_assoc),
   k.4,
 )
 
-spells_both : (xs ys : List (List ℕ)) (s t : List ℕ) → Spells xs s → Spells ys t → Spells (xs ++ ys) (s ++ t)
+pub spells_both : (xs ys : List (List ℕ)) (s t : List ℕ) → Spells xs s → Spells ys t → Spells (xs ++ ys) (s ++ t)
 spells_both [] ys s t h k = spells_after_blanks ys s t h k
-spells_both (x ∷ xs) ys s t h k = (
-  h.0,
-  h.1 ++ t,
-  h.2,
-  ap (λ (z : List ℕ). z ++ t) h.3 ∙ append_assoc h.0 (x ++ h.1) t ∙ ap (λ (z : List ℕ). h.0 ++ z) (append_assoc x h.1 t),
-  spells_both xs ys h.1 t h.4 k,
-)
+spells_both (x ∷ xs) ys s t h k = (h.0, h.1 ++ t, h.2, rw h.3 (simp append_assoc), spells_both xs ys h.1 t h.4 k)
 
 -- ---- They are a sentence, with the terms of both
 
-plus_terminal : (o : Options) → terminal_of o (codes "+") ≡ operator Plus
+pub plus_terminal : (o : Options) → terminal_of o (codes "+") ≡ operator Plus
 plus_terminal o = at o.no_calc o.lowercase o.cn_unit
   where
     at : (no_calc lowercase cn_unit : Bool)
-        → terminal_of (record { no_calc = no_calc; lowercase = lowercase; cn_unit = cn_unit }) (codes "+") ≡ operator Plus
+        → terminal_of (record { no_calc = no_calc; lowercase = lowercase; cn_unit = cn_unit }) (codes "+")
+        ≡ operator Plus
     at no_calc lowercase true = refl
     at no_calc lowercase false = refl
 
--- A plus can follow wherever a sentence can end.
-plus_allowed : (last : Option Terminal) (ys : List Terminal) → AreAllowedWhole false last [] → AreAllowedWhole false None ys
-    → AreAllowedWhole false last (operator Plus ∷ ys)
-plus_allowed None ys h k = cc
-plus_allowed (Some (number n)) ys h k = (refl, after_operator false Plus ys k)
-plus_allowed (Some (word u)) ys h k = (refl, after_operator false Plus ys k)
-plus_allowed (Some (operator op)) ys h k = cc
-plus_allowed (Some other) ys h k = cc
-
-both_allowed : (last : Option Terminal) (xs ys : List Terminal) → AreAllowedWhole false last xs → AreAllowedWhole false None ys
-    → AreAllowedWhole false last (xs ++ operator Plus ∷ ys)
-both_allowed last [] ys h k = plus_allowed last ys h k
-both_allowed last (x ∷ xs) ys h k = (h.0, both_allowed (Some x) xs ys h.1 k)
-
-both_sentence : (xs ys : List Terminal) → IsSentence false xs → IsSentence false ys → IsSentence false (xs ++ operator Plus ∷ ys)
-both_sentence xs ys s t =
-    allowed_sentence false (xs ++ operator Plus ∷ ys) (both_allowed None xs ys (sentence_allowed false xs s) (sentence_allowed false ys t))
+both_sentence : (xs ys : List Terminal) → IsSentence false xs → IsSentence false ys
+    → IsSentence false (xs ++ operator Plus ∷ ys)
+both_sentence (number n ∷ []) ys s t = (refl, t)
+both_sentence (number n ∷ operator next ∷ more) ys s t = (refl, both_sentence more ys s.1 t)
+both_sentence (number n ∷ word (Some u) ∷ []) ys s t = (refl, t)
+both_sentence (number n ∷ word (Some u) ∷ operator next ∷ more) ys s t = (refl, both_sentence more ys s.1 t)
+both_sentence (number n ∷ word (Some u) ∷ number m ∷ more) ys s t = both_sentence (number m ∷ more) ys s t
+both_sentence _ ys s t = absurd s
 
 both_terms : (op : CondUnit) (xs ys : List Terminal) → IsSentence false xs
     → terms_after op (xs ++ operator Plus ∷ ys) ≡ terms_after op xs ++ terms_of ys
 both_terms op (number n ∷ []) ys s = refl
-both_terms op (number n ∷ operator next ∷ more) ys s =
-    ap (λ (ts : List Term). record { operator = op; number = n; length = second } ∷ ts) (both_terms next more ys s.1)
+both_terms op (number n ∷ operator next ∷ more) ys s = rw (both_terms next more ys s.1)
 both_terms op (number n ∷ word (Some u) ∷ []) ys s = refl
-both_terms op (number n ∷ word (Some u) ∷ operator next ∷ more) ys s =
-    ap (λ (ts : List Term). record { operator = op; number = n; length = nanos_of u } ∷ ts) (both_terms next more ys s.1)
-both_terms op (number n ∷ word (Some u) ∷ number m ∷ more) ys s =
-    ap (λ (ts : List Term). record { operator = op; number = n; length = nanos_of u } ∷ ts) (both_terms Plus (number m ∷ more) ys s)
+both_terms op (number n ∷ word (Some u) ∷ operator next ∷ more) ys s = rw (both_terms next more ys s.1)
+both_terms op (number n ∷ word (Some u) ∷ number m ∷ more) ys s = rw (both_terms Plus (number m ∷ more) ys s)
 both_terms op _ ys s = absurd s
 
 -- ---- A text without `*` has no operator other than plus
 
 no_star_plus : (c : ℕ) (op : CondUnit) → not (c == 42) ≡ true → operator_of c ≡ Some op → op ≡ Plus
-no_star_plus c op h e = by_tests _ _ refl e
-  where
-    by_tests : (plus star : Bool) → c == 42 ≡ star → (if plus then Some Plus else if star then Some Star else None) ≡ Some op → op ≡ Plus
-    by_tests true star s e = cc
-    by_tests false true s e = absurd (true≢false (sym h ∙ ap not s))
-    by_tests false false s e = cc
+no_star_plus c op h e = grind (arith, nat_tests)
 
-plus_terminal_first : (o : Options) (terminals : List Terminal) → AllPlus terminals → (w : List ℕ) → HasNoStar w → AllPlus (terminal_of o w ∷ terminals)
-plus_terminal_first o terminals h = terminal_cases o (λ w t. HasNoStar w → AllPlus (t ∷ terminals))
-    (λ plain. h) (λ c cs digits plain. h) (λ c cs letters plain. h)
-    (λ c op _ _ sign plain. (no_star_plus c op (and_parts (not (c == 42)) _ plain).0 sign, h)) (λ c cs _ _ plain. h)
+module _ (o : Options) where
+  plus_terminal_first : (terminals : List Terminal) → AllPlus terminals → (w : List ℕ) → HasNoStar w
+      → AllPlus (terminal_of o w ∷ terminals)
+  plus_terminal_first terminals h = terminal_cases o (λ w t. HasNoStar w → AllPlus (t ∷ terminals))
+      (λ plain. h) (λ c cs digits plain. h) (λ c cs letters plain. h)
+      (λ c op _ _ sign plain. (no_star_plus c op (and_parts (not (c == 42)) _ plain).0 sign, h)) (λ c cs _ _ plain. h)
 
-lexemes_plus : (o : Options) (lexemes : List (List ℕ)) → EachPasses (λ c. not (c == 42)) lexemes → AllPlus (map (terminal_of o) lexemes)
-lexemes_plus o [] h = tt
-lexemes_plus o (w ∷ lexemes) h = plus_terminal_first o (map (terminal_of o) lexemes) (lexemes_plus o lexemes h.1) w h.0
+  lexemes_plus : (lexemes : List (List ℕ)) → EachPasses (λ c. not (c == 42)) lexemes
+      → AllPlus (map (terminal_of o) lexemes)
+  lexemes_plus [] h = tt
+  lexemes_plus (w ∷ lexemes) h = plus_terminal_first (map (terminal_of o) lexemes) (lexemes_plus lexemes h.1) w h.0
 
-read_is_sum : (o : Options) (text : List ℕ) (nanos : ℕ) → HasNoStar text → (r : IsRead o text nanos) → IsSumOf o r.lexemes text
-read_is_sum o text nanos plain r = record {
-  sentence = r.spells;
-  plus = lexemes_plus o r.lexemes (lexemes_pass (λ c. not (c == 42)) r.lexemes text plain r.spells.1);
-}
+  read_is_sum : {text : List ℕ} {nanos : ℕ} → HasNoStar text → (r : IsRead o text nanos) → IsSumOf o r.lexemes text
+  read_is_sum {text} plain r = record {
+    sentence = r.spells;
+    plus = lexemes_plus r.lexemes (lexemes_pass (λ c. not (c == 42)) r.lexemes text plain r.spells.1);
+  }
 
 both_plus : (xs ys : List Terminal) → AllPlus xs → AllPlus ys → AllPlus (xs ++ operator Plus ∷ ys)
 both_plus [] ys h k = (refl, k)
-both_plus (number n ∷ xs) ys h k = both_plus xs ys h k
-both_plus (word u ∷ xs) ys h k = both_plus xs ys h k
 both_plus (operator op ∷ xs) ys h k = (h.0, both_plus xs ys h.1 k)
-both_plus (other ∷ xs) ys h k = both_plus xs ys h k
+both_plus (x ∷ xs) ys h k = both_plus xs ys h k
 
 -- ---- The joined text
 
@@ -123,33 +91,28 @@ abbrev joined_lexemes : List (List ℕ) → List (List ℕ) → List (List ℕ)
 joined_lexemes lexemes others = (lexemes ++ codes "+" ∷ []) ++ others
 
 joined_terminals : (o : Options) (lexemes others : List (List ℕ))
-    → map (terminal_of o) (joined_lexemes lexemes others) ≡ map (terminal_of o) lexemes ++ operator Plus ∷ map (terminal_of o) others
-joined_terminals o lexemes others =
-    ap (map (terminal_of o)) (append_assoc lexemes (codes "+" ∷ []) others) ∙ map-append (terminal_of o) lexemes (codes "+" ∷ others)
-    ∙ ap (λ (t : Terminal). map (terminal_of o) lexemes ++ t ∷ map (terminal_of o) others) (plus_terminal o)
+    → map (terminal_of o) (joined_lexemes lexemes others)
+    ≡ map (terminal_of o) lexemes ++ operator Plus ∷ map (terminal_of o) others
+joined_terminals o lexemes others = rw (append_assoc lexemes, map-append (terminal_of o) lexemes, plus_terminal o)
 
-combination_is_sum : (o : Options) (a b : List ℕ) (lexemes others : List (List ℕ)) → o.no_calc ≡ false → IsSumOf o lexemes a → IsSumOf o others b
-    → IsSumOf o (joined_lexemes lexemes others) (a ++ codes "+" ++ b)
-combination_is_sum o a b lexemes others calc s t =
-    let xs : List Terminal = map (terminal_of o) lexemes in
-    let ys : List Terminal = map (terminal_of o) others in
-    let terminals = sym (joined_terminals o lexemes others) in
-    let whole : IsSentence false (xs ++ operator Plus ∷ ys) =
-    both_sentence xs ys (subst (λ (b : Bool). IsSentence b xs) calc s.sentence.0) (subst (λ (b : Bool). IsSentence b ys) calc t.sentence.0) in
-    let first : Spells (lexemes ++ codes "+" ∷ []) (a ++ codes "+") =
-    spells_both lexemes (codes "+" ∷ []) a (codes "+") s.sentence.1 ([], [], refl, refl, refl) in
+joined_is_sum : {o : Options} {a b : List ℕ} {lexemes others : List (List ℕ)} → o.no_calc ≡ false
+    → IsSumOf o lexemes a → IsSumOf o others b → IsSumOf o (joined_lexemes lexemes others) (a ++ codes "+" ++ b)
+joined_is_sum {o} {a} {b} {lexemes} {others} calc s t =
+    let (xs, ys) : List Terminal × List Terminal = (map (terminal_of o) lexemes, map (terminal_of o) others) in
+    let plus = spells_both lexemes (codes "+" ∷ []) a (codes "+") s.sentence.1 ([], [], refl, refl, refl) in
     record {
       sentence = (
-        subst (λ (b : Bool). IsSentence b (map (terminal_of o) (joined_lexemes lexemes others))) (sym calc) (subst (IsSentence false) terminals whole),
-        spells_both (lexemes ++ codes "+" ∷ []) others (a ++ codes "+") b first t.sentence.1,
+        rw (calc, joined_terminals o lexemes others)
+            (both_sentence xs ys (rw calc at s.sentence.0) (rw calc at t.sentence.0)),
+        spells_both (lexemes ++ codes "+" ∷ []) others (a ++ codes "+") b plus t.sentence.1,
       );
-      plus = subst AllPlus terminals (both_plus xs ys s.plus t.plus);
+      plus = rw (joined_terminals o lexemes others) (both_plus xs ys s.plus t.plus);
     }
 
 joined_terms : (o : Options) (lexemes others : List (List ℕ)) → IsSentence false (map (terminal_of o) lexemes)
     → terms_of_lexemes o (joined_lexemes lexemes others) ≡ terms_of_lexemes o lexemes ++ terms_of_lexemes o others
 joined_terms o lexemes others s =
-    ap terms_of (joined_terminals o lexemes others) ∙ both_terms Plus (map (terminal_of o) lexemes) (map (terminal_of o) others) s
+    rw (joined_terminals o lexemes others) (both_terms Plus (map (terminal_of o) lexemes) (map (terminal_of o) others) s)
 
 -- What is known of the joined text of two texts that are read.
 record IsJoined (o : Options) (text : List ℕ) (nanos : ℕ) : Type 0 where
@@ -158,32 +121,29 @@ record IsJoined (o : Options) (text : List ℕ) (nanos : ℕ) : Type 0 where
   total : sum_of (terms_of_lexemes o lexemes) ≡ nanos
   each : EachFits (terms_of_lexemes o lexemes)
 
-reads_joined : (o : Options) (a b : List ℕ) (m n : ℕ) → o.no_calc ≡ false → HasNoStar a → HasNoStar b → IsRead o a m → IsRead o b n
-    → IsJoined o (a ++ codes "+" ++ b) (m + n)
-reads_joined o a b m n calc plain_a plain_b r q =
-    let s : IsSumOf o r.lexemes a = read_is_sum o a m plain_a r in
-    let t : IsSumOf o q.lexemes b = read_is_sum o b n plain_b q in
-    let xs : List Term = terms_of_lexemes o r.lexemes in
-    let ys : List Term = terms_of_lexemes o q.lexemes in
-    let terms : terms_of_lexemes o (joined_lexemes r.lexemes q.lexemes) ≡ xs ++ ys =
-    joined_terms o r.lexemes q.lexemes (subst (λ (b : Bool). IsSentence b (map (terminal_of o) r.lexemes)) calc r.spells.0) in
-    let sum_a : sum_of xs ≡ m = read_sum o r.lexemes a m s r in
-    let sum_b : sum_of ys ≡ n = read_sum o q.lexemes b n t q in
-    let small_a : sum_of xs < 2 ^ 64 = subst (λ (k : ℕ). k < 2 ^ 64) (sym sum_a) (read_below o a m r) in
-    let small_b : sum_of ys < 2 ^ 64 = subst (λ (k : ℕ). k < 2 ^ 64) (sym sum_b) (read_below o b n q) in
+reads_joined : {o : Options} {a b : List ℕ} {m n : ℕ} → o.no_calc ≡ false → HasNoStar a → HasNoStar b → IsRead o a m
+    → IsRead o b n → IsJoined o (a ++ codes "+" ++ b) (m + n)
+reads_joined {o} {m = m} {n = n} calc plain_a plain_b r q =
+    let s = read_is_sum o plain_a r in
+    let t = read_is_sum o plain_b q in
+    let xs = terms_of_lexemes o r.lexemes in
+    let ys = terms_of_lexemes o q.lexemes in
+    let terms = joined_terms o r.lexemes q.lexemes (rw calc at r.spells.0) in
+    let sum_a : sum_of xs ≡ m = read_sum s r in
+    let sum_b : sum_of ys ≡ n = read_sum t q in
+    let small_a = sum_fits_each xs (rw sum_a (read_below r)) in
+    let small_b = sum_fits_each ys (rw sum_b (read_below q)) in
     record {
       lexemes = joined_lexemes r.lexemes q.lexemes;
-      sum = combination_is_sum o a b r.lexemes q.lexemes calc s t;
-      total = ap sum_of terms ∙ sum-append xs ys ∙ ap₂ ◌+◌ sum_a sum_b;
-      each = subst EachFits (sym terms) (both_fit xs ys (sum_fits_each xs small_a) (sum_fits_each ys small_b));
+      sum = joined_is_sum calc s t;
+      total = rw (terms, sum-append xs ys, sum_a, sum_b);
+      each = rw terms (both_fit xs ys small_a small_b);
     }
 
 pub sum_of_texts_holds : SumOfTexts
 sum_of_texts_holds = record {
   below = λ o a b m n calc plain_a plain_b r q h.
-      let j : IsJoined o (a ++ codes "+" ++ b) (m + n) = reads_joined o a b m n calc plain_a plain_b r q in
-      sum_read o j.lexemes (a ++ codes "+" ++ b) (m + n) j.sum j.total h;
+      let j = reads_joined calc plain_a plain_b r q in sum_read j.sum j.total h;
   above = λ o a b m n calc plain_a plain_b r q h.
-      let j : IsJoined o (a ++ codes "+" ++ b) (m + n) = reads_joined o a b m n calc plain_a plain_b r q in
-      sum_overflows o j.lexemes (a ++ codes "+" ++ b) j.sum j.each (subst (λ (k : ℕ). 2 ^ 64 ≤ k) (sym j.total) h);
+      let j = reads_joined calc plain_a plain_b r q in sum_overflows j.sum j.each (rw j.total h);
 }

@@ -1,118 +1,97 @@
 -- The place of a fault is a character boundary of the text.
-use Rattle.std.proofs.Common.{◌≡◌, ℕ, zero, suc, ◌+◌, ◌-◌, ◌≤◌, Bool, true, false, List, [], ◌∷◌, ◌++◌, length, take, drop, Option, Some, None, Result, Ok, Err, if◌then◌else◌, IsUtf8, refl, ap, sym, subst, ◌∙◌, arith, append_assoc, length-append}
-use Rattle.std.specs.Option.{ForSome}
-use Rattle.std.specs.Str.{IsCharBoundary, chars}
-use Rattle.std.proofs.lemmas.Str.{IsCharBoundary-start, IsCharBoundary-end, IsCharBoundary-at_seam, IsUtf8-take, length-encode, encodes-append, encodes-chars, scalars-chars, chars-append}
-use Rattle.std.proofs.lemmas.List.{take-append-drop, length-take-le}
-use Rattle.std.proofs.lemmas.Bool.{and_parts}
+use Rattle.std.proofs.Common.{◌≡◌, ℕ, zero, suc, ◌+◌, ◌-◌, ◌≤◌, Bool, true, false, inl, inr, List, [], ◌∷◌, ◌++◌, length, take, drop, Option, Some, None, Result, Ok, Err, IsUtf8, refl, ap, sym, subst, ◌∙◌, arith, append_assoc, length-append, IsCharBoundary, chars, take-append-drop, length-take-le}
+use Rattle.duration_str.proofs.Common.{ForSome, IsUtf8-take, encodes-append, encodes-chars, scalars-chars, chars-append, cases_Bool, and_parts, scalar, scalars, encodes, encode, Options, CondUnit, Cause, Empty, Syntax, NumberTooLarge, Overflow, Mixed, OutOfRange, NotText, byte_len, Terminal, AreTokens, tokens_of, start_after, terminals_of, Term, or_else, unless, terms_of, term_fault, later_fault, evaluation_fault, complete_terms, place_after, first_fault, running_fault, early_fault, late_fault, is_whole, late_answer, answer_after, answer, front_of}
+use Rattle.std.proofs.lemmas.Str.{IsCharBoundary-start, IsCharBoundary-end, IsCharBoundary-at_seam, length-encode}
 use Rattle.std.proofs.Math.Seq.{take-append-add}
-use lib.Utf8.{scalar, scalars, encodes, encode}
-use Rattle.duration_str.specs.declared.options.Options.{Options}
-use Rattle.duration_str.specs.declared.operator.CondUnit.{CondUnit}
-use Rattle.duration_str.specs.declared.fault.Cause.{Cause}
-use Rattle.duration_str.specs.declared.fault.Cause.TheVariants.{Syntax, NumberTooLarge, Overflow, Mixed}
-use Rattle.duration_str.specs.Text.{byte_len}
-use Rattle.duration_str.specs.Grammar.{Terminal}
-use Rattle.duration_str.specs.Tokens.{Token, AreTokens, tokens_of}
-use Rattle.duration_str.specs.Place.{start_after, terminals_of}
-use Rattle.duration_str.specs.Value.{Term, value_of_term, sum_of, later_total, total_of, fits, or_else, unless, terms_of, term_fault, later_fault, evaluation_fault, is_same_operator}
-use Rattle.duration_str.specs.Reading.{complete_terms, place_after, first_fault, running_fault, early_fault, late_fault}
-use Rattle.duration_str.specs.Answer.{is_whole, late_answer, answer_after, answer, kinds_after, last_of, front_of}
+use Rattle.duration_str.specs.Tokens.{Token}
 use Rattle.duration_str.specs.Faults.{place_of}
 use Rattle.duration_str.proofs.Characters.TextLemmas.{width-scalar, byte_len-append}
 use Rattle.duration_str.proofs.Cutting.TokenLemmas.{tokens_are}
 
-if_holds : {A : Type 0} (P : A → Type 0) (b : Bool) (x y : A) → P x → P y → P (if b then x else y)
-if_holds P true x y h k = h
-if_holds P false x y h k = k
+-- ---- A property of the place of a syntax fault
 
--- ---- A property of the place of the answer's fault
+-- The place of a syntax fault has the property; any other fault has no place, or stands at the start of the text.
+abbrev Stands : (ℕ → Type 0) → Cause → Type 0
+Stands P (Syntax place expected) = P place
+Stands P cause = ForSome (place_of cause) (λ place. place ≡ 0)
 
--- The place of the fault, if there is one, has the property.
+-- The same for the fault, if there is one.
 abbrev FaultStands : (ℕ → Type 0) → Option Cause → Type 0
 FaultStands P None = Unit {0}
-FaultStands P (Some cause) = ForSome (place_of cause) P
+FaultStands P (Some cause) = Stands P cause
 
 -- The same for an answer.
 abbrev AnswerStands : (ℕ → Type 0) → Result ℕ Cause → Type 0
 AnswerStands P (Ok nanos) = Unit {0}
-AnswerStands P (Err cause) = ForSome (place_of cause) P
+AnswerStands P (Err cause) = Stands P cause
 
-abbrev AllStart : (ℕ → Type 0) → List Token → Type 0
+abbrev pub AllStart : (ℕ → Type 0) → List Token → Type 0
 AllStart P [] = Unit {0}
 AllStart P (p ∷ tokens) = P p.start × AllStart P tokens
 
 module _ (P : ℕ → Type 0) where
-  no_place : ForSome None P
+  no_place : ForSome None (λ (place : ℕ). place ≡ 0)
   no_place x e = cc
 
-  at_place : (place : ℕ) → P place → ForSome (Some place) P
-  at_place place h x e = let same : place ≡ x = cc in subst P same h
+  at_start : ForSome (Some 0) (λ (place : ℕ). place ≡ 0)
+  at_start x e = cc
 
   or_else_stands : (a b : Option Cause) → FaultStands P a → FaultStands P b → FaultStands P (or_else a b)
   or_else_stands None b h k = k
   or_else_stands (Some cause) b h k = h
 
-  unless_stands : (b : Bool) (cause : Cause) → ForSome (place_of cause) P → FaultStands P (unless b cause)
+  unless_stands : (b : Bool) (cause : Cause) → Stands P cause → FaultStands P (unless b cause)
   unless_stands true cause h = tt
   unless_stands false cause h = h
 
-  term_stands : (place : Option ℕ) (t : Term) → ForSome place P → FaultStands P (term_fault place t)
-  term_stands place t h =
-      or_else_stands (unless (fits t.number) (NumberTooLarge place)) (unless (fits (value_of_term t)) (Overflow place))
-      (unless_stands (fits t.number) (NumberTooLarge place) h) (unless_stands (fits (value_of_term t)) (Overflow place) h)
+  term_stands : (place : Option ℕ) (t : Term) → ForSome place (λ (n : ℕ). n ≡ 0) → FaultStands P (term_fault place t)
+  term_stands place t h = search (or_else_stands, unless_stands)
 
-  overflow_stands : (n : ℕ) → FaultStands P (unless (fits n) (Overflow None))
-  overflow_stands n = unless_stands (fits n) (Overflow None) no_place
+  ruleset stands = (or_else_stands, unless_stands, term_stands, no_place)
 
   later_stands : (set : CondUnit) (before later : List Term) → FaultStands P (later_fault set before later)
   later_stands set before [] = tt
-  later_stands set before (t ∷ later) =
-      or_else_stands (unless (is_same_operator set t.operator) (Mixed set t.operator)) _
-      (unless_stands (is_same_operator set t.operator) (Mixed set t.operator) no_place)
-      (or_else_stands (term_fault None t) _ (term_stands None t no_place)
-      (or_else_stands (unless (fits (later_total set (before ++ t ∷ []))) (Overflow None)) _ (overflow_stands (later_total set (before ++ t ∷ [])))
-      (later_stands set (before ++ t ∷ []) later)))
+  later_stands set before (t ∷ later) = search (stands, later_stands set (before ++ t ∷ []) later) depth 8
 
   evaluation_stands : (terms : List Term) → FaultStands P (evaluation_fault terms)
   evaluation_stands [] = tt
   evaluation_stands (t ∷ []) = tt
   evaluation_stands (t ∷ u ∷ later) =
-      or_else_stands (later_fault u.operator [] (u ∷ later)) _ (later_stands u.operator [] (u ∷ later))
-      (overflow_stands (total_of u.operator t (later_total u.operator (u ∷ later))))
+      search (or_else_stands, unless_stands, no_place, later_stands u.operator [] (u ∷ later))
 
-  first_place : P 0 → (before : List Term) → ForSome (place_after before) P
-  first_place h [] = at_place 0 h
-  first_place h (t ∷ before) = no_place
+  first_place : (before : List Term) → ForSome (place_after before) (λ (place : ℕ). place ≡ 0)
+  first_place [] = at_start
+  first_place (t ∷ before) = no_place
 
-  running_stands : P 0 → (before terms : List Term) → FaultStands P (running_fault before terms)
-  running_stands h before [] = tt
-  running_stands h before (t ∷ terms) =
-      or_else_stands (term_fault (place_after before) t) _ (term_stands (place_after before) t (first_place h before))
-      (or_else_stands (unless (fits (sum_of (before ++ t ∷ []))) (Overflow None)) _ (overflow_stands (sum_of (before ++ t ∷ [])))
-      (running_stands h (before ++ t ∷ []) terms))
+  running_stands : (before terms : List Term) → FaultStands P (running_fault before terms)
+  running_stands before [] = tt
+  running_stands before (t ∷ terms) =
+      search (stands, first_place before, running_stands (before ++ t ∷ []) terms) depth 8
 
-  first_stands : P 0 → (terms : List Term) → FaultStands P (first_fault terms)
-  first_stands h [] = tt
-  first_stands h (t ∷ terms) = term_stands (Some 0) t (at_place 0 h)
+  first_stands : (terms : List Term) → FaultStands P (first_fault terms)
+  first_stands [] = tt
+  first_stands (t ∷ terms) = term_stands (Some 0) t at_start
 
-  early_stands : P 0 → (no_calc : Bool) (front rest : List Terminal) → FaultStands P (early_fault no_calc front rest)
-  early_stands h no_calc front rest =
-      if_holds (FaultStands P) no_calc _ _ (running_stands h [] (complete_terms front rest)) (first_stands h (complete_terms front rest))
+  early_stands : (no_calc : Bool) (front rest : List Terminal) → FaultStands P (early_fault no_calc front rest)
+  early_stands true front rest = running_stands [] (complete_terms front rest)
+  early_stands false front rest = first_stands (complete_terms front rest)
 
   late_stands : (no_calc : Bool) (terminals : List Terminal) → FaultStands P (late_fault no_calc terminals)
-  late_stands no_calc terminals = if_holds (FaultStands P) no_calc _ _ tt (evaluation_stands (terms_of terminals))
+  late_stands true terminals = tt
+  late_stands false terminals = evaluation_stands (terms_of terminals)
 
-  late_answer_stands : (fault : Option Cause) (terminals : List Terminal) → FaultStands P fault → AnswerStands P (late_answer fault terminals)
+  late_answer_stands : (fault : Option Cause) (terminals : List Terminal) → FaultStands P fault
+      → AnswerStands P (late_answer fault terminals)
   late_answer_stands None terminals h = tt
   late_answer_stands (Some cause) terminals h = h
 
-  answer_after_stands : (no_calc : Bool) (place : ℕ) (front rest : List Terminal) (fault : Option Cause) → FaultStands P fault → P place
-      → AnswerStands P (answer_after no_calc place front rest fault)
+  answer_after_stands : (no_calc : Bool) (place : ℕ) (front rest : List Terminal) (fault : Option Cause)
+      → FaultStands P fault → P place → AnswerStands P (answer_after no_calc place front rest fault)
   answer_after_stands no_calc place front rest (Some cause) h k = h
-  answer_after_stands no_calc place front rest None h k =
-      if_holds (AnswerStands P) (is_whole no_calc front rest) _ (Err (Syntax place (kinds_after no_calc (last_of None front))))
-      (late_answer_stands (late_fault no_calc front) front (late_stands no_calc front)) (at_place place k)
+  answer_after_stands no_calc place front rest None h k = elim (cases_Bool (is_whole no_calc front rest)) [
+    | inl e ↦ rw e (late_answer_stands (late_fault no_calc front) front (late_stands no_calc front))
+    | inr e ↦ rw e k
+  ]
 
   start_among : (n len : ℕ) (tokens : List Token) → P len → AllStart P tokens → P (start_after n len tokens)
   start_among zero len [] h k = h
@@ -120,13 +99,15 @@ module _ (P : ℕ → Type 0) where
   start_among (suc n) len [] h k = h
   start_among (suc n) len (p ∷ tokens) h k = start_among n len tokens h k.1
 
-  answer_stands : (o : Options) (text : List ℕ) → P 0 → P (byte_len text) → AllStart P (tokens_of o text) → AnswerStands P (answer o text)
-  answer_stands o [] h k l = no_place
-  answer_stands o (c ∷ text) h k l =
+  pub answer_stands : (o : Options) (text : List ℕ) → P (byte_len text) → AllStart P (tokens_of o text)
+      → AnswerStands P (answer o text)
+  answer_stands o [] k l = no_place
+  answer_stands o (c ∷ text) k l =
       let terminals = terminals_of o (c ∷ text) in
       let n = front_of o.no_calc terminals in
-      answer_after_stands o.no_calc (start_after n (byte_len (c ∷ text)) (tokens_of o (c ∷ text))) (take n terminals) (drop n terminals) _
-      (early_stands h o.no_calc (take n terminals) (drop n terminals)) (start_among n (byte_len (c ∷ text)) (tokens_of o (c ∷ text)) k l)
+      answer_after_stands o.no_calc (start_after n (byte_len (c ∷ text)) (tokens_of o (c ∷ text))) (take n terminals)
+      (drop n terminals) _ (early_stands o.no_calc (take n terminals) (drop n terminals))
+      (start_among n (byte_len (c ∷ text)) (tokens_of o (c ∷ text)) k l)
 
 -- ---- Bytes and boundaries
 
@@ -150,35 +131,46 @@ byte_count bs utf8 = encoded_len (chars bs) (scalars-chars bs utf8) ∙ ap lengt
 -- The bytes of some first characters end at a boundary.
 seam : (bs xs ys : List ℕ) → IsUtf8 bs → chars bs ≡ xs ++ ys → IsCharBoundary bs (byte_len xs)
 seam bs xs ys utf8 e =
-    let all : scalars (xs ++ ys) ≡ true = ap scalars (sym e) ∙ scalars-chars bs utf8 in
-    let parts = scalars-parts xs ys all in
-    let whole : bs ≡ encodes xs ++ encodes ys = sym (encodes-chars bs utf8) ∙ ap encodes e ∙ encodes-append xs ys in
-    subst (IsCharBoundary bs) (sym (encoded_len xs parts.0)) (IsCharBoundary-at_seam bs (encodes xs) (encodes ys) whole (ys, (parts.1, refl)))
+    let parts = scalars-parts xs ys (rw e at (scalars-chars bs utf8)) in
+    let whole : bs ≡ encodes xs ++ encodes ys = rw (e, encodes-append) at (sym (encodes-chars bs utf8)) in
+    rw (encoded_len xs parts.0) (IsCharBoundary-at_seam bs (encodes xs) (encodes ys) whole (ys, (parts.1, refl)))
 
 -- The characters `xs` come before those with these tokens.
-all_start : (o : Options) (bs xs cs : List ℕ) (at : ℕ) (tokens : List Token) → IsUtf8 bs → chars bs ≡ xs ++ cs → at ≡ byte_len xs
-    → AreTokens o at cs tokens → AllStart (IsCharBoundary bs) tokens
+all_start : (o : Options) (bs xs cs : List ℕ) (at : ℕ) (tokens : List Token) → IsUtf8 bs → chars bs ≡ xs ++ cs
+    → at ≡ byte_len xs → AreTokens o at cs tokens → AllStart (IsCharBoundary bs) tokens
 all_start o bs xs cs at [] utf8 e w a = tt
 all_start o bs xs cs at (p ∷ tokens) utf8 e w a =
     let rest = a.0 in
     let before = xs ++ a.1.blanks in
-    let first : chars bs ≡ before ++ (p.characters ++ rest) =
-    e ∙ ap (λ l. xs ++ l) a.1.parts ∙ sym (append_assoc xs a.1.blanks (p.characters ++ rest)) in
-    let start : p.start ≡ byte_len before = a.1.start ∙ ap (λ n. n + byte_len a.1.blanks) w ∙ sym (byte_len-append xs a.1.blanks) in
-    let next : chars bs ≡ (before ++ p.characters) ++ rest = first ∙ sym (append_assoc before p.characters rest) in
+    let first : chars bs ≡ before ++ (p.characters ++ rest) = rw append_assoc (rw a.1.parts at e) in
+    let start : p.start ≡ byte_len before = rw (a.1.start, w, byte_len-append) in
+    let next : chars bs ≡ (before ++ p.characters) ++ rest = rw (append_assoc before) first in
     let end : p.start + byte_len p.characters ≡ byte_len (before ++ p.characters) =
-    ap (λ n. n + byte_len p.characters) start ∙ sym (byte_len-append before p.characters) in (
-      subst (IsCharBoundary bs) (sym start) (seam bs before (p.characters ++ rest) utf8 first),
+    rw (start, byte_len-append before) in (
+      rw start (seam bs before (p.characters ++ rest) utf8 first),
       all_start o bs (before ++ p.characters) rest (p.start + byte_len p.characters) tokens utf8 next end a.2,
     )
 
+at_zero : (P : ℕ → Type 0) → P 0 → (place : Option ℕ) → ForSome place (λ (n : ℕ). n ≡ 0) → ForSome place P
+at_zero P start place h n e = rw (h n e) start
+
+-- What holds of the start and of a syntax fault's place holds of the place of any fault.
+stands_at : (P : ℕ → Type 0) → P 0 → (cause : Cause) → Stands P cause → ForSome (place_of cause) P
+stands_at P start (Syntax place expected) h = λ n e. let same : place ≡ n = cc in subst P same h
+stands_at P start Empty h = at_zero P start _ h
+stands_at P start (NumberTooLarge place) h = at_zero P start _ h
+stands_at P start (Overflow place) h = at_zero P start _ h
+stands_at P start (Mixed first later) h = at_zero P start _ h
+stands_at P start OutOfRange h = at_zero P start _ h
+stands_at P start (NotText optional) h = at_zero P start _ h
+
 -- The place of the answer's fault is a character boundary.
-pub fault_placed : (o : Options) (bs : List ℕ) (c : Cause) → IsUtf8 bs → answer o (chars bs) ≡ Err c → ForSome (place_of c) (IsCharBoundary bs)
+pub fault_placed : (o : Options) (bs : List ℕ) (c : Cause) → IsUtf8 bs → answer o (chars bs) ≡ Err c
+    → ForSome (place_of c) (IsCharBoundary bs)
 fault_placed o bs c utf8 e =
-    subst (AnswerStands (IsCharBoundary bs)) e
-    (answer_stands (IsCharBoundary bs) o (chars bs) (IsCharBoundary-start bs utf8)
-    (subst (IsCharBoundary bs) (sym (byte_count bs utf8)) (IsCharBoundary-end bs))
-    (all_start o bs [] (chars bs) 0 (tokens_of o (chars bs)) utf8 refl refl (tokens_are o 0 (chars bs))))
+    stands_at (IsCharBoundary bs) (IsCharBoundary-start bs utf8) c
+    (rw e at (answer_stands (IsCharBoundary bs) o (chars bs) (rw (byte_count bs utf8) (IsCharBoundary-end bs))
+    (all_start o bs [] (chars bs) 0 (tokens_of o (chars bs)) utf8 refl refl (tokens_are o 0 (chars bs)))))
 
 -- There are at most as many characters before an earlier place.
 pub chars_before : (bs : List ℕ) (place at : ℕ) → IsUtf8 bs → IsCharBoundary bs place → place ≤ at
@@ -191,5 +183,6 @@ chars_before bs place at utf8 boundary order =
     let cut : take at bs ≡ front ++ more =
     ap (λ n. take n bs) sum ∙ ap (take (length front + (at - place))) (sym (take-append-drop place bs))
     ∙ take-append-add front (drop place bs) (at - place) in
-    let parts : chars (take at bs) ≡ chars front ++ chars more = ap chars cut ∙ chars-append front more (IsUtf8-take bs place utf8 boundary) in
+    let parts : chars (take at bs) ≡ chars front ++ chars more =
+    ap chars cut ∙ chars-append front more (IsUtf8-take bs place utf8 boundary) in
     omega (arith, ap length parts, length-append (chars front) (chars more))

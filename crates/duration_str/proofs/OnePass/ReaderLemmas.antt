@@ -1,33 +1,19 @@
 -- The reader's steps: what comes next, by the sort ahead, and what is left after it.
-use Rattle.std.proofs.Common.{◌≡◌, ℕ, Bool, true, false, length, Option, Some, None, Result, Ok, Err, IsTrue, refl, sym, ap, subst, ◌∙◌, if◌then◌else◌}
-use Rattle.duration_str.specs.declared.unit.TimeUnit.{TimeUnit}
-use Rattle.duration_str.specs.declared.unit.TimeUnit.TheVariants.{Second}
-use Rattle.duration_str.specs.declared.operator.CondUnit.{CondUnit}
-use Rattle.duration_str.specs.declared.operator.CondUnit.TheVariants.{Plus}
-use Rattle.duration_str.specs.declared.fault.Cause.{Cause}
-use Rattle.duration_str.specs.declared.fault.Cause.TheVariants.{Syntax}
-use Rattle.duration_str.specs.declared.fault.Expected.{Expected}
-use Rattle.duration_str.specs.declared.token.Sort.{Sort}
-use Rattle.duration_str.specs.declared.token.Sort.TheVariants as sorts
-use Rattle.duration_str.specs.declared.token.Tokens.{Tokens}
-use Rattle.duration_str.specs.Grammar.{Terminal, number, word, operator, other, terminal_of}
-use Rattle.duration_str.specs.Answer.{kinds_after}
-use Rattle.duration_str.specs.Internal.Sorts.{sort_of}
-use Rattle.duration_str.specs.Tokenizer.{source, options_of, place_of, left}
-use Rattle.duration_str.specs.Internal.Tokenizer.{IsAhead, LooksAhead, is_number, TakesToken, TakesSign}
-use Rattle.duration_str.specs.Internal.Rest.{Rest, terminal_at, end_at, rest_from, rest_of, lacks_number, fault_or, Read, leaving, unit_read, operator_read}
+use Rattle.std.proofs.Common.{◌≡◌, ℕ, Bool, true, false, length, Option, Some, None, Result, Ok, Err, IsTrue, refl, sym, ap, ◌∙◌, if◌then◌else◌}
+use Rattle.duration_str.proofs.Common.{TimeUnit, Second, CondUnit, Plus, Cause, Syntax, Sort, Tokens, Terminal, number, word, operator, other, terminal_of, kinds_after, sort_of, source, options_of, left, IsAhead, LooksAhead, is_number, TakesToken, TakesSign, Rest, terminal_at, end_at, rest_from, rest_of, lacks_number, fault_or, Read, leaving, unit_read, operator_read}
+use Rattle.duration_str.specs.Tokenizer.{place_of}
 use Rattle.duration_str.proofs.Cutting.TokenizerLemmas.{keeps_all, none_left, first_left}
+use Rattle.duration_str.specs.declared.token.Sort.TheVariants as sorts
 
 -- ---- What comes next
 
-same_rest : (s m : Tokens) (sort : Option Sort) → LooksAhead s m sort → rest_of m ≡ rest_of s
-same_rest s m sort look = (λ i. rest_from (look.kept.options i) (length (look.kept.text i)) (look.same_left i))
+same_rest : {s m : Tokens} {sort : Option Sort} → LooksAhead s m sort → rest_of m ≡ rest_of s
+same_rest look = (λ i. rest_from (look.kept.options i) (length (look.kept.text i)) (look.same_left i))
 
 -- At the end the whole source is cut.
 pub at_end : (s m : Tokens) → LooksAhead s m None → (rest_of s ≡ end_at (place_of m)) × (place_of m ≡ length (source m))
 at_end s m look =
-    let none = none_left m look.ahead in
-    (sym (same_rest s m None look) ∙ ap (rest_from (options_of m) (length (source m))) none.0 ∙ ap end_at (sym none.1), none.1)
+    let none = none_left m look.ahead in (rw (← same_rest look, none.0, ← none.1), none.1)
 
 -- The rest starts at this byte, with a terminal of this sort.
 abbrev pub StartsWith : Sort → ℕ → Rest → Type 0
@@ -36,27 +22,24 @@ StartsWith sorts.Word at rest = (u : Option TimeUnit) × (more : Rest) × (rest 
 StartsWith (sorts.Operator op) at rest = (more : Rest) × (rest ≡ terminal_at at (operator op) more)
 StartsWith sorts.Other at rest = (more : Rest) × (rest ≡ terminal_at at other more)
 
-by_terminal : (terminal : Terminal) (at : ℕ) (rest more : Rest) → rest ≡ terminal_at at terminal more → StartsWith (sort_of terminal) at rest
+by_terminal : (terminal : Terminal) (at : ℕ) (rest more : Rest) → rest ≡ terminal_at at terminal more
+    → StartsWith (sort_of terminal) at rest
 by_terminal (number n) at rest more is = (n, more, is)
 by_terminal (word u) at rest more is = (u, more, is)
 by_terminal (operator op) at rest more is = (more, is)
 by_terminal other at rest more is = (more, is)
 
-pub starts : (s m : Tokens) (ahead : Option Sort) (sort : Sort) → LooksAhead s m ahead → ahead ≡ Some sort → StartsWith sort (place_of m) (rest_of s)
-starts s m ahead sort look is =
-    let (cs, rest, left_is, sort_is) = first_left m sort (subst (IsAhead m) is look.ahead) in
-    subst (λ x. StartsWith x (place_of m) (rest_of s)) (sym sort_is)
-    (by_terminal (terminal_of (options_of m) cs) (place_of m) (rest_of s) (rest_from (options_of m) (length (source m)) rest)
-    (sym (same_rest s m ahead look) ∙ ap (rest_from (options_of m) (length (source m))) left_is))
+pub starts : {s m : Tokens} {ahead : Option Sort} {sort : Sort} → LooksAhead s m ahead → ahead ≡ Some sort
+    → StartsWith sort (place_of m) (rest_of s)
+starts {s} {m} {sort = sort} look is =
+    let (cs, rest, left_is, sort_is) = first_left m sort (rw is at look.ahead) in
+    let here = rw left_is at (sym (same_rest look)) in
+    rw sort_is (by_terminal (terminal_of (options_of m) cs) (place_of m) (rest_of s) _ here)
 
 -- With a number ahead, the rest starts with it.
 pub at_number : (s : Tokens) → IsAhead s (Some sorts.Number) → StartsWith sorts.Number (place_of s) (rest_of s)
-at_number s ahead = starts s s _ sorts.Number (record { kept = keeps_all s; same_left = refl; ahead = ahead }) refl
-
--- A terminal that the table does not allow is refused at its place.
-pub refused : {A : Type 0} (f : Rest → Result A Cause) (expected : Expected) (rest first : Rest) (at place : ℕ) → rest ≡ first
-    → f first ≡ Err (Syntax at expected) → place ≡ at → Err (Syntax place expected) ≡ f rest
-refused f expected rest first at place here is there = ap (λ p. Err (Syntax p expected)) there ∙ sym (ap f here ∙ is)
+at_number s ahead =
+    starts {m = s} {sort = sorts.Number} (record { kept = keeps_all s; same_left = refl; ahead = ahead }) refl
 
 -- ---- A number
 
@@ -64,53 +47,46 @@ refused f expected rest first at place here is there = ap (λ p. Err (Syntax p e
 pub number_comes : (s m : Tokens) (sort : Option Sort) → LooksAhead s m sort
     → lacks_number (rest_of s) ≡ (if is_number sort then None else Some (Syntax (place_of m) (kinds_after false None)))
 number_comes s m None look = ap lacks_number (at_end s m look).0
-number_comes s m (Some sorts.Number) look = ap lacks_number (starts s m _ _ look refl).2
-number_comes s m (Some sorts.Word) look = ap lacks_number (starts s m _ _ look refl).2
-number_comes s m (Some (sorts.Operator op)) look = ap lacks_number (starts s m _ _ look refl).1
-number_comes s m (Some sorts.Other) look = ap lacks_number (starts s m _ _ look refl).1
+number_comes s m (Some sorts.Number) look = ap lacks_number (starts look refl).2
+number_comes s m (Some sorts.Word) look = ap lacks_number (starts look refl).2
+number_comes s m (Some (sorts.Operator op)) look = ap lacks_number (starts look refl).1
+number_comes s m (Some sorts.Other) look = ap lacks_number (starts look refl).1
 
 -- The only sort of numbers is `Number`.
 pub number_is : (sort : Option Sort) → is_number sort ≡ true → sort ≡ Some sorts.Number
-number_is None e = absurd cc
 number_is (Some sorts.Number) e = refl
-number_is (Some sorts.Word) e = absurd cc
-number_is (Some (sorts.Operator op)) e = absurd cc
-number_is (Some sorts.Other) e = absurd cc
+number_is _ e = absurd cc
 
 -- ---- A unit or an operator that is left out, and an operator
 
 -- seconds before an operator, which is not taken
-pub unit_left_out : (s m : Tokens) (ahead : Option Sort) (op : CondUnit) → LooksAhead s m ahead → ahead ≡ Some (sorts.Operator op)
-    → leaving (rest_of m) (Ok Second) ≡ unit_read false (rest_of s)
-unit_left_out s m ahead op look is =
-    let here = (starts s m ahead _ look is).1 in
-    ap (λ rest. leaving rest (Ok Second)) (same_rest s m ahead look ∙ here) ∙ sym (ap (unit_read false) here)
+pub unit_left_out : {s m : Tokens} {ahead : Option Sort} {op : CondUnit} → LooksAhead s m ahead
+    → ahead ≡ Some (sorts.Operator op) → leaving (rest_of m) (Ok Second) ≡ unit_read false (rest_of s)
+unit_left_out look is = rw (same_rest look, (starts look is).1)
 
 -- plus before a number, which is not taken
-pub plus_left_out : (no_calc : Bool) (s m : Tokens) (ahead : Option Sort) → LooksAhead s m ahead → ahead ≡ Some sorts.Number
-    → leaving (rest_of m) (Ok (Some Plus)) ≡ operator_read no_calc (rest_of s)
-plus_left_out no_calc s m ahead look is =
-    let here = (starts s m ahead _ look is).2 in
-    ap (λ rest. leaving rest (Ok (Some Plus))) (same_rest s m ahead look ∙ here) ∙ sym (ap (operator_read no_calc) here)
+pub plus_left_out : {s m : Tokens} {ahead : Option Sort} (no_calc : Bool) → LooksAhead s m ahead
+    → ahead ≡ Some sorts.Number → leaving (rest_of m) (Ok (Some Plus)) ≡ operator_read no_calc (rest_of s)
+plus_left_out no_calc look is = rw (same_rest look, (starts look is).2)
 
-operator_terminal : (terminal : Terminal) (op : CondUnit) → sorts.Operator op ≡ sort_of terminal → terminal ≡ operator op
-operator_terminal (number n) op e = absurd cc
-operator_terminal (word u) op e = absurd cc
-operator_terminal (operator next) op e = let same : next ≡ op = cc in ap operator same
-operator_terminal other op e = absurd cc
+operator_terminal : (terminal : Terminal) (op : CondUnit) → sorts.Operator op ≡ sort_of terminal
+    → terminal ≡ operator op
+operator_terminal (operator next) op e = cc
+operator_terminal _ op e = absurd cc
 
-pub after_token : (s t : Tokens) (terminal : Terminal) → TakesToken s t terminal → rest_of s ≡ terminal_at (place_of s) terminal (rest_of t)
-after_token s t terminal taken =
+pub after_token : {s t : Tokens} {terminal : Terminal} → TakesToken s t terminal
+    → rest_of s ≡ terminal_at (place_of s) terminal (rest_of t)
+after_token {s} {t} taken =
     ap (rest_from (options_of s) (length (source s))) taken.first
-    ∙ (λ i. terminal_at (place_of s) (sym taken.is_terminal i) (rest_from (sym taken.kept.options i) (length (sym taken.kept.text i)) (left t)))
+    ∙ (λ i. terminal_at (place_of s) (sym taken.is_terminal i)
+    (rest_from (sym taken.kept.options i) (length (sym taken.kept.text i)) (left t)))
 
-pub operator_taken : (s m t : Tokens) (ahead : Option Sort) (op : CondUnit) → LooksAhead s m ahead → ahead ≡ Some (sorts.Operator op) → TakesSign m t
+pub operator_taken : {s m : Tokens} {ahead : Option Sort} {op : CondUnit} (t : Tokens) → LooksAhead s m ahead
+    → ahead ≡ Some (sorts.Operator op) → TakesSign m t
     → operator_read false (rest_of s) ≡ leaving (rest_of t) (fault_or (lacks_number (rest_of t)) (Ok (Some op)))
-operator_taken s m t ahead op look is takes =
-    let taken = takes (sorts.Operator op) (subst (IsAhead m) is look.ahead) in
-    ap (operator_read false)
-    (sym (same_rest s m ahead look) ∙ after_token m t taken.terminal taken.token
-    ∙ ap (λ x. terminal_at (place_of m) x (rest_of t)) (operator_terminal taken.terminal op taken.has))
+operator_taken {m = m} {op = op} t look is takes =
+    let taken = takes (sorts.Operator op) tt (rw is at look.ahead) in
+    rw (← same_rest look, after_token taken.token, operator_terminal taken.terminal op taken.has)
 
 -- the operator that was read
 abbrev operator_of : Result (Read (Option CondUnit)) Cause → Option CondUnit
@@ -118,10 +94,8 @@ operator_of (Ok r) = r.item
 operator_of (Err cause) = None
 
 -- Under `no_calc` the only operator is a plus that is left out.
-pub plus_alone : (no_calc : Bool) (rest after : Rest) (op : CondUnit) → leaving after (Ok (Some op)) ≡ operator_read no_calc rest → IsTrue no_calc → op ≡ Plus
+pub plus_alone : (no_calc : Bool) (rest after : Rest) (op : CondUnit)
+    → leaving after (Ok (Some op)) ≡ operator_read no_calc rest → IsTrue no_calc → op ≡ Plus
 plus_alone no_calc (end_at at) after op e h = let none = ap operator_of e in absurd cc
 plus_alone no_calc (terminal_at at (number n) rest) after op e h = let same = ap operator_of e in cc
-plus_alone no_calc (terminal_at at (word u) rest) after op e h = absurd cc
-plus_alone false (terminal_at at (operator o) rest) after op e h = absurd cc
-plus_alone true (terminal_at at (operator o) rest) after op e h = absurd cc
-plus_alone no_calc (terminal_at at other rest) after op e h = absurd cc
+plus_alone no_calc _ after op e h = absurd cc

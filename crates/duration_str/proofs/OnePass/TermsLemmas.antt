@@ -1,25 +1,8 @@
 -- The terms that are left while a text is read, and the answer that they give.
 use Rattle.std.proofs.Common.{◌≡◌, ℕ, ◌^◌, ◌<◌, Bool, true, false, List, [], ◌∷◌, ◌++◌, length, take, drop, Option, Some, None, Result, Ok, Err, if◌then◌else◌, unwrap_or, IsTrue, refl, sym, ap, subst, ◌∙◌, arith}
-use Rattle.std.proofs.lemmas.Bool.{true≢false}
-use Rattle.duration_str.specs.declared.unit.TimeUnit.{TimeUnit}
-use Rattle.duration_str.specs.declared.unit.TimeUnit.TheVariants.{NanoSecond}
-use Rattle.duration_str.specs.declared.operator.CondUnit.{CondUnit}
-use Rattle.duration_str.specs.declared.operator.CondUnit.TheVariants.{Plus, Star}
-use Rattle.duration_str.specs.declared.fault.Cause.{Cause}
-use Rattle.duration_str.specs.declared.fault.Cause.TheVariants.{Syntax}
-use Rattle.duration_str.specs.declared.fault.Expected.{Expected}
-use Rattle.duration_str.specs.declared.token.Sort.TheVariants.{Number}
-use Rattle.duration_str.specs.declared.token.Tokens.{Tokens}
-use Rattle.duration_str.specs.Units.{nanos_of}
-use Rattle.duration_str.specs.Grammar.{Terminal, number, word, operator, other}
-use Rattle.duration_str.specs.Value.{AllPlus, Term, second, value_of_term, term_fault, terms_of, terms_after, unless, value_of}
-use Rattle.duration_str.specs.Internal.Numbers.{u64_from, term_value}
-use Rattle.duration_str.specs.Terms.{term_of}
-use Rattle.duration_str.specs.Reading.{without_last_number, complete, late_fault}
-use Rattle.duration_str.specs.Answer.{late_answer, answer_after, answer_at, kinds_after, last_of, front_of}
+use Rattle.duration_str.proofs.Common.{TimeUnit, NanoSecond, CondUnit, Plus, Star, Cause, Syntax, Expected, Number, Tokens, nanos_of, Terminal, number, word, operator, AllPlus, Term, second, value_of_term, terms_of, terms_after, unless, value_of, term_value, term_of, without_last_number, complete, late_fault, late_answer, answer_after, answer_at, kinds_after, last_of, front_of, IsAhead, TakesNumber, Rest, terminal_at, rest_of, start_left, terminals_in, Read, leaving, unit_read, operator_read, answer_left, first_term, fault_or, nothing_of, before_operator, at_once}
 use Rattle.duration_str.specs.Tokenizer.{place_of}
-use Rattle.duration_str.specs.Internal.Tokenizer.{IsAhead, TakesNumber}
-use Rattle.duration_str.specs.Internal.Rest.{Rest, terminal_at, end_at, rest_of, start_left, terminals_in, Read, leaving, unit_read, operator_read, answer_left, first_term, fault_or, join, nothing_of, before_operator, at_once}
+use Rattle.duration_str.specs.Internal.Rest.{checked_combination}
 use Rattle.duration_str.proofs.Sentences.FaultLemmas.{term_below_no_fault}
 use Rattle.duration_str.proofs.Sentences.FrontLemmas.{begins_allowed, table_front}
 use Rattle.duration_str.proofs.Sentences.SumLemmas.{AreAdded, terms_added}
@@ -57,17 +40,21 @@ abbrev pub next_terms : Bool → Option CondUnit → Rest → Ended
 next_terms no_calc None rest = record { terms = []; fault = None }
 next_terms no_calc (Some op) rest = left_after no_calc op rest
 
+-- no terms, and this fault
+abbrev pub no_terms : Cause → Ended
+no_terms cause = record { terms = []; fault = Some cause }
+
 -- the terms after a unit, given what was read as the operator after it
 abbrev pub after_unit : Bool → Result (Read (Option CondUnit)) Cause → Ended
 after_unit no_calc (Ok r) = next_terms no_calc r.item r.rest
-after_unit no_calc (Err cause) = record { terms = []; fault = Some cause }
+after_unit no_calc (Err cause) = no_terms cause
 
 -- the terms from the number n on, given what was read as the unit after it
 abbrev pub after_number : Bool → CondUnit → ℕ → Result (Read TimeUnit) Cause → Ended
 after_number no_calc op n (Ok r) =
     let more = after_unit no_calc (operator_read no_calc r.rest) in
     record { terms = record { operator = op; number = n; length = nanos_of r.item } ∷ more.terms; fault = more.fault }
-after_number no_calc op n (Err cause) = record { terms = []; fault = Some cause }
+after_number no_calc op n (Err cause) = no_terms cause
 
 with_unit : (op : CondUnit) (n : ℕ) (u : TimeUnit) (front rest : List Terminal)
     → terms_after op (complete (number n ∷ word (Some u) ∷ front) rest)
@@ -89,46 +76,25 @@ at_operator op next front (terminal ∷ rest) = refl
 -- The terms from a number on are determined by the unit and the operator read after it.
 terms_read : (no_calc : Bool) (op : CondUnit) (at n : ℕ) (rest : Rest)
     → left_after no_calc op (terminal_at at (number n) rest) ≡ after_number no_calc op n (unit_read no_calc rest)
-terms_read no_calc op at n (end_at p) = refl
-terms_read no_calc op at n (terminal_at p (number m) rest) = refl
-terms_read no_calc op at n (terminal_at p other rest) = refl
-terms_read no_calc op at n (terminal_at p (word None) rest) = refl
-terms_read no_calc op at n (terminal_at p (word (Some u)) (end_at q)) = refl
 terms_read no_calc op at n (terminal_at p (word (Some u)) (terminal_at q (number m) rest)) =
     let here = terminal_at q (number m) rest in
-    ap (λ terms. record { terms = terms; fault = (left_after no_calc Plus here).fault })
-    (with_unit op n u (front_in no_calc here) (after_in no_calc here))
-terms_read no_calc op at n (terminal_at p (word (Some u)) (terminal_at q (word v) rest)) = refl
-terms_read no_calc op at n (terminal_at p (word (Some u)) (terminal_at q other rest)) = refl
-terms_read true op at n (terminal_at p (word (Some u)) (terminal_at q (operator next) rest)) = refl
-terms_read false op at n (terminal_at p (word (Some u)) (terminal_at q (operator next) (end_at r))) = refl
+    rw (with_unit op n u (front_in no_calc here) (after_in no_calc here))
 terms_read false op at n (terminal_at p (word (Some u)) (terminal_at q (operator next) (terminal_at r (number m) rest))) =
     let here = terminal_at r (number m) rest in
     let front = front_in false here in
     let after = after_in false here in
-    ap (λ terms. record { terms = terms; fault = (left_after false next here).fault })
-    (with_unit op n u (operator next ∷ front) after
-    ∙ ap (λ terms. record { operator = op; number = n; length = nanos_of u } ∷ terms) (at_operator Plus next front after))
-terms_read false op at n (terminal_at p (word (Some u)) (terminal_at q (operator next) (terminal_at r (word v) rest))) = refl
-terms_read false op at n (terminal_at p (word (Some u)) (terminal_at q (operator next) (terminal_at r (operator o) rest))) = refl
-terms_read false op at n (terminal_at p (word (Some u)) (terminal_at q (operator next) (terminal_at r other rest))) = refl
-terms_read true op at n (terminal_at p (operator next) rest) = refl
-terms_read false op at n (terminal_at p (operator next) (end_at q)) = refl
+    rw (with_unit op n u (operator next ∷ front) after, at_operator Plus next front after)
 terms_read false op at n (terminal_at p (operator next) (terminal_at q (number m) rest)) =
     let here = terminal_at q (number m) rest in
-    ap (λ terms. record { terms = terms; fault = (left_after false next here).fault })
-    (without_unit op next n (front_in false here) (after_in false here))
-terms_read false op at n (terminal_at p (operator next) (terminal_at q (word v) rest)) = refl
-terms_read false op at n (terminal_at p (operator next) (terminal_at q (operator o) rest)) = refl
-terms_read false op at n (terminal_at p (operator next) (terminal_at q other rest)) = refl
+    rw (without_unit op next n (front_in false here) (after_in false here))
+terms_read no_calc op at n rest = refl
 
 -- A number is taken, and r is the result of reading the unit after it.
 pub number_taken : (no_calc : Bool) (op : CondUnit) (s a : Tokens) (n : Option ℕ) (taken : TakesNumber s a n)
     (r : Result (Read TimeUnit) Cause) → r ≡ unit_read no_calc (rest_of a)
     → left_after no_calc op (rest_of s) ≡ after_number no_calc op taken.n r
 number_taken no_calc op s a n taken r is =
-    ap (left_after no_calc op) (after_token s a _ taken.token) ∙ terms_read no_calc op (place_of s) taken.n (rest_of a)
-    ∙ ap (after_number no_calc op taken.n) (sym is)
+    rw (after_token taken.token, terms_read no_calc op (place_of s) taken.n (rest_of a), is)
 
 -- ---- Steps of the answer
 
@@ -140,25 +106,33 @@ with_left no_calc first set later left = answer_with no_calc first set later lef
 abbrev pub total_of : Bool → ℕ → Ended → Result ℕ Cause
 total_of no_calc first left = answer_after_first no_calc first left.terms left.fault
 
--- A property of the terms that are left after any number holds if a number is ahead.
+-- A property of the terms that are left after a number holds if a number is ahead.
 by_number : {A : Type 0} (no_calc : Bool) (f g : Ended → A) (op next : CondUnit) (s : Tokens) → IsAhead s (Some Number)
-    → ((n : ℕ) (r : Result (Read TimeUnit) Cause) → f (after_number no_calc op n r) ≡ g (after_number no_calc next n r))
+    → ((n : ℕ) (r : Read TimeUnit) → f (after_number no_calc op n (Ok r)) ≡ g (after_number no_calc next n (Ok r)))
+    → ((cause : Cause) → f (no_terms cause) ≡ g (no_terms cause))
     → f (left_after no_calc op (rest_of s)) ≡ g (left_after no_calc next (rest_of s))
-by_number no_calc f g op next s ahead same =
+by_number no_calc f g op next s ahead terms none =
     let (n, rest, is) = at_number s ahead in
-    let read = λ (set : CondUnit). ap (left_after no_calc set) is ∙ terms_read no_calc set (place_of s) n rest in
-    ap f (read op) ∙ same n (unit_read no_calc rest) ∙ sym (ap g (read next))
-
--- The first of the later terms sets the operator.
-pub operator_set : (no_calc : Bool) (first : ℕ) (set : CondUnit) (s : Tokens) → IsAhead s (Some Number)
-    → with_left no_calc first set (Ok (nothing_of set)) (left_after no_calc set (rest_of s)) ≡ total_of no_calc first (left_after no_calc set (rest_of s))
-operator_set no_calc first set s ahead =
-    by_number no_calc (with_left no_calc first set (Ok (nothing_of set))) (total_of no_calc first) set set s ahead by
+    rw (is, terms_read no_calc op (place_of s) n rest, terms_read no_calc next (place_of s) n rest)
+    (by n (unit_read no_calc rest))
   where
     by : (n : ℕ) (r : Result (Read TimeUnit) Cause)
-        → with_left no_calc first set (Ok (nothing_of set)) (after_number no_calc set n r) ≡ total_of no_calc first (after_number no_calc set n r)
-    by n (Ok r) = refl
-    by n (Err cause) = refl
+        → f (after_number no_calc op n r) ≡ g (after_number no_calc next n r)
+    by n (Ok r) = terms n r
+    by n (Err cause) = none cause
+
+abbrev pub count : Ended → ℕ
+count left = length left.terms
+
+-- Taking a term leaves fewer.
+pub fewer : (no_calc : Bool) (set next : CondUnit) (s a b d : Tokens) (n : Option ℕ) (u : TimeUnit) → TakesNumber s a n
+    → leaving (rest_of b) (Ok u) ≡ unit_read no_calc (rest_of a)
+    → leaving (rest_of d) (Ok (Some next)) ≡ operator_read no_calc (rest_of b)
+    → IsAhead d (Some Number) → count (left_after no_calc set (rest_of d)) < count (left_after no_calc set (rest_of s))
+fewer no_calc set next s a b d n u taken unit op ahead =
+    let here = ap count (number_taken no_calc set s a n taken _ unit) in
+    let after = ap (λ r. count (after_unit no_calc r)) (sym op) in
+    omega (arith, here, after, by_number no_calc count count set next d ahead (λ n r. refl) (λ cause. refl))
 
 -- The operator that was set is not a fault.
 same_operator : (set : CondUnit) (later : Result ℕ Cause) → before_operator set later set ≡ later
@@ -166,51 +140,35 @@ same_operator Plus (Ok total) = refl
 same_operator Star (Ok total) = refl
 same_operator set (Err cause) = refl
 
--- Checking an operator when it is read gives the same answer as checking it with its term.
-pub operator_next : (no_calc : Bool) (first : ℕ) (set next : CondUnit) (later : Result ℕ Cause) (s : Tokens) → IsAhead s (Some Number)
-    → with_left no_calc first set (before_operator set later next) (left_after no_calc set (rest_of s))
-    ≡ with_left no_calc first set later (left_after no_calc next (rest_of s))
-operator_next no_calc first set next later s ahead =
-    by_number no_calc (with_left no_calc first set (before_operator set later next)) (with_left no_calc first set later) set next s ahead by
-  where
-    by : (n : ℕ) (r : Result (Read TimeUnit) Cause) → with_left no_calc first set (before_operator set later next) (after_number no_calc set n r)
-        ≡ with_left no_calc first set later (after_number no_calc next n r)
-    by n (Ok r) =
-        ap (λ x. let sum = join set x (term_value None (u64_from n) (nanos_of r.item)) in
-        fault_or (at_once no_calc (join set (Ok first) sum)) (with_left no_calc first set sum (after_unit no_calc (operator_read no_calc r.rest))))
-        (same_operator set (before_operator set later next))
-    by n (Err cause) = refl
+module _ (no_calc : Bool) (first : ℕ) (set : CondUnit) where
+  -- The first of the later terms sets the operator.
+  pub operator_set : (s : Tokens) → IsAhead s (Some Number)
+      → with_left no_calc first set (Ok (nothing_of set)) (left_after no_calc set (rest_of s))
+      ≡ total_of no_calc first (left_after no_calc set (rest_of s))
+  operator_set s ahead =
+      by_number no_calc (with_left no_calc first set (Ok (nothing_of set))) (total_of no_calc first) set set s ahead
+      (λ n r. refl) (λ cause. refl)
 
--- A later term is read up to b and added: `next` is the later terms' value including it, `fault` ends the loop at once,
--- and r is read as the operator after it.
-pub later_read : (no_calc : Bool) (first : ℕ) (set : CondUnit) (later next all : Result ℕ Cause) (fault : Option Cause) (s a b : Tokens)
-    (n : Option ℕ) (u : TimeUnit) (r : Result (Read (Option CondUnit)) Cause)
-    → with_left no_calc first set later (left_after no_calc set (rest_of s)) ≡ all → TakesNumber s a n
-    → leaving (rest_of b) (Ok u) ≡ unit_read no_calc (rest_of a) → next ≡ join set later (term_value None n (nanos_of u))
-    → fault ≡ at_once no_calc (join set (Ok first) next) → r ≡ operator_read no_calc (rest_of b)
-    → fault_or fault (with_left no_calc first set next (after_unit no_calc r)) ≡ all
-later_read no_calc first set later next all fault s a b n u r same taken unit is stops op =
-    let after = after_unit no_calc (operator_read no_calc (rest_of b)) in
-    let added = is ∙ (λ i. join set (sym (same_operator set later) i) (term_value None (taken.is_value i) (nanos_of u))) in
-    (λ i. fault_or (stops i) (with_left no_calc first set next (after_unit no_calc (op i))))
-    ∙ ap (λ x. fault_or (at_once no_calc (join set (Ok first) x)) (with_left no_calc first set x after)) added
-    ∙ sym (ap (with_left no_calc first set later) (number_taken no_calc set s a n taken _ unit)) ∙ same
+  -- Checking an operator when it is read gives the same answer as checking it with its term.
+  pub operator_next : (next : CondUnit) (later : Result ℕ Cause) (s : Tokens) → IsAhead s (Some Number)
+      → with_left no_calc first set (before_operator set later next) (left_after no_calc set (rest_of s))
+      ≡ with_left no_calc first set later (left_after no_calc next (rest_of s))
+  operator_next next later s ahead =
+      by_number no_calc (with_left no_calc first set (before_operator set later next))
+      (with_left no_calc first set later)
+      set next s ahead (λ n r. rw (same_operator set (before_operator set later next))) (λ cause. refl)
 
-abbrev pub count : Ended → ℕ
-count left = length left.terms
-
--- Taking a term leaves fewer.
-pub fewer : (no_calc : Bool) (set next : CondUnit) (s a b d : Tokens) (n : Option ℕ) (u : TimeUnit) → TakesNumber s a n
-    → leaving (rest_of b) (Ok u) ≡ unit_read no_calc (rest_of a) → leaving (rest_of d) (Ok (Some next)) ≡ operator_read no_calc (rest_of b)
-    → IsAhead d (Some Number) → count (left_after no_calc set (rest_of d)) < count (left_after no_calc set (rest_of s))
-fewer no_calc set next s a b d n u taken unit op ahead =
-    let here = ap count (number_taken no_calc set s a n taken _ unit) in
-    let after = ap (λ r. count (after_unit no_calc r)) (sym op) in
-    omega (arith, here, after, by_number no_calc count count set next d ahead by)
-  where
-    by : (n : ℕ) (r : Result (Read TimeUnit) Cause) → count (after_number no_calc set n r) ≡ count (after_number no_calc next n r)
-    by n (Ok r) = refl
-    by n (Err cause) = refl
+  -- A later term is read up to b and added: `next` is the later terms' value including it.
+  pub later_step : {next : Result ℕ Cause} {s a : Tokens} {n : Option ℕ} (later : Result ℕ Cause) (b : Tokens)
+      (u : TimeUnit)
+      → TakesNumber s a n → leaving (rest_of b) (Ok u) ≡ unit_read no_calc (rest_of a)
+      → next ≡ checked_combination set later (term_value None n (nanos_of u))
+      → with_left no_calc first set later (left_after no_calc set (rest_of s))
+      ≡ fault_or (at_once no_calc (checked_combination set (Ok first) next))
+      (with_left no_calc first set next (after_unit no_calc (operator_read no_calc (rest_of b))))
+  later_step {s = s} {a = a} {n = n} later b u taken unit is =
+      ap (with_left no_calc first set later) (number_taken no_calc set s a n taken _ unit)
+      ∙ rw (same_operator set later, is, taken.is_value)
 
 -- ---- The answer in order: the early fault, the syntax fault, the late fault, and the value
 
@@ -223,13 +181,16 @@ whole_told true cause (Some fault) terminals = refl
 
 answer_told : (no_calc : Bool) (place : ℕ) (front rest : List Terminal) (early : Option Cause)
     → fault_or early (fault_or (fault_at place (kinds_after no_calc (last_of None front)) rest)
-    (fault_or (late_fault no_calc front) (Ok (unwrap_or (value_of (terms_of front)) 0)))) ≡ answer_after no_calc place front rest early
+    (fault_or (late_fault no_calc front) (Ok (unwrap_or (value_of (terms_of front)) 0))))
+    ≡ answer_after no_calc place front rest early
 answer_told no_calc place front rest (Some cause) = refl
-answer_told no_calc place front [] None = whole_told (kinds_after no_calc (last_of None front)).text_end _ (late_fault no_calc front) front
+answer_told no_calc place front [] None =
+    whole_told (kinds_after no_calc (last_of None front)).text_end _ (late_fault no_calc front) front
 answer_told no_calc place front (terminal ∷ rest) None = refl
 
 in_order : (no_calc : Bool) (place : ℕ) (front rest : List Terminal)
-    → answer_of no_calc (terms_of (complete front rest)) (fault_at place (kinds_after no_calc (last_of None front)) rest) ≡ answer_at no_calc place front rest
+    → answer_of no_calc (terms_of (complete front rest))
+    (fault_at place (kinds_after no_calc (last_of None front)) rest) ≡ answer_at no_calc place front rest
 in_order no_calc place front [] = answer_told no_calc place front [] _
 in_order no_calc place front (terminal ∷ rest) = answer_told no_calc place front (terminal ∷ rest) _
 
@@ -238,72 +199,69 @@ in_order no_calc place front (terminal ∷ rest) = answer_told no_calc place fro
 without_last_plus : (terminals : List Terminal) → AllPlus terminals → AllPlus (without_last_number terminals)
 without_last_plus [] a = tt
 without_last_plus (number n ∷ []) a = tt
-without_last_plus (number n ∷ terminal ∷ terminals) a = without_last_plus (terminal ∷ terminals) a
-without_last_plus (word u ∷ terminals) a = without_last_plus terminals a
 without_last_plus (operator op ∷ terminals) a = (a.0, without_last_plus terminals a.1)
-without_last_plus (other ∷ terminals) a = without_last_plus terminals a
+without_last_plus (t ∷ terminals) a = without_last_plus terminals a
 
 complete_plus : (front rest : List Terminal) → AllPlus front → AllPlus (complete front rest)
 complete_plus front [] a = a
 complete_plus front (terminal ∷ rest) a = without_last_plus front a
 
 -- Under `no_calc` all terms that are left are added.
-left_added : (no_calc : Bool) (op : CondUnit) (rest : Rest) → op ≡ Plus → IsTrue no_calc → AreAdded (left_after no_calc op rest).terms
-left_added false op rest plus h = absurd (true≢false (sym h))
+left_added : (no_calc : Bool) (op : CondUnit) (rest : Rest) → op ≡ Plus → IsTrue no_calc
+    → AreAdded (left_after no_calc op rest).terms
+left_added false op rest plus h = cc h
 left_added true op rest plus h =
-    let terminals = terminals_in rest in
-    let front = take (front_of true terminals) terminals in
-    let stands = complete front (drop (front_of true terminals) terminals) in
-    subst (λ set. AreAdded (terms_after set stands)) (sym plus)
-    (terms_added stands (complete_plus front _ (allowed_plus None front (begins_allowed true front (table_front true terminals).begins))))
+    let front = front_in true rest in
+    let allowed = begins_allowed true front (table_front true (terminals_in rest)).begins in
+    rw plus (terms_added (complete front (after_in true rest)) (complete_plus front _ (allowed_plus None front allowed)))
 
 -- the answer, given the first value or its fault, and what is left after it
 abbrev pub by_first : Bool → Result ℕ Cause → Ended → Result ℕ Cause
 by_first no_calc (Ok first) left = total_of no_calc first left
 by_first no_calc (Err cause) left = Err cause
 
-first_told : (no_calc : Bool) (place : Option ℕ) (f : Term) (left : Ended)
-    → fault_or (term_fault place f) (total_of no_calc (value_of_term f) left) ≡ by_first no_calc (term_value place (u64_from f.number) f.length) left
-first_told no_calc place f left = by (term_fault place f) ∙ ap (λ r. by_first no_calc r left) (sym (term_told place f))
-  where
-    by : (fault : Option Cause) → fault_or fault (total_of no_calc (value_of_term f) left) ≡ by_first no_calc (fault_or fault (Ok (value_of_term f))) left
-    by None = refl
-    by (Some cause) = refl
+by_first-fault : (no_calc : Bool) (fault : Option Cause) (first : ℕ) (left : Ended)
+    → by_first no_calc (fault_or fault (Ok first)) left ≡ fault_or fault (total_of no_calc first left)
+by_first-fault no_calc None first left = refl
+by_first-fault no_calc (Some cause) first left = refl
 
 from_start : (no_calc : Bool) (rest : Rest) (left : Ended) → left_after no_calc Plus rest ≡ left
     → answer_of no_calc left.terms left.fault ≡ answer_left no_calc [] rest
 from_start no_calc rest left is =
-    let terminals = terminals_in rest in
-    let n = front_of no_calc terminals in
-    ap (λ (l : Ended). answer_of no_calc l.terms l.fault) (sym is) ∙ in_order no_calc (start_left n rest) (take n terminals) (drop n terminals)
+    ap (λ (l : Ended). answer_of no_calc l.terms l.fault) (sym is)
+    ∙ in_order no_calc (start_left (front_of no_calc (terminals_in rest)) rest) (front_in no_calc rest)
+    (after_in no_calc rest)
 
-no_terms : (no_calc : Bool) (cause : Cause) → Err cause ≡ answer_of no_calc [] (Some cause)
-no_terms false cause = refl
-no_terms true cause = refl
+fault_alone : (no_calc : Bool) (cause : Cause) → Err cause ≡ answer_of no_calc [] (Some cause)
+fault_alone false cause = refl
+fault_alone true cause = refl
 
 -- The first unit cannot be read.
-pub first_unread : (no_calc : Bool) (s m a : Tokens) (n : Option ℕ) (cause : Cause) → rest_of m ≡ rest_of s → TakesNumber m a n
-    → Err cause ≡ unit_read no_calc (rest_of a) → Err cause ≡ answer_left no_calc [] (rest_of s)
+pub first_unread : (no_calc : Bool) (s m a : Tokens) (n : Option ℕ) (cause : Cause) → rest_of m ≡ rest_of s
+    → TakesNumber m a n → Err cause ≡ unit_read no_calc (rest_of a) → Err cause ≡ answer_left no_calc [] (rest_of s)
 first_unread no_calc s m a n cause same taken unit =
-    no_terms no_calc cause ∙ from_start no_calc (rest_of m) _ (number_taken no_calc Plus m a n taken _ unit)
-    ∙ ap (answer_left no_calc []) same
+    rw (← same, ← from_start no_calc (rest_of m) _ (number_taken no_calc Plus m a n taken _ unit))
+    (fault_alone no_calc cause)
 
--- The first term is read up to b, and has this value or fault; r is read as the operator after it.
-pub first_read : (no_calc : Bool) (s m a b : Tokens) (n : Option ℕ) (u : TimeUnit) (first : Result ℕ Cause) (r : Result (Read (Option CondUnit)) Cause)
+-- The first term is read up to b, and has this value or fault.
+pub first_step : {m a : Tokens} {n : Option ℕ} {first : Result ℕ Cause} (no_calc : Bool) (s b : Tokens) (u : TimeUnit)
     → rest_of m ≡ rest_of s → TakesNumber m a n → leaving (rest_of b) (Ok u) ≡ unit_read no_calc (rest_of a)
-    → first ≡ term_value (Some 0) n (nanos_of u) → r ≡ operator_read no_calc (rest_of b)
-    → by_first no_calc first (after_unit no_calc r) ≡ answer_left no_calc [] (rest_of s)
-first_read no_calc s m a b n u first r same taken unit is op =
+    → first ≡ term_value (Some 0) n (nanos_of u)
+    → answer_left no_calc [] (rest_of s)
+    ≡ by_first no_calc first (after_unit no_calc (operator_read no_calc (rest_of b)))
+first_step {m = m} {a = a} {n = n} no_calc s b u same taken unit is =
     let t = term_of taken.n u in
     let more = after_unit no_calc (operator_read no_calc (rest_of b)) in
     let read = number_taken no_calc Plus m a n taken _ unit in
-    (λ i. by_first no_calc ((is ∙ ap (λ k. term_value (Some 0) k (nanos_of u)) taken.is_value) i) (after_unit no_calc (op i)))
-    ∙ sym (one_by_one no_calc t more.terms more.fault
-    (λ h. subst (λ (l : Ended). AreAdded l.terms) read (left_added no_calc Plus (rest_of m) refl h)) ∙ first_told no_calc (Some 0) t more)
-    ∙ from_start no_calc (rest_of m) _ read ∙ ap (answer_left no_calc []) same
+    let added =
+    λ (h : IsTrue no_calc). subst (λ (l : Ended). AreAdded l.terms) read (left_added no_calc Plus (rest_of m) refl h) in
+    let whole = one_by_one no_calc t more.terms more.fault added in
+    let start = from_start no_calc (rest_of m) _ read in
+    rw (← same, ← start, is, taken.is_value, term_told (Some 0) t, by_first-fault no_calc, whole)
 
 first_stands : (first : ℕ) (set : CondUnit) (front rest : List Terminal)
-    → terms_of (complete (first_term first set ++ front) rest) ≡ term_of first NanoSecond ∷ terms_after set (complete front rest)
+    → terms_of (complete (first_term first set ++ front) rest)
+    ≡ term_of first NanoSecond ∷ terms_after set (complete front rest)
 first_stands first set front [] = refl
 first_stands first set front (terminal ∷ rest) = refl
 
@@ -313,18 +271,22 @@ same_kinds no_calc op [] = refl
 same_kinds no_calc op (terminal ∷ front) = refl
 
 -- A first term of this many nanoseconds can stand for the first value.
-pub from_later : (no_calc : Bool) (first : ℕ) (set : CondUnit) (rest : Rest) → first < 2 ^ 64 → (IsTrue no_calc → set ≡ Plus)
+pub from_later : (no_calc : Bool) (first : ℕ) (set : CondUnit) (rest : Rest) → first < 2 ^ 64
+    → (IsTrue no_calc → set ≡ Plus)
     → total_of no_calc first (left_after no_calc set rest) ≡ answer_left no_calc (first_term first set) rest
 from_later no_calc first set rest below plus =
-    let terminals = terminals_in rest in
-    let n = front_of no_calc terminals in
-    let front = take n terminals in
+    let front = front_in no_calc rest in
+    let after = after_in no_calc rest in
     let left = left_after no_calc set rest in
     let f = term_of first NanoSecond in
     let value : first ≡ value_of_term f = omega arith in
-    let none = term_below_no_fault (Some 0) f (omega arith) (omega (arith, below)) in
-    (λ i. fault_or (sym none i) (total_of no_calc (value i) left))
-    ∙ sym (one_by_one no_calc f left.terms left.fault (λ h. (refl, omega arith, left_added no_calc set rest (plus h) h)))
-    ∙ (λ i. answer_of no_calc (sym (first_stands first set front (drop n terminals)) i)
-    (fault_at (start_left n rest) (sym (same_kinds no_calc set front) i) (drop n terminals)))
-    ∙ in_order no_calc (start_left n rest) (first_term first set ++ front) (drop n terminals)
+    let none = sym (term_below_no_fault (Some 0) f (omega arith) (omega (arith, below))) in
+    let added : IsTrue no_calc → AreAdded (f ∷ left.terms) =
+    λ h. (refl, omega arith, left_added no_calc set rest (plus h) h) in
+    let terms = sym (first_stands first set front after) in
+    let kinds = sym (same_kinds no_calc set front) in
+    let place = start_left (front_of no_calc (terminals_in rest)) rest in
+    (λ i. fault_or (none i) (total_of no_calc (value i) left))
+    ∙ sym (one_by_one no_calc f left.terms left.fault added)
+    ∙ (λ i. answer_of no_calc (terms i) (fault_at place (kinds i) after))
+    ∙ in_order no_calc place (first_term first set ++ front) after

@@ -1,57 +1,39 @@
 -- The result of reading everything from the start of a text is the text's answer.
-use Rattle.std.proofs.Common.{◌≡◌, ℕ, zero, suc, ◌<◌, List, [], ◌∷◌, Result, Err, map, take, drop, length, IsUtf8, refl, ap, sym, ◌∙◌, arith}
-use Rattle.std.specs.Str.{chars}
-use Rattle.std.proofs.lemmas.Str.{chars-nil}
-use Rattle.duration_str.specs.declared.options.Options.{Options}
-use Rattle.duration_str.specs.declared.fault.Cause.{Cause}
-use Rattle.duration_str.specs.declared.fault.Cause.TheVariants.{Empty}
-use Rattle.duration_str.specs.declared.token.Tokens.{Tokens}
-use Rattle.duration_str.specs.Text.{byte_len}
-use Rattle.duration_str.specs.Grammar.{terminal_of}
-use Rattle.duration_str.specs.Tokens.{Token, tokens_of, lexemes_of}
-use Rattle.duration_str.specs.Place.{start_after, terminals_of}
-use Rattle.duration_str.specs.Answer.{answer_at, answer, front_of}
-use Rattle.duration_str.specs.Internal.Rest.{rest_from, rest_of, start_left, terminals_in, answer_left}
-use Rattle.duration_str.specs.Tokenizer.{source, options_of, left}
+use Rattle.std.proofs.Common.{◌≡◌, ◌==◌, ℕ, zero, suc, ◌<◌, false, sym, List, [], ◌∷◌, Result, Err, map, length, IsUtf8, refl, arith, chars}
+use Rattle.duration_str.proofs.Common.{chars-nil, Options, Cause, Empty, Tokens, byte_len, terminal_of, tokens_of, lexemes_of, start_after, terminals_of, answer, front_of, rest_from, rest_of, start_left, terminals_in, answer_left, source, options_of, left}
+use Rattle.std.proofs.lemmas.Bool.{eqb-false}
+use Rattle.duration_str.specs.Tokens.{Token}
 use Rattle.duration_str.proofs.OnePass.PlaceLemmas.{byte_count}
 
-all_terminals : (o : Options) (len : ℕ) (tokens : List Token) → terminals_in (rest_from o len tokens) ≡ map (terminal_of o) (lexemes_of tokens)
+all_terminals : (o : Options) (len : ℕ) (tokens : List Token)
+    → terminals_in (rest_from o len tokens) ≡ map (terminal_of o) (lexemes_of tokens)
 all_terminals o len [] = refl
-all_terminals o len (p ∷ tokens) = ap (λ terminals. terminal_of o p.characters ∷ terminals) (all_terminals o len tokens)
+all_terminals o len (p ∷ tokens) = rw (all_terminals o len tokens)
 
-same_start : (o : Options) (n len : ℕ) (tokens : List Token) → start_left n (rest_from o len tokens) ≡ start_after n len tokens
+same_start : (o : Options) (n len : ℕ) (tokens : List Token)
+    → start_left n (rest_from o len tokens) ≡ start_after n len tokens
 same_start o zero len [] = refl
 same_start o (suc n) len [] = refl
 same_start o zero len (p ∷ tokens) = refl
 same_start o (suc n) len (p ∷ tokens) = same_start o n len tokens
 
-nonempty_answer : (o : Options) (text : List ℕ) → 0 < byte_len text → answer o text ≡ answer_left o.no_calc [] (rest_from o (byte_len text) (tokens_of o text))
+nonempty_answer : (o : Options) (text : List ℕ) → 0 < byte_len text
+    → answer o text ≡ answer_left o.no_calc [] (rest_from o (byte_len text) (tokens_of o text))
 nonempty_answer o [] h = absurd (omega arith)
 nonempty_answer o (c ∷ text) h =
     let tokens = tokens_of o (c ∷ text) in
     let len = byte_len (c ∷ text) in
-    let terminals = terminals_of o (c ∷ text) in
-    let n = front_of o.no_calc terminals in
-    ap (λ place. answer_at o.no_calc place (take n terminals) (drop n terminals)) (sym (same_start o n len tokens))
-    ∙ ap (λ ts. let k = front_of o.no_calc ts in answer_at o.no_calc (start_left k (rest_from o len tokens)) (take k ts) (drop k ts))
-    (sym (all_terminals o len tokens))
-
-byte_positive : (n m : ℕ) → m ≡ n → (n ≡ 0 → ⊥) → 0 < m
-byte_positive zero m e h = absurd (h refl)
-byte_positive (suc n) m e h = omega (arith, e)
+    rw (all_terminals o len tokens, same_start o (front_of o.no_calc (terminals_of o (c ∷ text))) len tokens)
 
 -- The result of reading everything from the start of a text is the text's answer.
-pub text_answer : (o : Options) (bs : List ℕ) (terminals : Tokens) (r : Result ℕ Cause) → IsUtf8 bs → (length bs ≡ 0 → ⊥)
-    → source terminals ≡ bs → options_of terminals ≡ o → left terminals ≡ tokens_of o (chars bs)
-    → r ≡ answer_left o.no_calc [] (rest_of terminals) → answer o (chars bs) ≡ r
-text_answer o bs terminals r utf8 h text options tokens is =
+pub text_answer : (o : Options) (bs : List ℕ) (tokens : Tokens) (r : Result ℕ Cause) → IsUtf8 bs
+    → false ≡ (length bs == 0) → source tokens ≡ bs → options_of tokens ≡ o → left tokens ≡ tokens_of o (chars bs)
+    → r ≡ answer_left o.no_calc [] (rest_of tokens) → answer o (chars bs) ≡ r
+text_answer o bs tokens r utf8 filled text options all is =
     let count = byte_count bs utf8 in
-    let positive : 0 < byte_len (chars bs) = byte_positive (length bs) (byte_len (chars bs)) count h in
-    nonempty_answer o (chars bs) positive
-    ∙ ap (λ n. answer_left o.no_calc [] (rest_from o n (tokens_of o (chars bs)))) (count ∙ ap length (sym text))
-    ∙ (λ i. answer_left o.no_calc [] (rest_from (sym options i) (length (source terminals)) (sym tokens i)))
-    ∙ sym is
+    let some = eqb-false (length bs) 0 (sym filled) in
+    rw (nonempty_answer o (chars bs) (omega (arith, count, some)), is, count, all, options, text)
 
 pub empty_answer : (o : Options) (bs : List ℕ) → length bs ≡ 0 → answer o (chars bs) ≡ Err Empty
-empty_answer o [] h = ap (answer o) chars-nil
+empty_answer o [] h = rw chars-nil
 empty_answer o (b ∷ bs) h = absurd (omega arith)

@@ -1,11 +1,8 @@
 -- The steps of writing a number in decimal, and its length.
-use Rattle.std.proofs.Common.{◌≡◌, ℕ, suc, ◌+◌, ◌/◌, ◌%◌, ◌^◌, ◌<◌, ◌≤◌, ◌++◌, List, [], ◌∷◌, length, decimal, arith, append_assoc, sym, ap, ◌∙◌, length-append, ltb, refl}
-use Rattle.std.proofs.lemmas.Bool.{ltb-true}
-use Rattle.std.proofs.lemmas.Fmt.{decimal_digit, decimal_step, decimal_by_steps, decimal_nonempty, length-decimal-le}
+use Rattle.std.proofs.Common.{◌≡◌, ℕ, suc, ◌+◌, ◌/◌, ◌%◌, ◌^◌, ◌<◌, ◌≤◌, ◌++◌, List, [], ◌∷◌, length, decimal, arith, append_assoc, sym, ap, ◌∙◌, length-append, ltb, refl, ltb-true}
+use Rattle.duration_str.proofs.Common.{decimal_digit, decimal_nonempty, length-decimal-le, pow-succ', TimeUnit, greatest_count}
+use Rattle.std.proofs.lemmas.Fmt.{decimal_step, decimal_by_steps}
 use Rattle.std.proofs.lemmas.List.{take_more_set}
-use Rattle.std.proofs.Math.Nat.{pow-succ'}
-use Rattle.duration_str.specs.declared.unit.TimeUnit.{TimeUnit}
-use Rattle.duration_str.specs.Internal.PrintedBytes.{greatest_count}
 use Rattle.duration_str.proofs.Characters.EachUnit.{all_units}
 
 pub length_one : (n : ℕ) → n < 10 → length (decimal n) ≡ 1
@@ -15,8 +12,8 @@ pub length_step : (n : ℕ) → 10 ≤ n → n < 2 ^ 64 → length (decimal n) �
 length_step n low high = ap length (decimal_step n low high) ∙ length-append _ _
 
 -- The last digit after those of n / 10 gives the digits of n.
-pub put_last : (bytes before after : List ℕ) (n : ℕ) → after ≡ before ++ decimal (n % 10) → before ≡ bytes ++ decimal (n / 10) → 10 ≤ n → n < 2 ^ 64
-    → after ≡ bytes ++ decimal n
+pub put_last : (bytes before after : List ℕ) (n : ℕ) → after ≡ before ++ decimal (n % 10)
+    → before ≡ bytes ++ decimal (n / 10) → 10 ≤ n → n < 2 ^ 64 → after ≡ bytes ++ decimal n
 put_last bytes before after n last first low high =
     last ∙ ap (λ bs. bs ++ decimal (n % 10)) first ∙ append_assoc bytes (decimal (n / 10)) (decimal (n % 10))
     ∙ ap (λ digits. bytes ++ (decimal (n / 10) ++ digits)) (decimal_digit (n % 10) (omega arith))
@@ -27,13 +24,15 @@ pub ruleset put_steps = (decimal_digit, length_one, length_step, take_more_set)
 -- a number is below 10 to the power of the number of its digits
 below_power : (n : ℕ) → n < 2 ^ 64 → n < 10 ^ length (decimal n)
 below_power = decimal_by_steps (λ n ds. n < 10 ^ length ds) (λ n small. omega arith) (λ n ds big below.
-    let longer : length (ds ++ (48 + n % 10) ∷ []) ≡ suc (length ds) = omega (arith, length-append ds ((48 + n % 10) ∷ [])) in
+    let longer : length (ds ++ (48 + n % 10) ∷ []) ≡ suc (length ds) =
+    omega (arith, length-append ds ((48 + n % 10) ∷ [])) in
     rw (longer, pow-succ' 10 (length ds)) (omega (arith, below)))
 
 greatest_fits : (u : TimeUnit) → greatest_count u < 2 ^ 64
 greatest_fits u = ltb-true (greatest_count u) (2 ^ 64) (all_units (λ v. ltb (greatest_count v) (2 ^ 64)) refl u)
 
-pub length_count : (u : TimeUnit) (count : ℕ) → count ≤ greatest_count u → length (decimal count) ≤ length (decimal (greatest_count u))
+pub length_count : (u : TimeUnit) (count : ℕ) → count ≤ greatest_count u
+    → length (decimal count) ≤ length (decimal (greatest_count u))
 length_count u count h =
     let fits = greatest_fits u in
     length-decimal-le (length (decimal (greatest_count u))) count (decimal_nonempty (greatest_count u) fits)

@@ -1,48 +1,29 @@
 -- The bytes built unit by unit are the UTF-8 of the printed text.
-use Rattle.std.proofs.Common.{◌≡◌, ℕ, ◌+◌, ◌*◌, ◌/◌, ◌%◌, ◌^◌, ◌<◌, ◌≤◌, ◌==◌, false, List, [], ◌∷◌, ◌++◌, length, take, map, decimal, encode_utf8_all, refl, ap, sym, ◌∙◌, inl, inr, arith, length-append, append_assoc, append-nil, eq-zero-or-pos, lit<}
-use Rattle.std.specs.List.{flat_map}
-use lib.Chars.{codes}
-use Rattle.std.specs.Str.{IsUtf8}
-use Rattle.std.proofs.Math.Nat.{div-le_self, mod-le}
-use Rattle.std.proofs.lemmas.Bool.Decides.{nat_tests}
+use Rattle.std.proofs.Common.{◌≡◌, ℕ, ◌+◌, ◌*◌, ◌/◌, ◌%◌, ◌^◌, ◌<◌, ◌≤◌, ◌==◌, List, [], ◌∷◌, ◌++◌, length, take, map, decimal, encode_utf8_all, refl, sym, inl, inr, arith, length-append, append_assoc, append-nil, lit<, flat_map, codes, IsUtf8, div-le_self, length-take-le}
+use Rattle.duration_str.proofs.Common.{cases_Bool, encodes-append, encodes-IsAscii, TimeUnit, Year, Second, units, row_of, nanos_of, unit_lengths, printed_counts, spaced, counts_of, with_space, with_part, with_parts, units_below_year}
+use Rattle.std.proofs.Math.Nat.{mod-le}
 use Rattle.std.proofs.lemmas.Fmt.{IsAscii-decimal_wide, decimal_by_steps_wide}
-use Rattle.std.proofs.lemmas.List.{length-take-le}
-use Rattle.std.proofs.lemmas.Str.{encodes-append, encodes-IsAscii, IsUtf8-append, IsUtf8-from_ascii, IsUtf8-nil}
-use Rattle.duration_str.specs.declared.unit.TimeUnit.{TimeUnit}
-use Rattle.duration_str.specs.declared.unit.TimeUnit.TheVariants.{Year, Second}
-use Rattle.duration_str.specs.Units.{units, row_of, nanos_of, unit_lengths}
-use Rattle.duration_str.specs.Printing.{printed_parts, printed_counts, spaced, counts_of}
-use Rattle.duration_str.specs.Internal.PrintedBytes.{with_space, with_part, with_parts, units_below_year}
+use Rattle.std.proofs.lemmas.Str.{IsUtf8-append, IsUtf8-from_ascii, IsUtf8-nil}
 use Rattle.duration_str.proofs.Characters.NameLemmas.{scalar_name}
+use Rattle.duration_str.proofs.Printer.PrintingLemmas.{kept, part, parts_kept}
 
-with_part_none : (bytes : List ℕ) (u : TimeUnit) (count : ℕ) → count ≡ 0 → with_part bytes u count ≡ bytes
-with_part_none bytes u count h = rw h
+-- the counts above 0 of this many nanoseconds in these units
+abbrev counts_in : List TimeUnit → ℕ → List (ℕ × TimeUnit)
+counts_in us nanos = kept us (counts_of (map nanos_of us) nanos)
 
-with_part_more : (bytes : List ℕ) (u : TimeUnit) (count : ℕ) → 0 < count
-    → with_part bytes u count ≡ with_space bytes ++ (decimal count ++ encode_utf8_all (row_of u).printed)
-with_part_more bytes u count h = grind (arith, nat_tests)
+-- the bytes, and the parts of these counts after them
+abbrev with_counts : List ℕ → List (ℕ × TimeUnit) → List ℕ
+with_counts bytes [] = bytes
+with_counts bytes (p ∷ ps) = with_counts (with_space bytes ++ encode_utf8_all (part p)) ps
 
--- the printed parts for this many nanoseconds in these units
-abbrev parts_of : List TimeUnit → ℕ → List (List ℕ)
-parts_of us nanos = printed_parts us (counts_of (map nanos_of us) nanos)
+-- the parts of these counts, each after a space
+abbrev spaced_parts : List (ℕ × TimeUnit) → List ℕ
+spaced_parts ps = flat_map (λ part. codes " " ++ part) (map part ps)
 
-parts_none : (u : TimeUnit) (us : List TimeUnit) (nanos : ℕ) → nanos / nanos_of u ≡ 0 → parts_of (u ∷ us) nanos ≡ parts_of us (nanos % nanos_of u)
-parts_none u us nanos h = rw h
-
-parts_more : (u : TimeUnit) (us : List TimeUnit) (nanos : ℕ) → 0 < nanos / nanos_of u
-    → parts_of (u ∷ us) nanos ≡ (decimal (nanos / nanos_of u) ++ (row_of u).printed) ∷ parts_of us (nanos % nanos_of u)
-parts_more u us nanos h = let e : (nanos / nanos_of u == 0) ≡ false = grind (arith, nat_tests) in rw e
-
--- the parts with a space before each
-abbrev spaced_parts : List (List ℕ) → List ℕ
-spaced_parts parts = flat_map (λ p. codes " " ++ p) parts
-
-encode_part : (n : ℕ) (name rest : List ℕ) → n < 10 ^ 64
-    → encode_utf8_all ((decimal n ++ name) ++ rest) ≡ (decimal n ++ encode_utf8_all name) ++ encode_utf8_all rest
-encode_part n name rest h =
-    encodes-append (decimal n ++ name) rest
-    ∙ ap (λ bs. bs ++ encode_utf8_all rest) (encodes-append (decimal n) name
-    ∙ ap (λ bs. bs ++ encode_utf8_all name) (encodes-IsAscii (decimal n) (IsAscii-decimal_wide n h)))
+-- Each count is small enough for what std says of its digits.
+abbrev EachSmall : List (ℕ × TimeUnit) → Type 0
+EachSmall [] = Unit {0}
+EachSmall (p ∷ ps) = (p.0 < 10 ^ 64) × EachSmall ps
 
 smaller_div : (nanos l : ℕ) → nanos < 10 ^ 64 → nanos / l < 10 ^ 64
 smaller_div nanos l h = omega (arith, div-le_self nanos l)
@@ -50,38 +31,46 @@ smaller_div nanos l h = omega (arith, div-le_self nanos l)
 smaller_mod : (nanos l : ℕ) → nanos < 10 ^ 64 → nanos % l < 10 ^ 64
 smaller_mod nanos l h = omega (arith, mod-le nanos l)
 
--- one more part after some bytes, and others after it
-more_after : (bytes : List ℕ) (n : ℕ) (name rest : List ℕ) → n < 10 ^ 64
-    → (with_space bytes ++ (decimal n ++ encode_utf8_all name)) ++ encode_utf8_all rest ≡ with_space bytes ++ encode_utf8_all ((decimal n ++ name) ++ rest)
-more_after bytes n name rest h =
-    append_assoc (with_space bytes) (decimal n ++ encode_utf8_all name) (encode_utf8_all rest)
-    ∙ ap (λ bs. with_space bytes ++ bs) (sym (encode_part n name rest h))
+counts_small : (us : List TimeUnit) (nanos : ℕ) → nanos < 10 ^ 64 → EachSmall (counts_in us nanos)
+counts_small [] nanos h = tt
+counts_small (u ∷ us) nanos h =
+    let rest = counts_small us (nanos % nanos_of u) (smaller_mod nanos (nanos_of u) h) in
+    elim (cases_Bool (nanos / nanos_of u == 0)) [
+      | inl e ↦ rw e rest
+      | inr e ↦ rw e (smaller_div nanos (nanos_of u) h, rest)
+    ]
+
+encode_part : (n : ℕ) (name : List ℕ) → n < 10 ^ 64
+    → encode_utf8_all (decimal n ++ name) ≡ decimal n ++ encode_utf8_all name
+encode_part n name h = rw (encodes-append (decimal n), encodes-IsAscii (decimal n) (IsAscii-decimal_wide n h))
+
+with_parts_counts : (us : List TimeUnit) (bytes : List ℕ) (nanos : ℕ) → nanos < 10 ^ 64
+    → with_parts bytes us nanos ≡ with_counts bytes (counts_in us nanos)
+with_parts_counts [] bytes nanos h = refl
+with_parts_counts (u ∷ us) bytes nanos h =
+    let n = nanos / nanos_of u in
+    let name = (row_of u).printed in
+    let next = with_space bytes ++ encode_utf8_all (decimal n ++ name) in
+    let rest = λ (bs : List ℕ). with_parts_counts us bs (nanos % nanos_of u) (smaller_mod nanos (nanos_of u) h) in
+    elim (cases_Bool (n == 0)) [
+      | inl e ↦ rw e (rest bytes)
+      | inr e ↦ rw (e, ← encode_part n name (smaller_div nanos (nanos_of u) h)) (rest next)
+    ]
 
 space_some : (bytes : List ℕ) → 0 < length bytes → with_space bytes ≡ bytes ++ 32 ∷ []
 space_some [] h = absurd (omega arith)
 space_some (b ∷ bytes) h = refl
 
--- after some bytes, each part follows a space
-grown_after : (us : List TimeUnit) (bytes : List ℕ) (nanos : ℕ) → nanos < 10 ^ 64 → 0 < length bytes
-    → with_parts bytes us nanos ≡ bytes ++ encode_utf8_all (spaced_parts (parts_of us nanos))
+-- After some bytes, each part follows a space.
+counts_after : (ps : List (ℕ × TimeUnit)) (bytes : List ℕ) → 0 < length bytes
+    → with_counts bytes ps ≡ bytes ++ encode_utf8_all (spaced_parts ps)
 unfolding lib.Utf8.encode
-grown_after [] bytes nanos h some = sym (append-nil bytes)
-grown_after (u ∷ us) bytes nanos h some =
-    let n = nanos / nanos_of u in
-    let rest = nanos % nanos_of u in
-    elim (eq-zero-or-pos n) [
-      | inl z ↦ rw (with_part_none bytes u n z, parts_none u us nanos z) (grown_after us bytes rest (smaller_mod nanos (nanos_of u) h) some)
-      | inr more ↦
-          let name = (row_of u).printed in
-          let next = with_space bytes ++ (decimal n ++ encode_utf8_all name) in
-          let longer : 0 < length next = rw (space_some bytes some) (omega (arith, length-append {A = ℕ})) in
-          ap (λ bs. with_parts bs us rest) (with_part_more bytes u n more)
-          ∙ grown_after us next rest (smaller_mod nanos (nanos_of u) h) longer
-          ∙ more_after bytes n name (spaced_parts (parts_of us rest)) (smaller_div nanos (nanos_of u) h)
-          ∙ ap (λ bs. bs ++ encode_utf8_all ((decimal n ++ name) ++ spaced_parts (parts_of us rest))) (space_some bytes some)
-          ∙ append_assoc bytes (32 ∷ []) (encode_utf8_all ((decimal n ++ name) ++ spaced_parts (parts_of us rest)))
-          ∙ ap (λ ps. bytes ++ encode_utf8_all (spaced_parts ps)) (sym (parts_more u us nanos more))
-    ]
+counts_after [] bytes some = sym (append-nil bytes)
+counts_after (p ∷ ps) bytes some =
+    let longer : 0 < length (with_space bytes ++ encode_utf8_all (part p)) =
+    rw (space_some bytes some) (omega (arith, length-append {A = ℕ})) in
+    let rest = encodes-append (part p) (spaced_parts ps) in
+    rw (counts_after ps _ longer, space_some bytes some, rest) (simp append_assoc)
 
 -- the bytes, or `0s` if there are none
 abbrev pub ended : List ℕ → List ℕ
@@ -97,66 +86,57 @@ some_decimal n h =
     decimal_by_steps_wide (λ n ds. 0 < length ds) (λ n small. lit< tt)
     (λ n ds big some. omega (arith, length-append ds ((48 + n % 10) ∷ []))) n h
 
-pub ended_units : (us : List TimeUnit) (nanos : ℕ) → nanos < 10 ^ 64 → ended (with_parts [] us nanos) ≡ encode_utf8_all (spaced (parts_of us nanos))
+ended_counts : (ps : List (ℕ × TimeUnit)) → EachSmall ps
+    → ended (with_counts [] ps) ≡ encode_utf8_all (spaced (map part ps))
 unfolding lib.Utf8.encode
-ended_units [] nanos h = refl
-ended_units (u ∷ us) nanos h =
-    let n = nanos / nanos_of u in
-    let rest = nanos % nanos_of u in
-    elim (eq-zero-or-pos n) [
-      | inl z ↦ rw (with_part_none [] u n z, parts_none u us nanos z) (ended_units us rest (smaller_mod nanos (nanos_of u) h))
-      | inr more ↦
-          let name = (row_of u).printed in
-          let first = decimal n ++ encode_utf8_all name in
-          let small = smaller_div nanos (nanos_of u) h in
-          let some : 0 < length first = omega (arith, length-append (decimal n) (encode_utf8_all name), some_decimal n small) in
-          let grown = ap (λ bs. with_parts bs us rest) (with_part_more [] u n more) ∙ grown_after us first rest (smaller_mod nanos (nanos_of u) h) some in
-          ap ended grown
-          ∙ ended_some _ (omega (arith, length-append first (encode_utf8_all (spaced_parts (parts_of us rest))), some))
-          ∙ more_after [] n name (spaced_parts (parts_of us rest)) small
-          ∙ ap (λ ps. encode_utf8_all (spaced ps)) (sym (parts_more u us nanos more))
-    ]
+ended_counts [] small = refl
+ended_counts (p ∷ ps) small =
+    let first = encode_utf8_all (part p) in
+    let some : 0 < length first =
+    rw (encode_part p.0 (row_of p.1).printed small.0) (omega (arith, length-append {A = ℕ}, some_decimal p.0 small.0)) in
+    let whole = ended_some (first ++ encode_utf8_all (spaced_parts ps)) (omega (arith, length-append {A = ℕ}, some)) in
+    rw (counts_after ps first some, whole, encodes-append (part p))
+
+ended_units : (nanos : ℕ) → nanos < 10 ^ 64
+    → ended (with_parts [] units nanos) ≡ encode_utf8_all (printed_counts (counts_of unit_lengths nanos))
+ended_units nanos h =
+    rw (with_parts_counts units [] nanos h, parts_kept units) (ended_counts _ (counts_small units nanos h))
 
 -- the years from whole seconds, then the rest in nanoseconds
-pub printed_from_seconds : (nanos secs subsec second year : ℕ) (years bytes : List ℕ) → nanos < 10 ^ 64
+pub printed_from_seconds : {secs subsec second year : ℕ} {years bytes : List ℕ} (nanos : ℕ) → nanos < 10 ^ 64
     → secs ≡ nanos / 1_000_000_000 → subsec ≡ nanos % 1_000_000_000 → second ≡ nanos_of Second → year ≡ nanos_of Year
-    → years ≡ with_part [] Year (secs / (year / second)) → bytes ≡ with_parts years units_below_year (secs % (year / second) * second + subsec)
+    → years ≡ with_part [] Year (secs / (year / second))
+    → bytes ≡ with_parts years units_below_year (secs % (year / second) * second + subsec)
     → ended bytes ≡ encode_utf8_all (printed_counts (counts_of unit_lengths nanos))
-printed_from_seconds nanos secs subsec second year years bytes h whole part is_second is_year first more =
+printed_from_seconds {secs} {subsec} {second} {year} nanos h whole part is_second is_year first more =
     let count : secs / (year / second) ≡ nanos / nanos_of Year = rw (is_second, is_year) (omega arith) in
-    let rest : secs % (year / second) * second + subsec ≡ nanos % nanos_of Year = rw (is_second, is_year) (omega arith) in
-    rw (more, first, count, rest) (ended_units units nanos h)
+    let rest : secs % (year / second) * second + subsec ≡ nanos % nanos_of Year =
+    rw (is_second, is_year) (omega arith) in
+    rw (more, first, count, rest) (ended_units nanos h)
 
 pub ended_take : (end : ℕ) (buffer : List ℕ) → 0 < end → end ≤ length buffer → ended (take end buffer) ≡ take end buffer
 ended_take end buffer some inside = ended_some (take end buffer) (rw (length-take-le end buffer inside) some)
 
-IsUtf8-name : (u : TimeUnit) → IsUtf8 (encode_utf8_all (row_of u).printed)
-IsUtf8-name u = ((row_of u).printed, (scalar_name u, refl))
+IsUtf8-part : (p : ℕ × TimeUnit) → p.0 < 10 ^ 64 → IsUtf8 (encode_utf8_all (part p))
+IsUtf8-part p h =
+    let name = (row_of p.1).printed in
+    let digits = IsUtf8-from_ascii (decimal p.0) (IsAscii-decimal_wide p.0 h) in
+    rw (encode_part p.0 name h) (IsUtf8-append (decimal p.0) _ digits (name, (scalar_name p.1, refl)))
 
-IsUtf8-space : (bytes : List ℕ) → IsUtf8 bytes → IsUtf8 (with_space bytes)
+IsUtf8-spaced : (ps : List (ℕ × TimeUnit)) → EachSmall ps → IsUtf8 (encode_utf8_all (spaced_parts ps))
 unfolding lib.Utf8.encode
-IsUtf8-space [] text = text
-IsUtf8-space (b ∷ bytes) text = IsUtf8-append (b ∷ bytes) (32 ∷ []) text (codes " ", (refl, refl))
+IsUtf8-spaced [] small = IsUtf8-nil
+IsUtf8-spaced (p ∷ ps) small =
+    let rest = IsUtf8-append (encode_utf8_all (part p)) _ (IsUtf8-part p small.0) (IsUtf8-spaced ps small.1) in
+    rw (encodes-append (part p) (spaced_parts ps)) (IsUtf8-append (codes " ") _ (codes " ", (refl, refl)) rest)
 
-IsUtf8-part : (bytes : List ℕ) (u : TimeUnit) (n : ℕ) → n < 10 ^ 64 → IsUtf8 bytes → IsUtf8 (with_part bytes u n)
-IsUtf8-part bytes u n h text =
-    elim (eq-zero-or-pos n) [
-      | inl z ↦ rw (with_part_none bytes u n z) text
-      | inr more ↦ rw (with_part_more bytes u n more)
-          (IsUtf8-append (with_space bytes) (decimal n ++ encode_utf8_all (row_of u).printed) (IsUtf8-space bytes text)
-          (IsUtf8-append (decimal n) (encode_utf8_all (row_of u).printed) (IsUtf8-from_ascii (decimal n) (IsAscii-decimal_wide n h)) (IsUtf8-name u)))
-    ]
-
-IsUtf8-parts : (us : List TimeUnit) (bytes : List ℕ) (nanos : ℕ) → nanos < 10 ^ 64 → IsUtf8 bytes → IsUtf8 (with_parts bytes us nanos)
-IsUtf8-parts [] bytes nanos h text = text
-IsUtf8-parts (u ∷ us) bytes nanos h text =
-    IsUtf8-parts us (with_part bytes u (nanos / nanos_of u)) (nanos % nanos_of u) (smaller_mod nanos (nanos_of u) h)
-    (IsUtf8-part bytes u (nanos / nanos_of u) (smaller_div nanos (nanos_of u) h) text)
-
-IsUtf8-ended : (bytes : List ℕ) → IsUtf8 bytes → IsUtf8 (ended bytes)
+IsUtf8-counts : (ps : List (ℕ × TimeUnit)) → EachSmall ps → IsUtf8 (encode_utf8_all (spaced (map part ps)))
 unfolding lib.Utf8.encode
-IsUtf8-ended [] text = (codes "0s", (refl, refl))
-IsUtf8-ended (b ∷ bytes) text = text
+IsUtf8-counts [] small = (codes "0s", (refl, refl))
+IsUtf8-counts (p ∷ ps) small =
+    rw (encodes-append (part p) (spaced_parts ps))
+    (IsUtf8-append (encode_utf8_all (part p)) _ (IsUtf8-part p small.0) (IsUtf8-spaced ps small.1))
 
-pub IsUtf8-printed : (nanos : ℕ) → nanos < 10 ^ 64 → IsUtf8 (encode_utf8_all (printed_counts (counts_of unit_lengths nanos)))
-IsUtf8-printed nanos h = rw (← ended_units units nanos h) (IsUtf8-ended (with_parts [] units nanos) (IsUtf8-parts units [] nanos h IsUtf8-nil))
+pub IsUtf8-printed : (nanos : ℕ) → nanos < 10 ^ 64
+    → IsUtf8 (encode_utf8_all (printed_counts (counts_of unit_lengths nanos)))
+IsUtf8-printed nanos h = rw (parts_kept units) (IsUtf8-counts (counts_in units nanos) (counts_small units nanos h))

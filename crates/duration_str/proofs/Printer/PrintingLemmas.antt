@@ -1,92 +1,63 @@
 -- A printed text is spelled by a sum whose total is the duration.
-use Rattle.std.proofs.Common.{◌≡◌, ℕ, ◌+◌, ◌*◌, ◌%◌, ◌^◌, ◌<◌, Bool, true, false, ◌==◌, List, [], ◌∷◌, ◌++◌, map, drop, Some, if◌then◌else◌, decimal, codes, arith, refl, sym, ap, ap₂, subst, ◌∙◌, append_assoc}
-use Rattle.std.proofs.lemmas.Bool.{eqb-true}
-use Rattle.std.specs.List.{flat_map}
-use Rattle.std.specs.Duration.{FitsDuration}
-use Rattle.duration_str.specs.declared.options.Options.{Options}
-use Rattle.duration_str.specs.declared.unit.TimeUnit.{TimeUnit}
-use Rattle.duration_str.specs.declared.unit.TimeUnit.TheVariants.{Year, Second}
-use Rattle.duration_str.specs.Units.{row_of, units, nanos_of, unit_lengths}
-use Rattle.duration_str.specs.Grammar.{Terminal, number, word, terminal_of, IsSentence, Spells}
-use Rattle.duration_str.specs.Value.{AllPlus, sum_of, terms_of}
-use Rattle.duration_str.specs.Printing.{weighted_sum, IsPrinted, counts_of, printed_parts, spaced, printed_counts}
-use Rattle.duration_str.proofs.Printer.DecimalLemmas.{decimal_terminal}
+use Rattle.std.proofs.Common.{◌≡◌, ℕ, ◌%◌, ◌^◌, ◌<◌, inl, inr, Bool, true, false, ◌==◌, List, [], ◌∷◌, ◌++◌, map, drop, Some, if◌then◌else◌, decimal, codes, arith, refl, append_assoc, eqb-true, flat_map}
+use Rattle.duration_str.proofs.Common.{cases_Bool, decimal_digit, FitsDuration, Options, TimeUnit, Year, Second, row_of, units, nanos_of, unit_lengths, Terminal, number, word, terminal_of, IsSentence, Spells, AllPlus, sum_of, terms_of, weighted_sum, IsPrinted, counts_of, printed_parts, spaced, printed_counts}
+use Rattle.duration_str.proofs.Characters.NumberLemmas.{decimal_terminal}
 use Rattle.duration_str.proofs.LawProofs.GreatestBreakdown.{one_greatest, greatest_breakdown_holds}
 use Rattle.duration_str.proofs.Sentences.SumReadings.{IsSumOf, terms_of_lexemes}
 
--- the lexemes of the nonzero counts, and their terminals
-abbrev printed_lexemes : List TimeUnit → List ℕ → List (List ℕ)
-printed_lexemes (u ∷ us) (n ∷ counts) = if n == 0 then printed_lexemes us counts else decimal n ∷ (row_of u).printed ∷ printed_lexemes us counts
-printed_lexemes _ _ = []
+-- the nonzero counts, each with its unit
+abbrev pub kept : List TimeUnit → List ℕ → List (ℕ × TimeUnit)
+kept (u ∷ us) (n ∷ counts) = if n == 0 then kept us counts else (n, u) ∷ kept us counts
+kept _ _ = []
 
-abbrev pub printed_terminals : List TimeUnit → List ℕ → List Terminal
-printed_terminals (u ∷ us) (n ∷ counts) = if n == 0 then printed_terminals us counts else number n ∷ word (Some u) ∷ printed_terminals us counts
-printed_terminals _ _ = []
+-- the counts, or no second if there are none
+abbrev or_zero : List (ℕ × TimeUnit) → List (ℕ × TimeUnit)
+or_zero [] = (0, Second) ∷ []
+or_zero (p ∷ ps) = p ∷ ps
 
--- the lexemes and terminals of `0s`, if there are no others
-abbrev or_zero_lexemes : List (List ℕ) → List (List ℕ)
-or_zero_lexemes [] = codes "0" ∷ codes "s" ∷ []
-or_zero_lexemes (w ∷ lexemes) = w ∷ lexemes
+-- the lexemes and terminals of counts
+abbrev lexemes : List (ℕ × TimeUnit) → List (List ℕ)
+lexemes [] = []
+lexemes (p ∷ ps) = decimal p.0 ∷ (row_of p.1).printed ∷ lexemes ps
 
-abbrev or_zero_terminals : List Terminal → List Terminal
-or_zero_terminals [] = number 0 ∷ word (Some Second) ∷ []
-or_zero_terminals (t ∷ terminals) = t ∷ terminals
+abbrev pub terminals : List (ℕ × TimeUnit) → List Terminal
+terminals [] = []
+terminals (p ∷ ps) = number p.0 ∷ word (Some p.1) ∷ terminals ps
 
--- the lexemes and terminals of the printed text of a duration
+-- the counts in the printed text of a duration, and its lexemes
+abbrev pub printed : ℕ → List (ℕ × TimeUnit)
+printed nanos = or_zero (kept units (counts_of unit_lengths nanos))
+
 abbrev pub duration_lexemes : ℕ → List (List ℕ)
-duration_lexemes nanos = or_zero_lexemes (printed_lexemes units (counts_of unit_lengths nanos))
-
-abbrev pub duration_terminals : ℕ → List Terminal
-duration_terminals nanos = or_zero_terminals (printed_terminals units (counts_of unit_lengths nanos))
+duration_lexemes nanos = lexemes (printed nanos)
 
 -- ---- The lexemes spell the text
 
--- the parts with a space before each
-abbrev later_parts : List (List ℕ) → List ℕ
-later_parts parts = flat_map (λ p. codes " " ++ p) parts
+abbrev pub part : ℕ × TimeUnit → List ℕ
+part p = decimal p.0 ++ (row_of p.1).printed
 
-later_spelled : (us : List TimeUnit) (counts : List ℕ) → Spells (printed_lexemes us counts) (later_parts (printed_parts us counts))
-later_spelled (u ∷ us) (n ∷ counts) = by_zero (n == 0) (later_spelled us counts)
-  where
-    by_zero : (b : Bool) → Spells (printed_lexemes us counts) (later_parts (printed_parts us counts))
-        → Spells (if b then printed_lexemes us counts else decimal n ∷ (row_of u).printed ∷ printed_lexemes us counts)
-        (later_parts (if b then printed_parts us counts else (decimal n ++ (row_of u).printed) ∷ printed_parts us counts))
-    by_zero true h = h
-    by_zero false h =
-        let rest : List ℕ = later_parts (printed_parts us counts) in (
-          codes " ",
-          (row_of u).printed ++ rest,
-          refl,
-          ap (λ (text : List ℕ). 32 ∷ text) (append_assoc (decimal n) (row_of u).printed rest),
-          ([], rest, refl, refl, h),
-        )
-later_spelled _ _ = refl
+pub parts_kept : (us : List TimeUnit) (counts : List ℕ) → printed_parts us counts ≡ map part (kept us counts)
+parts_kept (u ∷ us) (n ∷ counts) =
+    elim (cases_Bool (n == 0)) [ inl e ↦ rw e (parts_kept us counts) | inr e ↦ rw (e, parts_kept us counts) ]
+parts_kept _ _ = refl
 
-all_spelled : (us : List TimeUnit) (counts : List ℕ) → Spells (or_zero_lexemes (printed_lexemes us counts)) (spaced (printed_parts us counts))
-all_spelled (u ∷ us) (n ∷ counts) = by_zero (n == 0) (all_spelled us counts)
-  where
-    by_zero : (b : Bool) → Spells (or_zero_lexemes (printed_lexemes us counts)) (spaced (printed_parts us counts))
-        → Spells (or_zero_lexemes (if b then printed_lexemes us counts else decimal n ∷ (row_of u).printed ∷ printed_lexemes us counts))
-        (spaced (if b then printed_parts us counts else (decimal n ++ (row_of u).printed) ∷ printed_parts us counts))
-    by_zero true h = h
-    by_zero false h =
-        let rest : List ℕ = later_parts (printed_parts us counts) in (
-          [],
-          (row_of u).printed ++ rest,
-          refl,
-          append_assoc (decimal n) (row_of u).printed rest,
-          ([], rest, refl, refl, later_spelled us counts),
-        )
-all_spelled _ _ = ([], codes "s", refl, refl, ([], [], refl, refl, refl))
+later_spelled : (ps : List (ℕ × TimeUnit)) → Spells (lexemes ps) (flat_map (λ part. codes " " ++ part) (map part ps))
+later_spelled [] = refl
+later_spelled (p ∷ ps) = (codes " ", _, refl, simp append_assoc, ([], _, refl, refl, later_spelled ps))
+
+all_spelled : (ps : List (ℕ × TimeUnit)) → Spells (lexemes (or_zero ps)) (spaced (map part ps))
+all_spelled [] = ([], codes "s", refl, rw (decimal_digit 0 (omega arith)), ([], [], refl, refl, refl))
+all_spelled (p ∷ ps) = ([], _, refl, append_assoc (decimal p.0) _ _, ([], _, refl, refl, later_spelled ps))
 
 -- ---- The lexemes have these terminals
 
 -- Each printed name is a name of its unit under all options.
-printed_terminal : (o : Options) (u : TimeUnit) → terminal_of o (row_of u).printed ≡ word (Some u)
+pub printed_terminal : (o : Options) (u : TimeUnit) → terminal_of o (row_of u).printed ≡ word (Some u)
 printed_terminal o = at o.no_calc o.lowercase o.cn_unit
   where
     at : (no_calc lowercase cn_unit : Bool) (u : TimeUnit)
-        → terminal_of (record { no_calc = no_calc; lowercase = lowercase; cn_unit = cn_unit }) (row_of u).printed ≡ word (Some u)
+        → terminal_of (record { no_calc = no_calc; lowercase = lowercase; cn_unit = cn_unit }) (row_of u).printed
+        ≡ word (Some u)
     at no_calc true true Year = refl
     at no_calc true false Year = refl
     at no_calc false true Year = refl
@@ -97,104 +68,76 @@ abbrev EachBelow : List ℕ → Type 0
 EachBelow [] = Unit {0}
 EachBelow (n ∷ counts) = (n < 2 ^ 64) × EachBelow counts
 
-terminals_printed : (o : Options) (us : List TimeUnit) (counts : List ℕ) → EachBelow counts
-    → map (terminal_of o) (printed_lexemes us counts) ≡ printed_terminals us counts
-terminals_printed o [] counts small = refl
-terminals_printed o (u ∷ us) [] small = refl
-terminals_printed o (u ∷ us) (n ∷ counts) small = by_zero (n == 0) (terminals_printed o us counts small.1)
-  where
-    by_zero : (b : Bool) → map (terminal_of o) (printed_lexemes us counts) ≡ printed_terminals us counts
-        → map (terminal_of o) (if b then printed_lexemes us counts else decimal n ∷ (row_of u).printed ∷ printed_lexemes us counts)
-        ≡ if b then printed_terminals us counts else number n ∷ word (Some u) ∷ printed_terminals us counts
-    by_zero true h = h
-    by_zero false h = ap₂ ◌∷◌ (decimal_terminal o n small.0) (ap₂ ◌∷◌ (printed_terminal o u) h)
+terminals_kept : (o : Options) (us : List TimeUnit) (counts : List ℕ) → EachBelow counts
+    → map (terminal_of o) (lexemes (kept us counts)) ≡ terminals (kept us counts)
+terminals_kept o (u ∷ us) (n ∷ counts) small = elim (cases_Bool (n == 0)) [
+  | inl e ↦ rw e (terminals_kept o us counts small.1)
+  | inr e ↦ rw (e, decimal_terminal o n small.0, printed_terminal o u, terminals_kept o us counts small.1)
+]
+terminals_kept o _ _ small = refl
 
-or_zero_same : (o : Options) (lexemes : List (List ℕ)) → map (terminal_of o) (or_zero_lexemes lexemes) ≡ or_zero_terminals (map (terminal_of o) lexemes)
-or_zero_same o [] = ap (λ (t : Terminal). number 0 ∷ t ∷ []) (printed_terminal o Second)
-or_zero_same o (w ∷ lexemes) = refl
+terminals_or_zero : (o : Options) (ps : List (ℕ × TimeUnit)) → map (terminal_of o) (lexemes ps) ≡ terminals ps
+    → map (terminal_of o) (lexemes (or_zero ps)) ≡ terminals (or_zero ps)
+terminals_or_zero o [] h = rw (decimal_terminal o 0 (omega arith), printed_terminal o Second)
+terminals_or_zero o (p ∷ ps) h = h
 
 counts_below : (lengths : List ℕ) (nanos : ℕ) → nanos < 2 ^ 64 → EachBelow (counts_of lengths nanos)
 counts_below [] nanos h = tt
 counts_below (l ∷ lengths) nanos h = (omega arith, counts_below lengths (nanos % l) (omega arith))
 
-unit_counts_below : (nanos : ℕ) → FitsDuration nanos → EachBelow (counts_of unit_lengths nanos)
-unit_counts_below nanos h = (omega arith, counts_below (drop 1 unit_lengths) (nanos % nanos_of Year) (omega arith))
-
-pub terminals_of_duration : (o : Options) (nanos : ℕ) → FitsDuration nanos → map (terminal_of o) (duration_lexemes nanos) ≡ duration_terminals nanos
+pub terminals_of_duration : (o : Options) (nanos : ℕ) → FitsDuration nanos
+    → map (terminal_of o) (duration_lexemes nanos) ≡ terminals (printed nanos)
 terminals_of_duration o nanos h =
-    let counts : List ℕ = counts_of unit_lengths nanos in
-    or_zero_same o (printed_lexemes units counts) ∙ ap or_zero_terminals (terminals_printed o units counts (unit_counts_below nanos h))
+    terminals_or_zero o _ (terminals_kept o units (counts_of unit_lengths nanos)
+    (omega arith, counts_below (drop 1 unit_lengths) (nanos % nanos_of Year) (omega arith)))
 
 -- ---- The terminals are a sentence without operators
 
--- The terminals are numbers, each followed by a unit.
-abbrev AreUnitTerms : List Terminal → Type 0
-AreUnitTerms [] = Unit {0}
-AreUnitTerms (number n ∷ word (Some u) ∷ terminals) = AreUnitTerms terminals
-AreUnitTerms _ = ⊥
+units_sentence : (no_calc : Bool) (ps : List (ℕ × TimeUnit)) → IsSentence no_calc (terminals (or_zero ps))
+units_sentence no_calc [] = tt
+units_sentence no_calc (p ∷ []) = tt
+units_sentence no_calc (p ∷ q ∷ ps) = units_sentence no_calc (q ∷ ps)
 
-printed_unit_terms : (us : List TimeUnit) (counts : List ℕ) → AreUnitTerms (printed_terminals us counts)
-printed_unit_terms (u ∷ us) (n ∷ counts) = by_zero (n == 0) (printed_unit_terms us counts)
-  where
-    by_zero : (b : Bool) → AreUnitTerms (printed_terminals us counts)
-        → AreUnitTerms (if b then printed_terminals us counts else number n ∷ word (Some u) ∷ printed_terminals us counts)
-    by_zero true h = h
-    by_zero false h = h
-printed_unit_terms _ _ = tt
+units_plus : (ps : List (ℕ × TimeUnit)) → AllPlus (terminals ps)
+units_plus [] = tt
+units_plus (p ∷ ps) = units_plus ps
 
-or_zero_unit_terms : (terminals : List Terminal) → AreUnitTerms terminals → AreUnitTerms (or_zero_terminals terminals)
-or_zero_unit_terms [] h = tt
-or_zero_unit_terms (t ∷ terminals) h = h
-
-unit_terms_sentence : (no_calc : Bool) (terminals : List Terminal) → AreUnitTerms terminals → IsSentence no_calc (or_zero_terminals terminals)
-unit_terms_sentence no_calc [] h = tt
-unit_terms_sentence no_calc (number n ∷ word (Some u) ∷ []) h = tt
-unit_terms_sentence no_calc (number n ∷ word (Some u) ∷ number m ∷ word (Some v) ∷ terminals) h =
-    unit_terms_sentence no_calc (number m ∷ word (Some v) ∷ terminals) h
-unit_terms_sentence no_calc _ h = absurd h
-
-unit_terms_plus : (terminals : List Terminal) → AreUnitTerms terminals → AllPlus terminals
-unit_terms_plus [] h = tt
-unit_terms_plus (number n ∷ word (Some u) ∷ terminals) h = unit_terms_plus terminals h
-unit_terms_plus _ h = absurd h
-
-pub counts_are : (nanos : ℕ) (text : List ℕ) → IsPrinted nanos text → text ≡ printed_counts (counts_of unit_lengths nanos)
+pub counts_are : (nanos : ℕ) (text : List ℕ) → IsPrinted nanos text
+    → text ≡ printed_counts (counts_of unit_lengths nanos)
 counts_are nanos text p =
-    p.2 ∙ ap printed_counts (one_greatest unit_lengths nanos p.0 (counts_of unit_lengths nanos) p.1 (greatest_breakdown_holds nanos))
+    let same = one_greatest unit_lengths nanos p.0 (counts_of unit_lengths nanos) p.1
+    (greatest_breakdown_holds nanos) in cc (p.2)
 
 pub printed_is_sum : (o : Options) (nanos : ℕ) (text : List ℕ) → FitsDuration nanos → IsPrinted nanos text
     → IsSumOf o (duration_lexemes nanos) text
 printed_is_sum o nanos text h p =
     let counts : List ℕ = counts_of unit_lengths nanos in
-    let same : duration_terminals nanos ≡ map (terminal_of o) (duration_lexemes nanos) = sym (terminals_of_duration o nanos h) in
-    let unit_terms : AreUnitTerms (printed_terminals units counts) = printed_unit_terms units counts in
     record {
       sentence = (
-        subst (IsSentence o.no_calc) same (unit_terms_sentence o.no_calc (printed_terminals units counts) unit_terms),
-        subst (Spells (duration_lexemes nanos)) (sym (counts_are nanos text p)) (all_spelled units counts),
+        rw (terminals_of_duration o nanos h) (units_sentence o.no_calc (kept units counts)),
+        rw (counts_are nanos text p, parts_kept units counts) (all_spelled (kept units counts)),
       );
-      plus = subst AllPlus same (unit_terms_plus (duration_terminals nanos) (or_zero_unit_terms (printed_terminals units counts) unit_terms));
+      plus = rw (terminals_of_duration o nanos h) (units_plus (printed nanos));
     }
 
 -- ---- The total is the duration
 
-sum_printed : (us : List TimeUnit) (counts : List ℕ) → sum_of (terms_of (printed_terminals us counts)) ≡ weighted_sum (map nanos_of us) counts
-sum_printed [] counts = refl
-sum_printed (u ∷ us) [] = refl
-sum_printed (u ∷ us) (n ∷ counts) = by_zero (n == 0) refl (sum_printed us counts)
-  where
-    by_zero : (b : Bool) → n == 0 ≡ b → sum_of (terms_of (printed_terminals us counts)) ≡ weighted_sum (map nanos_of us) counts
-        → sum_of (terms_of (if b then printed_terminals us counts else number n ∷ word (Some u) ∷ printed_terminals us counts))
-        ≡ n * nanos_of u + weighted_sum (map nanos_of us) counts
-    by_zero true e h = let none : n ≡ 0 = eqb-true n 0 e in rw none (omega arith)
-    by_zero false e h = ap (λ (rest : ℕ). n * nanos_of u + rest) h
+sum_kept : (us : List TimeUnit) (counts : List ℕ)
+    → sum_of (terms_of (terminals (kept us counts))) ≡ weighted_sum (map nanos_of us) counts
+sum_kept (u ∷ us) (n ∷ counts) = elim (cases_Bool (n == 0)) [
+  | inl e ↦ let none = eqb-true n 0 e in rw (e, none) (omega (arith, sum_kept us counts))
+  | inr e ↦ rw (e, sum_kept us counts)
+]
+sum_kept [] _ = refl
+sum_kept (u ∷ us) [] = refl
 
-or_zero_sum : (terminals : List Terminal) → sum_of (terms_of (or_zero_terminals terminals)) ≡ sum_of (terms_of terminals)
-or_zero_sum [] = refl
-or_zero_sum (t ∷ terminals) = refl
+sum_or_zero : (ps : List (ℕ × TimeUnit)) → sum_of (terms_of (terminals (or_zero ps))) ≡ sum_of (terms_of (terminals ps))
+sum_or_zero [] = refl
+sum_or_zero (p ∷ ps) = refl
 
-pub duration_sum : (o : Options) (nanos : ℕ) → FitsDuration nanos → sum_of (terms_of_lexemes o (duration_lexemes nanos)) ≡ nanos
+pub duration_sum : (o : Options) (nanos : ℕ) → FitsDuration nanos
+    → sum_of (terms_of_lexemes o (duration_lexemes nanos)) ≡ nanos
 duration_sum o nanos h =
     let counts : List ℕ = counts_of unit_lengths nanos in
-    ap (λ (ts : List Terminal). sum_of (terms_of ts)) (terminals_of_duration o nanos h) ∙ or_zero_sum (printed_terminals units counts)
-    ∙ sum_printed units counts ∙ (greatest_breakdown_holds nanos).breakdown.whole
+    rw (terminals_of_duration o nanos h, sum_or_zero (kept units counts), sum_kept units counts)
+    (greatest_breakdown_holds nanos).breakdown.whole

@@ -1,68 +1,41 @@
 -- A text is read or refused, not both, and the computed answer says which.
-use Rattle.std.proofs.Common.{◌≡◌, ℕ, ◌^◌, ◌<◌, ◌≤◌, Bool, true, false, ◌⊎◌, inl, inr, List, [], ◌∷◌, ◌++◌, map, length, take, drop, Option, Some, None, Result, Ok, Err, unwrap_or, if◌then◌else◌, arith, refl, sym, ap, subst, subst₂, ◌∙◌, append-nil}
-use Rattle.std.proofs.lemmas.Bool.{true≢false, and_parts, cond-true}
-use Rattle.std.proofs.lemmas.List.{length-take-le}
-use Rattle.std.specs.List.{list_all}
-use Rattle.duration_str.specs.declared.options.Options.{Options}
-use Rattle.duration_str.specs.declared.operator.CondUnit.{CondUnit}
-use Rattle.duration_str.specs.declared.fault.Cause.{Cause}
-use Rattle.duration_str.specs.declared.fault.Cause.TheVariants.{Syntax, Overflow, Mixed}
-use Rattle.duration_str.specs.Text.{byte_len}
-use Rattle.duration_str.specs.Grammar.{Terminal, number, word, operator, other, terminal_of, IsSentence, IsSentenceOf}
-use Rattle.duration_str.specs.Tokens.{tokens_of, lexemes_of}
-use Rattle.duration_str.specs.Place.{IsFront, start_after, terminals_of}
-use Rattle.duration_str.specs.Value.{AllPlus, Term, value_of_term, later_total, total_of, value_of, terms_of, fits, unless, term_fault, later_fault, evaluation_fault, is_same_operator, Evaluates}
-use Rattle.duration_str.specs.Reading.{first_fault, early_fault, late_fault, IsRead, IsRefusedAt, early, syntax_fault, late, IsRefused}
-use Rattle.duration_str.specs.Answer.{is_whole, late_answer, answer_after, answer_at, answer, kinds_after, last_of, front_of}
-use Rattle.duration_str.specs.Laws.{OneAnswer, IsAnswer}
-use Rattle.duration_str.proofs.Sentences.FrontLemmas.{AreAllowed, sentence_allowed, whole_allowed, no_operators, one_front, one_expected, table_front, front_within, ends_by_table, kinds_by_table}
+use Rattle.std.proofs.Common.{◌≡◌, ℕ, ◌^◌, ◌<◌, ◌≤◌, Bool, true, false, ◌⊎◌, ◌↔◌, inl, inr, List, [], ◌∷◌, ◌++◌, map, length, take, Option, Some, None, Result, Ok, Err, if◌then◌else◌, arith, refl, sym, ap, ◌∙◌, append-nil, length-take-le}
+use Rattle.duration_str.proofs.Common.{and_parts, cond-true, list_all, Options, CondUnit, Cause, Syntax, byte_len, Terminal, number, word, operator, other, terminal_of, IsSentence, IsSentenceOf, tokens_of, lexemes_of, IsFront, start_after, terminals_of, AllPlus, Term, value_of_term, later_total, total_of, value_of, terms_of, later_fault, evaluation_fault, is_same_operator, Evaluates, first_fault, early_fault, late_fault, IsRead, IsRefusedAt, early, syntax_fault, late, IsRefused, is_whole, late_answer, answer_after, answer, kinds_after, last_of, front_of, OneAnswer, IsAnswer}
+use Rattle.duration_str.proofs.Sentences.FrontLemmas.{AreAllowed, sentence_allowed, no_operators, one_front, one_expected, table_front, front_within, ends_by_table, kinds_by_table}
 use Rattle.duration_str.proofs.Sentences.SpellingLemmas.{sentence_terminals, tokens_spell, empty_no_sentence}
-use Rattle.duration_str.proofs.Sentences.FaultLemmas.{no_faults, no_fault_true, no_fault_below, term_no_fault_below, fault_moves}
+use Rattle.duration_str.proofs.Sentences.FaultLemmas.{no_fault, or_else-none, is_same_operator-true}
 use Rattle.duration_str.proofs.Sentences.SumLemmas.{terms_added, has_terms, running_none, running_none_below, below_evaluate, evaluate_below}
 
 -- ---- The faults of a sentence
 
 -- Under `no_calc` the table allows no operator.
-pub allowed_plus : (last : Option Terminal) (terminals : List Terminal) → AreAllowed true last terminals → AllPlus terminals
+pub allowed_plus : (last : Option Terminal) (terminals : List Terminal) → AreAllowed true last terminals
+    → AllPlus terminals
 allowed_plus last [] h = tt
 allowed_plus last (number n ∷ terminals) h = allowed_plus (Some (number n)) terminals h.1
 allowed_plus last (word u ∷ terminals) h = allowed_plus (Some (word u)) terminals h.1
-allowed_plus last (operator op ∷ terminals) h = absurd (true≢false (sym h.0 ∙ no_operators true last refl))
-allowed_plus last (other ∷ terminals) h = absurd (true≢false (sym h.0))
+allowed_plus last (operator op ∷ terminals) h = let none = no_operators true last refl in cc h.0
+allowed_plus last (other ∷ terminals) h = cc h.0
 
 no_calc_plus : (terminals : List Terminal) → IsSentence true terminals → AllPlus terminals
-no_calc_plus terminals s = allowed_plus None terminals (whole_allowed true None terminals (sentence_allowed true terminals s))
+no_calc_plus terminals s = allowed_plus None terminals (sentence_allowed true terminals s)
 
-first_none : (terms : List Term) → Evaluates terms → first_fault terms ≡ None
-first_none [] e = refl
-first_none (t ∷ terms) e = fault_moves None (Some 0) t e.0
-
-evaluates_late : (terms : List Term) → Evaluates terms → evaluation_fault terms ≡ None
-evaluates_late [] e = absurd e
-evaluates_late (t ∷ later) e = e.1
-
-evaluates_by_faults : (terms : List Term) → 1 ≤ length terms → first_fault terms ≡ None → evaluation_fault terms ≡ None → Evaluates terms
-evaluates_by_faults [] l f e = absurd (omega arith)
-evaluates_by_faults (t ∷ terms) l f e = (fault_moves (Some 0) None t f, e)
+evaluates_by_faults : (terms : List Term) → 1 ≤ length terms
+    → (Evaluates terms ↔ (first_fault terms ≡ None) × (evaluation_fault terms ≡ None))
+evaluates_by_faults [] l = absurd (omega arith)
+evaluates_by_faults (t ∷ terms) l =
+    (λ e. (simp no_fault (simp no_fault at e.0), e.1), λ f. (simp no_fault (simp no_fault at f.0), f.1))
 
 -- A sentence evaluates exactly if it has neither an early nor a late fault.
-early_none : (no_calc : Bool) (terminals : List Terminal) → IsSentence no_calc terminals → Evaluates (terms_of terminals)
-    → early_fault no_calc terminals [] ≡ None
-early_none false terminals s e = first_none (terms_of terminals) e
-early_none true terminals s e =
-    let added = terms_added terminals (no_calc_plus terminals s) in
-    running_none [] (terms_of terminals) added (evaluate_below (terms_of terminals) added e)
-
-late_none : (no_calc : Bool) (terminals : List Terminal) → Evaluates (terms_of terminals) → late_fault no_calc terminals ≡ None
-late_none false terminals e = evaluates_late (terms_of terminals) e
-late_none true terminals e = refl
-
-evaluates_from : (no_calc : Bool) (terminals : List Terminal) → IsSentence no_calc terminals → early_fault no_calc terminals [] ≡ None
-    → late_fault no_calc terminals ≡ None → Evaluates (terms_of terminals)
-evaluates_from false terminals s e l = evaluates_by_faults (terms_of terminals) (has_terms false terminals s) e l
-evaluates_from true terminals s e l =
-    below_evaluate (terms_of terminals) (has_terms true terminals s)
-    (terms_added terminals (no_calc_plus terminals s)) (running_none_below (terms_of terminals) e)
+evaluates_by : (no_calc : Bool) (terminals : List Terminal) → IsSentence no_calc terminals
+    → (Evaluates (terms_of terminals) ↔ (early_fault no_calc terminals [] ≡ None) × (late_fault no_calc terminals ≡ None))
+evaluates_by false terminals s = evaluates_by_faults (terms_of terminals) (has_terms false terminals s)
+evaluates_by true terminals s =
+    let terms = terms_of terminals in
+    let added = terms_added terminals (no_calc_plus terminals s) in (
+      λ e. (running_none [] terms added (evaluate_below terms added e), refl),
+      λ f. below_evaluate terms (has_terms true terminals s) added (running_none_below terms f.0),
+    )
 
 -- ---- The value of terms that evaluate
 
@@ -70,10 +43,8 @@ same_later : (set : CondUnit) (before later : List Term) → later_fault set bef
     → list_all (λ v. is_same_operator set v.operator) later ≡ true
 same_later set before [] h = refl
 same_later set before (t ∷ later) h =
-    let mixed = no_faults (unless (is_same_operator set t.operator) (Mixed set t.operator)) _ h in
-    let own = no_faults (term_fault None t) _ mixed.1 in
-    let step = no_faults (unless (fits (later_total set (before ++ t ∷ []))) (Overflow None)) _ own.1 in
-    rw (no_fault_true (is_same_operator set t.operator) (Mixed set t.operator) mixed.0) (same_later set (before ++ t ∷ []) later step.1)
+    let parts = simp no_fault at h in
+    rw ((is_same_operator-true set t.operator).1 parts.0) (same_later set (before ++ t ∷ []) later parts.1.1.1)
 
 pub later_value : (t u : Term) (later : List Term) → later_fault u.operator [] (u ∷ later) ≡ None
     → value_of (t ∷ u ∷ later) ≡ Some (total_of u.operator t (later_total u.operator (u ∷ later)))
@@ -82,17 +53,18 @@ later_value t u later h =
 
 has_value_below : (terms : List Term) → Evaluates terms → (n : ℕ) × (value_of terms ≡ Some n) × (n < 2 ^ 64)
 has_value_below [] e = absurd e
-has_value_below (t ∷ []) e = (value_of_term t, refl, term_no_fault_below None t e.0)
+has_value_below (t ∷ []) e = (value_of_term t, refl, (simp no_fault at e.0).1)
 has_value_below (t ∷ u ∷ later) e =
-    let faults = no_faults (later_fault u.operator [] (u ∷ later)) _ e.1 in
-    (total_of u.operator t (later_total u.operator (u ∷ later)), later_value t u later faults.0, no_fault_below _ (Overflow None) faults.1)
+    let faults = (or_else-none (later_fault u.operator [] (u ∷ later)) _).0 e.1 in
+    (_, later_value t u later faults.0, simp no_fault at faults.1)
 
 -- ---- Readings and refusals in terms of terminals
 
-sentence_front : (no_calc : Bool) (terminals : List Terminal) → IsSentence no_calc terminals → IsFront no_calc terminals terminals []
+sentence_front : (no_calc : Bool) (terminals : List Terminal) → IsSentence no_calc terminals
+    → IsFront no_calc terminals terminals []
 sentence_front no_calc terminals s = record {
   parts = sym (append-nil terminals);
-  begins = ([], subst (IsSentence no_calc) (sym (append-nil terminals)) s);
+  begins = ([], rw append-nil s);
   longest = λ n l _. l;
 }
 
@@ -102,102 +74,92 @@ pub record IsReadAs (no_calc : Bool) (terminals : List Terminal) (nanos : ℕ) :
   pub evaluates : Evaluates (terms_of terminals)
   pub value : value_of (terms_of terminals) ≡ Some nanos
 
-pub read_terminals : (o : Options) (text : List ℕ) (nanos : ℕ) → IsRead o text nanos → IsReadAs o.no_calc (terminals_of o text) nanos
-read_terminals o text nanos r =
-    subst (λ (terminals : List Terminal). IsReadAs o.no_calc terminals nanos) (sentence_terminals o text r.lexemes r.spells)
+pub read_terminals : {o : Options} {text : List ℕ} {nanos : ℕ} → IsRead o text nanos
+    → IsReadAs o.no_calc (terminals_of o text) nanos
+read_terminals {o} {text} r =
+    rw (← sentence_terminals o text r.lexemes r.spells)
     (record { sentence = r.spells.0; evaluates = r.evaluates; value = r.value })
 
-pub read_sentence : (o : Options) (text : List ℕ) (lexemes : List (List ℕ)) (nanos : ℕ) → IsSentenceOf o lexemes text → IsRead o text nanos
-    → IsReadAs o.no_calc (map (terminal_of o) lexemes) nanos
-read_sentence o text lexemes nanos s r =
-    subst (λ (terminals : List Terminal). IsReadAs o.no_calc terminals nanos) (sym (sentence_terminals o text lexemes s)) (read_terminals o text nanos r)
+pub read_sentence : {o : Options} {text : List ℕ} {nanos : ℕ} (lexemes : List (List ℕ)) → IsSentenceOf o lexemes text
+    → IsRead o text nanos → IsReadAs o.no_calc (map (terminal_of o) lexemes) nanos
+read_sentence {o} {text} lexemes s r = rw (sentence_terminals o text lexemes s) (read_terminals r)
 
-pub sentence_read : (o : Options) (text : List ℕ) (lexemes : List (List ℕ)) (nanos : ℕ) → IsSentenceOf o lexemes text
-    → IsReadAs o.no_calc (map (terminal_of o) lexemes) nanos → IsRead o text nanos
-sentence_read o text lexemes nanos s r = record { lexemes = lexemes; spells = s; evaluates = r.evaluates; value = r.value }
+pub terminals_read : (o : Options) (text : List ℕ) (nanos : ℕ) → IsReadAs o.no_calc (terminals_of o text) nanos
+    → IsRead o text nanos
+terminals_read o text nanos r = record {
+  lexemes = lexemes_of (tokens_of o text);
+  spells = (r.sentence, tokens_spell o text);
+  evaluates = r.evaluates;
+  value = r.value;
+}
 
-pub terminals_read : (o : Options) (text : List ℕ) (nanos : ℕ) → IsReadAs o.no_calc (terminals_of o text) nanos → IsRead o text nanos
-terminals_read o text nanos r = sentence_read o text (lexemes_of (tokens_of o text)) nanos (r.sentence, tokens_spell o text) r
-
-pub read_below : (o : Options) (text : List ℕ) (nanos : ℕ) → IsRead o text nanos → nanos < 2 ^ 64
-read_below o text nanos r =
+pub read_below : {o : Options} {text : List ℕ} {nanos : ℕ} → IsRead o text nanos → nanos < 2 ^ 64
+read_below {o} {nanos = nanos} r =
     let found = has_value_below (terms_of (map (terminal_of o) r.lexemes)) r.evaluates in
-    let value = r.value in
-    let value_found = found.1 in
-    let same : found.0 ≡ nanos = cc in
-    subst (λ (n : ℕ). n < 2 ^ 64) same found.2
+    let same : found.0 ≡ nanos = cc (r.value, found.1) in
+    omega arith
 
-one_value_at : (o : Options) (text : List ℕ) (m n : ℕ) → IsRead o text m → IsRead o text n → m ≡ n
-one_value_at o text m n r s =
-    let value = (read_terminals o text m r).value in
-    let other_value = (read_terminals o text n s).value in
-    cc
+one_value : {o : Options} {text : List ℕ} {m n : ℕ} → IsRead o text m → IsRead o text n → m ≡ n
+one_value r s = cc ((read_terminals r).value, (read_terminals s).value)
 
-one_cause_of : (no_calc : Bool) (place : ℕ) (front rest : List Terminal) (c d : Cause) → IsRefusedAt no_calc place front rest c
-    → IsRefusedAt no_calc place front rest d → c ≡ d
-one_cause_of no_calc place front rest c d (early h) (early k) = cc
-one_cause_of no_calc place front rest c d (early h) (syntax_fault x e n f s) = cc
-one_cause_of no_calc place front rest c d (early h) (late e n f) = cc
-one_cause_of no_calc place front rest c d (syntax_fault x e n f s) (early k) = cc
-one_cause_of no_calc place front rest c d (syntax_fault x e n f s) (syntax_fault y e' n' f' s') =
-    s ∙ ap (Syntax place) (one_expected no_calc front x y f f') ∙ sym s'
-one_cause_of no_calc place front rest c d (syntax_fault x e n f s) (late e' n' f') = absurd (n n')
-one_cause_of no_calc place front rest c d (late e n f) (early k) = cc
-one_cause_of no_calc place front rest c d (late e n f) (syntax_fault x e' n' f' s') = absurd (n' n)
-one_cause_of no_calc place front rest c d (late e n f) (late e' n' f') = cc
+-- There is one cause for a front, its rest and the place of the rest.
+one_cause_at : {no_calc : Bool} {place : ℕ} {front rest : List Terminal} {c d : Cause}
+    → IsRefusedAt no_calc place front rest c → IsRefusedAt no_calc place front rest d → c ≡ d
+one_cause_at (early h) (early k) = cc
+one_cause_at (early h) (syntax_fault x e n f s) = cc
+one_cause_at (early h) (late e n f) = cc
+one_cause_at (syntax_fault x e n f s) (early k) = cc
+one_cause_at (syntax_fault x e n f s) (syntax_fault y e' n' f' s') = cc (one_expected f f')
+one_cause_at (syntax_fault x e n f s) (late e' n' f') = absurd (n n')
+one_cause_at (late e n f) (early k) = cc
+one_cause_at (late e n f) (syntax_fault x e' n' f' s') = absurd (n' n)
+one_cause_at (late e n f) (late e' n' f') = cc
 
-evaluates_not_refused : (no_calc : Bool) (place : ℕ) (terminals : List Terminal) (cause : Cause) → IsSentence no_calc terminals → Evaluates (terms_of terminals)
-    → IsRefusedAt no_calc place terminals [] cause → ⊥
-evaluates_not_refused no_calc place terminals cause s e (early k) = let none = early_none no_calc terminals s e in cc
-evaluates_not_refused no_calc place terminals cause s e (syntax_fault x k n f c) = n (subst (IsSentence no_calc) (sym (append-nil terminals)) s)
-evaluates_not_refused no_calc place terminals cause s e (late k n f) =
-    let none = late_none no_calc terminals e in
-    let found : late_fault no_calc terminals ≡ Some cause = subst (λ (ts : List Terminal). late_fault no_calc ts ≡ Some cause) (append-nil terminals) f in
-    cc
-
--- The refusal of a text with this front and this rest.
-abbrev IsRefusedFrom : Options → List ℕ → Cause → List Terminal → List Terminal → Type 0
-IsRefusedFrom o text cause front rest = IsRefusedAt o.no_calc (start_after (length front) (byte_len text) (tokens_of o text)) front rest cause
+evaluates_not_refused : {no_calc : Bool} {place : ℕ} (terminals : List Terminal) (cause : Cause)
+    → IsSentence no_calc terminals → Evaluates (terms_of terminals) → IsRefusedAt no_calc place terminals [] cause → ⊥
+evaluates_not_refused {no_calc} terminals cause s e (early k) = cc ((evaluates_by no_calc terminals s).0 e).0
+evaluates_not_refused terminals cause s e (syntax_fault x k n f c) = n (rw append-nil s)
+evaluates_not_refused {no_calc} terminals cause s e (late k n f) =
+    let none = ((evaluates_by no_calc terminals s).0 e).1 in
+    cc (rw append-nil at f)
 
 -- A sentence has no syntax fault, so its refusal does not depend on the place of the rest.
-place_free : (no_calc : Bool) (p q : ℕ) (terminals : List Terminal) (cause : Cause) → IsSentence no_calc terminals
+place_free : {no_calc : Bool} {p : ℕ} (q : ℕ) {terminals : List Terminal} {cause : Cause} → IsSentence no_calc terminals
     → IsRefusedAt no_calc p terminals [] cause → IsRefusedAt no_calc q terminals [] cause
-place_free no_calc p q terminals cause s (early e) = early e
-place_free no_calc p q terminals cause s (syntax_fault x e n f c) = absurd (n (subst (IsSentence no_calc) (sym (append-nil terminals)) s))
-place_free no_calc p q terminals cause s (late e n f) = late e n f
+place_free q s (early e) = early e
+place_free q s (syntax_fault x e n f c) = absurd (n (rw append-nil s))
+place_free q s (late e n f) = late e n f
 
 -- A text that a sentence spells is refused exactly if the terminals of the sentence are.
-pub refused_sentence : (o : Options) (text : List ℕ) (lexemes : List (List ℕ)) (cause : Cause) (place : ℕ) → IsSentenceOf o lexemes text
-    → IsRefused o text cause → IsRefusedAt o.no_calc place (map (terminal_of o) lexemes) [] cause
+pub refused_sentence : (o : Options) (text : List ℕ) (lexemes : List (List ℕ)) (cause : Cause) (place : ℕ)
+    → IsSentenceOf o lexemes text → IsRefused o text cause
+    → IsRefusedAt o.no_calc place (map (terminal_of o) lexemes) [] cause
 refused_sentence o [] lexemes cause place s h = absurd (empty_no_sentence o lexemes s)
 refused_sentence o (c ∷ text) lexemes cause place s h =
-    let terminals : List Terminal = map (terminal_of o) lexemes in
-    let front : IsFront o.no_calc terminals h.0 h.1 =
-    subst (λ (ts : List Terminal). IsFront o.no_calc ts h.0 h.1) (sym (sentence_terminals o (c ∷ text) lexemes s)) h.2 in
-    let same = one_front o.no_calc terminals h.0 h.1 terminals [] front (sentence_front o.no_calc terminals s.0) in
-    place_free o.no_calc _ place terminals cause s.0 (subst₂ (IsRefusedFrom o (c ∷ text) cause) same.0 same.1 h.3)
+    let front = rw (← sentence_terminals o (c ∷ text) lexemes s) at h.2 in
+    let same = one_front front (sentence_front o.no_calc (map (terminal_of o) lexemes) s.0) in
+    place_free place s.0 (rw (same.0, same.1) at h.3)
 
-pub sentence_refused : (o : Options) (text : List ℕ) (lexemes : List (List ℕ)) (cause : Cause) → IsSentenceOf o lexemes text
-    → ((place : ℕ) → IsRefusedAt o.no_calc place (map (terminal_of o) lexemes) [] cause) → IsRefused o text cause
+pub sentence_refused : (o : Options) (text : List ℕ) (lexemes : List (List ℕ)) (cause : Cause)
+    → IsSentenceOf o lexemes text → ((place : ℕ) → IsRefusedAt o.no_calc place (map (terminal_of o) lexemes) [] cause)
+    → IsRefused o text cause
 sentence_refused o [] lexemes cause s h = absurd (empty_no_sentence o lexemes s)
 sentence_refused o (c ∷ text) lexemes cause s h =
-    let same : map (terminal_of o) lexemes ≡ terminals_of o (c ∷ text) = sentence_terminals o (c ∷ text) lexemes s in (
-      terminals_of o (c ∷ text),
-      [],
-      sentence_front o.no_calc (terminals_of o (c ∷ text)) (subst (IsSentence o.no_calc) same s.0),
-      subst (λ (terminals : List Terminal). IsRefusedFrom o (c ∷ text) cause terminals []) same (h _),
-    )
+    let terminals = terminals_of o (c ∷ text) in
+    let same : map (terminal_of o) lexemes ≡ terminals = sentence_terminals o (c ∷ text) lexemes s in
+    (terminals, [], sentence_front o.no_calc terminals (rw same at s.0), rw (← same) (h _))
 
-not_both_at : (o : Options) (text : List ℕ) (nanos : ℕ) (cause : Cause) → IsRead o text nanos → IsRefused o text cause → ⊥
-not_both_at o text nanos cause r h =
-    evaluates_not_refused o.no_calc 0 (map (terminal_of o) r.lexemes) cause r.spells.0 r.evaluates
-    (refused_sentence o text r.lexemes cause 0 r.spells h)
+module _ (o : Options) where
+  not_both : (text : List ℕ) (nanos : ℕ) (cause : Cause) → IsRead o text nanos → IsRefused o text cause → ⊥
+  not_both text nanos cause r h =
+      evaluates_not_refused (map (terminal_of o) r.lexemes) cause r.spells.0 r.evaluates
+      (refused_sentence o text r.lexemes cause 0 r.spells h)
 
-one_cause_at : (o : Options) (text : List ℕ) (c d : Cause) → IsRefused o text c → IsRefused o text d → c ≡ d
-one_cause_at o [] c d h k = h ∙ sym k
-one_cause_at o (x ∷ text) c d h k =
-    let same = one_front o.no_calc (terminals_of o (x ∷ text)) k.0 k.1 h.0 h.1 k.2 h.2 in
-    one_cause_of o.no_calc _ h.0 h.1 c d h.3 (subst₂ (IsRefusedFrom o (x ∷ text) d) same.0 same.1 k.3)
+  one_cause : (text : List ℕ) (c d : Cause) → IsRefused o text c → IsRefused o text d → c ≡ d
+  one_cause [] c d h k = h ∙ sym k
+  one_cause (x ∷ text) c d h k =
+      let same = one_front k.2 h.2 in
+      one_cause_at h.3 (rw (same.0, same.1) at k.3)
 
 -- ---- The computed answer
 
@@ -211,90 +173,81 @@ abbrev MeansAt : Bool → ℕ → List Terminal → List Terminal → Result ℕ
 MeansAt no_calc place front rest (Ok nanos) = (rest ≡ []) × IsReadAs no_calc front nanos
 MeansAt no_calc place front rest (Err cause) = IsRefusedAt no_calc place front rest cause
 
-late_means : (no_calc : Bool) (place : ℕ) (terminals : List Terminal) (cause : Option Cause) → IsSentence no_calc terminals
-    → early_fault no_calc terminals [] ≡ None → late_fault no_calc terminals ≡ cause → MeansAt no_calc place terminals [] (late_answer cause terminals)
-late_means no_calc place terminals (Some cause) s e l = late e (subst (IsSentence no_calc) (sym (append-nil terminals)) s)
-    (subst (λ (ts : List Terminal). late_fault no_calc ts ≡ Some cause) (sym (append-nil terminals)) l)
-late_means no_calc place terminals None s e l =
-    let evaluated : Evaluates (terms_of terminals) = evaluates_from no_calc terminals s e l in
-    let found = has_value_below (terms_of terminals) evaluated in
-    let value : value_of (terms_of terminals) ≡ Some (unwrap_or (value_of (terms_of terminals)) 0) =
-    found.1 ∙ ap (λ (v : Option ℕ). Some (unwrap_or v 0)) (sym found.1) in
-    (refl, record { sentence = s; evaluates = evaluated; value = value })
+module _ (no_calc : Bool) (place : ℕ) where
+  late_means : (terminals : List Terminal) (cause : Option Cause) → IsSentence no_calc terminals
+      → early_fault no_calc terminals [] ≡ None → late_fault no_calc terminals ≡ cause
+      → MeansAt no_calc place terminals [] (late_answer cause terminals)
+  late_means terminals (Some cause) s e l = late e (rw append-nil s) (rw append-nil l)
+  late_means terminals None s e l =
+      let evaluates = (evaluates_by no_calc terminals s).1 (e, l) in
+      let found = has_value_below (terms_of terminals) evaluates in
+      (refl, record { sentence = s; evaluates = evaluates; value = rw found.1 })
 
-syntax_means : (no_calc : Bool) (place : ℕ) (front rest : List Terminal) → IsFront no_calc (front ++ rest) front rest
-    → early_fault no_calc front rest ≡ None → (IsSentence no_calc (front ++ rest) → ⊥)
-    → IsRefusedAt no_calc place front rest (Syntax place (kinds_after no_calc (last_of None front)))
-syntax_means no_calc place front rest f e n =
-    let expected = kinds_after no_calc (last_of None front) in
-    syntax_fault expected e n ((kinds_by_table no_calc front expected f.begins).1 refl) refl
+  syntax_means : {terminals : List Terminal} (front rest : List Terminal) → IsFront no_calc terminals front rest
+      → early_fault no_calc front rest ≡ None → (IsSentence no_calc (front ++ rest) → ⊥)
+      → IsRefusedAt no_calc place front rest (Syntax place (kinds_after no_calc (last_of None front)))
+  syntax_means front rest f e n = syntax_fault _ e n ((kinds_by_table no_calc front _ f.begins).1 refl) refl
 
-whole_means : (no_calc : Bool) (place : ℕ) (front rest : List Terminal) → IsFront no_calc (front ++ rest) front rest
-    → early_fault no_calc front rest ≡ None → (whole : Bool) → is_whole no_calc front rest ≡ whole
-    → MeansAt no_calc place front rest
-    (if whole then late_answer (late_fault no_calc front) front else Err (Syntax place (kinds_after no_calc (last_of None front))))
-whole_means no_calc place front [] f e true w = late_means no_calc place front _ ((ends_by_table no_calc front f.begins).0 w) e refl
-whole_means no_calc place front [] f e false w = syntax_means no_calc place front [] f e
-    (λ s. true≢false (sym ((ends_by_table no_calc front f.begins).1 (subst (IsSentence no_calc) (append-nil front) s)) ∙ w))
-whole_means no_calc place front (t ∷ rest) f e true w = absurd (true≢false (sym w))
-whole_means no_calc place front (t ∷ rest) f e false w = syntax_means no_calc place front (t ∷ rest) f e
-    (λ s. let terminals : List Terminal = front ++ t ∷ rest in
-    let same : t ∷ rest ≡ [] = (one_front no_calc terminals front (t ∷ rest) terminals [] f (sentence_front no_calc terminals s)).1 in cc)
+  whole_means : {terminals : List Terminal} (front rest : List Terminal) → IsFront no_calc terminals front rest
+      → early_fault no_calc front rest ≡ None → (whole : Bool) → is_whole no_calc front rest ≡ whole
+      → MeansAt no_calc place front rest
+      (if whole then late_answer (late_fault no_calc front) front
+      else Err (Syntax place (kinds_after no_calc (last_of None front))))
+  whole_means front [] f e true w = late_means front _ ((ends_by_table no_calc front f.begins).0 w) e refl
+  whole_means front [] f e false w =
+      syntax_means front [] f e (λ s. cc ((ends_by_table no_calc front f.begins).1 (rw append-nil at s)))
+  whole_means front (t ∷ rest) f e true w = cc
+  whole_means front (t ∷ rest) f e false w =
+      syntax_means front (t ∷ rest) f e
+      (λ s. cc (one_front (rw f.parts at f) (sentence_front no_calc (front ++ t ∷ rest) s)).1)
 
-front_means : (no_calc : Bool) (place : ℕ) (front rest : List Terminal) → IsFront no_calc (front ++ rest) front rest
-    → (cause : Option Cause) → early_fault no_calc front rest ≡ cause → MeansAt no_calc place front rest (answer_after no_calc place front rest cause)
-front_means no_calc place front rest f (Some cause) e = early e
-front_means no_calc place front rest f None e = whole_means no_calc place front rest f e _ refl
+  front_means : {terminals : List Terminal} (front rest : List Terminal) → IsFront no_calc terminals front rest
+      → (cause : Option Cause) → early_fault no_calc front rest ≡ cause
+      → MeansAt no_calc place front rest (answer_after no_calc place front rest cause)
+  front_means front rest f (Some cause) e = early e
+  front_means front rest f None e = whole_means front rest f e _ refl
 
 text_means : (o : Options) (c : ℕ) (text : List ℕ) (front rest : List Terminal) (result : Result ℕ Cause)
     → IsFront o.no_calc (terminals_of o (c ∷ text)) front rest
     → MeansAt o.no_calc (start_after (length front) (byte_len (c ∷ text)) (tokens_of o (c ∷ text))) front rest result
     → Means o (c ∷ text) result
 text_means o c text front rest (Err cause) f h = (front, rest, f, h)
-text_means o c text front rest (Ok nanos) f h =
-    let same : terminals_of o (c ∷ text) ≡ front = f.parts ∙ ap (λ (r : List Terminal). front ++ r) h.0 ∙ append-nil front in
-    terminals_read o (c ∷ text) nanos (subst (λ (terminals : List Terminal). IsReadAs o.no_calc terminals nanos) (sym same) h.1)
+text_means o c text front rest (Ok nanos) f h = terminals_read o (c ∷ text) nanos (rw (f.parts, h.0, append-nil) h.1)
 
 answer_means : (o : Options) (text : List ℕ) → Means o text (answer o text)
 answer_means o [] = refl
 answer_means o (c ∷ text) =
     let terminals : List Terminal = terminals_of o (c ∷ text) in
     let n : ℕ = front_of o.no_calc terminals in
-    let front : List Terminal = take n terminals in
-    let rest : List Terminal = drop n terminals in
-    let f : IsFront o.no_calc terminals front rest = table_front o.no_calc terminals in
-    let long : length front ≡ n = length-take-le n terminals (front_within o.no_calc None terminals) in
-    let start = λ (k : ℕ). start_after k (byte_len (c ∷ text)) (tokens_of o (c ∷ text)) in
-    text_means o c text front rest (answer_at o.no_calc (start n) front rest) f
-    (subst (λ (k : ℕ). MeansAt o.no_calc (start k) front rest (answer_at o.no_calc (start n) front rest)) (sym long)
-    (front_means o.no_calc (start n) front rest (subst (λ (ts : List Terminal). IsFront o.no_calc ts front rest) f.parts f) _ refl))
-
-by_value : (o : Options) (text : List ℕ) (nanos : ℕ) → IsRead o text nanos → (result : Result ℕ Cause) → Means o text result → result ≡ Ok nanos
-by_value o text nanos r (Ok n) h = ap Ok (one_value_at o text n nanos h r)
-by_value o text nanos r (Err cause) h = absurd (not_both_at o text nanos cause r h)
-
-by_cause : (o : Options) (text : List ℕ) (cause : Cause) → IsRefused o text cause → (result : Result ℕ Cause) → Means o text result
-    → result ≡ Err cause
-by_cause o text cause r (Ok n) h = absurd (not_both_at o text n cause h r)
-by_cause o text cause r (Err d) h = ap Err (one_cause_at o text d cause h r)
+    let f = table_front o.no_calc terminals in
+    let long : length (take n terminals) ≡ n = length-take-le n terminals (front_within o.no_calc None terminals) in
+    text_means o c text _ _ _ f (rw long (front_means o.no_calc _ _ _ f _ refl))
 
 some_answer : (o : Options) (text : List ℕ) (result : Result ℕ Cause) → Means o text result
     → ((nanos : ℕ) × IsRead o text nanos) ⊎ ((cause : Cause) × IsRefused o text cause)
 some_answer o text (Ok nanos) h = inl (nanos, h)
 some_answer o text (Err cause) h = inr (cause, h)
 
+by_value : (o : Options) (text : List ℕ) (nanos : ℕ) → IsRead o text nanos → (result : Result ℕ Cause)
+    → Means o text result → result ≡ Ok nanos
+by_value o text nanos r (Ok n) h = ap Ok (one_value h r)
+by_value o text nanos r (Err cause) h = absurd (not_both o text nanos cause r h)
+
+by_cause : (o : Options) (text : List ℕ) (cause : Cause) → IsRefused o text cause → (result : Result ℕ Cause)
+    → Means o text result → result ≡ Err cause
+by_cause o text cause r (Ok n) h = absurd (not_both o text n cause h r)
+by_cause o text cause r (Err d) h = ap Err (one_cause o text d cause h r)
+
 pub one_answer_holds : OneAnswer
 one_answer_holds = record {
   some = λ o text. some_answer o text (answer o text) (answer_means o text);
-  one_value = one_value_at;
-  one_cause = one_cause_at;
-  not_both = not_both_at;
+  one_value = λ o text m n. one_value;
+  one_cause = one_cause;
+  not_both = not_both;
 }
 
 pub is_answer_holds : IsAnswer
 is_answer_holds = record {
-  read = λ o text nanos.
-      (λ e. subst (Means o text) e (answer_means o text), λ r. by_value o text nanos r (answer o text) (answer_means o text));
-  refused = λ o text cause.
-      (λ e. subst (Means o text) e (answer_means o text), λ r. by_cause o text cause r (answer o text) (answer_means o text));
+  read = λ o text nanos. (λ e. rw e at (answer_means o text), λ r. by_value o text nanos r _ (answer_means o text));
+  refused = λ o text cause. (λ e. rw e at (answer_means o text), λ r. by_cause o text cause r _ (answer_means o text));
 }

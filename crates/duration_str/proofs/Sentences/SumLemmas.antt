@@ -1,16 +1,7 @@
 -- Terms that are added evaluate exactly if their sum is below 2^64, and the sum is their value.
-use Rattle.std.proofs.Common.{◌≡◌, ◌+◌, ◌^◌, ◌≤◌, ◌<◌, Bool, true, leb, List, [], ◌∷◌, ◌++◌, length, Some, None, arith, refl, sym, ap, subst, append_assoc, append-nil}
-use Rattle.std.specs.List.{list_all}
-use Rattle.std.proofs.lemmas.Bool.{leb-true}
-use Rattle.duration_str.specs.declared.unit.TimeUnit.{TimeUnit}
-use Rattle.duration_str.specs.declared.operator.CondUnit.{CondUnit}
-use Rattle.duration_str.specs.declared.operator.CondUnit.TheVariants.{Plus}
-use Rattle.duration_str.specs.declared.fault.Cause.TheVariants.{Overflow, Mixed}
-use Rattle.duration_str.specs.Units.{nanos_of}
-use Rattle.duration_str.specs.Grammar.{Terminal, number, word, operator, IsSentence}
-use Rattle.duration_str.specs.Value.{AllPlus, Term, value_of_term, sum_of, later_total, total_of, value_of, terms_of, terms_after, fits, unless, term_fault, later_fault, is_same_operator, Evaluates}
-use Rattle.duration_str.specs.Reading.{running_fault, place_after}
-use Rattle.duration_str.proofs.Sentences.FaultLemmas.{fault_by, no_fault, no_faults, below_no_fault, no_fault_below, term_below_no_fault, term_no_fault_below}
+use Rattle.std.proofs.Common.{◌≡◌, ◌+◌, ◌^◌, ◌≤◌, ◌<◌, Bool, true, leb, List, [], ◌∷◌, ◌++◌, length, Some, None, arith, refl, ap, append_assoc, append-nil, leb-true}
+use Rattle.duration_str.proofs.Common.{list_all, TimeUnit, CondUnit, Plus, Overflow, nanos_of, Terminal, number, word, operator, IsSentence, AllPlus, Term, value_of_term, sum_of, later_total, total_of, value_of, terms_of, terms_after, fits, unless, or_else, later_fault, evaluation_fault, is_same_operator, Evaluates, running_fault, place_after}
+use Rattle.duration_str.proofs.Sentences.FaultLemmas.{no_fault, term_below_no_fault}
 use Rattle.duration_str.proofs.Characters.EachUnit.{all_units}
 
 -- Each term is added, and its length is above 0.
@@ -21,7 +12,8 @@ AreAdded (t ∷ terms) = (t.operator ≡ Plus) × (1 ≤ t.length) × AreAdded t
 unit_above_zero : (u : TimeUnit) → 1 ≤ nanos_of u
 unit_above_zero u = leb-true 1 (nanos_of u) (all_units (λ v. leb 1 (nanos_of v)) refl u)
 
-terms_added_after : (op : CondUnit) (terminals : List Terminal) → op ≡ Plus → AllPlus terminals → AreAdded (terms_after op terminals)
+terms_added_after : (op : CondUnit) (terminals : List Terminal) → op ≡ Plus → AllPlus terminals
+    → AreAdded (terms_after op terminals)
 terms_added_after op (number n ∷ word (Some u) ∷ more) e a = (e, unit_above_zero u, terms_added_after Plus more refl a)
 terms_added_after op (number n ∷ more) e a = (e, omega arith, terms_added_after Plus more refl a)
 terms_added_after op (operator next ∷ more) e a = terms_added_after next more a.0 a.1
@@ -30,7 +22,8 @@ terms_added_after op _ e a = tt
 pub terms_added : (terminals : List Terminal) → AllPlus terminals → AreAdded (terms_of terminals)
 terms_added terminals a = terms_added_after Plus terminals refl a
 
-pub has_terms : (no_calc : Bool) (terminals : List Terminal) → IsSentence no_calc terminals → 1 ≤ length (terms_of terminals)
+pub has_terms : (no_calc : Bool) (terminals : List Terminal) → IsSentence no_calc terminals
+    → 1 ≤ length (terms_of terminals)
 has_terms no_calc (number n ∷ []) h = omega arith
 has_terms no_calc (number n ∷ operator op ∷ more) h = omega arith
 has_terms no_calc (number n ∷ word (Some u) ∷ []) h = omega arith
@@ -44,58 +37,59 @@ sum-append (x ∷ xs) ys =
     let more : sum_of (xs ++ ys) ≡ sum_of xs + sum_of ys = sum-append xs ys in
     omega arith
 
-pub step_within : (before : List Term) (t : Term) (later : List Term) → sum_of (before ++ t ∷ []) ≤ sum_of (before ++ t ∷ later)
+pub step_within : (before : List Term) (t : Term) (later : List Term)
+    → sum_of (before ++ t ∷ []) ≤ sum_of (before ++ t ∷ later)
 step_within before t later = omega (arith, sum-append before (t ∷ []), sum-append before (t ∷ later))
 
 term_within : (before : List Term) (t : Term) → value_of_term t ≤ sum_of (before ++ t ∷ [])
 term_within before t = omega (arith, sum-append before (t ∷ []))
 
-later_none : (before terms : List Term) → AreAdded terms → sum_of (before ++ terms) < 2 ^ 64 → later_fault Plus before terms ≡ None
+pub later_none : (before terms : List Term) → AreAdded terms → sum_of (before ++ terms) < 2 ^ 64
+    → later_fault Plus before terms ≡ None
 later_none before [] a h = refl
 later_none before (t ∷ later) a h =
-    let step : sum_of (before ++ t ∷ []) ≤ sum_of (before ++ t ∷ later) = step_within before t later in
-    let own : value_of_term t ≤ sum_of (before ++ t ∷ []) = term_within before t in
-    let same : unless (is_same_operator Plus t.operator) (Mixed Plus t.operator) ≡ None = rw a.0 in
-    no_fault _ _ same
-    (no_fault (term_fault None t) _ (term_below_no_fault None t a.1 (omega arith))
-    (no_fault (unless (fits (sum_of (before ++ t ∷ []))) (Overflow None)) _ (below_no_fault _ (Overflow None) (omega arith))
-    (later_none (before ++ t ∷ []) later a.2 (rw (append_assoc before (t ∷ []) later) h))))
+    let step = step_within before t later in
+    let own = term_within before t in
+    let rest = later_none (before ++ t ∷ []) later a.2 (rw append_assoc h) in
+    rw (term_below_no_fault None t a.1 (omega arith)) (simp no_fault (a.0, (refl, (omega arith, rest))))
 
-pub running_none : (before terms : List Term) → AreAdded terms → sum_of (before ++ terms) < 2 ^ 64 → running_fault before terms ≡ None
+pub running_none : (before terms : List Term) → AreAdded terms → sum_of (before ++ terms) < 2 ^ 64
+    → running_fault before terms ≡ None
 running_none before [] a h = refl
 running_none before (t ∷ later) a h =
-    let step : sum_of (before ++ t ∷ []) ≤ sum_of (before ++ t ∷ later) = step_within before t later in
-    let own : value_of_term t ≤ sum_of (before ++ t ∷ []) = term_within before t in
-    no_fault (term_fault (place_after before) t) _ (term_below_no_fault (place_after before) t a.1 (omega arith))
-    (no_fault (unless (fits (sum_of (before ++ t ∷ []))) (Overflow None)) _ (below_no_fault _ (Overflow None) (omega arith))
-    (running_none (before ++ t ∷ []) later a.2 (rw (append_assoc before (t ∷ []) later) h)))
+    let step = step_within before t later in
+    let own = term_within before t in
+    let rest = running_none (before ++ t ∷ []) later a.2 (rw append_assoc h) in
+    rw (term_below_no_fault (place_after before) t a.1 (omega arith)) (simp no_fault (refl, (omega arith, rest)))
 
-running_below : (before terms : List Term) → sum_of before < 2 ^ 64 → running_fault before terms ≡ None → sum_of (before ++ terms) < 2 ^ 64
-running_below before [] b h = rw (append-nil before) b
+pub running_below : (before terms : List Term) → sum_of before < 2 ^ 64 → running_fault before terms ≡ None
+    → sum_of (before ++ terms) < 2 ^ 64
+running_below before [] b h = rw append-nil b
 running_below before (t ∷ later) b h =
-    let parts = no_faults (unless (fits (sum_of (before ++ t ∷ []))) (Overflow None)) _ (no_faults (term_fault (place_after before) t) _ h).1 in
-    rw (← append_assoc before (t ∷ []) later)
-    (running_below (before ++ t ∷ []) later (no_fault_below _ (Overflow None) parts.0) parts.1)
+    let parts = simp no_fault at h in
+    rw (← append_assoc before (t ∷ []) later) (running_below (before ++ t ∷ []) later parts.1.0 parts.1.1)
 
 pub running_none_below : (terms : List Term) → running_fault [] terms ≡ None → sum_of terms < 2 ^ 64
 running_none_below terms h = running_below [] terms (omega arith) h
+
+pub fault_of_sum : (t u : Term) (later : List Term) → u.operator ≡ Plus
+    → evaluation_fault (t ∷ u ∷ later)
+    ≡ or_else (later_fault Plus [] (u ∷ later)) (unless (fits (sum_of (t ∷ u ∷ later))) (Overflow None))
+fault_of_sum t u later e =
+    ap (λ set. or_else (later_fault set [] (u ∷ later))
+    (unless (fits (total_of set t (later_total set (u ∷ later)))) (Overflow None))) e
 
 pub below_evaluate : (terms : List Term) → 1 ≤ length terms → AreAdded terms → sum_of terms < 2 ^ 64 → Evaluates terms
 below_evaluate [] l a h = absurd (omega arith)
 below_evaluate (t ∷ []) l a h = (term_below_no_fault None t a.1 (omega arith), refl)
 below_evaluate (t ∷ u ∷ later) l a h =
-    let rest : later_fault Plus [] (u ∷ later) ≡ None = later_none [] (u ∷ later) a.2 (omega arith) in
-    let whole : unless (fits (total_of Plus t (later_total Plus (u ∷ later)))) (Overflow None) ≡ None = below_no_fault _ (Overflow None) h in (
-      term_below_no_fault None t a.1 (omega arith),
-      subst (λ (set : CondUnit). fault_by set t (u ∷ later) ≡ None) (sym a.2.0) (no_fault _ _ rest whole),
-    )
+    let none = later_none [] (u ∷ later) a.2 (omega arith) in
+    (term_below_no_fault None t a.1 (omega arith), rw (fault_of_sum t u later a.2.0, none) (simp no_fault (refl, h)))
 
 pub evaluate_below : (terms : List Term) → AreAdded terms → Evaluates terms → sum_of terms < 2 ^ 64
 evaluate_below [] a h = absurd h
-evaluate_below (t ∷ []) a h = let own : value_of_term t < 2 ^ 64 = term_no_fault_below None t h.0 in omega arith
-evaluate_below (t ∷ u ∷ later) a h =
-    let faults : fault_by Plus t (u ∷ later) ≡ None = subst (λ (set : CondUnit). fault_by set t (u ∷ later) ≡ None) a.2.0 h.1 in
-    no_fault_below _ (Overflow None) (no_faults (later_fault Plus [] (u ∷ later)) _ faults).1
+evaluate_below (t ∷ []) a h = let own = simp no_fault at h.0 in omega arith
+evaluate_below (t ∷ u ∷ later) a h = (simp no_fault at (rw a.2.0 at h.1)).1
 
 all_plus : (later : List Term) → AreAdded later → list_all (λ v. is_same_operator Plus v.operator) later ≡ true
 all_plus [] a = refl

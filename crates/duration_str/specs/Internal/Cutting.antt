@@ -1,5 +1,5 @@
 -- How a text is cut: what is ahead of a byte, and what is between two bytes.
-use Rattle.std.specs.Prelude.{◌≡◌, ℕ, ◌+◌, ◌*◌, ◌%◌, ◌^◌, Bool, false, List, [], ◌∷◌, ◌++◌, drop, IsTrue}
+use Rattle.std.specs.Prelude.{◌≡◌, ℕ, ◌+◌, ◌*◌, ◌%◌, ◌^◌, Bool, false, List, [], ◌∷◌, ◌++◌, drop, IsTrue, ⊤}
 use Rattle.std.specs.List.{list_any, list_all}
 use Rattle.std.specs.Char.{is_ascii_alphabetic, is_ascii_uppercase}
 use Rattle.std.specs.Str.{chars}
@@ -21,7 +21,7 @@ pub record Between (text : List ℕ) (place next : ℕ) (characters : List ℕ) 
 
 -- The text is at its end, or its first character fails the test.
 abbrev pub Stops : (ℕ → Bool) → List ℕ → Type 0
-Stops test [] = Unit {0}
+Stops test [] = ⊤
 Stops test (c ∷ _) = test c ≡ false
 
 -- The characters from `place` to `next` all pass the test.

@@ -112,10 +112,10 @@ first_term nanos op = number nanos ∷ word (Some NanoSecond) ∷ operator op �
 -- ---- Values, or the first fault
 
 -- two values combined by the operator, if that is below 2^64; otherwise an overflow, or the first fault of the two
-abbrev pub join : CondUnit → Result ℕ Cause → Result ℕ Cause → Result ℕ Cause
-join op (Ok x) (Ok y) = ok_or (u64_from (combination op x y)) (Overflow None)
-join op (Ok x) (Err cause) = Err cause
-join op (Err cause) y = Err cause
+abbrev pub checked_combination : CondUnit → Result ℕ Cause → Result ℕ Cause → Result ℕ Cause
+checked_combination op (Ok x) (Ok y) = ok_or (u64_from (combination op x y)) (Overflow None)
+checked_combination op (Ok x) (Err cause) = Err cause
+checked_combination op (Err cause) y = Err cause
 
 -- the neutral value: 0 for sums, one second for products
 abbrev pub nothing_of : CondUnit → ℕ
@@ -146,6 +146,6 @@ pub record CutsOn {A : Type 0} (old new : Tokens) (result : Result A Cause) : Ty
   pub reached : IfErr result (IsCut (place_of new))
 
 -- After an operator a number is ahead; without an operator the whole source is cut.
-abbrev pub IsBefore : Tokens → Option CondUnit → Type 0
-IsBefore s None = place_of s ≡ length (source s)
-IsBefore s (Some op) = IsAhead s (Some Number)
+abbrev pub IsFollowed : Tokens → Option CondUnit → Type 0
+IsFollowed s None = place_of s ≡ length (source s)
+IsFollowed s (Some op) = IsAhead s (Some Number)

@@ -1,5 +1,5 @@
 -- What the private calls of `Tokens` do: they look ahead, and take the token ahead.
-use Rattle.std.specs.Prelude.{◌≡◌, ℕ, Bool, true, false, List, ◌∷◌, Option, Some, None}
+use Rattle.std.specs.Prelude.{◌≡◌, ℕ, Bool, true, false, List, ◌∷◌, Option, Some, None, ⊤}
 use Rattle.std.specs.Str.{chars}
 use Rattle.duration_str.specs.declared.token.Sort.{Sort}
 use Rattle.duration_str.specs.declared.token.Sort.TheVariants as sorts
@@ -46,13 +46,7 @@ pub record LooksForNumber (old new : Tokens) (answer : Bool) : Type 0 where
 abbrev pub IsSign : Sort → Type 0
 IsSign sorts.Number = ⊥
 IsSign sorts.Word = ⊥
-IsSign _ = Unit {0}
-
--- A token of such a sort is ahead.
-pub record IsSignAhead (s : Tokens) : Type 0 where
-  pub sort : Sort
-  pub is_sign : IsSign sort
-  pub ahead : IsAhead s (Some sort)
+IsSign _ = ⊤
 
 -- The first token that is left is taken; it starts at the place and stands for this terminal.
 pub record TakesToken (old new : Tokens) (terminal : Terminal) : Type 0 where
@@ -78,6 +72,7 @@ pub record TakesTokenWith (old new : Tokens) (Has : Terminal → Type 0) : Type 
   pub token : TakesToken old new terminal
   pub has : Has terminal
 
--- The first token that is left is taken; it stands for a terminal of the sort ahead.
+-- If a token of a single character is ahead, it is taken; it stands for a terminal of its sort.
 abbrev pub TakesSign : Tokens → Tokens → Type 0
-TakesSign old new = (sort : Sort) → IsAhead old (Some sort) → TakesTokenWith old new (λ terminal. sort ≡ sort_of terminal)
+TakesSign old new =
+    (sort : Sort) → IsSign sort → IsAhead old (Some sort) → TakesTokenWith old new (λ terminal. sort ≡ sort_of terminal)

@@ -9,5 +9,7 @@ from_utf8_unchecked-requires c =
     let bytes = c.args.bytes.now in
     elim c.if-is_ascii.branch [
       | then-is_ascii w ↦ IsUtf8-from_ascii bytes w.if-is_ascii.ensures.cases
-      | else-is_ascii w ↦ subst (λ b. MatchBool b (IsUtf8 bytes) (¬ (IsUtf8 bytes))) (sym w.value-is ∙ c.if-is_utf8.true) w.is_utf8.ensures
+      | else-is_ascii w ↦
+          subst (λ b. MatchBool b (IsUtf8 bytes) (¬ (IsUtf8 bytes))) (sym w.value-is ∙ c.if-is_utf8.true)
+          w.is_utf8.ensures
     ]

@@ -1,8 +1,5 @@
 use Rattle.std.proofs.Common.{sym, ◌∙◌}
-use Rattle.std.proofs.lemmas.Str.{chars_from_encodes}
-use Rattle.std.specs.Duration.{as_nanos}
-use Rattle.duration_str.specs.Printing.{printed_counts, counts_of}
-use Rattle.duration_str.specs.Units.{unit_lengths}
+use Rattle.duration_str.proofs.Common.{chars_from_encodes, as_nanos, printed_counts, counts_of, unit_lengths}
 use Rattle.duration_str.proofs.LawProofs.GreatestBreakdown.{greatest_breakdown_holds}
 use Rattle.duration_str.proofs.ext.write_human.Goals as goal
 
@@ -10,4 +7,5 @@ pub returns-clause-text : goal.returns-clause-text
 returns-clause-text c =
     let counts = counts_of unit_lengths (as_nanos c.args.d.now) in
     let bytes = c.from_utf8_unchecked.ensures ∙ c.fill-end.ensures.text in
-    (counts, greatest_breakdown_holds (as_nanos c.args.d.now), sym (chars_from_encodes (printed_counts counts) _ c.from_utf8_unchecked.utf8 (sym bytes)))
+    let same = chars_from_encodes (printed_counts counts) _ c.from_utf8_unchecked.utf8 (sym bytes) in
+    (counts, greatest_breakdown_holds (as_nanos c.args.d.now), sym same)

@@ -2,4 +2,5 @@ use Rattle.duration_str.proofs.Sentences.AnsweredLemmas.{parses_text}
 use Rattle.duration_str.proofs.parser.parse_looked.Goals as goal
 
 pub returns-clause-parsed : goal.returns-clause-parsed
-returns-clause-parsed c = parses_text c.args.o c.args.input.now c.read_text.result.0 c.read_text.ensures.answer c.read_text.ensures.fits
+returns-clause-parsed c =
+    parses_text c.args.o c.args.input.now c.read_text.result.0 c.read_text.ensures.answer c.read_text.ensures.fits

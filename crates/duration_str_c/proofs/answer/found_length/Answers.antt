@@ -6,6 +6,6 @@ use Rattle.duration_str_c.proofs.answer.found_length.Goals as goal
 
 pub returns-in-Some : goal.returns-in-Some
 returns-in-Some c =
-    let (token, same, characters, at) = c.in-Some.ensures in
+    let (token, same, characters, at) = c.in-Some.ensures.token in
     let utf8 : IsUtf8 c.in-Some.token.now = search rules in
     sym (ap token_length same ∙ ap byte_len (sym characters) ∙ byte_count c.in-Some.token.now utf8)

@@ -8,4 +8,5 @@ loop-rest-preserved g c =
     c.loop-rest.invariant c.first_line.ensures.lines c.in_ok-accepted.ensures
 
 pub returns : goal.returns
-returns g c = Continues-end c.args.options c.args.input.now c.loop-rest.rest.now _ _ c.loop-rest.invariant (search rules)
+returns g c =
+    Continues-end c.args.options c.args.input.now c.loop-rest.rest.now _ _ c.loop-rest.invariant (search rules)

@@ -11,6 +11,8 @@ returns g c =
     let human = sym (encodes-chars shown c.write_human.utf8) in (
       chars shown,
       c.write_human.ensures.text,
-      pushed_parts _ _ _ _ _ _ _ _ _ _ _ digits (c.in_ok-push.ensures.ascii (omega arith)) human (c.in_ok-push-2.ensures.ascii (omega arith))
-          c.in_ok-push_str.ensures.bytes c.in_ok-push.ensures.bytes c.in_ok-push_str-2.ensures.bytes c.in_ok-push-2.ensures.bytes,
+      pushed_parts _ _ _ _ _ _ _ _ _ _ _ digits (c.in_ok-push.ensures.ascii (omega arith)) human
+          (c.in_ok-push-2.ensures.ascii (omega arith))
+          c.in_ok-push_str.ensures.bytes c.in_ok-push.ensures.bytes c.in_ok-push_str-2.ensures.bytes
+          c.in_ok-push-2.ensures.bytes,
     )

@@ -13,7 +13,8 @@ loop-written-preserved g c =
     let fits = c.in-Ok.ensures.bound in
     let most = length-take (length xs - done) (drop done xs) in
     let joined : take done xs ++ take n (take (length xs - done) (drop done xs)) ≡ take (done + n) xs =
-    ap (λ l. take done xs ++ l) (take-take n (length xs - done) (drop done xs) (omega arith)) ∙ sym (take-add done n xs) in
+    ap (λ l. take done xs ++ l) (take-take n (length xs - done) (drop done xs) (omega arith))
+    ∙ sym (take-add done n xs) in
     record {
       within = omega arith;
       so_far = subst (Appends _ _) joined (Appends-trans _ _ _ _ _ before.so_far c.in-Ok.ensures.bytes);

@@ -1,9 +1,6 @@
-use Rattle.std.proofs.Common.{◌≡◌, ℕ, List, [], ◌∷◌, ap, ap₂, sym, ◌∙◌}
-use Rattle.std.specs.Str.{chars}
-use Rattle.duration_str.specs.declared.options.Options.{Options}
-use Rattle.duration_str.specs.Tokens.{Token}
-use Rattle.duration_str.specs.Grammar.{terminal_of}
-use Rattle.duration_str.specs.Tokenizer.{left, token_of, what_of}
+use Rattle.std.proofs.Common.{◌≡◌, ℕ, List, [], ◌∷◌, ap₂, sym, ◌∙◌, chars}
+use Rattle.duration_str.proofs.Common.{terminal_of, left, what_of}
+use Rattle.uses.proofs.Common.{Options, Token, token_of}
 use Rattle.uses.proofs.CompletionLemmas.{tokens_of_lexeme}
 use Rattle.uses.proofs.completion.is_offered.Goals as goal
 
@@ -16,4 +13,4 @@ returns-in-Some c h =
     let first : token_of c.in-Some.token ∷ left c.next.new.self ≡ only ∷ [] = sym steps.first ∙ c.new.ensures.left ∙ cut in
     let same : token_of c.in-Some.token ≡ only = cc in
     c.allows.ensures (terminal_of c.args.o w)
-    (steps.token.sort ∙ ap₂ (λ (o : Options) (cs : List ℕ). what_of (terminal_of o cs)) c.new.ensures.options (ap (λ (token : Token). token.characters) same))
+    (steps.token.sort ∙ ap₂ (λ (o : Options) (token : Token). what_of (terminal_of o token.characters)) c.new.ensures.options same)

@@ -1,8 +1,5 @@
 use Rattle.std.proofs.Common.{rules, sym, ap, subst, ◌∙◌, reverse}
-use Rattle.std.specs.List.Sorted.{IsPermutation, IsNonDecreasingBy}
-use Rattle.std.proofs.lemmas.List.{reverse-reverse}
-use Rattle.std.proofs.lemmas.List.Sorted.{IsPermutation-trans, IsPermutation-sym, IsNonDecreasingBy-from_sort_by_key}
-use Rattle.uses.specs.Product.{nanos_in}
+use Rattle.uses.proofs.Common.{IsPermutation, IsNonDecreasingBy, reverse-reverse, IsPermutation-trans, IsPermutation-sym, IsNonDecreasingBy-from_sort_by_key, nanos_in}
 use Rattle.uses.proofs.SumLemmas.{permuted_read}
 use Rattle.uses.proofs.sum.longest_first.Goals as goal
 
@@ -14,7 +11,8 @@ pub returns-clause-order : goal.returns-clause-order
 returns-clause-order c =
     let h = c.reverse.ensures.after in
     let sorted : IsNonDecreasingBy nanos_in c.sort_unstable_by_key.new.self =
-    IsNonDecreasingBy-from_sort_by_key nanos_in c.sort_unstable_by_key.new.self c.sort_unstable_by_key.ensures.sorted (λ a r q k. search rules) in
+    IsNonDecreasingBy-from_sort_by_key nanos_in c.sort_unstable_by_key.new.self
+    c.sort_unstable_by_key.ensures.sorted (λ a r q k. search rules) in
     subst (IsNonDecreasingBy nanos_in) (sym (ap reverse h ∙ reverse-reverse c.sort_unstable_by_key.new.self)) sorted
 
 pub returns-clause-same : goal.returns-clause-same

@@ -6,7 +6,8 @@ use Rattle.duration_str.proofs.fault.SpacesDisplay.fmt.Given as goal
 abbrev pub invariant-loop-left : goal.invariant-loop-left
 invariant-loop-left g l = record {
   within : l.left ≤ l.initial.left;
-  wrote : IsPlainFormatter l.initial.f → HasWritten g.W.Write.write_str_gives l.initial.f (replicate (l.initial.left - l.left) 32) l.f;
+  wrote : IsPlainFormatter l.initial.f
+      → HasWritten g.W.Write.write_str_gives l.initial.f (replicate (l.initial.left - l.left) 32) l.f;
 }
 
 abbrev pub decreases-loop-left : goal.decreases-loop-left

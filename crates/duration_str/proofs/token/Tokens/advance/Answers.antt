@@ -1,7 +1,7 @@
-use Rattle.std.proofs.Common.{◌∙◌, ap, sym, subst, arith}
-use Rattle.std.proofs.lemmas.Str.{IsUtf8-had}
-use Rattle.duration_str.specs.Internal.Cutting.{StandsAt}
+use Rattle.std.proofs.Common.{rules, ◌∙◌, ap, sym, subst, arith}
+use Rattle.duration_str.proofs.Common.{IsUtf8-had, StandsAt}
 use Rattle.duration_str.proofs.Cutting.CuttingLemmas.{counted_past, looks_fit, stands_same}
+use Rattle.duration_str.proofs.Cutting.TokenizerLemmas.{takes_sign}
 use Rattle.duration_str.proofs.token.Tokens.advance.Goals as goal
 
 pub look-self-requires : goal.look-self-requires
@@ -28,3 +28,6 @@ pub returns-clause-past : goal.returns-clause-past
 returns-clause-past c x e =
     let s = c.args.self.now in
     subst (λ n. StandsAt s.eye.text.now s.eye.place n x) (sym (c.look-self.ensures.place ∙ c.step.ensures.place)) (s.some x e)
+
+pub returns-clause-sign : goal.returns-clause-sign
+returns-clause-sign c sort sign ahead = takes_sign sort sign ahead (search rules) (returns-clause-past c)

@@ -1,6 +1,5 @@
 use Rattle.std.proofs.Common.{Some, None, refl, ◌∙◌}
-use Rattle.duration_str.specs.Internal.Sorts.{sort_at}
-use Rattle.duration_str.specs.Tokenizer.{options_of}
+use Rattle.duration_str.proofs.Common.{sort_at, options_of}
 use Rattle.duration_str.proofs.Cutting.SortLemmas.{digit_sort}
 use Rattle.duration_str.proofs.Cutting.TokenizerLemmas.{looks_ahead}
 use Rattle.duration_str.proofs.token.Tokens.is_number_ahead.Goals as goal
@@ -13,7 +12,7 @@ returns-in-Some c =
     let head = c.in-Some.is in
     record {
       sort = Some (sort_at (options_of m) first);
-      look = looks_ahead c.args.self.now m _ e.kept e.blanks
+      look = looks_ahead _ e.kept e.blanks
           (record { character = first; is_head = head; not_blank = e.stops first head; is_sort = refl });
       is_answer = c.is_ascii_digit.ensures.value ∙ digit_sort (options_of m) first;
     }
@@ -22,4 +21,4 @@ pub returns-in-None : goal.returns-in-None
 returns-in-None c =
     let m = c.skip_blanks.new.self in
     let e = c.skip_blanks.ensures in
-    record { sort = None; look = looks_ahead c.args.self.now m _ e.kept e.blanks c.in-None.is; is_answer = refl }
+    record { sort = None; look = looks_ahead _ e.kept e.blanks c.in-None.is; is_answer = refl }

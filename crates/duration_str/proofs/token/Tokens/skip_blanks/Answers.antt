@@ -1,6 +1,6 @@
 use Rattle.std.proofs.Common.{◌∙◌, sym}
-use Rattle.duration_str.specs.Text.{is_blank}
-use Rattle.duration_str.specs.Tokenizer.{source, place_of}
+use Rattle.duration_str.proofs.Common.{is_blank, source}
+use Rattle.duration_str.specs.Tokenizer.{place_of}
 use Rattle.duration_str.proofs.Cutting.CuttingLemmas.{passes_none, passes_head}
 use Rattle.duration_str.proofs.Cutting.TokenizerLemmas.{keeps_all, keeps_on, fewer_ahead}
 use Rattle.duration_str.proofs.token.Tokens.skip_blanks.Goals as goal

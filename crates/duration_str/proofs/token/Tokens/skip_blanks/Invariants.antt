@@ -1,7 +1,6 @@
 use Rattle.std.proofs.Common.{length}
-use Rattle.duration_str.specs.Text.{is_blank}
-use Rattle.duration_str.specs.Internal.Cutting.{ahead, Passes}
-use Rattle.duration_str.specs.Tokenizer.{source, place_of, KeepsInput}
+use Rattle.duration_str.proofs.Common.{is_blank, ahead, Passes, source, KeepsInput}
+use Rattle.duration_str.specs.Tokenizer.{place_of}
 use Rattle.duration_str.proofs.token.Tokens.skip_blanks.Given as goal
 
 abbrev pub invariant-loop-self : goal.invariant-loop-self

@@ -1,7 +1,6 @@
 use Rattle.std.proofs.Common.{◌≡◌, ℕ, Bool, ap, ◌∙◌, sym}
-use Rattle.duration_str.specs.declared.options.Options.{Options}
-use Rattle.duration_str.specs.Text.{is_unit_letter}
-use Rattle.duration_str.specs.Tokenizer.{source, options_of, place_of}
+use Rattle.duration_str.proofs.Common.{Options, is_unit_letter, source, options_of}
+use Rattle.duration_str.specs.Tokenizer.{place_of}
 use Rattle.duration_str.proofs.Cutting.CuttingLemmas.{passes_none, passes_head, stops_at}
 use Rattle.duration_str.proofs.Cutting.TokenizerLemmas.{keeps_all, keeps_on, fewer_ahead}
 use Rattle.duration_str.proofs.token.Tokens.skip_letters.Goals as goal

@@ -1,7 +1,6 @@
 use Rattle.std.proofs.Common.{length}
-use Rattle.duration_str.specs.Text.{is_unit_letter}
-use Rattle.duration_str.specs.Internal.Cutting.{ahead, Passes}
-use Rattle.duration_str.specs.Tokenizer.{source, options_of, place_of, KeepsInput}
+use Rattle.duration_str.proofs.Common.{is_unit_letter, ahead, Passes, source, options_of, KeepsInput}
+use Rattle.duration_str.specs.Tokenizer.{place_of}
 use Rattle.duration_str.proofs.token.Tokens.skip_letters.Given as goal
 
 abbrev pub invariant-loop-self : goal.invariant-loop-self

@@ -1,5 +1,5 @@
 use Rattle.std.proofs.Common.{subst, sym}
-use Rattle.duration_str.specs.Internal.Tokenizer.{IsAhead}
+use Rattle.duration_str.proofs.Common.{IsAhead}
 use Rattle.duration_str.proofs.Cutting.TokenizerLemmas.{looks_ahead}
 use Rattle.duration_str.proofs.token.Tokens.sort_ahead.Goals as goal
 
@@ -7,12 +7,13 @@ pub returns-in_err-first : goal.returns-in_err-first
 returns-in_err-first c =
     let m = c.skip_blanks.new.self in
     let e = c.skip_blanks.ensures in
-    looks_ahead c.args.self.now m _ e.kept e.blanks (subst (IsAhead m) (sym c.from_residual.ensures) (c.in_err-first.was {u = tt}))
+    looks_ahead _ e.kept e.blanks (subst (IsAhead m) (sym c.from_residual.ensures) (c.in_err-first.was {u = tt}))
 
 pub returns : goal.returns
 returns c =
     let m = c.skip_blanks.new.self in
     let e = c.skip_blanks.ensures in
     let head = c.in_ok-first.was {u = tt} in
-    looks_ahead c.args.self.now m _ e.kept e.blanks
-    (record { character = c.in_ok-first.first; is_head = head; not_blank = e.stops c.in_ok-first.first head; is_sort = c.sort_at.ensures })
+    let first = c.in_ok-first.first in
+    looks_ahead _ e.kept e.blanks
+    (record { character = first; is_head = head; not_blank = e.stops first head; is_sort = c.sort_at.ensures })

@@ -1,5 +1,6 @@
 use Rattle.std.proofs.Common.{◌∙◌, false, refl, sym, arith}
-use Rattle.duration_str.specs.Tokenizer.{source, options_of, place_of}
+use Rattle.duration_str.proofs.Common.{source, options_of}
+use Rattle.duration_str.specs.Tokenizer.{place_of}
 use Rattle.duration_str.proofs.Characters.CharacterLemmas.{ascii_letter}
 use Rattle.duration_str.proofs.Cutting.CuttingLemmas.{letters_none, letters_head}
 use Rattle.duration_str.proofs.Cutting.TokenizerLemmas.{keeps_on, fewer_ahead, letter_ahead}

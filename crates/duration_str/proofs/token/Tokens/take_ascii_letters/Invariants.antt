@@ -1,6 +1,6 @@
 use Rattle.std.proofs.Common.{length}
-use Rattle.duration_str.specs.Internal.Cutting.{ahead, TakesLetters}
-use Rattle.duration_str.specs.Tokenizer.{source, place_of, KeepsInput}
+use Rattle.duration_str.proofs.Common.{ahead, TakesLetters, source, KeepsInput}
+use Rattle.duration_str.specs.Tokenizer.{place_of}
 use Rattle.duration_str.proofs.token.Tokens.take_ascii_letters.Given as goal
 
 abbrev pub invariant-loop-self : goal.invariant-loop-self

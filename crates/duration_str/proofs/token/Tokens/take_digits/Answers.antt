@@ -1,6 +1,6 @@
 use Rattle.std.proofs.Common.{◌∙◌, refl, sym}
-use Rattle.duration_str.specs.Text.{is_digit}
-use Rattle.duration_str.specs.Tokenizer.{source, place_of}
+use Rattle.duration_str.proofs.Common.{is_digit, source}
+use Rattle.duration_str.specs.Tokenizer.{place_of}
 use Rattle.duration_str.proofs.Cutting.CuttingLemmas.{digits_none, digits_head, stops_at}
 use Rattle.duration_str.proofs.Cutting.TokenizerLemmas.{keeps_all, keeps_on, fewer_ahead}
 use Rattle.duration_str.proofs.token.Tokens.take_digits.Goals as goal

@@ -1,6 +1,6 @@
 use Rattle.std.proofs.Common.{length}
-use Rattle.duration_str.specs.Internal.Cutting.{ahead, TakesDigits}
-use Rattle.duration_str.specs.Tokenizer.{source, place_of, KeepsInput}
+use Rattle.duration_str.proofs.Common.{ahead, TakesDigits, source, KeepsInput}
+use Rattle.duration_str.specs.Tokenizer.{place_of}
 use Rattle.duration_str.proofs.token.Tokens.take_digits.Given as goal
 
 abbrev pub invariant-loop-self : goal.invariant-loop-self

@@ -1,18 +1,12 @@
-use Rattle.std.proofs.Common.{Some, subst}
-use Rattle.duration_str.specs.declared.token.Sort.{Sort}
-use Rattle.duration_str.specs.Internal.Tokenizer.{IsAhead}
 use Rattle.duration_str.proofs.Cutting.TokenizerLemmas.{sign_what, other_what}
 use Rattle.duration_str.proofs.token.Tokens.take_token.Goals as goal
 
-pub take_sign-requires : goal.take_sign-requires
-take_sign-requires c = record { sort = _; is_sign = tt; ahead = subst (λ (sort : Sort). IsAhead c.args.self.now (Some sort)) c.in-Operator.is c.requires }
-
 pub returns-in-Operator : goal.returns-in-Operator
 returns-in-Operator c =
-    let taken = c.take_sign.ensures.sign _ (subst (λ (sort : Sort). IsAhead c.args.self.now (Some sort)) c.in-Operator.is c.requires) in
+    let taken = c.advance.ensures.sign _ tt (rw c.in-Operator.is at c.requires) in
     record { terminal = taken.terminal; token = taken.token; has = sign_what taken.terminal c.in-Operator.operator taken.has }
 
 pub returns-in-Other : goal.returns-in-Other
 returns-in-Other c =
-    let taken = c.take_sign-in-Other.ensures.sign _ (subst (λ (sort : Sort). IsAhead c.args.self.now (Some sort)) c.in-Other.is c.requires) in
+    let taken = c.advance-in-Other.ensures.sign _ tt (rw c.in-Other.is at c.requires) in
     record { terminal = taken.terminal; token = taken.token; has = other_what taken.terminal taken.has }

@@ -1,8 +1,6 @@
-use Rattle.std.proofs.Common.{◌∙◌, ◌&&◌, ap, sym, subst, arith}
-use Rattle.std.proofs.lemmas.Bool.{not-true}
-use Rattle.duration_str.specs.Text.{is_unit_letter}
-use Rattle.duration_str.specs.Internal.Cutting.{ahead, Stops}
-use Rattle.duration_str.specs.Tokenizer.{source, options_of, place_of}
+use Rattle.std.proofs.Common.{◌∙◌, sym, subst, arith}
+use Rattle.duration_str.proofs.Common.{not-true, is_unit_letter, ahead, Stops, source, options_of}
+use Rattle.duration_str.specs.Tokenizer.{place_of}
 use Rattle.duration_str.proofs.Characters.CharacterLemmas.{no_letter_of_ascii}
 use Rattle.duration_str.proofs.Cutting.CuttingLemmas.{short_word, stops_at}
 use Rattle.duration_str.proofs.Cutting.TokenizerLemmas.{takes_word, takes_long_word}
@@ -17,29 +15,30 @@ returns-then-place-start-le-MOST_LETTERS c =
     let e = c.take_ascii_letters-letters.ensures in
     let o = options_of s in
     let stops : Stops (is_unit_letter o) (ahead (source t) (place_of t)) = elim c.match-self.branch [
-      | in-Some w ↦ stops_at (is_unit_letter o) (source t) (place_of t) t.eye.next w.in-Some.c (t.some w.in-Some.c w.in-Some.is)
-          (no_letter_of_ascii o w.in-Some.c (sym w.is_ascii-ended.ensures ∙ sym w.ended-is ∙ c.if-ended.true) (e.stops w.in-Some.c w.in-Some.is))
+      | in-Some w ↦
+          stops_at (is_unit_letter o) (source t) (place_of t) t.eye.next w.in-Some.c (t.some w.in-Some.c w.in-Some.is)
+          (no_letter_of_ascii o w.in-Some.c (sym w.is_ascii-ended.ensures ∙ sym w.ended-is ∙ c.if-ended.true)
+          (e.stops w.in-Some.c w.in-Some.is))
       | in-None w ↦ subst (Stops (is_unit_letter o)) (sym (t.none w.in-None.is)) tt
     ] in
-    takes_word s t c.unit_of_packed.result c.requires e.kept
-    (short_word o (source s) (place_of s) (place_of t) letters.packed letters.has_capital c.unit_of_packed.result e.letters
-    (ap (λ o. o.lowercase && letters.has_capital) (sym e.kept.options) ∙ not-true _ (sym c.ignore_case.ensures ∙ c.if-ignore_case.true))
-    (let h = c.if-place-start-le-MOST_LETTERS.true in omega (arith, h, c.place.ensures, c.place-start.ensures)) c.unit_of_packed.ensures)
+    takes_word c.requires e.kept (short_word o e.letters
+    (rw e.kept.options at (not-true _ (sym c.ignore_case.ensures ∙ c.if-ignore_case.true)))
+    (let h = c.if-place-start-le-MOST_LETTERS.true in omega (arith, h, c.place.ensures, c.place-start.ensures))
+    c.unit_of_packed.ensures)
     stops
 
 pub returns-in_err-unit : goal.returns-in_err-unit
 returns-in_err-unit c =
-    let m = c.take_ascii_letters-letters in
-    let t = c.skip_letters in
-    takes_long_word c.args.self.now m.new.self t.new.self m.result.packed c.place-start.result m.result.has_capital c.since.result.now _ c.requires
-    m.ensures.kept m.ensures.letters t.ensures.kept
-    t.ensures.letters t.ensures.stops c.place-start.ensures c.since.ensures c.since.utf8 (c.from_residual.ensures ∙ sym (c.in_err-unit.was {u = tt}) ∙
-    c.unit_by_name.ensures)
+    let m = c.take_ascii_letters-letters.ensures in
+    let t = c.skip_letters.ensures in
+    let unit = c.from_residual.ensures ∙ sym (c.in_err-unit.was {u = tt}) ∙ c.unit_by_name.ensures in
+    takes_long_word c.requires m.kept m.letters t.kept t.letters t.stops c.place-start.ensures c.since.ensures
+    c.since.utf8 unit
 
 pub returns-in_ok-unit : goal.returns-in_ok-unit
 returns-in_ok-unit c =
-    let m = c.take_ascii_letters-letters in
-    let t = c.skip_letters in
-    takes_long_word c.args.self.now m.new.self t.new.self m.result.packed c.place-start.result m.result.has_capital c.since.result.now _ c.requires
-    m.ensures.kept m.ensures.letters t.ensures.kept
-    t.ensures.letters t.ensures.stops c.place-start.ensures c.since.ensures c.since.utf8 (sym (c.in_ok-unit.was {u = tt}) ∙ c.unit_by_name.ensures)
+    let m = c.take_ascii_letters-letters.ensures in
+    let t = c.skip_letters.ensures in
+    let unit = sym (c.in_ok-unit.was {u = tt}) ∙ c.unit_by_name.ensures in
+    takes_long_word c.requires m.kept m.letters t.kept t.letters t.stops c.place-start.ensures c.since.ensures
+    c.since.utf8 unit

@@ -1,0 +1,399 @@
+// Made by tools/erase of crates/duration_str/src/fault.rt.
+//! Why a text is refused and where, shown with the text: printed, or written to a buffer.
+//!
+//! A `Display` may fail for reasons that its contract does not name, so no contract can promise that it prints. Into a
+//! buffer a message for which there is room is always written.
+
+use super::ext::put_number;
+use super::token::Tokens;
+use super::unit::{CondUnit, Options};
+use core::fmt;
+
+/// What could stand at the place of a syntax fault.
+///
+/// ```
+/// use duration_str::{Cause, Expected, Options, parse_with};
+///
+/// let number = Expected { number: true, unit_word: false, operator: false, text_end: false };
+/// let cause = parse_with("1m+", Options::off()).unwrap_err().cause();
+/// assert_eq!(cause, Cause::Syntax { place: 3, expected: number });
+/// ```
+#[derive(Clone, Copy, Debug, PartialEq, Eq)]
+pub struct Expected {
+    /// A number.
+    pub number: bool,
+    /// A word that names a unit.
+    pub unit_word: bool,
+    /// `+` or `*`.
+    pub operator: bool,
+    /// The end of the text.
+    pub text_end: bool,
+}
+
+/// Why a text is refused. A place is a byte offset in the text.
+///
+/// ```
+/// use duration_str::{Cause, Options, parse_with};
+///
+/// assert_eq!(parse_with("", Options::off()).unwrap_err().cause(), Cause::Empty);
+/// ```
+#[derive(Clone, Copy, Debug, PartialEq, Eq)]
+pub enum Cause {
+    /// The text is empty.
+    Empty,
+    /// At `place`, no sentence continues as the text does.
+    Syntax {
+        /// Where the first token stands with which no sentence continues, or the length of the text.
+        place: usize,
+        /// What could stand there.
+        expected: Expected,
+    },
+    /// A number is 2^64 or more.
+    NumberTooLarge {
+        /// 0 for the first number, `None` for a later one.
+        place: Option<usize>,
+    },
+    /// A term, a step of the evaluation or the value is 2^64 nanoseconds or more.
+    Overflow {
+        /// 0 for the first term, `None` for a later one and for a step.
+        place: Option<usize>,
+    },
+    /// The operator `later` follows the different operator `first`.
+    Mixed {
+        /// The first operator.
+        first: CondUnit,
+        /// The first that differs from it.
+        later: CondUnit,
+    },
+    /// The date is out of range.
+    OutOfRange,
+    /// A configuration value is not a text.
+    NotText {
+        /// Whether the value may be missing.
+        optional: bool,
+    },
+}
+
+impl Cause {
+    /// Byte offset of the fault: set for syntax faults, 0 for an oversized first term, otherwise `None`. In a `Fault` it
+    /// is a character boundary within the text.
+    ///
+    /// ```
+    /// use duration_str::{Options, parse_with};
+    ///
+    /// let place = |text| parse_with(text, Options::off()).unwrap_err().cause().place();
+    /// assert_eq!(place("1m 3-5"), Some(4));
+    /// assert_eq!(place("580y*2"), None);
+    /// ```
+    pub fn place(self) -> Option<usize> {
+        match self {
+            Cause::Syntax { place, .. } => Some(place),
+            Cause::NumberTooLarge { place } | Cause::Overflow { place } => place,
+            Cause::Empty | Cause::Mixed { .. } | Cause::OutOfRange | Cause::NotText { .. } => None,
+        }
+    }
+
+    /// The line of this cause.
+    pub(crate) fn line(self) -> &'static str {
+        match self {
+            Cause::Empty => "Empty input",
+            Cause::Syntax { expected, .. } => {
+                if expected.unit_word {
+                    r#"expected ["y", "q", "mon", "w", "d", "h", "m", "s", "ms", "µs", "us", "ns"]"#
+                } else if expected.operator {
+                    "expected ['+', '*']"
+                } else {
+                    "expected number"
+                }
+            }
+            Cause::NumberTooLarge { .. } => "number too large to fit in target type",
+            Cause::Overflow { .. } => "overflow error",
+            Cause::Mixed { first, later } => match (first, later) {
+                (CondUnit::Plus, CondUnit::Plus) => "not support '+' with '+' calculate",
+                (CondUnit::Plus, CondUnit::Star) => "not support '+' with '*' calculate",
+                (CondUnit::Star, CondUnit::Plus) => "not support '*' with '+' calculate",
+                (CondUnit::Star, CondUnit::Star) => "not support '*' with '*' calculate",
+            },
+            Cause::OutOfRange => "date out of range",
+            Cause::NotText { optional: true } => "expect duration string, null, or missing field",
+            Cause::NotText { optional: false } => "expect duration string, e.g: '1min+30'",
+        }
+    }
+
+    /// The length in bytes of the line that `write_line` writes.
+    ///
+    /// ```
+    /// assert_eq!(duration_str::Cause::Empty.line_len(), 11);
+    /// ```
+    pub fn line_len(self) -> usize {
+        self.line().len()
+    }
+
+    /// Writes the line that says why the text is refused to the start of a buffer, and returns its length in bytes.
+    ///
+    /// `None` if it is longer than the buffer, which is then unchanged. Allocates nothing.
+    ///
+    /// ```
+    /// use duration_str::{Options, parse_with};
+    ///
+    /// let mut buffer = [0; 64];
+    /// let cause = parse_with("3 + ", Options::off()).unwrap_err().cause();
+    /// assert_eq!(cause.write_line(&mut buffer), Some(15));
+    /// assert_eq!(&buffer[..15], b"expected number");
+    /// ```
+    pub fn write_line(self, buffer: &mut [u8]) -> Option<usize> {
+        put(buffer, 0, self.line().as_bytes())
+    }
+}
+
+/// A refusal: the text that was read, and the cause. It prints as a message for people.
+///
+/// ```
+/// use duration_str::{Options, parse_with};
+///
+/// let fault = parse_with("3ms-2ms", Options::off()).unwrap_err();
+/// assert_eq!(fault.to_string(), "3ms-2ms\n   ^\nexpected ['+', '*']");
+/// ```
+#[derive(Clone, Copy, Debug, PartialEq, Eq)]
+pub struct Fault<'a> {
+    /// The whole text that was read; the empty text for `NotText`.
+    pub text: &'a str,
+    /// Why it is refused.
+    pub cause: Cause,
+}
+
+impl<'a> Fault<'a> {
+    /// The whole text that was read; the empty text for `NotText`.
+    ///
+    /// ```
+    /// use duration_str::{Options, parse_with};
+    ///
+    /// assert_eq!(parse_with("1x", Options::off()).unwrap_err().text(), "1x");
+    /// ```
+    pub fn text(&self) -> &'a str {
+        self.text
+    }
+
+    /// Why it is refused.
+    ///
+    /// ```
+    /// use duration_str::{Cause, Options, parse_with};
+    ///
+    /// let cause = parse_with("600y", Options::off()).unwrap_err().cause();
+    /// assert_eq!(cause, Cause::Overflow { place: Some(0) });
+    /// ```
+    pub fn cause(&self) -> Cause {
+        self.cause
+    }
+
+    /// The token that starts at the place of a syntax fault, as a slice of the text.
+    ///
+    /// The text is cut under these options. `None` if no token starts at the place, and for every other cause. With the
+    /// options of the reading, a syntax fault has no token exactly if it is at the end of the text.
+    ///
+    /// ```text
+    /// parse("3ms-2ms").unwrap_err().found(Options::off()) // Some("-")
+    /// ```
+    pub fn found(&self, o: Options) -> Option<&'a str> {
+        let Cause::Syntax { place, .. } = self.cause else {
+            return None;
+        };
+        // To find a token at the place it is enough to cut from the character before it on.
+        let from = self.text.floor_char_boundary(place.saturating_sub(1));
+        token_at(Tokens::new(&self.text[from..], o), place - from)
+    }
+
+    /// How its message is laid out.
+    pub(crate) fn layout(&self) -> Layout {
+        let Some(place) = self.cause.place() else {
+            return Layout::Line;
+        };
+        if self.text.as_bytes().contains(&b'\n') {
+            return Layout::Byte { place };
+        }
+        Layout::Caret {
+            spaces: chars_before(self.text, place),
+        }
+    }
+
+    /// The length in bytes of the message that `write_message` writes; `usize::MAX` if it is greater than that.
+    ///
+    /// ```
+    /// use duration_str::{Options, parse_with};
+    ///
+    /// assert_eq!(parse_with("3ms-2ms", Options::off()).unwrap_err().message_len(), 32);
+    /// ```
+    pub fn message_len(&self) -> usize {
+        self.layout().len(self.text, self.cause.line())
+    }
+
+    /// Writes what the fault prints as to the start of a buffer, and returns its length in bytes.
+    ///
+    /// `None` if it is longer than the buffer, which is then unchanged. Allocates nothing.
+    ///
+    /// ```
+    /// use duration_str::{Options, parse_with};
+    ///
+    /// let mut buffer = [0; 64];
+    /// let fault = parse_with("", Options::off()).unwrap_err();
+    /// assert_eq!(fault.write_message(&mut buffer), Some(11));
+    /// assert_eq!(&buffer[..11], b"Empty input");
+    /// ```
+    pub fn write_message(&self, buffer: &mut [u8]) -> Option<usize> {
+        let layout = self.layout();
+        let line = self.cause.line();
+        if layout.len(self.text, line) > buffer.len() {
+            return None;
+        }
+        layout.put(buffer, self.text, line)
+    }
+}
+
+/// The token that starts at the place, among those that are left.
+fn token_at<'a>(mut tokens: Tokens<'a>, place: usize) -> Option<&'a str> {
+    while let Some(token) = tokens.next() {
+        if token.start == place {
+            return Some(token.text);
+        }
+    }
+    None
+}
+
+const SPACES: &str = "                                                                ";
+
+/// This many spaces, at most 64.
+fn short_run(count: usize) -> &'static str {
+    &SPACES[..count]
+}
+
+/// This many spaces, written in runs.
+#[derive(Clone, Copy)]
+struct Spaces(usize);
+
+impl fmt::Display for Spaces {
+    fn fmt(&self, f: &mut fmt::Formatter<'_>) -> fmt::Result {
+        let mut left = self.0;
+        while left > 64 {
+            f.write_str(short_run(64))?;
+            left -= 64;
+        }
+        f.write_str(short_run(left))
+    }
+}
+
+/// The number of characters before the place. In ASCII it is that of the bytes, which takes less time.
+fn chars_before(text: &str, place: usize) -> usize {
+    let before = &text[..place];
+    if before.is_ascii() {
+        before.len()
+    } else {
+        before.chars().count()
+    }
+}
+
+/// How a message is laid out around its line.
+#[derive(Clone, Copy)]
+pub(crate) enum Layout {
+    /// The line alone.
+    Line,
+    /// `byte N: ` with the place, and the line.
+    Byte { place: usize },
+    /// The text, below it a caret after this many spaces, and below that the line.
+    Caret { spaces: usize },
+}
+
+/// The line that says what is wrong. If the fault has a place, the text and a caret under the place are printed above
+/// it; or, if the text has a line feed, the byte offset is printed before it: `byte 5: expected number`.
+///
+/// ```text
+/// 3ms-2ms
+///    ^
+/// expected ['+', '*']
+/// ```
+impl fmt::Display for Fault<'_> {
+    fn fmt(&self, f: &mut fmt::Formatter<'_>) -> fmt::Result {
+        let text = self.text;
+        let line = self.cause.line();
+        match self.layout() {
+            Layout::Line => f.write_str(line),
+            Layout::Byte { place } => write!(f, "byte {place}: {line}"),
+            Layout::Caret { spaces } => {
+                let spaces = Spaces(spaces);
+                write!(f, "{text}\n{spaces}^\n{line}")
+            }
+        }
+    }
+}
+
+/// Writes a part after the first `at` bytes, and returns where it ends; `None` if there is no room.
+fn put(buffer: &mut [u8], at: usize, part: &[u8]) -> Option<usize> {
+    if part.len() > buffer.len() - at {
+        return None;
+    }
+    let end = at + part.len();
+    buffer[at..end].copy_from_slice(part);
+    Some(end)
+}
+
+/// Writes this many spaces, as `put` does.
+fn put_spaces(buffer: &mut [u8], at: usize, count: usize) -> Option<usize> {
+    if count > buffer.len() - at {
+        return None;
+    }
+    let end = at + count;
+    buffer[at..end].fill(b' ');
+    Some(end)
+}
+
+/// Writes a number in decimal as `put` does.
+fn put_decimal(buffer: &mut [u8], at: usize, number: usize) -> Option<usize> {
+    let mut digits = [0; 64];
+    let end = put_number(&mut digits, 0, number as u64);
+    put(buffer, at, &digits[..end])
+}
+
+/// Writes the place as a number, and the line.
+fn put_byte(buffer: &mut [u8], place: usize, line: &str) -> Option<usize> {
+    let word = put(buffer, 0, b"byte ")?;
+    let number = put_decimal(buffer, word, place)?;
+    let colon = put(buffer, number, b": ")?;
+    put(buffer, colon, line.as_bytes())
+}
+
+/// Writes the text, a caret after this many spaces, and the line.
+fn put_caret(buffer: &mut [u8], text: &str, spaces: usize, line: &str) -> Option<usize> {
+    let above = put(buffer, 0, text.as_bytes())?;
+    let below = put(buffer, above, b"\n")?;
+    let caret = put_spaces(buffer, below, spaces)?;
+    let line_start = put(buffer, caret, b"^\n")?;
+    put(buffer, line_start, line.as_bytes())
+}
+
+/// The number of decimal digits.
+fn decimal_len(number: usize) -> usize {
+    let mut digits = [0; 64];
+    put_number(&mut digits, 0, number as u64)
+}
+
+impl Layout {
+    /// The length in bytes of a message with this layout; `usize::MAX` if it is greater than that.
+    fn len(self, text: &str, line: &str) -> usize {
+        match self {
+            Layout::Line => line.len(),
+            Layout::Byte { place } => line.len().saturating_add(decimal_len(place) + 7),
+            Layout::Caret { spaces } => {
+                let above = text.len().saturating_add(spaces);
+                above.saturating_add(line.len()).saturating_add(3)
+            }
+        }
+    }
+
+    /// Writes a message with this layout, and returns where it ends; `None` if there is no room.
+    fn put(self, buffer: &mut [u8], text: &str, line: &str) -> Option<usize> {
+        match self {
+            Layout::Line => put(buffer, 0, line.as_bytes()),
+            Layout::Byte { place } => put_byte(buffer, place, line),
+            Layout::Caret { spaces } => put_caret(buffer, text, spaces, line),
+        }
+    }
+}

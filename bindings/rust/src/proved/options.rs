@@ -1,0 +1,35 @@
+// Made by tools/erase of crates/duration_str/src/options.rt.
+//! The choice of options.
+
+/// Which grammar is read, and which words name units.
+///
+/// ```
+/// use duration_str::{Options, parse_with};
+///
+/// let chinese = Options { cn_unit: true, ..Options::off() };
+/// assert_eq!(parse_with("1分 31秒", chinese).unwrap().as_secs(), 91);
+/// ```
+#[derive(Clone, Copy, Debug, PartialEq, Eq)]
+pub struct Options {
+    /// Operators are not read, and the terms are added one by one.
+    pub no_calc: bool,
+    /// Words are compared as written; otherwise ASCII capitals are read as small letters.
+    pub lowercase: bool,
+    /// The Chinese names of the units are also read.
+    pub cn_unit: bool,
+}
+
+impl Options {
+    /// All three options off.
+    ///
+    /// ```
+    /// assert!(!duration_str::Options::off().no_calc);
+    /// ```
+    pub const fn off() -> Options {
+        Options {
+            no_calc: false,
+            lowercase: false,
+            cn_unit: false,
+        }
+    }
+}

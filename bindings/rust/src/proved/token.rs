@@ -1,0 +1,389 @@
+// Made by tools/erase of crates/duration_str/src/token.rt.
+//! The tokens of a text: numbers, words, operators, and other single characters.
+
+use super::eye::Eye;
+use super::packed::unit_of_packed;
+use super::unit::{CondUnit, Options, TimeUnit};
+
+/// The sort of a token.
+///
+/// ```
+/// use duration_str::{Options, TimeUnit, Tokens, What};
+///
+/// let mut tokens = Tokens::new("3 hours", Options::off());
+/// assert_eq!(tokens.next().unwrap().what, What::Number);
+/// assert_eq!(tokens.next().unwrap().what, What::Word(Some(TimeUnit::Hour)));
+/// ```
+#[derive(Clone, Copy, Debug, PartialEq, Eq)]
+pub enum What {
+    /// Digits.
+    Number,
+    /// Unit letters, with the unit that they name, if any.
+    Word(Option<TimeUnit>),
+    /// `+` or `*`.
+    Operator(CondUnit),
+    /// Any other character that is not a blank.
+    Other,
+}
+
+/// A token of a text.
+///
+/// ```
+/// use duration_str::{CondUnit, Options, Token, Tokens, What};
+///
+/// let plus = Token { start: 2, text: "+", what: What::Operator(CondUnit::Plus) };
+/// assert_eq!(Tokens::new("1s+2m", Options::off()).nth(2), Some(plus));
+/// ```
+#[derive(Clone, Copy, Debug, PartialEq, Eq)]
+pub struct Token<'a> {
+    /// The byte of the source at which it starts.
+    pub start: usize,
+    /// Its slice of the source.
+    pub text: &'a str,
+    /// Its sort.
+    pub what: What,
+}
+
+/// The sort of a token, by its first character.
+#[derive(Clone, Copy)]
+pub(crate) enum Sort {
+    Number,
+    Word,
+    Operator(CondUnit),
+    Other,
+}
+
+/// A run of digits and its value modulo 2^64.
+#[derive(Clone, Copy)]
+pub(crate) struct Number<'a> {
+    digits: &'a [u8],
+    low: u64,
+}
+
+impl<'a> Number<'a> {
+    /// The number; `None` from 2^64 on.
+    #[inline(always)]
+    pub(crate) fn value(self) -> Option<u64> {
+        if self.digits.len() <= MOST_DIGITS {
+            Some(self.low)
+        } else {
+            // `?` keeps this path separate, as in `take_word`.
+            let number = number_of(self.digits)?;
+            Some(number)
+        }
+    }
+}
+
+/// ASCII letters: their packed number modulo 2^64, and whether one of them is a capital.
+#[derive(Clone, Copy)]
+struct Letters {
+    packed: u64,
+    has_capital: bool,
+}
+
+impl Letters {
+    /// Whether the packed number, which ignores case, is enough to find the unit.
+    #[inline(always)]
+    fn ignore_case(self, lowercase: bool) -> bool {
+        !(lowercase && self.has_capital)
+    }
+}
+
+/// The tokens of a text, in order. Each character is looked at once, when it is reached.
+///
+/// ```
+/// use duration_str::{Options, Tokens};
+///
+/// let texts: Vec<&str> = Tokens::new("13s + 29ms", Options::off()).map(|token| token.text).collect();
+/// assert_eq!(texts, ["13", "s", "+", "29", "ms"]);
+/// ```
+pub struct Tokens<'a> {
+    eye: Eye<'a>,
+    /// The character at the place, already looked at; `None` at the end.
+    head: Option<char>,
+    options: Options,
+}
+
+impl<'a> Tokens<'a> {
+    /// The tokens of a text, cut under these options.
+    ///
+    /// ```
+    /// use duration_str::{Options, Tokens};
+    ///
+    /// assert_eq!(Tokens::new("13s", Options::off()).count(), 2);
+    /// ```
+    #[inline(always)]
+    pub fn new(text: &'a str, o: Options) -> Tokens<'a> {
+        let mut eye = Eye::new(text);
+        let head = eye.look();
+        Tokens {
+            eye,
+            head,
+            options: o,
+        }
+    }
+
+    /// How many times a character of the text was looked at.
+    ///
+    /// ```
+    /// use duration_str::{Options, Tokens};
+    ///
+    /// let mut tokens = Tokens::new("13s", Options::off());
+    /// assert_eq!(tokens.by_ref().count(), 2);
+    /// assert_eq!(tokens.looked(), 3);
+    /// ```
+    #[inline(always)]
+    pub fn looked(&self) -> u64 {
+        self.eye.looks()
+    }
+
+    /// The byte up to which the text is cut.
+    #[inline(always)]
+    pub(crate) fn place(&self) -> usize {
+        self.eye.place()
+    }
+
+    /// Moves past the character ahead, and looks at the next one. So an operator, or a character that is neither a digit
+    /// nor a unit letter, is taken as a token.
+    #[inline(always)]
+    pub(crate) fn advance(&mut self) {
+        self.eye.step();
+        self.head = self.eye.look();
+    }
+
+    /// Moves past the blanks.
+    #[inline(always)]
+    fn skip_blanks(&mut self) {
+        while let Some(c) = self.head
+            && is_blank(c)
+        {
+            self.advance();
+        }
+    }
+
+    /// Moves past the digits, and returns their number modulo 2^64.
+    #[inline(always)]
+    fn take_digits(&mut self) -> u64 {
+        let mut number = 0u64;
+        while let Some(c) = self.head
+            && c.is_ascii_digit()
+        {
+            number = ((number as u128 * 10 + (c as u32 - 48) as u128) % MODULUS) as u64;
+            self.advance();
+        }
+        number
+    }
+
+    /// Takes the number ahead.
+    #[inline(always)]
+    pub(crate) fn take_number(&mut self) -> Number<'a> {
+        let start = self.eye.place();
+        let low = self.take_digits();
+        Number {
+            digits: self.eye.bytes_since(start),
+            low,
+        }
+    }
+
+    /// Moves past the ASCII letters at the start of the word ahead, and returns them packed. The word's first character
+    /// is a unit letter, so testing it for ASCII is enough.
+    #[inline(always)]
+    fn take_ascii_letters(&mut self) -> Letters {
+        let mut packed = 0u64;
+        let mut has_capital = false;
+        if let Some(first) = self.head
+            && first.is_ascii()
+        {
+            packed = u64::from(first as u32 % 32);
+            has_capital = first < 'a';
+            self.advance();
+            while let Some(c) = self.head
+                && c.is_ascii_alphabetic()
+            {
+                packed = ((packed as u128 * 32 + (c as u32 % 32) as u128) % MODULUS) as u64;
+                has_capital |= c < 'a';
+                self.advance();
+            }
+        }
+        Letters {
+            packed,
+            has_capital,
+        }
+    }
+
+    /// Moves past the unit letters.
+    #[inline(always)]
+    fn skip_letters(&mut self) {
+        while let Some(c) = self.head
+            && is_unit_letter(c, self.options)
+        {
+            self.advance();
+        }
+    }
+
+    /// Takes the word ahead, and returns the unit that it names.
+    #[inline(always)]
+    pub(crate) fn take_word(&mut self) -> Option<TimeUnit> {
+        let start = self.eye.place();
+        let letters = self.take_ascii_letters();
+        // No letter beyond ASCII follows.
+        let ended = match self.head {
+            Some(c) => c.is_ascii(),
+            None => true,
+        };
+        if ended
+            && letters.ignore_case(self.options.lowercase)
+            && self.eye.place() - start <= MOST_LETTERS
+        {
+            unit_of_packed(letters.packed)
+        } else {
+            self.skip_letters();
+            // Each flag by itself: with the address of `self.options`, the compiler would keep all of `self` in memory.
+            let Options {
+                no_calc,
+                lowercase,
+                cn_unit,
+            } = self.options;
+            // With `?` the compiler keeps this path apart from the usual one, whose result it then need not test again.
+            let unit = unit_by_name(self.eye.since(start), no_calc, lowercase, cn_unit)?;
+            Some(unit)
+        }
+    }
+
+    /// Takes the token ahead, which is of this sort.
+    #[inline(always)]
+    fn take_token(&mut self, sort: Sort) -> What {
+        match sort {
+            Sort::Number => {
+                let _ = self.take_number();
+                What::Number
+            }
+            Sort::Word => What::Word(self.take_word()),
+            Sort::Operator(operator) => {
+                self.advance();
+                What::Operator(operator)
+            }
+            Sort::Other => {
+                self.advance();
+                What::Other
+            }
+        }
+    }
+
+    /// Moves past the blanks, and returns the sort of the token ahead; `None` at the end.
+    #[inline(always)]
+    pub(crate) fn sort_ahead(&mut self) -> Option<Sort> {
+        self.skip_blanks();
+        let first = self.head?;
+        Some(sort_at(first, self.options))
+    }
+
+    /// Moves past the blanks, and returns whether a number is ahead.
+    #[inline(always)]
+    pub(crate) fn is_number_ahead(&mut self) -> bool {
+        self.skip_blanks();
+        match self.head {
+            Some(c) => c.is_ascii_digit(),
+            None => false,
+        }
+    }
+
+    /// What `sort_ahead` returns. After a number a word is most likely, so letters are tested first.
+    #[inline(always)]
+    pub(crate) fn sort_after_number(&mut self) -> Option<Sort> {
+        if let Some(c) = self.head
+            && c.is_ascii_alphabetic()
+        {
+            return Some(Sort::Word);
+        }
+        self.sort_ahead()
+    }
+}
+
+impl<'a> Iterator for Tokens<'a> {
+    type Item = Token<'a>;
+
+    fn next(&mut self) -> Option<Token<'a>> {
+        let sort = self.sort_ahead()?;
+        let start = self.eye.place();
+        let what = self.take_token(sort);
+        let text = self.eye.since(start);
+        Some(Token { start, text, what })
+    }
+}
+
+/// The values of digits and letters are kept modulo this.
+const MODULUS: u128 = 1 << 64;
+
+/// The most digits whose number is certainly below 2^64.
+const MOST_DIGITS: usize = 19;
+
+/// The most letters whose packed number fits into a `u64`.
+const MOST_LETTERS: usize = 12;
+
+/// The sort of a token that starts with this character.
+#[inline(always)]
+fn sort_at(first: char, o: Options) -> Sort {
+    if first.is_ascii_digit() {
+        return Sort::Number;
+    }
+    if is_unit_letter(first, o) {
+        return Sort::Word;
+    }
+    match CondUnit::from_char(first) {
+        Some(operator) => Sort::Operator(operator),
+        None => Sort::Other,
+    }
+}
+
+/// The unit that a word names. For words with many letters or with letters beyond ASCII, and for words with a capital
+/// under `lowercase`.
+#[cold]
+#[inline(never)]
+fn unit_by_name(word: &str, no_calc: bool, lowercase: bool, cn_unit: bool) -> Option<TimeUnit> {
+    TimeUnit::from_word(
+        word,
+        Options {
+            no_calc,
+            lowercase,
+            cn_unit,
+        },
+    )
+}
+
+/// Whether a character is a unit letter under these options.
+#[inline]
+fn is_unit_letter(c: char, o: Options) -> bool {
+    c.is_ascii_alphabetic() || !c.is_ascii() && is_wide_letter(c, o.cn_unit)
+}
+
+/// Whether a character beyond ASCII is a unit letter: `µ`, and those that the option `cn_unit` adds.
+#[cold]
+#[inline(never)]
+fn is_wide_letter(c: char, cn_unit: bool) -> bool {
+    c == 'µ' || cn_unit && is_chinese(c)
+}
+
+/// Whether a character is one that the option `cn_unit` adds to the unit letters.
+fn is_chinese(c: char) -> bool {
+    matches!(
+        c,
+        '年' | '月' | '周' | '日' | '天' | '时' | '分' | '秒' | '毫' | '微' | '纳'
+    )
+}
+
+/// Space, tab, carriage return, line feed.
+#[inline]
+fn is_blank(c: char) -> bool {
+    c <= ' ' && matches!(c, ' ' | '\t' | '\r' | '\n')
+}
+
+/// The number that digits write; `None` from 2^64 on.
+#[cold]
+#[inline(never)]
+pub(crate) fn number_of(digits: &[u8]) -> Option<u64> {
+    match str::from_utf8(digits) {
+        Ok(text) => text.parse::<u64>().ok(),
+        Err(_) => None,
+    }
+}

@@ -1,9 +1,0 @@
-use Rattle.std.proofs.Common.{arith}
-use Rattle.std.proofs.lemmas.Fmt.{length-decimal-le}
-use Rattle.duration_str.proofs.message.decimal_len.Goals as goal
-
-pub put_number-requires : goal.put_number-requires
-put_number-requires c = record { room = omega (arith, length-decimal-le 20 c.args.number (omega arith) (omega arith) (omega arith)) }
-
-pub returns-clause-short : goal.returns-clause-short
-returns-clause-short c = omega (arith, c.put_number.ensures.end, length-decimal-le 20 c.args.number (omega arith) (omega arith) (omega arith))

@@ -1,0 +1,100 @@
+//! Dates before and after a moment, moved by the value of a text.
+ghost use Rattle.std.specs.Prelude.{◌≡◌, ◌↔◌, pos, ◌+ℤ◌, ◌-ℤ◌, IsSome, IfSome, IfNone, IsErrAnd, Ok};
+ghost use Rattle.std.specs.Duration.{as_nanos};
+ghost use Rattle.duration_str.specs.Dates.{IsCivil, IsCivilDay, IsDated, IsInRange};
+ghost use Rattle.duration_str.specs.declared.fault.Cause.TheVariants.{OutOfRange};
+
+use crate::fault::{Cause, Fault};
+use crate::parser::parse;
+use jiff::Timestamp;
+use jiff::civil::{Date, DateTime};
+use jiff::tz::Offset;
+use std::time::Duration;
+
+/// The date and time of a moment in UTC.
+fn at_utc(moment: Timestamp) -> DateTime
+    ensures { IsCivil moment.nanosecond result }
+{
+    Offset::UTC.to_datetime(moment)
+}
+
+/// The date and time this long before the moment; `None` if out of range.
+fn earlier(moment: Timestamp, length: Duration) -> Option<DateTime>
+    ensures shown { IfSome result (IsCivil (moment.nanosecond -ℤ pos (as_nanos length))) }
+    ensures within { IsSome result ↔ IsInRange (moment.nanosecond -ℤ pos (as_nanos length)) }
+{
+    match moment.checked_sub(length) {
+        Ok(earlier) => Some(at_utc(earlier)),
+        Err(_) => None,
+    }
+}
+
+/// The date and time this long after the moment; `None` if out of range.
+fn later(moment: Timestamp, length: Duration) -> Option<DateTime>
+    ensures shown { IfSome result (IsCivil (moment.nanosecond +ℤ pos (as_nanos length))) }
+    ensures within { IsSome result ↔ IsInRange (moment.nanosecond +ℤ pos (as_nanos length)) }
+{
+    match moment.checked_add(length) {
+        Ok(later) => Some(at_utc(later)),
+        Err(_) => None,
+    }
+}
+
+/// The date and time, or `OutOfRange` if there is none.
+fn in_range<'a>(at: Option<DateTime>, input: &'a str) -> Result<DateTime, Fault<'a>>
+    ensures some { IfSome at (λ shown. result ≡ Ok shown) }
+    ensures none { IfNone at (IsErrAnd result (λ fault.
+        (fault.text.now ≡ input.now) × (fault.cause ≡ OutOfRange))) }
+{
+    match at {
+        Some(at) => Ok(at),
+        None => Err(Fault {
+            text: input,
+            cause: Cause::OutOfRange,
+        }),
+    }
+}
+
+/// The moment minus the value of the text, as a date and time in UTC.
+///
+/// The text is read by `parse`, and its refusal comes first. `OutOfRange` if the instant is before `Timestamp::MIN`.
+pub fn before_naive_date_time(moment: Timestamp, input: &str) -> Result<DateTime, Fault<'_>>
+    ensures { IsDated IsCivil (λ nanos. moment.nanosecond -ℤ pos nanos) input.now result }
+{
+    let length = parse(input)?;
+    in_range(earlier(moment, length), input)
+}
+
+/// The moment plus the value of the text, as a date and time in UTC.
+///
+/// The text is read by `parse`, and its refusal comes first. `OutOfRange` if the instant is after `Timestamp::MAX`.
+///
+/// ```text
+/// after_naive_date_time(Timestamp::UNIX_EPOCH, "180d") // Ok, 1970-06-30T00:00:00
+/// ```
+pub fn after_naive_date_time(moment: Timestamp, input: &str) -> Result<DateTime, Fault<'_>>
+    ensures { IsDated IsCivil (λ nanos. moment.nanosecond +ℤ pos nanos) input.now result }
+{
+    let length = parse(input)?;
+    in_range(later(moment, length), input)
+}
+
+/// The date of `before_naive_date_time`.
+pub fn before_naive_date(moment: Timestamp, input: &str) -> Result<Date, Fault<'_>>
+    ensures { IsDated IsCivilDay (λ nanos. moment.nanosecond -ℤ pos nanos) input.now result }
+{
+    match before_naive_date_time(moment, input) {
+        Ok(earlier) => Ok(earlier.date()),
+        Err(fault) => Err(fault),
+    }
+}
+
+/// The date of `after_naive_date_time`.
+pub fn after_naive_date(moment: Timestamp, input: &str) -> Result<Date, Fault<'_>>
+    ensures { IsDated IsCivilDay (λ nanos. moment.nanosecond +ℤ pos nanos) input.now result }
+{
+    match after_naive_date_time(moment, input) {
+        Ok(later) => Ok(later.date()),
+        Err(fault) => Err(fault),
+    }
+}

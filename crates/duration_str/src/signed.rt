@@ -1,0 +1,57 @@
+//! Texts as signed durations, and signed durations printed.
+ghost use Rattle.std.specs.Prelude.{◌≡◌, ℕ, IsOk, pos, ◌^◌, ◌<◌};
+ghost use Rattle.std.specs.Duration.{as_nanos};
+ghost use Rattle.std.specs.Str.{chars};
+ghost use Rattle.jiff.specs.Words.{signed_nanos};
+ghost use Rattle.duration_str.specs.Results.{IsReadAs};
+ghost use Rattle.duration_str.specs.Reading.{IsRead};
+ghost use Rattle.duration_str.specs.Units.{off};
+
+use crate::ext::HumanFormat;
+use crate::fault::Fault;
+use crate::parser::parse;
+use jiff::SignedDuration;
+use std::alloc::{AllocError, Allocator};
+use std::time::Duration;
+
+/// A signed duration is printed as its length, unless it is negative.
+impl HumanFormat for SignedDuration {
+    ghost nanos = { signed_nanos };
+
+    fn is_printable(&self) -> bool {
+        !self.is_negative()
+    }
+
+    fn human_format<A: Allocator>(&self, alloc: A) -> Result<String<A>, AllocError> {
+        self.unsigned_abs().human_format(alloc)
+    }
+}
+
+/// The same length as a signed duration.
+fn to_signed(length: Duration) -> SignedDuration
+    requires { as_nanos length < 2 ^ 64 }
+    ensures { signed_nanos result ≡ pos (as_nanos length) }
+{
+    SignedDuration::from_nanos_i128(length.as_nanos() as i128)
+}
+
+/// Reads a text as `parse` does, into a signed duration, which can hold every value of a text.
+///
+/// ```text
+/// parse_chrono("1h+30s") // Ok(SignedDuration::from_secs(3_630))
+/// ```
+pub fn parse_chrono(input: &str) -> Result<SignedDuration, Fault<'_>>
+    ensures answer { IsReadAs signed_nanos input.now result }
+    ensures accepts { (nanos : ℕ) → IsRead off (chars input.now) nanos → IsOk result }
+{
+    let length = parse(input)?;
+    Ok(to_signed(length))
+}
+
+/// What `parse_chrono` returns.
+pub fn parse_time(input: &str) -> Result<SignedDuration, Fault<'_>>
+    ensures answer { IsReadAs signed_nanos input.now result }
+    ensures accepts { (nanos : ℕ) → IsRead off (chars input.now) nanos → IsOk result }
+{
+    parse_chrono(input)
+}

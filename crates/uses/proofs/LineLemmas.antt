@@ -1,0 +1,49 @@
+-- Lines and their texts are spelled by the same sentences.
+use Rattle.std.proofs.Common.{◌≡◌, ℕ, ◌+◌, List, [], ◌∷◌, IsUtf8, refl, ap, ◌∙◌, append_assoc, inl, inr}
+use Rattle.duration_str.proofs.Common.{and_from, cases_Bool, list_all-append, chars-append, width, is_blank, Spells, IsSentenceOf, goes_on, tokens_from, lexemes_of, OneSentence, BlanksFree}
+use Rattle.uses.proofs.Common.{true≢false, Options, run-not_blank, line_of, IsReadAsBefore}
+use Rattle.std.specs.Str.{chars}
+
+chars_line : (bytes : List ℕ) → IsUtf8 bytes → chars (line_of bytes) ≡ line_of (chars bytes)
+unfolding chars
+chars_line bytes utf8 = chars-append bytes (10 ∷ []) utf8
+
+-- A text that the same sentences spell is read as before.
+read_as_before : BlanksFree → (old new : List ℕ)
+    → ((o : Options) (lexemes : List (List ℕ)) → IsSentenceOf o lexemes old → Spells lexemes new) → IsReadAsBefore old new
+read_as_before free old new spells = record {
+  value = λ o nanos read. free.value o old new read.lexemes nanos read.spells (spells o read.lexemes read.spells) read;
+  cause = λ o lexemes cause s refused. free.cause o old new lexemes cause s (spells o lexemes s) refused;
+}
+
+-- ---- A line feed more
+
+spells_line : (lexemes : List (List ℕ)) (text : List ℕ) → Spells lexemes text → Spells lexemes (line_of text)
+spells_line [] text s = list_all-append is_blank text (10 ∷ []) ∙ and_from _ _ s refl
+spells_line (w ∷ lexemes) text s =
+    (s.0, line_of s.1, s.2, ap line_of s.3 ∙ simp append_assoc, spells_line lexemes s.1 s.4)
+
+pub line_read : BlanksFree → (bytes : List ℕ) → IsUtf8 bytes → IsReadAsBefore (chars bytes) (chars (line_of bytes))
+line_read free bytes utf8 =
+    rw (chars_line bytes utf8) (read_as_before free (chars bytes) _ (λ o lexemes s. spells_line lexemes (chars bytes) s.1))
+
+-- ---- A line feed less
+
+-- A line has the tokens of its text.
+line_tokens : (o : Options) (at : ℕ) (text : List ℕ) → tokens_from o at (line_of text) ≡ tokens_from o at text
+line_tokens o at [] = refl
+line_tokens o at (c ∷ []) = elim (cases_Bool (goes_on o c (10 ∷ []))) [
+  | inl more ↦ absurd (true≢false (run-not_blank o c 10 more))
+  | inr ends ↦ rw ends refl
+]
+line_tokens o at (c ∷ d ∷ text) = rw (line_tokens o (at + width c) (d ∷ text)) refl
+
+spells_text : OneSentence → (o : Options) (lexemes : List (List ℕ)) (text : List ℕ)
+    → IsSentenceOf o lexemes (line_of text) → Spells lexemes text
+spells_text law o lexemes text s =
+    (law.tokens o text lexemes s.0).1 ((law.tokens o (line_of text) lexemes s.0).0 s.1 ∙ ap lexemes_of (line_tokens o 0 text))
+
+pub text_read : OneSentence → BlanksFree → (bytes : List ℕ) → IsUtf8 bytes
+    → IsReadAsBefore (chars (line_of bytes)) (chars bytes)
+text_read law free bytes utf8 =
+    rw (chars_line bytes utf8) (read_as_before free _ (chars bytes) (λ o lexemes s. spells_text law o lexemes (chars bytes) s))

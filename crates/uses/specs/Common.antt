@@ -1,0 +1,22 @@
+-- The names that most contracts and definitions cite, passed on from one place. Declares nothing.
+pub use Rattle.duration_str.specs.Answer.{allows}
+pub use Rattle.duration_str.specs.Dates.{IsCivil, IsCivilDay, IsInRange, IsOutOfRange}
+pub use Rattle.duration_str.specs.Grammar.{IsSentenceOf, Terminal, terminal_of, word}
+pub use Rattle.duration_str.specs.Laws.{HasNoStar, is_operator}
+pub use Rattle.duration_str.specs.Printing.{IsGreatestBreakdown, IsPrinted, counts_of, printed_counts}
+pub use Rattle.duration_str.specs.Reading.{IsRead, IsRefused}
+pub use Rattle.duration_str.specs.Text.{byte_len, is_chinese}
+pub use Rattle.duration_str.specs.Tokenizer.{what_of}
+pub use Rattle.duration_str.specs.Tokens.{IsLexeme}
+pub use Rattle.duration_str.specs.Units.{nanos_of, off, unit_lengths}
+pub use Rattle.duration_str.specs.Value.{AllPlus, Term, terms_of}
+pub use Rattle.duration_str.specs.declared.fault.Cause.{Cause}
+pub use Rattle.duration_str.specs.declared.fault.Cause.TheVariants.{NotText, OutOfRange, Overflow, Syntax}
+pub use Rattle.duration_str.specs.declared.fault.Expected.{Expected}
+pub use Rattle.duration_str.specs.declared.fault.Fault.{Fault}
+pub use Rattle.duration_str.specs.declared.operator.CondUnit.TheVariants.{Plus, Star}
+pub use Rattle.duration_str.specs.declared.options.Options.{Options}
+pub use Rattle.std.specs.Duration.{as_nanos}
+pub use Rattle.std.specs.List.{AllByRecursion, list_all}
+pub use Rattle.std.specs.Str.{chars}
+pub use Rattle.std.specs.declared.time.Duration.{Duration}

@@ -1,0 +1,21 @@
+-- The duration in a required field, or the error for its refusal.
+use Rattle.std.specs.Prelude.{◌≡◌, ℕ, List, Option, Result, Ok, Err, false, chars}
+use Rattle.uses.specs.Common.{Duration, as_nanos, Cause, Overflow, NotText, IsRead, IsRefused, off}
+use Rattle.serde_json.specs.Data.{Data, string}
+use Rattle.duration_str.specs.declared.error.DError.{DError}
+use Rattle.duration_str.specs.Errors.{IsErrorOf}
+
+-- The value is a text that is read as the duration, or refused for a cause whose error this is; or it is no text, and
+-- the error says so.
+abbrev pub IsAnswered : {A : Type 0} → Data → Result Duration (DError A) → Type 0
+IsAnswered (string text) (Ok d) = IsRead off (chars text) (as_nanos d)
+IsAnswered (string text) (Err error) = (cause : Cause) × IsRefused off (chars text) cause × IsErrorOf cause error
+IsAnswered _ (Ok d) = ⊥
+IsAnswered _ (Err error) = IsErrorOf (NotText false) error
+
+-- The value is a text that overflows.
+pub record Overflows (value : Data) : Type 0 where
+  pub text : List ℕ
+  pub place : Option ℕ
+  pub is_text : value ≡ string text
+  pub refused : IsRefused off (chars text) (Overflow place)

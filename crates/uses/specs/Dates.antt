@@ -1,0 +1,14 @@
+-- What a text moves a moment to.
+use Rattle.std.specs.Prelude.{◌≡◌, ℕ, ℤ, List, Result, IsOkAnd, IsErrAnd, chars}
+use Rattle.uses.specs.Common.{Cause, OutOfRange, Fault, off, IsInRange, IsOutOfRange, IsRead, IsRefused}
+
+-- The fault is of these bytes, for this cause.
+abbrev pub IsFaultOf : List ℕ → Cause → Fault → Type 0
+IsFaultOf bytes cause fault = (fault.text.now ≡ bytes) × (fault.cause ≡ cause)
+
+-- If the text is read, and its value reaches an instant in range, the result shows it; if the instant is out of range,
+-- the result says so; if the text is refused, the result is its refusal.
+pub record IsMoved {T : Type 0} (shows : ℤ → T → Type 0) (reached : ℕ → ℤ) (bytes : List ℕ) (result : Result T Fault) : Type 0 where
+  pub shown : (nanos : ℕ) → IsRead off (chars bytes) nanos → IsInRange (reached nanos) → IsOkAnd result (shows (reached nanos))
+  pub out_of_range : (nanos : ℕ) → IsRead off (chars bytes) nanos → IsOutOfRange (reached nanos) → IsErrAnd result (IsFaultOf bytes OutOfRange)
+  pub refused : (cause : Cause) → IsRefused off (chars bytes) cause → IsErrAnd result (IsFaultOf bytes cause)

@@ -1,0 +1,25 @@
+//! The message of a fault as an entry of a log.
+ghost use Rattle.std.specs.Prelude.{◌≡◌, ◌++◌, codes, IfSome};
+ghost use Rattle.duration_str.specs.FaultText.{EndsInsideLine, fault_text};
+
+use duration_str::Fault;
+
+/// The message of a fault and one line feed, in the caller's buffer; `None` if the buffer is too short. So an entry ends
+/// where its last line does, whatever the text was.
+///
+/// ```text
+/// log_entry(&fault, &mut buffer) // Some("overflow error\n")
+/// ```
+pub fn log_entry<'b>(fault: &Fault<'_>, buffer: &'b mut [u8]) -> Option<&'b str>
+    ensures entry { IfSome result (λ entry.
+        entry.now ≡ fault_text fault.now.text.now fault.now.cause ++ codes "\n") }
+    ensures last_line { IfSome result (λ _.
+        EndsInsideLine (fault_text fault.now.text.now fault.now.cause)) }
+{
+    let end = fault.write_message(buffer)?;
+    if end == buffer.len() {
+        return None;
+    }
+    buffer[end] = b'\n';
+    Some(unsafe { str::from_utf8_unchecked(&buffer[..end + 1]) })
+}
