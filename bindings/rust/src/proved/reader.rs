@@ -56,24 +56,24 @@ fn expect_number(tokens: &mut Tokens<'_>) -> Result<(), Cause> {
 #[inline(always)]
 fn read_unit(tokens: &mut Tokens<'_>, no_calc: bool) -> Result<TimeUnit, Cause> {
     let ahead = tokens.sort_after_number();
+    let fault = Cause::misplaced_after_number(tokens.place(), no_calc);
     let Some(sort) = ahead else {
         return Ok(TimeUnit::Second);
     };
-    let place = tokens.place();
     match sort {
         Sort::Word => match tokens.take_word() {
             Some(unit) => Ok(unit),
-            None => Err(Cause::misplaced_after_number(place, no_calc)),
+            None => Err(fault),
         },
         Sort::Operator(_) => {
             if no_calc {
-                Err(Cause::misplaced_after_number(place, no_calc))
+                Err(fault)
             } else {
                 Ok(TimeUnit::Second)
             }
         }
-        Sort::Number => Err(Cause::misplaced_after_number(place, no_calc)),
-        Sort::Other => Err(Cause::misplaced_after_number(place, no_calc)),
+        Sort::Number => Err(fault),
+        Sort::Other => Err(fault),
     }
 }
 
@@ -81,22 +81,22 @@ fn read_unit(tokens: &mut Tokens<'_>, no_calc: bool) -> Result<TimeUnit, Cause> 
 #[inline(always)]
 fn read_operator(tokens: &mut Tokens<'_>, no_calc: bool) -> Result<Option<CondUnit>, Cause> {
     let ahead = tokens.sort_ahead();
+    let fault = Cause::misplaced_after_unit(tokens.place(), no_calc);
     let Some(sort) = ahead else {
         return Ok(None);
     };
-    let place = tokens.place();
     match sort {
         Sort::Number => Ok(Some(CondUnit::Plus)),
         Sort::Operator(operator) => {
             if no_calc {
-                return Err(Cause::misplaced_after_unit(place, no_calc));
+                return Err(fault);
             }
             tokens.advance();
             expect_number(tokens)?;
             Ok(Some(operator))
         }
-        Sort::Word => Err(Cause::misplaced_after_unit(place, no_calc)),
-        Sort::Other => Err(Cause::misplaced_after_unit(place, no_calc)),
+        Sort::Word => Err(fault),
+        Sort::Other => Err(fault),
     }
 }
 
