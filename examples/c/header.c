@@ -108,6 +108,23 @@ static void check_null_texts(void)
     expect(moment.secs == 5 && moment.nanos == 6, "a moment that stays");
 }
 
+static void check_columns(void)
+{
+    const uint8_t *bytes = (const uint8_t *)"#1m1m-";
+    const size_t offsets[] = {1, 3, 6, 7, 3};
+    uint64_t nanos[] = {7, 7, 7, 7, 7};
+    uint32_t causes[] = {9, 9, 9, 9, 9};
+    expect(duration_str_parse_column(bytes, 6, offsets, 5, 0, nanos, 5, causes, 5) == 1, "how many of a column are read");
+    expect(nanos[0] == 60000000000 && causes[0] == DURATION_STR_READ, "a text of a column");
+    expect(nanos[1] == 0 && causes[1] == DURATION_STR_SYNTAX, "a refused text of a column");
+    expect(nanos[2] == 0 && causes[2] == DURATION_STR_BAD_OFFSETS, "an offset beyond the bytes");
+    expect(nanos[3] == 0 && causes[3] == DURATION_STR_BAD_OFFSETS, "offsets that decrease");
+    expect(nanos[4] == 7 && causes[4] == 9, "what follows a column");
+    expect(duration_str_parse_column(bytes, 6, offsets, 5, 0, nanos + 4, 1, causes, 0) == 0, "a column without room");
+    expect(duration_str_parse_column(NULL, 0, NULL, 0, 0, NULL, 0, NULL, 0) == 0, "a column without texts");
+    expect(nanos[4] == 7 && causes[0] == DURATION_STR_READ, "arrays that stay");
+}
+
 static void check_moments(void)
 {
     const uint8_t *text = (const uint8_t *)"1ns-";
@@ -131,6 +148,7 @@ int main(void)
     check_messages();
     check_plain_calls();
     check_null_texts();
+    check_columns();
     check_moments();
     return wrong;
 }

@@ -2,14 +2,22 @@
 
 import doctest
 import importlib.metadata
+import importlib.util
 import pydoc
+import re
 import unittest
 
 import duration_str
 
 
 def load_tests(loader, tests, pattern):
-    tests.addTests(doctest.DocTestSuite(duration_str, globs={"duration_str": duration_str}))
+    names = {"duration_str": duration_str}
+    tests.addTests(doctest.DocTestSuite(duration_str, globs=names))
+    if importlib.util.find_spec("pandas"):
+        described = importlib.metadata.metadata("duration-str").get_payload()
+        for block in re.findall(r"^```pycon\n(.*?)^```$", described, re.M | re.S):
+            example = doctest.DocTestParser().get_doctest(block, dict(names), "README.md", None, None)
+            tests.addTest(doctest.DocTestCase(example))
     return tests
 
 

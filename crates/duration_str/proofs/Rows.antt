@@ -1,6 +1,7 @@
 -- Worked examples, computed: what texts are read as, why others are refused, and what durations print as.
 use Rattle.std.proofs.Common.{◌≡◌, ℕ, Bool, true, false, List, [], ◌∷◌, ◌++◌, Some, None, Ok, Err, refl, length, flat_map, map, encode_utf8_all, codes}
-use Rattle.duration_str.proofs.Common.{⊤, Options, TimeUnit, Quarter, Plus, Star, Empty, Syntax, NumberTooLarge, Overflow, Mixed, Expected, off, row_of, units, unit_of_word, unit_lengths, older_units, older_unit_of_word, printed_counts, counts_of, max_printed_len, answer, fault_text}
+use Rattle.duration_str.proofs.Common.{Options, TimeUnit, Quarter, Plus, Star, Empty, Syntax, NumberTooLarge, Overflow, Mixed, Expected, off, row_of, units, unit_of_word, unit_lengths, older_units, older_unit_of_word, printed_counts, counts_of, max_printed_len, answer, fault_text}
+use Rattle.duration_str.proofs.Characters.EachUnit.{Each}
 use Rattle.std.specs.Fmt.{digits}
 use Rattle.std.specs.Str.{chars}
 use lib.Utf8.{encode}
@@ -129,13 +130,10 @@ pub overflows-first : (no_calc lowercase cn_unit : Bool)
     → answer (record { no_calc = no_calc; lowercase = lowercase; cn_unit = cn_unit }) first_that_overflows
     ≡ Err (Overflow None)
 overflows-first true true true = refl
-overflows-first true true false = refl
 overflows-first true false true = refl
-overflows-first true false false = refl
 overflows-first false true true = refl
-overflows-first false true false = refl
 overflows-first false false true = refl
-overflows-first false false false = refl
+overflows-first _ _ _ = refl
 
 -- ---- What faults and durations print
 
@@ -184,18 +182,13 @@ printed_texts = assumption
 
 -- Each of the names is read as the unit.
 abbrev AreNamesOf : Options → TimeUnit → List (List ℕ) → Type 0
-AreNamesOf o u [] = ⊤
-AreNamesOf o u (name ∷ names) = (unit_of_word o name ≡ Some u) × AreNamesOf o u names
+AreNamesOf o u names = map (unit_of_word o) names ≡ map (λ name. Some u) names
 
--- Each name of these units is read as its unit, with and without `lowercase`, and each Chinese name with `cn_unit`.
-abbrev AreNames : List TimeUnit → Type 0
-AreNames [] = ⊤
-AreNames (u ∷ us) =
+-- Each name of each unit is read as the unit, with and without `lowercase`, and each Chinese name with `cn_unit`. So no
+-- two units share a name.
+pub names_of_one_unit : Each (λ u.
     AreNamesOf off u (row_of u).names × AreNamesOf with_lowercase u (row_of u).names
-    × AreNamesOf with_cn_unit u ((row_of u).names ++ (row_of u).chinese) × AreNames us
-
--- No two units share a name, since each name is read as one unit.
-pub names_of_one_unit : AreNames units
+    × AreNamesOf with_cn_unit u ((row_of u).names ++ (row_of u).chinese)) units
 names_of_one_unit = assumption
 
 pub forty_three_names : length (flat_map (λ u. (row_of u).names) units) ≡ 43

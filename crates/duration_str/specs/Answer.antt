@@ -11,12 +11,24 @@ use Rattle.duration_str.specs.Place.{start_after, terminals_of}
 use Rattle.duration_str.specs.Value.{terms_of, value_of}
 use Rattle.duration_str.specs.Reading.{early_fault, late_fault}
 
+-- what may start a text or follow an operator: a number
+abbrev pub kinds_at_start : Expected
+kinds_at_start = record { number = true; unit_word = false; operator = false; text_end = false }
+
+-- what may follow a number
+abbrev pub kinds_after_number : Bool → Expected
+kinds_after_number no_calc = record { number = false; unit_word = true; operator = not no_calc; text_end = true }
+
+-- what may follow a unit
+abbrev pub kinds_after_unit : Bool → Expected
+kinds_after_unit no_calc = record { number = true; unit_word = false; operator = not no_calc; text_end = true }
+
 -- The table: what may follow a terminal, or start a text.
 abbrev pub kinds_after : Bool → Option Terminal → Expected
-kinds_after no_calc None = record { number = true; unit_word = false; operator = false; text_end = false }
-kinds_after no_calc (Some (number n)) = record { number = false; unit_word = true; operator = not no_calc; text_end = true }
-kinds_after no_calc (Some (word u)) = record { number = true; unit_word = false; operator = not no_calc; text_end = true }
-kinds_after no_calc (Some (operator op)) = record { number = true; unit_word = false; operator = false; text_end = false }
+kinds_after no_calc None = kinds_at_start
+kinds_after no_calc (Some (number n)) = kinds_after_number no_calc
+kinds_after no_calc (Some (word u)) = kinds_after_unit no_calc
+kinds_after no_calc (Some (operator op)) = kinds_at_start
 kinds_after no_calc (Some other) = record { number = false; unit_word = false; operator = false; text_end = false }
 
 -- whether the terminal is of an expected kind

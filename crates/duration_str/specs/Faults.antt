@@ -23,9 +23,9 @@ abbrev pub token_at : ℕ → List Token → Option Token
 token_at place tokens = find (λ p. p.start == place) tokens
 
 -- the token that starts at the place of a syntax fault
-abbrev pub found : Options → List ℕ → Cause → Option Token
-found o text (Syntax place expected) = token_at place (tokens_of o text)
-found o text cause = None
+abbrev pub found_token : Options → List ℕ → Cause → Option Token
+found_token o text (Syntax place expected) = token_at place (tokens_of o text)
+found_token o text cause = None
 
 -- The result is this token as a slice of the bytes, or `None` if there is no token.
 abbrev pub IsSliceOf : List ℕ → Option Token → Option (Bor (List ℕ)) → Type 0

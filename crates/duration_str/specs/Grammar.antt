@@ -46,11 +46,18 @@ IsSentence no_calc (number n ∷ word (Some u) ∷ operator op ∷ more) = (no_c
 IsSentence no_calc (number n ∷ word (Some u) ∷ number m ∷ more) = IsSentence no_calc (number m ∷ more)
 IsSentence no_calc _ = ⊥
 
+-- The text is blanks, the lexeme, and a rest for which `IsRest` holds.
+pub record BeginsWith (lexeme : List ℕ) (IsRest : List ℕ → Type 0) (text : List ℕ) : Type 0 where
+  pub blanks : List ℕ
+  pub rest : List ℕ
+  pub blank : IsBlank blanks
+  pub parts : text ≡ blanks ++ (lexeme ++ rest)
+  pub is_rest : IsRest rest
+
 -- The text is blanks, then each lexeme followed by blanks. Nothing is said about the length of a lexeme.
 abbrev pub Spells : List (List ℕ) → List ℕ → Type 0
 Spells [] text = IsBlank text
-Spells (w ∷ lexemes) text =
-    (blanks : List ℕ) × (rest : List ℕ) × IsBlank blanks × (text ≡ blanks ++ (w ++ rest)) × Spells lexemes rest
+Spells (w ∷ lexemes) text = BeginsWith w (Spells lexemes) text
 
 -- The lexemes are a sentence of the options' grammar, and spell the text.
 abbrev pub IsSentenceOf : Options → List (List ℕ) → List ℕ → Type 0

@@ -77,8 +77,9 @@ pub record PlaceAndKinds : Type 0 where
       → (CanFollow no_calc front expected ↔ (expected ≡ kinds_after no_calc (last_of None front)))
   pub no_operator : (no_calc : Bool) (front : List Terminal) (op : CondUnit)
       → no_calc ≡ true → BeginsSentence no_calc front → last_of None front ≢ Some (operator op)
-  pub front : (no_calc : Bool) (terminals : List Terminal) →
-      IsFront no_calc terminals (take (front_of no_calc terminals) terminals) (drop (front_of no_calc terminals) terminals)
+  pub front : (no_calc : Bool) (terminals : List Terminal)
+      → IsFront no_calc terminals (take (front_of no_calc terminals) terminals)
+      (drop (front_of no_calc terminals) terminals)
   pub only : (no_calc : Bool) (terminals front rest : List Terminal) → IsFront no_calc terminals front rest
       → (front ≡ take (front_of no_calc terminals) terminals) × (rest ≡ drop (front_of no_calc terminals) terminals)
 
@@ -147,7 +148,8 @@ GreatestBreakdown = (nanos : ℕ) → IsGreatestBreakdown unit_lengths nanos (co
 
 -- Two durations print the same text exactly if they are equal.
 abbrev pub EqualTexts : Type 0
-EqualTexts = (m n : ℕ) (a b : List ℕ) → FitsDuration m → FitsDuration n → IsPrinted m a → IsPrinted n b → (a ≡ b ↔ m ≡ n)
+EqualTexts = (m n : ℕ) (a b : List ℕ) → FitsDuration m → FitsDuration n → IsPrinted m a → IsPrinted n b
+    → (a ≡ b ↔ m ≡ n)
 
 -- A printed text is read back as its duration if that is below 2^64 nanoseconds. Otherwise it overflows: from 585 years
 -- on in its first term.

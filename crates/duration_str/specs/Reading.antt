@@ -24,13 +24,13 @@ without_last_number (number n ∷ []) = []
 without_last_number (terminal ∷ terminals) = terminal ∷ without_last_number terminals
 
 -- the terminals of the complete terms of the front; a number at its end is complete only at the end of the text
-abbrev pub complete : List Terminal → List Terminal → List Terminal
-complete front [] = front
-complete front (terminal ∷ rest) = without_last_number front
+abbrev pub complete_terminals : List Terminal → List Terminal → List Terminal
+complete_terminals front [] = front
+complete_terminals front (terminal ∷ rest) = without_last_number front
 
 -- the complete terms of the front
 abbrev pub complete_terms : List Terminal → List Terminal → List Term
-complete_terms front rest = terms_of (complete front rest)
+complete_terms front rest = terms_of (complete_terminals front rest)
 
 -- the place in a term's fault, given the terms before it: 0 for the first term, otherwise none
 abbrev pub place_after : List Term → Option ℕ
@@ -50,8 +50,7 @@ running_fault before (t ∷ terms) =
     (or_else (unless (fits (sum_of (before ++ t ∷ []))) (Overflow None))
     (running_fault (before ++ t ∷ []) terms))
 
--- the fault that precedes a syntax fault: that of the first complete term; under `no_calc`, the first of adding all of
--- them
+-- the fault that precedes a syntax fault: of the first complete term, or under `no_calc` the first of adding them all
 abbrev pub early_fault : Bool → List Terminal → List Terminal → Option Cause
 early_fault no_calc front rest = if no_calc then running_fault [] (complete_terms front rest) else first_fault (complete_terms front rest)
 
@@ -59,7 +58,7 @@ early_fault no_calc front rest = if no_calc then running_fault [] (complete_term
 abbrev pub late_fault : Bool → List Terminal → Option Cause
 late_fault no_calc terminals = if no_calc then None else evaluation_fault (terms_of terminals)
 
--- A text of this front and this rest, which starts at byte `place`, is refused for this cause.
+-- The text `front ++ rest`, whose rest starts at byte `place`, is refused for this cause.
 pub data IsRefusedAt (no_calc : Bool) (place : ℕ) (front rest : List Terminal) (cause : Cause) : Type 0 where
   early : early_fault no_calc front rest ≡ Some cause → IsRefusedAt no_calc place front rest cause
   syntax_fault : (expected : Expected) → early_fault no_calc front rest ≡ None

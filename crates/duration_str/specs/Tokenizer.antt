@@ -27,16 +27,16 @@ abbrev pub options_of : Tokens → Options
 options_of s = s.options
 
 -- the byte up to which it is cut
-abbrev pub place_of : Tokens → ℕ
-place_of s = s.eye.place
+abbrev pub cut_place : Tokens → ℕ
+cut_place s = s.eye.place
 
 -- how many times a character was looked at
 abbrev pub looks_of : Tokens → ℕ
 looks_of s = s.eye.looks
 
 -- the tokens that are left
-abbrev pub left : Tokens → List Token
-left s = tokens_from s.options s.eye.place (ahead s.eye.text.now s.eye.place)
+abbrev pub tokens_left : Tokens → List Token
+tokens_left s = tokens_from s.options s.eye.place (ahead s.eye.text.now s.eye.place)
 
 -- a Rust token as its start and its characters
 abbrev pub token_of : RustToken → Token
@@ -55,7 +55,7 @@ pub record IsCutAt (o : Options) (text : List ℕ) (place : ℕ) (token : RustTo
 
 -- The first token that is left is returned; if none is left, the whole text is cut.
 pub record YieldsNextToken (old : Tokens) (result : Option RustToken) (new : Tokens) : Type 0 where
-  pub first : YieldsFirstBy token_of left old result new
+  pub first : YieldsFirstBy token_of tokens_left old result new
   pub kept : KeepsInput old new
-  pub token : IfSome result (IsCutAt (options_of old) (source old) (place_of new))
-  pub end : IfNone result (place_of new ≡ length (source old))
+  pub token : IfSome result (IsCutAt (options_of old) (source old) (cut_place new))
+  pub end : IfNone result (cut_place new ≡ length (source old))

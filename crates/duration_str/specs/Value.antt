@@ -76,17 +76,13 @@ abbrev pub combination : CondUnit → ℕ → ℕ → ℕ
 combination Plus x rest = x + rest
 combination Star x rest = x * rest / second
 
--- the total including the first term
-abbrev pub total_of : CondUnit → Term → ℕ → ℕ
-total_of op t rest = combination op (value_of_term t) rest
-
 -- the value of a sentence in nanoseconds, given its terms; `None` if its operators are mixed
 abbrev pub value_of : List Term → Option ℕ
 value_of [] = None
 value_of (t ∷ []) = Some (value_of_term t)
 value_of (t ∷ u ∷ later) =
     if list_all (λ v. is_same_operator u.operator v.operator) later
-    then Some (total_of u.operator t (later_total u.operator (u ∷ later)))
+    then Some (combination u.operator (value_of_term t) (later_total u.operator (u ∷ later)))
     else None
 
 -- whether a number is below 2^64
@@ -107,21 +103,20 @@ unless false cause = Some cause
 abbrev pub term_fault : Option ℕ → Term → Option Cause
 term_fault place t = or_else (unless (fits t.number) (NumberTooLarge place)) (unless (fits (value_of_term t)) (Overflow place))
 
--- the first fault of the later terms after those in `before`, which have none; `set` is the operator of the first later
--- term
+-- the first fault of the later terms after those in `before`, which have none; `op` is that of the first later term
 abbrev pub later_fault : CondUnit → List Term → List Term → Option Cause
-later_fault set before [] = None
-later_fault set before (t ∷ later) =
-    or_else (unless (is_same_operator set t.operator) (Mixed set t.operator))
+later_fault op before [] = None
+later_fault op before (t ∷ later) =
+    or_else (unless (is_same_operator op t.operator) (Mixed op t.operator))
     (or_else (term_fault None t)
-    (or_else (unless (fits (later_total set (before ++ t ∷ []))) (Overflow None))
-    (later_fault set (before ++ t ∷ []) later)))
+    (or_else (unless (fits (later_total op (before ++ t ∷ []))) (Overflow None))
+    (later_fault op (before ++ t ∷ []) later)))
 
 -- the fault of a sentence whose first term has none: that of the later terms, or of the total including the first term
 abbrev pub evaluation_fault : List Term → Option Cause
 evaluation_fault (t ∷ u ∷ later) =
     or_else (later_fault u.operator [] (u ∷ later))
-    (unless (fits (total_of u.operator t (later_total u.operator (u ∷ later)))) (Overflow None))
+    (unless (fits (combination u.operator (value_of_term t) (later_total u.operator (u ∷ later)))) (Overflow None))
 evaluation_fault _ = None
 
 -- Every number, term and step is below 2^64, and the operators are not mixed.

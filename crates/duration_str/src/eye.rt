@@ -100,8 +100,8 @@ impl<'a> Eye<'a> {
     }
 }
 
-/// The character at a place, and `None` at the end of the text. `next` becomes the place after it; if both were returned
-/// as a pair, the compiler would keep the pair together as one value.
+/// The character at a place, and `None` at the end of the text. `next` becomes the place after it: the compiler would
+/// keep a returned pair in memory, and this reference in a register.
 #[inline]
 fn character_at(text: &str, place: usize, next: &mut usize) -> Option<char>
     requires { IsCharBoundary text.now place }

@@ -6,10 +6,11 @@ ghost use Rattle.std.specs.Prelude.{◌≡◌, ◌≤◌, ◌-◌, ◌^◌, ◌+
 ghost use Rattle.std.specs.Option.{ForSome};
 ghost use Rattle.std.specs.Fmt.{DisplaysOnOk, DisplaysStyledOnOk};
 ghost use Rattle.std.specs.Str.{IsCharBoundary, chars};
+ghost use Rattle.duration_str.specs.Answer.{kinds_at_start, kinds_after_number, kinds_after_unit};
 ghost use Rattle.duration_str.specs.Buffers.{IsInFront, IsWritten};
-ghost use Rattle.duration_str.specs.Faults.{IsSliceOf, found, place_of, token_at};
+ghost use Rattle.duration_str.specs.Faults.{IsSliceOf, found_token, place_of, token_at};
 ghost use Rattle.duration_str.specs.FaultText.{EndsInsideLine, byte_text, caret_text, chars_before, fault_text, line_of};
-ghost use Rattle.duration_str.specs.Tokenizer.{left, source};
+ghost use Rattle.duration_str.specs.Tokenizer.{tokens_left, source};
 ghost use Rattle.duration_str.specs.Internal.Layouts.{message_of};
 
 use crate::ext::put_number;
@@ -101,6 +102,48 @@ impl Cause {
             Cause::NumberTooLarge { place } | Cause::Overflow { place } => place,
             Cause::Empty | Cause::Mixed { .. } | Cause::OutOfRange | Cause::NotText { .. } => None,
         }
+    }
+
+    /// The syntax fault at a place where a text or a term has to start.
+    #[inline(always)]
+    pub(crate) fn misplaced_at_start(place: usize) -> Cause
+        ensures { result ≡ Cause.Syntax place kinds_at_start }
+    {
+        let expected = Expected {
+            number: true,
+            unit_word: false,
+            operator: false,
+            text_end: false,
+        };
+        Cause::Syntax { place, expected }
+    }
+
+    /// The syntax fault at a place after a number.
+    #[inline(always)]
+    pub(crate) fn misplaced_after_number(place: usize, no_calc: bool) -> Cause
+        ensures { result ≡ Cause.Syntax place (kinds_after_number no_calc) }
+    {
+        let expected = Expected {
+            number: false,
+            unit_word: true,
+            operator: !no_calc,
+            text_end: true,
+        };
+        Cause::Syntax { place, expected }
+    }
+
+    /// The syntax fault at a place after a unit.
+    #[inline(always)]
+    pub(crate) fn misplaced_after_unit(place: usize, no_calc: bool) -> Cause
+        ensures { result ≡ Cause.Syntax place (kinds_after_unit no_calc) }
+    {
+        let expected = Expected {
+            number: true,
+            unit_word: false,
+            operator: !no_calc,
+            text_end: true,
+        };
+        Cause::Syntax { place, expected }
     }
 
     /// The line of this cause.
@@ -222,7 +265,7 @@ impl<'a> Fault<'a> {
     /// ```
     pub fn found(&self, o: Options) -> Option<&'a str>
         ensures token { IsSliceOf self.now.text.now
-            (found o (chars self.now.text.now) self.now.cause) result }
+            (found_token o (chars self.now.text.now) self.now.cause) result }
         ensures end { IsMissingAtEnd o self.now.text.now self.now.cause result }
     {
         let Cause::Syntax { place, .. } = self.cause else {
@@ -291,7 +334,7 @@ impl<'a> Fault<'a> {
 
 /// The token that starts at the place, among those that are left.
 fn token_at<'a>(mut tokens: Tokens<'a>, place: usize) -> Option<&'a str>
-    ensures { IsSliceOf (source tokens.entry) (token_at place (left tokens.entry)) result }
+    ensures { IsSliceOf (source tokens.entry) (token_at place (tokens_left tokens.entry)) result }
 {
     while let Some(token) = tokens.next() {
         if token.start == place {

@@ -86,7 +86,7 @@ impl<'a> Number<'a> {
         if self.digits.len() <= MOST_DIGITS {
             Some(self.low)
         } else {
-            // `?` keeps this path separate, as in `take_word`.
+            // Without `?` the compiler would test the answer of the short path too, as in `take_word`.
             let number = number_of(self.digits)?;
             Some(number)
         }
@@ -132,7 +132,7 @@ pub struct Tokens<'a> {
 
 impl<'a> Tokens<'a> {
     ghost use Rattle.duration_str.specs.Grammar.{Terminal, word};
-    ghost use Rattle.duration_str.specs.Tokenizer.{source, options_of, place_of, looks_of, left, what_of, KeepsInput};
+    ghost use Rattle.duration_str.specs.Tokenizer.{source, options_of, cut_place, looks_of, tokens_left, what_of, KeepsInput};
     ghost use Rattle.duration_str.specs.Internal.Tokenizer.{IsAhead, LooksAhead, LooksForNumber, u64_of, TakesNumber, TakesToken, TakesTokenWith, TakesSign};
 
     /// The tokens of a text, cut under these options.
@@ -146,7 +146,7 @@ impl<'a> Tokens<'a> {
     pub fn new(text: &'a str, o: Options) -> Tokens<'a>
         ensures source { source result ≡ text.now }
         ensures options { options_of result ≡ o }
-        ensures left { left result ≡ tokens_of o (chars text.now) }
+        ensures left { tokens_left result ≡ tokens_of o (chars text.now) }
     {
         let mut eye = Eye::new(text);
         let head = eye.look();
@@ -170,7 +170,7 @@ impl<'a> Tokens<'a> {
     pub fn looked(&self) -> u64
         ensures count { result ≡ looks_of self.now }
         ensures most { result ≤ length (chars (source self.now)) }
-        ensures least { length (chars (take (place_of self.now) (source self.now))) ≤ result }
+        ensures least { length (chars (take (cut_place self.now) (source self.now))) ≤ result }
     {
         self.eye.looks()
     }
@@ -178,7 +178,7 @@ impl<'a> Tokens<'a> {
     /// The byte up to which the text is cut.
     #[inline(always)]
     pub(crate) fn place(&self) -> usize
-        ensures { result ≡ place_of self.now }
+        ensures { result ≡ cut_place self.now }
     {
         self.eye.place()
     }
@@ -190,7 +190,7 @@ impl<'a> Tokens<'a> {
         requires { IsSome self.old.head }
         ensures kept { KeepsInput self.old self.new }
         ensures past { ForSome self.old.head
-            (StandsAt (source self.old) (place_of self.old) (place_of self.new)) }
+            (StandsAt (source self.old) (cut_place self.old) (cut_place self.new)) }
         ensures sign { TakesSign self.old self.new }
     {
         self.eye.step();
@@ -201,7 +201,8 @@ impl<'a> Tokens<'a> {
     #[inline(always)]
     fn skip_blanks(&mut self)
         ensures kept { KeepsInput self.old self.new }
-        ensures blanks { Passes is_blank (source self.old) (place_of self.old) (place_of self.new) }
+        ensures blanks { Passes is_blank
+            (source self.old) (cut_place self.old) (cut_place self.new) }
         ensures stops { ForSome self.new.head (λ c. is_blank c ≡ false) }
     {
         while let Some(c) = self.head
@@ -216,8 +217,8 @@ impl<'a> Tokens<'a> {
     fn take_digits(&mut self) -> u64
         ensures kept { KeepsInput self.old self.new }
         ensures digits { TakesDigits
-            (source self.old) (place_of self.old) (place_of self.new) result }
-        ensures stops { Stops is_digit (ahead (source self.new) (place_of self.new)) }
+            (source self.old) (cut_place self.old) (cut_place self.new) result }
+        ensures stops { Stops is_digit (ahead (source self.new) (cut_place self.new)) }
     {
         let mut number = 0u64;
         while let Some(c) = self.head
@@ -249,7 +250,7 @@ impl<'a> Tokens<'a> {
     fn take_ascii_letters(&mut self) -> Letters
         requires { IsAhead self.old (Some a_word) }
         ensures kept { KeepsInput self.old self.new }
-        ensures letters { TakesLetters (source self.old) (place_of self.old) (place_of self.new)
+        ensures letters { TakesLetters (source self.old) (cut_place self.old) (cut_place self.new)
             result.packed result.has_capital }
         ensures stops { ForSome self.new.head (λ c. is_ascii_alphabetic c ≡ false) }
     {
@@ -280,9 +281,9 @@ impl<'a> Tokens<'a> {
     fn skip_letters(&mut self)
         ensures kept { KeepsInput self.old self.new }
         ensures letters { Passes (is_unit_letter (options_of self.old))
-            (source self.old) (place_of self.old) (place_of self.new) }
+            (source self.old) (cut_place self.old) (cut_place self.new) }
         ensures stops { Stops (is_unit_letter (options_of self.old))
-            (ahead (source self.new) (place_of self.new)) }
+            (ahead (source self.new) (cut_place self.new)) }
     {
         while let Some(c) = self.head
             && is_unit_letter(c, self.options)
@@ -317,7 +318,7 @@ impl<'a> Tokens<'a> {
                 lowercase,
                 cn_unit,
             } = self.options;
-            // With `?` the compiler keeps this path apart from the usual one, whose result it then need not test again.
+            // Without `?` the compiler would join this path with the usual one, and test the usual answer again.
             let unit = unit_by_name(self.eye.since(start), no_calc, lowercase, cn_unit)?;
             Some(unit)
         }
@@ -383,13 +384,13 @@ impl<'a> Tokens<'a> {
 }
 
 impl<'a> Iterator for Tokens<'a> {
-    ghost use Rattle.duration_str.specs.Tokenizer.{left, YieldsNextToken};
+    ghost use Rattle.duration_str.specs.Tokenizer.{tokens_left, YieldsNextToken};
 
     type Item = Token<'a>;
 
     ghost next_gives = { YieldsNextToken };
 
-    ghost remaining = { item_count left };
+    ghost remaining = { item_count tokens_left };
 
     fn next(&mut self) -> Option<Token<'a>> {
         let sort = self.sort_ahead()?;

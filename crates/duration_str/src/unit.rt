@@ -272,8 +272,8 @@ fn named_unit(word: &str, o: Options) -> Option<TimeUnit>
     UNITS.iter().copied().find(|unit| unit.is_named(word, o))
 }
 
-/// The unit that a word names, if it is spelled like one of the short names beyond ASCII. `None` doesn't mean that the
-/// word is no name.
+/// The unit that a word names, if it is spelled like one of the short names beyond ASCII. After `None` the caller still
+/// compares the word with every name, so a name that is missing here costs time and changes no answer.
 fn unit_of_short_name(word: &str, o: Options) -> Option<TimeUnit>
     ensures { ForSome result (λ unit. unit_of_word o (chars word.now) ≡ Some unit) }
 {

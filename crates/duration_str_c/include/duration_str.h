@@ -2,16 +2,17 @@
  *
  * No function allocates memory or keeps state, and all may be called from several threads at once. A text is passed as
  * a pointer and a length in bytes; it need not end with a zero byte, and must not overlap what a function writes. A
- * null text of length 0 is the empty text, and a null buffer with room for 0 bytes is one into which nothing fits; no
- * other pointer may be null. Texts are UTF-8; other bytes are refused. No zero byte is written at the end of a text.
+ * null text of length 0 is the empty text, a null buffer with room for 0 bytes is one into which nothing fits, and an
+ * array of 0 numbers may be null; no other pointer may be. Texts are UTF-8; other bytes are refused. No zero byte is
+ * written at the end of a text.
  *
  * The grammar: terms, each a number and a unit such as `3m` or `29 ms`, joined by `+` or by `*`, or following one
  * another, which adds them. After a number the unit may be left out before an operator and at the end; it is seconds.
  * Blanks (space, tab, carriage return, line feed) may be anywhere except inside a number or a unit.
  * Units: y year years, q quarter quarters, mon month months, w week weeks, d day days, h hr hour hours, m min minute
  * minutes, s sec second seconds, ms msec millisecond milliseconds, µs µsec µsecond us usec usecond microsecond
- * microseconds, ns nsec nanosecond nanoseconds. A year has 365 days, a quarter 91 and a month 30. Numbers and values
- * are below 2^64.
+ * microseconds, ns nsec nanosecond nanoseconds. A year has 365 days, a quarter 91 and a month 30. Numbers are below
+ * 2^64, and values below 2^64 nanoseconds.
  */
 #ifndef DURATION_STR_H
 #define DURATION_STR_H
@@ -47,7 +48,8 @@ enum duration_str_cause {
     DURATION_STR_OVERFLOW = 4,         /* a term, a step or the value is 2^64 nanoseconds or more */
     DURATION_STR_MIXED = 5,            /* `+` and `*` are mixed */
     DURATION_STR_OUT_OF_RANGE = 6,     /* duration_str_after and duration_str_before only: a moment is out of range */
-    DURATION_STR_NOT_TEXT = 7          /* the bytes are not UTF-8 */
+    DURATION_STR_NOT_TEXT = 7,         /* the bytes are not UTF-8 */
+    DURATION_STR_BAD_OFFSETS = 8       /* duration_str_parse_column only: offsets decrease or lie beyond the bytes */
 };
 
 /* What could stand at the place of a syntax fault, as the bits of a `uint32_t`. */
@@ -90,6 +92,20 @@ size_t duration_str_format(uint64_t secs, uint32_t nanos, uint8_t *buffer);
 /* Reads a text under these options, and writes its value to `*answer`, or why and where it is refused. Returns true if
  * it is read. */
 bool duration_str_parse_with(const uint8_t *text, size_t length, uint32_t options, struct duration_str_answer *answer);
+
+/* Reads the texts of a column under these options, and returns how many are read. Text `k` is the bytes from
+ * `offsets[k]` to `offsets[k + 1]`, so there is one text less than `count` offsets, and bytes before the first offset
+ * and after the last are no text's. An Arrow large string array has its texts in this form where a `size_t` has 64 bits.
+ *
+ * `nanos[k]` becomes the value of text `k` in nanoseconds, or 0 if it is refused, and `causes[k]` why it is refused, as
+ * an `enum duration_str_cause`: that of duration_str_parse_with, or DURATION_STR_BAD_OFFSETS if `offsets[k]` is above
+ * `offsets[k + 1]` or that one above `length`. The texts after it are read all the same.
+ *
+ * `nanos` has room for `nanos_room` numbers and `causes` for `causes_room`. Only as many texts are handled as there are,
+ * and as there is room for in both; what follows in the arrays is unchanged. */
+size_t duration_str_parse_column(const uint8_t *bytes, size_t length, const size_t *offsets, size_t count,
+                                 uint32_t options, uint64_t *nanos, size_t nanos_room, uint32_t *causes,
+                                 size_t causes_room);
 
 /* Moves `*moment` forward by the value of a text, which is read under these options, and writes the value or the
  * refusal to `*answer`. Returns true if it is moved. Otherwise `*moment` is unchanged, and the cause is:

@@ -5,7 +5,7 @@ use Rattle.duration_str.specs.declared.operator.CondUnit.{CondUnit}
 use Rattle.duration_str.specs.declared.fault.Cause.{Cause}
 use Rattle.duration_str.specs.declared.fault.Cause.TheVariants.{NumberTooLarge, Overflow, Mixed, OutOfRange, NotText}
 use Rattle.duration_str.specs.Grammar.{Terminal}
-use Rattle.duration_str.specs.Value.{Term, value_of_term, is_same_operator, later_total, sum_of, total_of, fits, or_else, unless, term_fault, later_fault, evaluation_fault, terms_of}
+use Rattle.duration_str.specs.Value.{Term, value_of_term, combination, is_same_operator, later_total, sum_of, fits, or_else, unless, term_fault, later_fault, evaluation_fault, terms_of}
 use Rattle.duration_str.specs.Reading.{place_after, first_fault, running_fault, early_fault, late_fault, complete_terms, IsRefused, IsRefusedAt, early, syntax_fault, late}
 
 -- A text can be refused for this cause.
@@ -60,7 +60,7 @@ evaluation_any [] = tt
 evaluation_any (t ∷ []) = tt
 evaluation_any (t ∷ u ∷ later) =
     or_else_any (later_fault u.operator [] (u ∷ later)) _ (later_any u.operator [] (u ∷ later))
-    (overflow_any (total_of u.operator t (later_total u.operator (u ∷ later))) None)
+    (overflow_any (combination u.operator (value_of_term t) (later_total u.operator (u ∷ later))) None)
 
 early_any : (no_calc : Bool) (front rest : List Terminal) → AnyOfText (early_fault no_calc front rest)
 early_any true front rest = running_any [] (complete_terms front rest)

@@ -1,3 +1,4 @@
 pub mod Told
 pub mod Messages
 pub mod Moments
+pub mod Columns

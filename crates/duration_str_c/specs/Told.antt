@@ -11,7 +11,7 @@ use Rattle.duration_str.specs.declared.fault.Cause.TheVariants.{Empty, Syntax, N
 use Rattle.duration_str.specs.declared.fault.Expected.{Expected}
 use Rattle.duration_str.specs.Text.{byte_len}
 use Rattle.duration_str.specs.Tokens.{Token}
-use Rattle.duration_str.specs.Faults.{place_of, found}
+use Rattle.duration_str.specs.Faults.{place_of, found_token}
 use Rattle.duration_str.specs.Reading.{IsRead, IsRefused}
 use Rattle.duration_str_c.specs.declared.answer.Answer.{Answer}
 
@@ -123,7 +123,7 @@ cause_told a =
 -- is a character boundary of the bytes.
 abbrev pub IsRefusalTold : Options → List ℕ → Cause → Answer → Type 0
 IsRefusalTold o bytes cause answer =
-    IsRefused o (chars bytes) cause × (answer ≡ refusal_told cause (token_length (found o (chars bytes) cause)))
+    IsRefused o (chars bytes) cause × (answer ≡ refusal_told cause (token_length (found_token o (chars bytes) cause)))
     × (cause_told answer ≡ Some cause) × ForSome (place_of cause) (IsCharBoundary bytes)
 
 -- The answer has the value of the bytes, or the cause of their refusal.

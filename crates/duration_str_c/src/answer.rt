@@ -1,7 +1,7 @@
 //! Answers: the value of a text or everything about its fault, as a C struct.
 ghost use Rattle.std.specs.Prelude.{◌≡◌};
 ghost use Rattle.std.specs.Str.{chars};
-ghost use Rattle.duration_str.specs.Faults.{found};
+ghost use Rattle.duration_str.specs.Faults.{found_token};
 ghost use Rattle.duration_str.specs.Reading.{IsRefused};
 ghost use Rattle.duration_str_c.specs.Told.{number_of, bits_of, expected_bits, sign_of, first_sign, later_sign, token_length, value_told, refusal_told, expected_of, place_told, operator_told, mixed_told, cause_told, IsRefusalTold};
 
@@ -142,7 +142,8 @@ pub(crate) fn refused(fault: Fault<'_>, options: Options) -> Answer
 
 /// The length in bytes of the token at the place of a syntax fault; 0 without one.
 fn found_length(fault: &Fault<'_>, options: Options) -> usize
-    ensures { result ≡ token_length (found options (chars fault.now.text.now) fault.now.cause) }
+    ensures { result ≡ token_length
+        (found_token options (chars fault.now.text.now) fault.now.cause) }
 {
     match fault.found(options) {
         Some(token) => token.len(),

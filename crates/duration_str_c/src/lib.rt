@@ -15,6 +15,7 @@ ghost use Rattle.duration_str.specs.declared.fault.Cause.TheVariants.{NotText};
 ghost use Rattle.duration_str_c.specs.Told.{options_of, refusal_told, IsTold};
 
 pub mod answer;
+pub mod column;
 pub mod message;
 pub mod moment;
 

@@ -1,5 +1,6 @@
 // The functions called as from C.
 use crate::answer::Answer;
+use crate::column::duration_str_parse_column;
 use crate::message::{duration_str_line, duration_str_message};
 use crate::moment::{Moment, duration_str_after, duration_str_before};
 use crate::{duration_str_parse_with, duration_str_version};
@@ -12,11 +13,15 @@ const FIRST: i64 = -377_705_023_201;
 
 const READ: u32 = 0;
 
+const EMPTY: u32 = 1;
+
 const SYNTAX: u32 = 2;
 
 const OUT_OF_RANGE: u32 = 6;
 
 const NOT_TEXT: u32 = 7;
+
+const BAD_OFFSETS: u32 = 8;
 
 const NO_CALC: u32 = 1;
 
@@ -42,7 +47,7 @@ fn answer_to(bytes: &[u8], options: u32) -> Answer {
 }
 
 /// The fields of an answer, without the value and the operators.
-fn place_of(answer: Answer) -> (u32, u8, usize, usize, u32) {
+fn cause_and_place(answer: Answer) -> (u32, u8, usize, usize, u32) {
     (
         answer.cause,
         answer.has_place,
@@ -68,12 +73,15 @@ fn tells_a_value_or_a_refusal(rt: HostRuntime) {
         ("1+2*3", 0, (5, 0, 0, 0, 0)),
     ] {
         assert_eq!(rt;
-            place_of(answer_to(text.as_bytes(), options)),
+            cause_and_place(answer_to(text.as_bytes(), options)),
             told,
             "{text}"
         );
     }
-    assert_eq!(rt; place_of(answer_to(b"1m\xff", 0)), (NOT_TEXT, 0, 0, 0, 0));
+    assert_eq!(rt;
+        cause_and_place(answer_to(b"1m\xff", 0)),
+        (NOT_TEXT, 0, 0, 0, 0)
+    );
     assert_eq!(rt; answer_to(b"1m 30", 0).nanos, 90_000_000_000);
 }
 
@@ -170,9 +178,9 @@ fn moves_under_options_and_tells_places(rt: HostRuntime) {
     let mut moment = Moment { secs: 5, nanos: 6 };
     let mut answer = unwritten();
     assert!(rt; !duration_str_after(b"1+2", NO_CALC, &mut moment, &mut answer));
-    assert_eq!(rt; place_of(answer), (SYNTAX, 1, 1, 1, 2 + 8));
+    assert_eq!(rt; cause_and_place(answer), (SYNTAX, 1, 1, 1, 2 + 8));
     assert!(rt; !duration_str_before(b"1m\xff", 0, &mut moment, &mut answer));
-    assert_eq!(rt; place_of(answer), (NOT_TEXT, 0, 0, 0, 0));
+    assert_eq!(rt; cause_and_place(answer), (NOT_TEXT, 0, 0, 0, 0));
     assert_eq!(rt; (moment.secs, moment.nanos), (5, 6));
     assert!(rt; duration_str_after(b"1+2", 0, &mut moment, &mut answer));
     assert_eq!(rt; (answer.cause, answer.nanos), (READ, 3_000_000_000));
@@ -294,4 +302,74 @@ fn shows_nothing_of_what_is_no_refusal(rt: HostRuntime) {
 #[test]
 fn has_its_version(rt: HostRuntime) {
     assert_eq!(rt; duration_str_version(), 19_000);
+}
+
+/// The bytes of a column whose texts are `1m`, the empty one, `1s-`, a byte that is no text, and `2ns`.
+const COLUMN: &[u8] = b"1m1s-\xff2ns";
+
+const COLUMN_OFFSETS: [usize; 6] = [0, 2, 2, 5, 6, 9];
+
+/// What a column is read as, in arrays in which each element must be overwritten: how many are read, values and causes.
+fn column_told(bytes: &[u8], offsets: &[usize]) -> (usize, [u64; 5], [u32; 5]) {
+    let mut nanos = [77; 5];
+    let mut causes = [77; 5];
+    let read = duration_str_parse_column(bytes, offsets, 0, &mut nanos, &mut causes);
+    (read, nanos, causes)
+}
+
+#[test]
+fn tells_of_each_text_of_a_column(rt: HostRuntime) {
+    let values = [60_000_000_000, 0, 0, 0, 2];
+    let causes = [READ, EMPTY, SYNTAX, NOT_TEXT, READ];
+    assert_eq!(rt; column_told(COLUMN, &COLUMN_OFFSETS), (2, values, causes));
+}
+
+#[test]
+fn refuses_texts_whose_offsets_are_bad(rt: HostRuntime) {
+    for (offsets, read, told) in [
+        (
+            [0, 2, 1, 2, 2, 2],
+            1,
+            [READ, BAD_OFFSETS, SYNTAX, EMPTY, EMPTY],
+        ),
+        (
+            [6, 9, 10, 9, 9, 8],
+            1,
+            [READ, BAD_OFFSETS, BAD_OFFSETS, EMPTY, BAD_OFFSETS],
+        ),
+        (
+            [usize::MAX, 0, 2, usize::MAX, usize::MAX, 2],
+            1,
+            [BAD_OFFSETS, READ, BAD_OFFSETS, BAD_OFFSETS, BAD_OFFSETS],
+        ),
+    ] {
+        let (count, _, causes) = column_told(COLUMN, &offsets);
+        assert_eq!(rt; (count, causes), (read, told), "{offsets:?}");
+    }
+}
+
+#[test]
+fn reads_as_many_texts_as_there_is_room_for(rt: HostRuntime) {
+    for (offsets, room, other_room, told) in [
+        (6, 3, 5, 3),
+        (6, 5, 2, 2),
+        (5, 5, 5, 4),
+        (1, 5, 5, 0),
+        (0, 5, 5, 0),
+        (6, 0, 5, 0),
+    ] {
+        let mut nanos = [77; 5];
+        let mut causes = [77; 5];
+        duration_str_parse_column(
+            COLUMN,
+            &COLUMN_OFFSETS[..offsets],
+            0,
+            &mut nanos[..room],
+            &mut causes[..other_room],
+        );
+        for index in 0..5 {
+            assert_eq!(rt; causes[index] != 77, index < told, "{offsets} {index}");
+            assert_eq!(rt; nanos[index] != 77, index < told, "{offsets} {index}");
+        }
+    }
 }

@@ -9,6 +9,7 @@ use Rattle.uses.specs.Completion.{BeginsExpression, IsCompletion}
 use Rattle.uses.proofs.FollowLemmas.{follows, ends, zero_ends}
 use Rattle.uses.proofs.CutLemmas.{IsSplit, split_at, typed_lexemes, one_token}
 use Rattle.uses.proofs.SyntaxLemmas.{refused_at}
+use Rattle.duration_str.proofs.Sentences.SpellingLemmas.{begins_with}
 
 -- A lexeme is the only token of its text.
 pub tokens_of_lexeme : OneCut → (o : Options) (w : List ℕ) → IsLexeme o w
@@ -16,7 +17,7 @@ pub tokens_of_lexeme : OneCut → (o : Options) (w : List ℕ) → IsLexeme o w
 tokens_of_lexeme cut o w h = sym (cut.only o w (record { start = 0; characters = w } ∷ []) (one_token o w h))
 
 spells_one : (w : List ℕ) → Spells (w ∷ []) (32 ∷ w)
-spells_one w = (32 ∷ [], [], refl, ap (λ (r : List ℕ). 32 ∷ r) (sym (append-nil w)), refl)
+spells_one w = begins_with (32 ∷ []) [] refl (rw append-nil) refl
 
 -- the terminals of these tokens
 abbrev stand_for : Options → List Token → List Terminal

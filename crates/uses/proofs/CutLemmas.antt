@@ -1,8 +1,9 @@
 -- How a text is cut that is split at a token, or joined at a blank.
-use Rattle.std.proofs.Common.{◌≡◌, ℕ, zero, suc, ◌+◌, List, [], ◌∷◌, ◌++◌, take, arith, refl, sym, ap, ◌∙◌, append-nil, append_assoc, add_assoc, add-zero}
-use Rattle.duration_str.proofs.Common.{and_parts, false_from_ne_true, map-append, list_all, width, byte_len, is_blank, IsBlank, IsLexeme, EndsRun, AreTokens, tokens_from, tokens_of, lexemes_of, start_after}
+use Rattle.std.proofs.Common.{◌≡◌, ℕ, zero, suc, ◌+◌, List, [], ◌∷◌, ◌++◌, take, arith, refl, sym, ap, ◌∙◌, append-nil, append_assoc}
+use Rattle.duration_str.proofs.Common.{false_from_ne_true, map-append, byte_len, IsLexeme, EndsRun, AreTokens, tokens_from, tokens_of, lexemes_of, start_after}
 use Rattle.uses.proofs.Common.{Options, Token, run-not_blank}
 use Rattle.duration_str.proofs.Characters.TextLemmas.{byte_len-append}
+use Rattle.duration_str.proofs.Cutting.CuttingLemmas.{blanks_no_token}
 use Rattle.duration_str.proofs.Cutting.TokenLemmas.{tokens_step}
 
 -- The text up to the token after the first n, and the rest. The text starts at byte `at` and ends at byte `end`.
@@ -69,16 +70,9 @@ module _ (o : Options) where
 
   -- ---- Joined at a blank
 
-  blanks_first : (at : ℕ) (blanks text : List ℕ) → IsBlank blanks
-      → tokens_from o at (blanks ++ text) ≡ tokens_from o (at + byte_len blanks) text
-  blanks_first at [] text h = rw add-zero
-  blanks_first at (c ∷ blanks) text h =
-      let parts = and_parts (is_blank c) (list_all is_blank blanks) h in
-      rw (parts.0, blanks_first (at + width c) blanks text parts.1, add_assoc)
-
   joined : (at : ℕ) (text more : List ℕ) (tokens : List Token) → AreTokens o at text tokens
       → (start : ℕ) × (tokens_from o at (text ++ 32 ∷ more) ≡ tokens ++ tokens_from o start more)
-  joined at text more [] h = (at + byte_len text + 1, blanks_first at text (32 ∷ more) h)
+  joined at text more [] h = (at + byte_len text + 1, blanks_no_token o at text (32 ∷ more) h)
   joined at text more (token ∷ tokens) (rest, next, are) =
       let later = joined (token.start + byte_len token.characters) rest more tokens are in
       let parts : text ++ 32 ∷ more ≡ next.blanks ++ (token.characters ++ (rest ++ 32 ∷ more)) =

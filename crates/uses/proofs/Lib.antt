@@ -11,4 +11,3 @@ pub mod ProductLemmas
 pub mod StoredLemmas
 pub mod SumLemmas
 pub mod SyntaxLemmas
-pub mod TextLemmas

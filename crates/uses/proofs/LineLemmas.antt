@@ -1,8 +1,9 @@
 -- Lines and their texts are spelled by the same sentences.
-use Rattle.std.proofs.Common.{◌≡◌, ℕ, ◌+◌, List, [], ◌∷◌, IsUtf8, refl, ap, ◌∙◌, append_assoc, inl, inr}
-use Rattle.duration_str.proofs.Common.{and_from, cases_Bool, list_all-append, chars-append, width, is_blank, Spells, IsSentenceOf, goes_on, tokens_from, lexemes_of, OneSentence, BlanksFree}
+use Rattle.std.proofs.Common.{append-nil, ◌≡◌, ℕ, ◌+◌, List, [], ◌∷◌, IsUtf8, refl, ap, ◌∙◌, inl, inr}
+use Rattle.duration_str.proofs.Common.{cases_Bool, chars-append, width, Spells, IsSentenceOf, goes_on, tokens_from, lexemes_of, OneSentence, BlanksFree}
 use Rattle.uses.proofs.Common.{true≢false, Options, run-not_blank, line_of, IsReadAsBefore}
 use Rattle.std.specs.Str.{chars}
+use Rattle.duration_str.proofs.LawProofs.SumOfTexts.{spells_both}
 
 chars_line : (bytes : List ℕ) → IsUtf8 bytes → chars (line_of bytes) ≡ line_of (chars bytes)
 unfolding chars
@@ -18,14 +19,10 @@ read_as_before free old new spells = record {
 
 -- ---- A line feed more
 
-spells_line : (lexemes : List (List ℕ)) (text : List ℕ) → Spells lexemes text → Spells lexemes (line_of text)
-spells_line [] text s = list_all-append is_blank text (10 ∷ []) ∙ and_from _ _ s refl
-spells_line (w ∷ lexemes) text s =
-    (s.0, line_of s.1, s.2, ap line_of s.3 ∙ simp append_assoc, spells_line lexemes s.1 s.4)
-
 pub line_read : BlanksFree → (bytes : List ℕ) → IsUtf8 bytes → IsReadAsBefore (chars bytes) (chars (line_of bytes))
 line_read free bytes utf8 =
-    rw (chars_line bytes utf8) (read_as_before free (chars bytes) _ (λ o lexemes s. spells_line lexemes (chars bytes) s.1))
+    rw (chars_line bytes utf8) (read_as_before free (chars bytes) _
+    (λ o lexemes s. rw append-nil at (spells_both lexemes [] (chars bytes) (10 ∷ []) s.1 refl)))
 
 -- ---- A line feed less
 

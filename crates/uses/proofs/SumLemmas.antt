@@ -1,7 +1,7 @@
 -- Sums whose parts are exchanged.
-use Rattle.std.proofs.Common.{◌≡◌, ℕ, ◌==◌, List, [], ◌∷◌, map, if◌then◌else◌, refl, sym, ap, ◌∙◌}
+use Rattle.std.proofs.Common.{◌≡◌, ℕ, ◌==◌, List, [], ◌∷◌, map, if◌then◌else◌, refl, sym}
 use Rattle.std.specs.List.{sum_by}
-use Rattle.duration_str.proofs.Common.{Term, value_of_term, times_in, IsRead, Reorder}
+use Rattle.duration_str.proofs.Common.{value_of_term, times_in, IsRead, Reorder}
 use Rattle.uses.proofs.Common.{IsPermutation, sum_by-IsPermutation, Options, Plus, Part, nanos_in, term_of_part}
 use Rattle.std.proofs.lemmas.List.Sums.{sum_by-cons}
 use Rattle.uses.specs.Sum.{Adds}
@@ -15,13 +15,9 @@ times_in_parts : (n : ℕ) (parts : List Part)
 times_in_parts n [] = refl
 times_in_parts n (part ∷ parts) = rw (sum_by-cons, ← times_in_parts n parts)
 
-times_in_terms : (n : ℕ) (terms : List Term) (parts : List Part) → terms ≡ map (term_of_part Plus) parts
-    → times_in n (map value_of_term terms) ≡ sum_by (is_times n) parts
-times_in_terms n terms parts e = ap (λ (ts : List Term). times_in n (map value_of_term ts)) e ∙ times_in_parts n parts
-
 -- Sums of the same parts in another order are read alike.
 pub permuted_read : Reorder → (o : Options) (xs ys : List Part) (a b : List ℕ) (nanos : ℕ) → IsPermutation xs ys
     → Adds o xs a → Adds o ys b → IsRead o a nanos → IsRead o b nanos
 permuted_read law o xs ys a b nanos p s t =
     law o a b s.lexemes t.lexemes nanos s.spells t.spells s.plus t.plus
-    (λ n. times_in_terms n _ xs s.terms ∙ sym (sum_by-IsPermutation (is_times n) xs ys p) ∙ sym (times_in_terms n _ ys t.terms))
+    (λ n. rw (s.terms, t.terms, times_in_parts n xs, times_in_parts n ys) (sym (sum_by-IsPermutation (is_times n) xs ys p)))

@@ -1,6 +1,6 @@
 -- A number of units, and the texts that multiply two of them.
-use Rattle.std.specs.Prelude.{◌≡◌, ℕ, ◌*◌, List, [], ◌∷◌, map, ◌⊎◌}
-use Rattle.uses.specs.Common.{Options, Plus, Star, nanos_of, terminal_of, IsSentenceOf, Term, terms_of}
+use Rattle.std.specs.Prelude.{◌≡◌, ℕ, ◌*◌, List, [], ◌∷◌, ◌⊎◌}
+use Rattle.uses.specs.Common.{Options, Plus, Star, nanos_of, IsSentenceOf, Term, written_terms}
 use Rattle.duration_str.specs.declared.operator.CondUnit.{CondUnit}
 use Rattle.uses.specs.declared.product.Part.{Part}
 
@@ -16,7 +16,7 @@ term_of_part op part = record { operator = op; number = part.number; length = na
 pub record Multiplies (o : Options) (first later : Part) (text : List ℕ) : Type 0 where
   pub lexemes : List (List ℕ)
   pub spells : IsSentenceOf o lexemes text
-  pub terms : terms_of (map (terminal_of o) lexemes) ≡ term_of_part Plus first ∷ term_of_part Star later ∷ []
+  pub terms : written_terms o lexemes ≡ term_of_part Plus first ∷ term_of_part Star later ∷ []
 
 -- The same in one order or the other.
 abbrev pub MultipliesInEitherOrder : Options → Part → Part → List ℕ → Type 0

@@ -1,6 +1,6 @@
 -- Texts that add parts.
 use Rattle.std.specs.Prelude.{◌≡◌, ℕ, List, map}
-use Rattle.uses.specs.Common.{Options, Plus, terminal_of, IsSentenceOf, AllPlus, terms_of}
+use Rattle.uses.specs.Common.{Options, Plus, terminal_of, IsSentenceOf, AllPlus, written_terms}
 use Rattle.uses.specs.declared.product.Part.{Part}
 use Rattle.uses.specs.Product.{term_of_part}
 
@@ -9,4 +9,4 @@ pub record Adds (o : Options) (parts : List Part) (text : List ℕ) : Type 0 whe
   pub lexemes : List (List ℕ)
   pub spells : IsSentenceOf o lexemes text
   pub plus : AllPlus (map (terminal_of o) lexemes)
-  pub terms : terms_of (map (terminal_of o) lexemes) ≡ map (term_of_part Plus) parts
+  pub terms : written_terms o lexemes ≡ map (term_of_part Plus) parts

@@ -34,10 +34,7 @@ pub fn canonical<'a, 'b>(text: &'a str, buffer: &'b mut [u8; 64]) -> Result<&'b 
     ensures fault { IfErr result (Refuses text.now) }
 {
     reads_back();
-    match parse(text) {
-        Ok(length) => Ok(key(length, buffer)),
-        Err(fault) => Err(fault),
-    }
+    Ok(key(parse(text)?, buffer))
 }
 
 /// Whether two expressions share an entry of the cache, since they have one value. Their keys are compared.
@@ -50,9 +47,7 @@ pub fn share_entry<'a>(text: &'a str, other: &'a str) -> Result<bool, Fault<'a>>
     one_sentence();
     let length = parse(text)?;
     let other_length = parse(other)?;
-    let mut buffer = [0u8; 64];
-    let mut other_buffer = [0u8; 64];
-    Ok(key(length, &mut buffer) == key(other_length, &mut other_buffer))
+    Ok(key(length, &mut [0; 64]) == key(other_length, &mut [0; 64]))
 }
 
 /// What reading the printed text of a duration answers under every choice of options. The text is neither made nor

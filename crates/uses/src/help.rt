@@ -6,16 +6,8 @@ use duration_str::laws::one_sentence;
 use duration_str::{Cause, Expected, Options};
 use std::time::Duration;
 
-/// A text with what it is read as under these options, or why it is refused.
-#[derive(Clone, Copy, Debug)]
-pub struct Example {
-    /// The text.
-    pub text: &'static str,
-    /// The options under which it is read.
-    pub options: Options,
-    /// The duration, or the cause of the refusal.
-    pub answer: Result<Duration, Cause>,
-}
+/// A text, the options under which it is read, and the duration or the cause of the refusal.
+pub type Example = (&'static str, Options, Result<Duration, Cause>);
 
 pub(crate) const OFF: Options = Options {
     no_calc: false,
@@ -38,11 +30,15 @@ pub(crate) const CN_UNIT: Options = Options {
     ..OFF
 };
 
-const AFTER_NUMBER: Expected = Expected {
-    number: false,
-    unit_word: true,
-    operator: true,
-    text_end: true,
+/// After a number of one digit stands no unit.
+const NO_UNIT: Cause = Cause::Syntax {
+    place: 1,
+    expected: Expected {
+        number: false,
+        unit_word: true,
+        operator: true,
+        text_end: true,
+    },
 };
 
 /// The examples of a help page. Each text has this answer and no other. The answers are constants: no text is read to
@@ -52,38 +48,14 @@ const AFTER_NUMBER: Expected = Expected {
 /// examples()[0] // `3m + 13s + 29ms`, with all options off, is 193,029 ms
 /// ```
 pub fn examples() -> [Example; 5]
-    ensures { AllByRecursion (λ e.
-        IsOnlyAnswerTo e.options (chars e.text.now) e.answer) result }
+    ensures { AllByRecursion (λ e. IsOnlyAnswerTo e.1 (chars e.0.now) e.2) result }
 {
     one_sentence();
     [
-        Example {
-            text: "3m + 13s + 29ms",
-            options: OFF,
-            answer: Ok(Duration::from_millis(193_029)),
-        },
-        Example {
-            text: "580y*2",
-            options: OFF,
-            answer: Err(Cause::Overflow { place: None }),
-        },
-        Example {
-            text: "2h 37m",
-            options: NO_CALC,
-            answer: Ok(Duration::from_secs(9_420)),
-        },
-        Example {
-            text: "1M",
-            options: LOWERCASE,
-            answer: Err(Cause::Syntax {
-                place: 1,
-                expected: AFTER_NUMBER,
-            }),
-        },
-        Example {
-            text: "3天",
-            options: CN_UNIT,
-            answer: Ok(Duration::from_secs(259_200)),
-        },
+        ("3m + 13s + 29ms", OFF, Ok(Duration::from_millis(193_029))),
+        ("580y*2", OFF, Err(Cause::Overflow { place: None })),
+        ("2h 37m", NO_CALC, Ok(Duration::from_secs(9_420))),
+        ("1M", LOWERCASE, Err(NO_UNIT)),
+        ("3天", CN_UNIT, Ok(Duration::from_secs(259_200))),
     ]
 }

@@ -26,7 +26,7 @@ pub use log::log_entry;
 pub use portable::keeps_value;
 pub use product::{Part, scaled};
 pub use signed::difference;
-pub use stored::{Stored, first_unit, stored_duration};
+pub use stored::{first_unit, stored_duration};
 pub use sum::{longest_first, total_of};
 
 #[cfg(test)]

@@ -53,12 +53,8 @@ pub fn scaled(rate: Part, length: Part) -> Option<Duration>
         → MultipliesInEitherOrder o rate length text → IsRead o text nanos → ⊥) }
 {
     two_factors();
-    let Some(nanos) = rate.nanos() else {
-        return None;
-    };
-    let Some(other_nanos) = length.nanos() else {
-        return None;
-    };
+    let nanos = rate.nanos()?;
+    let other_nanos = length.nanos()?;
     match u64::try_from(nanos as u128 * other_nanos as u128 / NANOS_PER_SECOND) {
         Ok(product) => Some(Duration::from_nanos(product)),
         Err(_) => None,

@@ -10,46 +10,12 @@ use duration_str::laws::{older_texts, one_sentence};
 use duration_str::{Fault, Options, TimeUnit, Tokens, What, parse_with};
 use std::time::Duration;
 
-/// A configuration that was stored before the quarter was a unit.
-#[derive(Clone, Copy, Debug, PartialEq, Eq)]
-pub struct Stored {
-    /// How long to wait.
-    pub timeout: Duration,
-    /// How long to keep a file.
-    pub retention: Duration,
-}
-
-impl Stored {
-    /// Reads the two texts under the options that they were stored with, and returns the fault of the first that is
-    /// refused. What an older version accepted is accepted, with the same values, and what its evaluation refused is
-    /// refused for the same cause.
-    ///
-    /// ```text
-    /// Stored::read("30", "1y 2mon", Options::off()) // 30 s and 425 days, as before
-    /// ```
-    pub fn read<'a>(timeout: &'a str, retention: &'a str, o: Options) -> Result<Stored, Fault<'a>>
-        ensures kept { (m n : ℕ) → WasRead o (chars timeout.now) m
-            → WasRead o (chars retention.now) n
-            → IsOkAnd result (λ s. (as_nanos s.timeout ≡ m) × (as_nanos s.retention ≡ n)) }
-        ensures refused { (cause : AnyCause) → WasRefused o (chars timeout.now) cause
-            → IsErrAnd result (λ f. f.cause ≡ cause) }
-        ensures refused_later { (m : ℕ) (cause : AnyCause) → WasRead o (chars timeout.now) m
-            → WasRefused o (chars retention.now) cause
-            → IsErrAnd result (λ f. f.cause ≡ cause) }
-    {
-        let timeout = match stored_duration(timeout, o) {
-            Ok(timeout) => timeout,
-            Err(fault) => return Err(fault),
-        };
-        match stored_duration(retention, o) {
-            Ok(retention) => Ok(Stored { timeout, retention }),
-            Err(fault) => Err(fault),
-        }
-    }
-}
-
-/// The duration that a stored text is read as. It has the value or the fault that it had in an older version, if that
-/// found a sentence in it.
+/// The duration that a text is read as that was stored before the quarter was a unit. What an older version accepted is
+/// accepted, with the same value, and what its evaluation refused is refused for the same cause.
+///
+/// ```text
+/// stored_duration("1y 2mon", Options::off()) // 425 days, as before
+/// ```
 pub fn stored_duration(text: &str, o: Options) -> Result<Duration, Fault<'_>>
     ensures kept { (nanos : ℕ) → WasRead o (chars text.now) nanos
         → IsOkAnd result (λ d. as_nanos d ≡ nanos) }
@@ -74,13 +40,8 @@ pub fn first_unit(text: &str, o: Options) -> Option<TimeUnit>
     older_texts();
     one_sentence();
     let mut tokens = Tokens::new(text, o);
-    match tokens.next() {
-        Some(_) => match tokens.next() {
-            Some(token) => unit_named(token.what),
-            None => None,
-        },
-        None => None,
-    }
+    tokens.next()?;
+    unit_named(tokens.next()?.what)
 }
 
 /// The unit that a token names.

@@ -109,18 +109,16 @@ fn keeps_a_value_if_options_change(rt: HostRuntime) {
 
 #[test]
 fn shows_examples_as_they_are_read(rt: HostRuntime) {
-    assert_eq!(rt; examples()[0].answer, Ok(Duration::from_millis(193_029)));
-    for example in examples() {
-        assert_eq!(rt; read(example.text, example.options), example.answer);
+    for (text, options, answer) in examples() {
+        assert_eq!(rt; read(text, options), answer);
     }
 }
 
 #[test]
 fn keeps_what_was_stored(rt: HostRuntime) {
-    let (timeout, retention) = (Duration::from_secs(30), Duration::from_secs(425 * 86_400));
-    let stored = Stored::read("30", "1y 2mon", OFF);
-    assert_eq!(rt; stored.ok(), Some(Stored { timeout, retention }));
-    let refused = Stored::read("1s", "580y*2", OFF).err();
+    let retention = Duration::from_secs(425 * 86_400);
+    assert_eq!(rt; stored_duration("1y 2mon", OFF).ok(), Some(retention));
+    let refused = stored_duration("580y*2", OFF).err();
     assert!(rt; refused.is_some_and(|fault| fault.cause() == OVERFLOW));
 }
 
@@ -139,12 +137,9 @@ fn reads_a_line_as_its_text(rt: HostRuntime) {
 
 #[test]
 fn sorts_the_longest_first(rt: HostRuntime) {
-    let laps = [
-        (29, TimeUnit::MilliSecond),
-        (3, TimeUnit::Minute),
-        (13, TimeUnit::Second),
-    ];
-    let [short, long, middle] = laps.map(|(number, unit)| part(number, unit));
+    let short = part(29, TimeUnit::MilliSecond);
+    let long = part(3, TimeUnit::Minute);
+    let middle = part(13, TimeUnit::Second);
     let mut parts = [short, long, middle];
     longest_first(&mut parts);
     assert_eq!(rt; parts, [long, middle, short]);

@@ -28,8 +28,8 @@ def _read_all() -> bytes:
     """All of standard input."""
     read = bytearray()
     try:
-        while piece := os.read(0, 65_536):
-            read += piece
+        while some := os.read(0, 65_536):
+            read += some
             if len(read) > _LIMIT:
                 raise _Ended("input too long")
     except OSError as error:

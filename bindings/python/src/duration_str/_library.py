@@ -9,6 +9,24 @@ import os
 VERSION = 19000
 
 
+class _Buffer(ctypes.Structure):
+    """Python's `Py_buffer`."""
+
+    _fields_ = [
+        ("address", ctypes.c_void_p),
+        ("owner", ctypes.py_object),
+        ("length", ctypes.c_ssize_t),
+        ("item_size", ctypes.c_ssize_t),
+        ("is_read_only", ctypes.c_int),
+        ("dimensions", ctypes.c_int),
+        ("format", ctypes.c_char_p),
+        ("shape", ctypes.c_void_p),
+        ("strides", ctypes.c_void_p),
+        ("suboffsets", ctypes.c_void_p),
+        ("internal", ctypes.c_void_p),
+    ]
+
+
 class Answer(ctypes.Structure):
     """What a text is read as, or why and where it is refused."""
 
@@ -38,6 +56,19 @@ _parse.restype = ctypes.c_bool
 _parse_with = _loaded.duration_str_parse_with
 _parse_with.argtypes = [ctypes.c_char_p, ctypes.c_size_t, ctypes.c_uint32, ctypes.c_void_p]
 _parse_with.restype = ctypes.c_bool
+_parse_column = _loaded.duration_str_parse_column
+_parse_column.argtypes = [
+    ctypes.c_void_p,
+    ctypes.c_size_t,
+    ctypes.c_void_p,
+    ctypes.c_size_t,
+    ctypes.c_uint32,
+    ctypes.c_void_p,
+    ctypes.c_size_t,
+    ctypes.c_void_p,
+    ctypes.c_size_t,
+]
+_parse_column.restype = ctypes.c_size_t
 _message = _loaded.duration_str_message
 _message.argtypes = [ctypes.c_char_p, ctypes.c_size_t, ctypes.c_void_p, ctypes.c_char_p, ctypes.c_size_t]
 _message.restype = ctypes.c_size_t
@@ -57,6 +88,36 @@ def parse_with(text: bytes, options: int) -> Answer:
     answer = Answer()
     _parse_with(text, len(text), options, ctypes.byref(answer))
     return answer
+
+
+def _address(view: memoryview) -> int | None:
+    """Where the first byte of a contiguous view stands, as long as there is the view."""
+    buffer = _Buffer()
+    ctypes.pythonapi.PyObject_GetBuffer(ctypes.py_object(view), ctypes.byref(buffer), ctypes.c_int(0))
+    address = buffer.address
+    ctypes.pythonapi.PyBuffer_Release(ctypes.byref(buffer))
+    return address
+
+
+def parse_column(
+    data: memoryview, offsets: memoryview, options: int, nanos: memoryview, causes: memoryview
+) -> int:
+    """How many texts of a column are read: their values are written to `nanos`, and the causes of the others to
+    `causes`. All are contiguous: `data` has bytes, `causes` numbers of 4 bytes, and the others numbers of 8.
+    """
+    return int(
+        _parse_column(
+            _address(data),
+            len(data),
+            _address(offsets),
+            len(offsets),
+            options,
+            _address(nanos),
+            len(nanos),
+            _address(causes),
+            len(causes),
+        )
+    )
 
 
 def message(text: bytes, answer: Answer) -> str:

@@ -93,6 +93,42 @@ impl Cause {
         }
     }
 
+    /// The syntax fault at a place where a text or a term has to start.
+    #[inline(always)]
+    pub(crate) fn misplaced_at_start(place: usize) -> Cause {
+        let expected = Expected {
+            number: true,
+            unit_word: false,
+            operator: false,
+            text_end: false,
+        };
+        Cause::Syntax { place, expected }
+    }
+
+    /// The syntax fault at a place after a number.
+    #[inline(always)]
+    pub(crate) fn misplaced_after_number(place: usize, no_calc: bool) -> Cause {
+        let expected = Expected {
+            number: false,
+            unit_word: true,
+            operator: !no_calc,
+            text_end: true,
+        };
+        Cause::Syntax { place, expected }
+    }
+
+    /// The syntax fault at a place after a unit.
+    #[inline(always)]
+    pub(crate) fn misplaced_after_unit(place: usize, no_calc: bool) -> Cause {
+        let expected = Expected {
+            number: true,
+            unit_word: false,
+            operator: !no_calc,
+            text_end: true,
+        };
+        Cause::Syntax { place, expected }
+    }
+
     /// The line of this cause.
     pub(crate) fn line(self) -> &'static str {
         match self {

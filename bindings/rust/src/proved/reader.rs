@@ -1,7 +1,7 @@
 // Made by tools/erase of crates/duration_str/src/reader.rt.
 //! The one pass over the tokens of a text.
 
-use super::fault::{Cause, Expected};
+use super::fault::Cause;
 use super::token::{Number, Sort, Tokens};
 use super::unit::{CondUnit, TimeUnit};
 
@@ -14,7 +14,7 @@ pub(crate) fn read(tokens: &mut Tokens<'_>, no_calc: bool) -> Result<u64, Cause>
     let first = unit.times(number.value(), Some(0))?;
     match read_operator(tokens, no_calc)? {
         None => Ok(first),
-        Some(set) => read_later(tokens, no_calc, first, set),
+        Some(operator) => read_later(tokens, no_calc, first, operator),
     }
 }
 
@@ -25,20 +25,20 @@ fn read_later(
     tokens: &mut Tokens<'_>,
     no_calc: bool,
     first: u64,
-    set: CondUnit,
+    operator: CondUnit,
 ) -> Result<u64, Cause> {
     let mut later = Later {
-        total: nothing_of(set),
+        total: nothing_of(operator),
         fault: None,
     };
     loop {
         let number = tokens.take_number();
         let unit = read_unit(tokens, no_calc)?;
-        later.add(set, number, unit);
-        later.check_sum(no_calc, first, set)?;
+        later.add(operator, number, unit);
+        later.check_sum(no_calc, first, operator)?;
         match read_operator(tokens, no_calc)? {
-            None => return later.answer(first, set),
-            Some(next) => later.check_operator(set, next),
+            None => return later.answer(first, operator),
+            Some(next) => later.check_operator(operator, next),
         }
     }
 }
@@ -49,32 +49,14 @@ fn expect_number(tokens: &mut Tokens<'_>) -> Result<(), Cause> {
     if tokens.is_number_ahead() {
         return Ok(());
     }
-    let expected = Expected {
-        number: true,
-        unit_word: false,
-        operator: false,
-        text_end: false,
-    };
-    Err(Cause::Syntax {
-        place: tokens.place(),
-        expected,
-    })
+    Err(Cause::misplaced_at_start(tokens.place()))
 }
 
 /// Reads the unit after a number. Seconds if an operator or the end follows, which is not taken.
 #[inline(always)]
 fn read_unit(tokens: &mut Tokens<'_>, no_calc: bool) -> Result<TimeUnit, Cause> {
     let ahead = tokens.sort_after_number();
-    let expected = Expected {
-        number: false,
-        unit_word: true,
-        operator: !no_calc,
-        text_end: true,
-    };
-    let fault = Cause::Syntax {
-        place: tokens.place(),
-        expected,
-    };
+    let fault = Cause::misplaced_after_number(tokens.place(), no_calc);
     let Some(sort) = ahead else {
         return Ok(TimeUnit::Second);
     };
@@ -99,16 +81,7 @@ fn read_unit(tokens: &mut Tokens<'_>, no_calc: bool) -> Result<TimeUnit, Cause> 
 #[inline(always)]
 fn read_operator(tokens: &mut Tokens<'_>, no_calc: bool) -> Result<Option<CondUnit>, Cause> {
     let ahead = tokens.sort_ahead();
-    let expected = Expected {
-        number: true,
-        unit_word: false,
-        operator: !no_calc,
-        text_end: true,
-    };
-    let fault = Cause::Syntax {
-        place: tokens.place(),
-        expected,
-    };
+    let fault = Cause::misplaced_after_unit(tokens.place(), no_calc);
     let Some(sort) = ahead else {
         return Ok(None);
     };
@@ -136,22 +109,22 @@ pub(crate) struct Later {
 impl Later {
     /// Adds a term, which is not evaluated if a fault is held back.
     #[inline(always)]
-    fn add(&mut self, set: CondUnit, number: Number<'_>, unit: TimeUnit) {
+    fn add(&mut self, operator: CondUnit, number: Number<'_>, unit: TimeUnit) {
         if self.fault.is_some() {
             return;
         }
-        match with_term(set, self.total, number, unit) {
+        match with_term(operator, self.total, number, unit) {
             Ok(total) => self.total = total,
             Err(fault) => self.fault = Some(fault),
         }
     }
 
-    /// Checks the next operator, which must be the one that was set.
+    /// Checks that the next operator is the same.
     #[inline(always)]
-    fn check_operator(&mut self, set: CondUnit, next: CondUnit) {
-        if next != set && self.fault.is_none() {
+    fn check_operator(&mut self, operator: CondUnit, next: CondUnit) {
+        if next != operator && self.fault.is_none() {
             self.fault = Some(Cause::Mixed {
-                first: set,
+                first: operator,
                 later: next,
             });
         }
@@ -159,20 +132,20 @@ impl Later {
 
     /// The total including the first term, or the first later fault.
     #[inline(always)]
-    fn answer(&self, first: u64, set: CondUnit) -> Result<u64, Cause> {
+    fn answer(&self, first: u64, operator: CondUnit) -> Result<u64, Cause> {
         if let Some(fault) = self.fault {
             return Err(fault);
         }
-        within(combination(set, first, self.total))
+        within(combination(operator, first, self.total))
     }
 
     /// Under `no_calc`, reports at once the fault of a term, or an overflow of the sum so far.
     #[inline]
-    fn check_sum(&self, no_calc: bool, first: u64, set: CondUnit) -> Result<(), Cause> {
+    fn check_sum(&self, no_calc: bool, first: u64, operator: CondUnit) -> Result<(), Cause> {
         if !no_calc {
             return Ok(());
         }
-        match self.answer(first, set) {
+        match self.answer(first, operator) {
             Ok(_) => Ok(()),
             Err(cause) => Err(cause),
         }
@@ -181,9 +154,14 @@ impl Later {
 
 /// The value of the later terms with one more, or its fault.
 #[inline(always)]
-fn with_term(set: CondUnit, total: u64, number: Number<'_>, unit: TimeUnit) -> Result<u64, Cause> {
+fn with_term(
+    operator: CondUnit,
+    total: u64,
+    number: Number<'_>,
+    unit: TimeUnit,
+) -> Result<u64, Cause> {
     let value = unit.times(number.value(), None)?;
-    within(combination(set, total, value))
+    within(combination(operator, total, value))
 }
 
 /// The value, or an overflow.

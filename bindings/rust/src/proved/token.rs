@@ -67,7 +67,7 @@ impl<'a> Number<'a> {
         if self.digits.len() <= MOST_DIGITS {
             Some(self.low)
         } else {
-            // `?` keeps this path separate, as in `take_word`.
+            // Without `?` the compiler would test the answer of the short path too, as in `take_word`.
             let number = number_of(self.digits)?;
             Some(number)
         }
@@ -244,7 +244,7 @@ impl<'a> Tokens<'a> {
                 lowercase,
                 cn_unit,
             } = self.options;
-            // With `?` the compiler keeps this path apart from the usual one, whose result it then need not test again.
+            // Without `?` the compiler would join this path with the usual one, and test the usual answer again.
             let unit = unit_by_name(self.eye.since(start), no_calc, lowercase, cn_unit)?;
             Some(unit)
         }

@@ -1,7 +1,6 @@
 -- The classes of characters exclude one another, and a run is of one class.
 use Rattle.std.proofs.Common.{◌≡◌, ℕ, ◌≤◌, Bool, true, false, ◌&&◌, ◌||◌, inl, inr, List, [], ◌∷◌, Some, IsTrue, arith, refl, nat_lt}
-use Rattle.duration_str.proofs.Common.{cases_Bool, false_from_ne_true, or_cases, and_parts, and_from, list_all, nat_tests, is_ascii_alphabetic, is_ascii_uppercase, Options, CondUnit, is_blank, is_digit, is_unit_letter, operator_of, are_of_one_run}
-use Rattle.std.specs.Char.{is_ascii}
+use Rattle.duration_str.proofs.Common.{cases_Bool, false_from_ne_true, or_cases, and_parts, and_from, list_all, nat_tests, is_ascii_alphabetic, is_ascii_uppercase, Options, CondUnit, is_blank, is_digit, is_unit_letter, operator_of, are_of_one_run, is_ascii}
 
 -- Characters that pass a test also pass a weaker one.
 pub all_weaker : (p q : ℕ → Bool) (cs : List ℕ) → ((c : ℕ) → p c ≡ true → q c ≡ true) → IsTrue (list_all p cs)
@@ -29,14 +28,10 @@ pub operator-not_blank : (c : ℕ) (op : CondUnit) → operator_of c ≡ Some op
 operator-not_blank c op e = grind (arith, nat_tests)
 
 pub digit-not_letter : (o : Options) (c : ℕ) → is_digit c ≡ true → is_unit_letter o c ≡ false
-digit-not_letter o c e =
-    let below : c ≤ 57 = digit_below c e in
-    false_from_ne_true _ (λ (t : is_unit_letter o c ≡ true). let above : 65 ≤ c = letter_above o c t in omega arith)
+digit-not_letter o c e = false_from_ne_true _ (λ t. omega (arith, digit_below c e, letter_above o c t))
 
 pub letter-not_digit : (o : Options) (c : ℕ) → is_unit_letter o c ≡ true → is_digit c ≡ false
-letter-not_digit o c e =
-    let above : 65 ≤ c = letter_above o c e in
-    false_from_ne_true _ (λ (t : is_digit c ≡ true). let below : c ≤ 57 = digit_below c t in omega arith)
+letter-not_digit o c e = false_from_ne_true _ (λ t. cc (digit-not_letter o c t))
 
 -- the letters before `a` are the capitals
 pub capital_below : (c : ℕ) → is_ascii_alphabetic c ≡ true → nat_lt c 97 ≡ is_ascii_uppercase c

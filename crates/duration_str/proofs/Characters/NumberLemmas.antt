@@ -1,7 +1,6 @@
 -- Digits as std reads and writes them.
 use Rattle.std.proofs.Common.{◌≡◌, ℕ, ◌^◌, ◌<◌, length, Result, Ok, Err, Option, decimal, List, [], ◌∷◌, IsUtf8, IsTrue, sym, ◌∙◌, inl, inr, arith, rules, le-ltb, lt-ltb, chars, OkIff}
-use Rattle.duration_str.proofs.Common.{cases_lt, cond-true, decimal_nonempty, encodes-IsAscii, encodes-chars, list_all, Options, is_digit, IsNumber, number_after, number_of, number, terminal_of, u64_from}
-use Rattle.std.proofs.lemmas.Fmt.{IsAscii-from_digits, digits_decimal, digits_value-decimal}
+use Rattle.duration_str.proofs.Common.{cases_lt, cond-true, decimal_nonempty, encodes-IsAscii, encodes-chars, list_all, Options, is_digit, IsNumber, number_after, number_of, number, terminal_of, u64_from, IsAscii-from_digits, digits_decimal, digits_value-decimal}
 use Rattle.std.proofs.lemmas.Str.Parse.{IsNumeralModel, numerals_by_fold, parse_digits}
 use Rattle.std.specs.Result.{result_ok}
 use Rattle.std.specs.Str.Parse.{ParsesUnsigned}

@@ -1,9 +1,8 @@
 -- Packed names and their slots.
-use Rattle.std.proofs.Common.{◌≡◌, ℕ, zero, suc, ◌+◌, ◌*◌, ◌/◌, ◌%◌, ◌^◌, ◌<◌, ◌≤◌, Bool, true, false, leb, eqb, ◌&&◌, ◌||◌, List, [], ◌∷◌, map, length, get_or, Option, Some, None, refl, sym, ◌∙◌, arith, inl, inr, lit<, add-zero, mul-le-mul_right, mod-lt, eq-eqb, eqb-true, if◌then◌else◌, find, bytes_eq}
-use Rattle.duration_str.proofs.Common.{pow-succ', cases_Bool, cases_lt, and_parts, and_from, false_from_ne_true, nat_tests, bytes_eq-Decides, list_all, list_any, to_ascii_lowercase, is_ascii_alphabetic, is_ascii_uppercase, Options, TimeUnit, SPREAD, units, row_of, comparison_form, is_named, unit_of_word, packed_number_after, packed_number, packs_to}
-use Rattle.std.proofs.Math.Nat.{pow-le-pow_right}
-use Rattle.std.proofs.lemmas.Bool.{or_parts}
-use Rattle.std.proofs.lemmas.List.{get_or-map}
+use Rattle.std.proofs.Common.{◌≡◌, ℕ, zero, suc, ◌+◌, ◌*◌, ◌/◌, ◌%◌, ◌^◌, ◌<◌, ◌≤◌, Bool, true, false, leb, eqb, ◌&&◌, List, [], ◌∷◌, map, length, get_or, Option, Some, None, refl, sym, ◌∙◌, arith, inl, inr, lit<, add-zero, eq-eqb, eqb-true, if◌then◌else◌, find, bytes_eq}
+use Rattle.duration_str.proofs.Common.{pow-succ', cases_Bool, and_parts, and_from, false_from_ne_true, nat_tests, bytes_eq-Decides, same_from_decides, list_all, list_any, to_ascii_lowercase, is_ascii_alphabetic, is_ascii_uppercase, Options, TimeUnit, SPREAD, units, row_of, comparison_form, is_named, unit_of_word, packed_number_after, packed_number, packs_to, pow-le-pow_right, or_parts, length-reverse, reverse-reverse}
+use Rattle.std.proofs.Math.Bool.{and-false, or-false}
+use mathlib.Core.List.{reverse_aux, reverse}
 use Rattle.duration_str.specs.Internal.Packed.{unit_of_packed}
 use Rattle.duration_str.proofs.Characters.EachUnit.{each_unit}
 
@@ -13,71 +12,51 @@ is_small_letter c = leb 97 c && leb c 122
 abbrev are_small : List ℕ → Bool
 are_small cs = list_all is_small_letter cs
 
--- ---- the size of a packed number
+-- ---- words whose packed numbers are exact and different
 
-at_least : (n : ℕ) (cs : List ℕ) → n * 32 ^ length cs ≤ packed_number_after n cs
-at_least n [] = omega arith
-at_least n (c ∷ cs) =
-    let more = at_least (n * 32 + c % 32) cs in
-    let step : n * 32 * 32 ^ length cs ≤ (n * 32 + c % 32) * 32 ^ length cs =
-    mul-le-mul_right (32 ^ length cs) (omega arith) in
-    let pow : 32 ^ length (c ∷ cs) ≡ 32 * 32 ^ length cs = pow-succ' 32 (length cs) in
-    rw pow (omega (arith, more, step))
+-- the packed number of letters, the last one first
+abbrev packed_back : List ℕ → ℕ
+packed_back [] = 0
+packed_back (c ∷ cs) = packed_back cs * 32 + c % 32
 
-below : (n : ℕ) (cs : List ℕ) → packed_number_after n cs < (n + 1) * 32 ^ length cs
-below n [] = omega arith
-below n (c ∷ cs) =
-    let less = below (n * 32 + c % 32) cs in
-    let small : c % 32 < 32 = mod-lt c (lit< tt) in
-    let step : (n * 32 + c % 32 + 1) * 32 ^ length cs ≤ (n * 32 + 32) * 32 ^ length cs =
-    mul-le-mul_right (32 ^ length cs) (omega (arith, small)) in
-    let pow : 32 ^ length (c ∷ cs) ≡ 32 * 32 ^ length cs = pow-succ' 32 (length cs) in
-    rw pow (omega (arith, less, step))
+packed_turned : (cs done : List ℕ) → packed_number_after (packed_back done) cs ≡ packed_back (reverse_aux cs done)
+packed_turned [] done = refl
+packed_turned (c ∷ cs) done = packed_turned cs (c ∷ done)
+
+small_turned : (cs done : List ℕ) → are_small cs ≡ true → are_small done ≡ true → are_small (reverse_aux cs done) ≡ true
+small_turned [] done h k = k
+small_turned (c ∷ cs) done h k = let b = and_parts _ _ h in small_turned cs (c ∷ done) b.1 (and_from _ _ b.0 k)
+
+below : (cs : List ℕ) → packed_back cs < 32 ^ length cs
+below [] = omega arith
+below (c ∷ cs) = rw (pow-succ' 32 (length cs)) (omega (arith, below cs))
 
 -- the packed number of a word of at most 12 letters is exact
 pub exact : (w : List ℕ) (n : ℕ) → length w ≤ 12 → n ≡ packed_number w % 2 ^ 64 → n ≡ packed_number w
 exact w n h e =
-    let up = below 0 w in let pow : 32 ^ length w ≤ 32 ^ 12 = pow-le-pow_right (lit< tt) h in omega (arith, up, pow, e)
-
--- ---- different words of small letters have different packed numbers
+    let pow : 32 ^ length w ≤ 32 ^ 12 = pow-le-pow_right (lit< tt) h in
+    omega (arith, rw (length-reverse w) at (below (reverse w)), packed_turned w [], pow, e)
 
 small_letter : (c : ℕ) → is_small_letter c ≡ true → (97 ≤ c) × (c ≤ 122)
 small_letter c e = grind (arith, nat_tests)
 
-shorter : (xs ys : List ℕ) → are_small ys ≡ true → length xs < length ys → packed_number xs < packed_number ys
-shorter xs [] e h = absurd (omega (arith, h))
-shorter xs (c ∷ cs) e h =
-    let r = small_letter c (and_parts (is_small_letter c) (are_small cs) e).0 in
-    let lo : 1 ≤ 0 * 32 + c % 32 = omega (arith, r) in
-    let up = below 0 xs in
-    let down = at_least (0 * 32 + c % 32) cs in
-    let pow : 32 ^ length xs ≤ 32 ^ length cs = pow-le-pow_right (lit< tt) (omega (arith, h)) in
-    let one : 1 * 32 ^ length cs ≤ (0 * 32 + c % 32) * 32 ^ length cs = mul-le-mul_right (32 ^ length cs) lo in
-    omega (arith, up, down, pow, one)
+same_back : (xs ys : List ℕ) → are_small xs ≡ true → are_small ys ≡ true → packed_back xs ≡ packed_back ys → xs ≡ ys
+same_back [] [] h k e = refl
+same_back [] (y ∷ ys) h k e = absurd (omega (arith, small_letter y (and_parts _ _ k).0, e))
+same_back (x ∷ xs) [] h k e = absurd (omega (arith, small_letter x (and_parts _ _ h).0, e))
+same_back (x ∷ xs) (y ∷ ys) h k e =
+    let bx = and_parts (is_small_letter x) (are_small xs) h in
+    let by = and_parts (is_small_letter y) (are_small ys) k in
+    let first : x ≡ y = omega (arith, small_letter x bx.0, small_letter y by.0, e) in
+    cc (first, same_back xs ys bx.1 by.1 (omega (arith, first, e)))
 
-same_letters : (m n : ℕ) (xs ys : List ℕ) → are_small xs ≡ true → are_small ys ≡ true → length xs ≡ length ys
-    → packed_number_after m xs ≡ packed_number_after n ys → (m ≡ n) × (xs ≡ ys)
-same_letters m n [] [] ex ey len e = (e, refl)
-same_letters m n [] (y ∷ ys) ex ey len e = absurd (omega (arith, len))
-same_letters m n (x ∷ xs) [] ex ey len e = absurd (omega (arith, len))
-same_letters m n (x ∷ xs) (y ∷ ys) ex ey len e =
-    let bx = and_parts (is_small_letter x) (are_small xs) ex in
-    let by = and_parts (is_small_letter y) (are_small ys) ey in
-    let rest = same_letters (m * 32 + x % 32) (n * 32 + y % 32) xs ys bx.1 by.1 (omega (arith, len)) e in
-    let rx = small_letter x bx.0 in
-    let ry = small_letter y by.0 in
-    let first : x ≡ y = omega (arith, rest.0, rx, ry) in
-    (omega (arith, rest.0, first), (λ i. first i ∷ rest.1 i))
-
+-- Different words of small letters have different packed numbers.
 packed_same : (xs ys : List ℕ) → are_small xs ≡ true → are_small ys ≡ true → packed_number xs ≡ packed_number ys
     → xs ≡ ys
-packed_same xs ys ex ey e = elim (cases_lt (length xs) (length ys)) [
-  | inl lt ↦ absurd (omega (arith, shorter xs ys ey lt, e))
-  | inr ge ↦ elim (cases_lt (length ys) (length xs)) [
-    | inl lt ↦ absurd (omega (arith, shorter ys xs ex lt, e))
-    | inr le ↦ (same_letters 0 0 xs ys ex ey (omega arith) e).1
-  ]
-]
+packed_same xs ys h k e =
+    let turned : reverse xs ≡ reverse ys = same_back (reverse xs) (reverse ys) (small_turned xs [] h refl)
+    (small_turned ys [] k refl) (sym (packed_turned xs []) ∙ e ∙ packed_turned ys []) in
+    cc (turned, reverse-reverse xs, reverse-reverse ys)
 
 -- ---- a word in small letters
 
@@ -85,31 +64,23 @@ lower_letter : (c : ℕ) → is_ascii_alphabetic c ≡ true
     → (is_small_letter (to_ascii_lowercase c) ≡ true) × (to_ascii_lowercase c % 32 ≡ c % 32)
 lower_letter c e = (grind (arith, nat_tests), grind (arith, nat_tests))
 
-lower_small : (w : List ℕ) → list_all is_ascii_alphabetic w ≡ true → are_small (map to_ascii_lowercase w) ≡ true
-lower_small [] e = refl
-lower_small (c ∷ cs) e =
+lower_word : (w : List ℕ) → list_all is_ascii_alphabetic w ≡ true → (are_small (map to_ascii_lowercase w) ≡ true)
+    × ((n : ℕ) → packed_number_after n (map to_ascii_lowercase w) ≡ packed_number_after n w)
+lower_word [] e = (refl, λ n. refl)
+lower_word (c ∷ cs) e =
     let b = and_parts (is_ascii_alphabetic c) (list_all is_ascii_alphabetic cs) e in
-    and_from _ _ (lower_letter c b.0).0 (lower_small cs b.1)
-
-lower_packed : (n : ℕ) (w : List ℕ) → list_all is_ascii_alphabetic w ≡ true
-    → packed_number_after n (map to_ascii_lowercase w) ≡ packed_number_after n w
-lower_packed n [] e = refl
-lower_packed n (c ∷ cs) e =
-    let b = and_parts (is_ascii_alphabetic c) (list_all is_ascii_alphabetic cs) e in
-    rw (lower_packed (n * 32 + to_ascii_lowercase c % 32) cs b.1, (lower_letter c b.0).1)
+    let (small, packed) = lower_letter c b.0 in
+    let (rest, more) = lower_word cs b.1 in
+    (and_from _ _ small rest, λ n. rw (more (n * 32 + to_ascii_lowercase c % 32), packed))
 
 -- ---- a word of small letters is a name if their packed numbers are equal
 
 name_test : (v name : List ℕ) → are_small v ≡ true → bytes_eq v name ≡ packs_to (packed_number v) name
-name_test v name small = elim (cases_Bool (bytes_eq v name)) [
-  | inl same ↦
-      let e = (bytes_eq-Decides v name).0 same in
-      rw (same, ← e, small, eq-eqb (packed_number v) (packed_number v) refl)
-  | inr differs ↦ rw differs (sym (false_from_ne_true (packs_to (packed_number v) name) (λ both.
-      let b = and_parts (are_small name) (eqb (packed_number name) (packed_number v)) both in
-      let e = packed_same v name small b.0 (sym (eqb-true (packed_number name) (packed_number v) b.1)) in
-      cc ((bytes_eq-Decides v name).1 e))))
-]
+name_test v name small =
+    let found = λ (both : packs_to (packed_number v) name ≡ true).
+    let b = and_parts (are_small name) (eqb (packed_number name) (packed_number v)) both in
+    packed_same v name small b.0 (sym (eqb-true _ _ b.1)) in
+    sym (same_from_decides _ _ (found, λ e. rw (← e, small) (eq-eqb _ _ refl)) (bytes_eq-Decides v name))
 
 names_test : (v : List ℕ) (names : List (List ℕ)) → are_small v ≡ true
     → list_any (bytes_eq v) names ≡ list_any (packs_to (packed_number v)) names
@@ -119,9 +90,6 @@ names_test v (name ∷ names) small = rw (name_test v name small, names_test v n
 -- no Chinese name is all small letters
 no_chinese : (n : ℕ) (u : TimeUnit) → list_any (packs_to n) (row_of u).chinese ≡ false
 no_chinese n = each_unit (λ u. list_any (packs_to n) (row_of u).chinese ≡ false) assumption
-
-ascii_alone : (a cn ch : Bool) → ch ≡ false → (a || (cn && ch)) ≡ a
-ascii_alone a cn ch e = grind arith
 
 -- only capitals are changed
 small_same : (c : ℕ) → is_ascii_uppercase c ≡ false → to_ascii_lowercase c ≡ c
@@ -140,11 +108,9 @@ form_lower o w e = elim (cases_Bool o.lowercase) [ inl on ↦ rw (on, no_capital
 named_by_number : (o : Options) (w : List ℕ) (u : TimeUnit) → (o.lowercase && list_any is_ascii_uppercase w) ≡ false
     → list_all is_ascii_alphabetic w ≡ true → is_named o w u ≡ list_any (packs_to (packed_number w)) (row_of u).names
 named_by_number o w u folded letters =
-    let v = map to_ascii_lowercase w in
-    let small = lower_small w letters in
-    let named = names_test v (row_of u).names small in
-    rw (form_lower o w folded, named, names_test v (row_of u).chinese small, lower_packed 0 w letters)
-    (ascii_alone _ o.cn_unit _ (no_chinese (packed_number w) u))
+    let (small, packed) = lower_word w letters in
+    rw (form_lower o w folded, names_test _ (row_of u).names small, names_test _ (row_of u).chinese small, packed 0)
+    (rw (no_chinese (packed_number w) u, and-false o.cn_unit) (or-false _))
 
 -- the unit that a word of ASCII letters names, without capitals under `lowercase`
 pub unit_by_number : (o : Options) (w : List ℕ) → (o.lowercase && list_any is_ascii_uppercase w) ≡ false
@@ -162,25 +128,21 @@ abbrev pub found_from : ℕ → List (ℕ × TimeUnit) → List (Option TimeUnit
 found_from i [] = []
 found_from i (e ∷ es) = (if eqb (slot e.0) i then unit_of_packed e.0 else Some e.1) ∷ found_from (i + 1) es
 
-found_at : (es : List (ℕ × TimeUnit)) (i j : ℕ) (d : ℕ × TimeUnit) → j < length es
-    → get_or (found_from i es) j None
-    ≡ (if eqb (slot (get_or es j d).0) (i + j) then unit_of_packed (get_or es j d).0 else Some (get_or es j d).1)
-found_at [] i j d lt = absurd (omega (arith, lt))
-found_at (e ∷ es) i zero d lt = rw add-zero
-found_at (e ∷ es) i (suc j) d lt =
-    let next : i + suc j ≡ i + 1 + j = omega arith in
-    rw next (found_at es (i + 1) j d (omega (arith, lt)))
+slot_found_from : (es : List (ℕ × TimeUnit)) (i j : ℕ) (d : ℕ × TimeUnit) → j < length es
+    → found_from i es ≡ map (λ e. Some e.1) es → slot (get_or es j d).0 ≡ i + j
+    → Some (get_or es j d).1 ≡ unit_of_packed (get_or es j d).0
+slot_found_from [] i j d lt right own = absurd (omega (arith, lt))
+slot_found_from (e ∷ es) i zero d lt right own =
+    let here = rw (eq-eqb (slot e.0) i (rw add-zero at own)) at right in cc here
+slot_found_from (e ∷ es) i (suc j) d lt right own =
+    slot_found_from es (i + 1) j d (omega (arith, lt)) (cc right) (omega (arith, own))
 
 -- if the number in the slot is the one searched for, its unit is found
 pub slot_found : (table : List (ℕ × TimeUnit)) (d : ℕ × TimeUnit) (n : ℕ) → length table ≡ 64
     → found_from 0 table ≡ map (λ e. Some e.1) table → n < 2 ^ 64 → (get_or table (slot n) d).0 ≡ n
     → Some (get_or table (slot n) d).1 ≡ unit_of_packed n
 slot_found table d n len right small key =
-    let within : slot n < length table = omega (arith, len) in
-    let at = found_at table 0 (slot n) d within in
-    let says = get_or-map (λ (e : ℕ × TimeUnit). Some e.1) table (slot n) d None within in
-    let stands : eqb (slot n) (0 + slot n) ≡ true = eq-eqb _ _ (omega arith) in
-    sym says ∙ rw (right, key, stands) at at
+    rw key at (slot_found_from table 0 (slot n) d (omega (arith, len)) right (rw key (omega arith)))
 
 -- whether a name, if it is all small letters, is in its slot
 abbrev pub is_kept : List (ℕ × TimeUnit) → (ℕ × TimeUnit) → List ℕ → Bool
@@ -190,32 +152,29 @@ is_kept table d name =
 abbrev pub are_kept : List (ℕ × TimeUnit) → (ℕ × TimeUnit) → List TimeUnit → Bool
 are_kept table d us = list_all (λ u. list_all (is_kept table d) (row_of u).names) us
 
-module _ (table : List (ℕ × TimeUnit)) (d : ℕ × TimeUnit) where
-  not_it : (name : List ℕ) (n : ℕ) → is_kept table d name ≡ true
-      → ((get_or table (slot n) d).0 ≡ n → ⊥) → packs_to n name ≡ false
-  not_it name n kept differs = elim (cases_Bool (are_small name)) [
+module _ (table : List (ℕ × TimeUnit)) (d : ℕ × TimeUnit) (n : ℕ) (differs : (get_or table (slot n) d).0 ≡ n → ⊥) where
+  not_it : (name : List ℕ) → is_kept table d name ≡ true → packs_to n name ≡ false
+  not_it name kept = elim (cases_Bool (are_small name)) [
     | inl small ↦ rw small (false_from_ne_true (eqb (packed_number name) n) (λ e.
         let is = eqb-true (packed_number name) n e in
         differs (rw is at (eqb-true _ _ (rw small at kept)))))
     | inr other ↦ rw other
   ]
 
-  none_of_names : (names : List (List ℕ)) (n : ℕ) → list_all (is_kept table d) names ≡ true
-      → ((get_or table (slot n) d).0 ≡ n → ⊥) → list_any (packs_to n) names ≡ false
-  none_of_names [] n kept differs = refl
-  none_of_names (name ∷ names) n kept differs =
+  none_of_names : (ns : List (List ℕ)) → list_all (is_kept table d) ns ≡ true → list_any (packs_to n) ns ≡ false
+  none_of_names [] kept = refl
+  none_of_names (name ∷ names) kept =
       let b = and_parts (is_kept table d name) (list_all (is_kept table d) names) kept in
-      rw (not_it name n b.0 differs) (none_of_names names n b.1 differs)
+      rw (not_it name b.0) (none_of_names names b.1)
 
-  none_of_units : (us : List TimeUnit) (n : ℕ) → are_kept table d us ≡ true → ((get_or table (slot n) d).0 ≡ n → ⊥)
+  none_of_units : (us : List TimeUnit) → are_kept table d us ≡ true
       → None ≡ find (λ u. list_any (packs_to n) (row_of u).names) us
-  none_of_units [] n kept differs = refl
-  none_of_units (u ∷ us) n kept differs =
+  none_of_units [] kept = refl
+  none_of_units (u ∷ us) kept =
       let b = and_parts (list_all (is_kept table d) (row_of u).names) (are_kept table d us) kept in
-      rw (none_of_names (row_of u).names n b.0 differs) (none_of_units us n b.1 differs)
+      rw (none_of_names (row_of u).names b.0) (none_of_units us b.1)
 
   -- if the number in the slot is another one, no name has the number searched for
-  pub slot_empty : (n : ℕ) → are_kept table d units ≡ true
-      → ((get_or table (slot n) d).0 ≡ n → ⊥) → None ≡ unit_of_packed n
+  pub slot_empty : are_kept table d units ≡ true → None ≡ unit_of_packed n
   unfolding unit_of_packed
-  slot_empty n kept differs = none_of_units units n kept differs
+  slot_empty kept = none_of_units units kept

@@ -1,10 +1,6 @@
 -- Characters and bytes: widths, and the character at a place.
 use Rattle.std.proofs.Common.{◌≡◌, ℕ, ◌+◌, ◌<◌, ◌≤◌, true, false, Option, None, Some, ◌&&◌, ◌⊎◌, inl, inr, List, [], ◌∷◌, ◌++◌, length, drop, get_or, IsUtf8, subst, arith, leb, encode_utf8, MatchOption, option_to_list, IsCharBoundary, chars}
-use Rattle.duration_str.proofs.Common.{cases_Bool, and_parts, nat_tests, chars-nil, encode_ascii, scalars-chars, IsUtf8-drop, scalar, scalars, width, byte_len, ahead, StandsAt}
-use Rattle.std.proofs.lemmas.List.{drop_more, drop_all, nil_from_length}
-use Rattle.std.proofs.lemmas.Str.{len_utf8_ascii, len_utf8_bounds, IsUtf8-past_char, IsCharBoundary-past_char, chars_past_char, drop_past_char}
-use Rattle.std.specs.Char.{len_utf8}
-use lib.Utf8.{scalar_cases}
+use Rattle.duration_str.proofs.Common.{cases_Bool, and_parts, nat_tests, chars-nil, encode_ascii, scalars-chars, IsUtf8-drop, scalar, scalars, width, byte_len, ahead, StandsAt, drop_more, drop_all, nil_from_length, len_utf8_ascii, len_utf8_bounds, IsUtf8-past_char, IsCharBoundary-past_char, chars_past_char, drop_past_char, len_utf8, scalar_cases}
 
 not_surrogate : (c : ℕ) → (c < 55296) ⊎ ((57344 ≤ c) × (c < 1114112)) → (leb 55296 c && leb c 57343) ≡ false
 not_surrogate c (inl h) = grind (arith, nat_tests)
@@ -23,11 +19,6 @@ stands_char text rest place c utf8 begins =
     let is_char = (and_parts (scalar c) (scalars (chars rest)) are_chars).0 in
     record { head = rw (all, drop_past_char text rest place c begins); bytes = rw (width-scalar c is_char) }
 
--- an ASCII byte at a place is the UTF-8 of its character
-ascii_begins : (text : List ℕ) (place b : ℕ) → place < length text → b ≡ get_or text place 0 → b < 128
-    → drop place text ≡ encode_utf8 b ++ drop (place + 1) text
-ascii_begins text place b inside is small = rw (drop_more text place 0 inside, ← is, encode_ascii b small)
-
 -- nothing is ahead of the end
 pub end_ahead : (text : List ℕ) (place : ℕ) → length text ≤ place → ahead text place ≡ []
 end_ahead text place end = rw (drop_all place text end) chars-nil
@@ -37,7 +28,8 @@ pub ascii_stands : (text : List ℕ) (place b : ℕ) → IsUtf8 text → IsCharB
     → b ≡ get_or text place 0 → b < 128 → StandsAt text place (place + 1) b × IsCharBoundary text (place + 1)
 ascii_stands text place b utf8 boundary inside is small =
     let ahead_utf8 = IsUtf8-drop text place utf8 boundary in
-    let begins = ascii_begins text place b inside is small in
+    let begins : drop place text ≡ encode_utf8 b ++ drop (place + 1) text =
+    rw (drop_more text place 0 inside, ← is, encode_ascii b small) in
     subst (λ w. StandsAt text place (place + w) b × IsCharBoundary text (place + w)) (len_utf8_ascii b small) (
       stands_char text (drop (place + 1) text) place b ahead_utf8 begins,
       IsCharBoundary-past_char text (drop (place + 1) text) place b boundary.0 ahead_utf8 begins,
@@ -66,4 +58,4 @@ width_some c =
 
 pub byte_len-append : (xs ys : List ℕ) → byte_len (xs ++ ys) ≡ byte_len xs + byte_len ys
 byte_len-append [] ys = omega arith
-byte_len-append (x ∷ xs) ys = let rest = byte_len-append xs ys in omega (arith, rest)
+byte_len-append (x ∷ xs) ys = omega (arith, byte_len-append xs ys)

@@ -1,8 +1,8 @@
 -- Words and names, as bytes and as characters, and their ASCII capitals.
-use Rattle.std.proofs.Common.{◌≡◌, Option, ℕ, ◌<◌, ◌≤◌, Bool, true, ltb, eqb, not, ◌||◌, ◌&&◌, Some, List, [], ◌∷◌, ◌++◌, map, IsUtf8, refl, ap, ◌∙◌, arith, inl, inr, find, bytes_eq, chars, le-ltb, eqb-true, Bor}
-use Rattle.duration_str.proofs.Common.{ForSome, list_any, list_all, to_ascii_lowercase, bytes_eq-Decides, encodes-chars, encode_ascii, cases_Bool, cases_lt, and_parts, or_cases, nat_tests, same_from_decides, map-append, list_any-append, encodes, Options, TimeUnit, units, row_of, nanos_of, comparison_form, is_named, unit_of_word, AreEncoded}
-use Rattle.std.proofs.lemmas.Str.{encodes_same}
-use lib.Utf8.{encode}
+use Rattle.std.proofs.Common.{◌≡◌, ◌+◌, ◌/◌, ◌%◌, Option, ℕ, ◌≤◌, Bool, true, ltb, eqb, not, ◌||◌, Some, List, [], ◌∷◌, ◌++◌, map, IsUtf8, refl, ap, ◌∙◌, arith, inl, inr, find, bytes_eq, chars, le-ltb, eqb-true, Bor}
+use Rattle.duration_str.proofs.Common.{ForSome, list_any, list_all, to_ascii_lowercase, bytes_eq-Decides, encodes-chars, encode_ascii, cases_Bool, cases_lt, and_parts, or_cases, nat_tests, same_from_decides, map-append, list_any-append, encodes, Options, TimeUnit, units, row_of, nanos_of, comparison_form, is_named, unit_of_word, AreEncoded, encodes_same}
+use Rattle.std.proofs.lemmas.Str.Ascii.{lowercase_ascii}
+use lib.Utf8.{encode, next}
 use Rattle.duration_str.proofs.Characters.EachUnit.{each_unit, all_units}
 
 -- ---- ASCII capitals in UTF-8
@@ -10,33 +10,24 @@ use Rattle.duration_str.proofs.Characters.EachUnit.{each_unit, all_units}
 lower_big : (b : ℕ) → 128 ≤ b → to_ascii_lowercase b ≡ b
 lower_big b h = grind (arith, nat_tests)
 
-lower_small : (c : ℕ) → c < 128 → to_ascii_lowercase c < 128
-lower_small c h = grind (arith, nat_tests)
+lower_next : (c : ℕ) → to_ascii_lowercase (next c) ≡ next c
+lower_next c = lower_big (128 + c % 64) (omega arith)
 
--- no byte is ASCII
-AllBig : List ℕ → Type 0
-AllBig [] = Unit {0}
-AllBig (b ∷ bs) = (128 ≤ b) × AllBig bs
-
-lower_all_big : (bs : List ℕ) → AllBig bs → map to_ascii_lowercase bs ≡ bs
-unfolding AllBig
-lower_all_big [] h = refl
-lower_all_big (b ∷ bs) h = rw (lower_big b h.0, lower_all_big bs h.1)
-
-encode_big : (c : ℕ) → 128 ≤ c → AllBig (encode c)
-unfolding AllBig encode
-encode_big c h = rw (le-ltb c 128 h) (elim (cases_Bool (ltb c 2048)) [
-  | inl two ↦ rw two (omega arith, (omega arith, tt))
+lower_encode_big : (c : ℕ) → 128 ≤ c → map to_ascii_lowercase (encode c) ≡ encode c
+unfolding encode
+lower_encode_big c h = rw (le-ltb c 128 h) (elim (cases_Bool (ltb c 2048)) [
+  | inl two ↦ rw (two, lower_next c, lower_big (192 + c / 64) (omega arith))
   | inr more ↦ rw more (elim (cases_Bool (ltb c 65536)) [
-    | inl three ↦ rw three (omega arith, (omega arith, (omega arith, tt)))
-    | inr four ↦ rw four (omega arith, (omega arith, (omega arith, (omega arith, tt))))
+    | inl three ↦ rw (three, lower_next c, lower_next (c / 64), lower_big (224 + c / 4096) (omega arith))
+    | inr four ↦
+        rw (four, lower_next c, lower_next (c / 64), lower_next (c / 4096), lower_big (240 + c / 262144) (omega arith))
   ])
 ])
 
 lower-encode : (c : ℕ) → map to_ascii_lowercase (encode c) ≡ encode (to_ascii_lowercase c)
 lower-encode c = elim (cases_lt c 128) [
-  | inl small ↦ rw (encode_ascii c small, encode_ascii (to_ascii_lowercase c) (lower_small c small))
-  | inr big ↦ rw (lower_big c big, lower_all_big (encode c) (encode_big c big))
+  | inl small ↦ rw (encode_ascii c small, encode_ascii (to_ascii_lowercase c) (lowercase_ascii c small))
+  | inr big ↦ rw (lower_big c big, lower_encode_big c big)
 ]
 
 lower-encodes : (cs : List ℕ) → map to_ascii_lowercase (encodes cs) ≡ encodes (map to_ascii_lowercase cs)
@@ -86,14 +77,17 @@ any_now : (test : List ℕ → Bool) (texts : List (Bor (List ℕ)))
 any_now test [] = refl
 any_now test (text ∷ texts) = rw (any_now test texts)
 
--- A word is among the texts of these names exactly if its characters are one of the names.
-any_name : (o : Options) (word : List ℕ) (texts : List (Bor (List ℕ))) (names : List (List ℕ)) (r : Bool) → IsUtf8 word
-    → AreEncoded texts names → list_all is_small names ≡ true
+-- The answer whether a word is among the texts of these names is whether its characters are one of the names.
+abbrev FindsName : Options → List ℕ → List (List ℕ) → List (Bor (List ℕ)) → Bool → Type 0
+FindsName o word names texts r = IsUtf8 word → AreEncoded texts names
     → r ≡ list_any (λ text. bytes_eq (comparison_form o word) (comparison_form o text.now)) texts
     → r ≡ list_any (bytes_eq (comparison_form o (chars word))) names
-any_name o word texts names r utf8 encoded small is =
-    let test = λ (bytes : List ℕ). bytes_eq (comparison_form o word) (comparison_form o bytes) in
-    is ∙ rw (any_now test texts, encoded) (names_test o word names utf8 small)
+
+any_name : (o : Options) (word : List ℕ) (texts : List (Bor (List ℕ))) (names : List (List ℕ)) (r : Bool)
+    → list_all is_small names ≡ true → FindsName o word names texts r
+any_name o word texts names r small utf8 encoded is =
+    is ∙ rw (any_now (λ bytes. bytes_eq (comparison_form o word) (comparison_form o bytes)) texts, encoded)
+    (names_test o word names utf8 small)
 
 -- the names in the table have no ASCII capitals
 names_small : (u : TimeUnit)
@@ -103,19 +97,14 @@ names_small =
     assumption
 
 -- the word is among the unit's names
-pub by_name : (o : Options) (word : List ℕ) (u : TimeUnit) (texts : List (Bor (List ℕ))) (r : Bool) → IsUtf8 word
-    → AreEncoded texts (row_of u).names
-    → r ≡ list_any (λ text. bytes_eq (comparison_form o word) (comparison_form o text.now)) texts
-    → r ≡ list_any (bytes_eq (comparison_form o (chars word))) (row_of u).names
-by_name o word u texts r utf8 encoded is = any_name o word texts (row_of u).names r utf8 encoded (names_small u).0 is
+pub by_name : (o : Options) (word : List ℕ) (u : TimeUnit) (texts : List (Bor (List ℕ))) (r : Bool)
+    → FindsName o word (row_of u).names texts r
+by_name o word u texts r = any_name o word texts (row_of u).names r (names_small u).0
 
 -- the word is among the names that `cn_unit` adds
-pub by_chinese : (o : Options) (word : List ℕ) (u : TimeUnit) (texts : List (Bor (List ℕ))) (r : Bool) → IsUtf8 word
-    → AreEncoded texts (row_of u).chinese
-    → r ≡ list_any (λ text. bytes_eq (comparison_form o word) (comparison_form o text.now)) texts
-    → r ≡ list_any (bytes_eq (comparison_form o (chars word))) (row_of u).chinese
-by_chinese o word u texts r utf8 encoded is =
-    any_name o word texts (row_of u).chinese r utf8 encoded (names_small u).1 is
+pub by_chinese : (o : Options) (word : List ℕ) (u : TimeUnit) (texts : List (Bor (List ℕ))) (r : Bool)
+    → FindsName o word (row_of u).chinese texts r
+by_chinese o word u texts r = any_name o word texts (row_of u).chinese r (names_small u).1
 
 -- ---- a name belongs to one unit
 
@@ -149,17 +138,9 @@ named_passes test w (name ∷ names) all h =
       | inr later ↦ named_passes test w names parts.1 later
     ]
 
-named_among_all : (a cn ch : Bool) → (a || (cn && ch)) ≡ true → (a || ch) ≡ true
-named_among_all a cn ch h = grind arith
-
 among_all : (o : Options) (w : List ℕ) (u : TimeUnit) → is_named o w u ≡ true
     → list_any (bytes_eq (comparison_form o w)) (all_names u) ≡ true
-among_all o w u h =
-    list_any-append (bytes_eq (comparison_form o w)) (row_of u).names (row_of u).chinese
-    ∙ named_among_all _ o.cn_unit _ h
-
-all_names_small : (u : TimeUnit) → list_all is_small (all_names u) ≡ true
-all_names_small = each_unit (λ u. list_all is_small (all_names u) ≡ true) assumption
+among_all o w u h = rw (list_any-append (bytes_eq (comparison_form o w)) (row_of u).names) (grind arith)
 
 module _ (o : Options) where
   -- A word that names a unit under `lowercase` names it without, too.
@@ -167,7 +148,8 @@ module _ (o : Options) where
       → is_named o w u ≡ true
   named_in_any_case w u h =
       let named = among_all (record o { lowercase = true }) w u h in
-      rw (small_form o w (named_passes is_small w (all_names u) (all_names_small u) named)) h
+      let small = all_units (λ u. list_all is_small (all_names u)) refl u in
+      rw (small_form o w (named_passes is_small w (all_names u) small named)) h
 
   one_unit : (w : List ℕ) (u v : TimeUnit) → is_named o w u ≡ true → is_named o w v ≡ true → u ≡ v
   one_unit w u v h k = elim (or_cases (eqb (nanos_of u) (nanos_of v)) (are_apart u v) (all_apart u v)) [

@@ -1,7 +1,6 @@
 -- A token is found by cutting from a character before it.
-use Rattle.std.proofs.Common.{◌≡◌, ℕ, ◌+◌, ◌-◌, ◌<◌, ◌≤◌, ◌==◌, inl, inr, true, false, List, [], ◌∷◌, ◌++◌, map, length, drop, take, Option, Some, None, IsUtf8, slice_range, arith, refl, sym, ap, ◌∙◌, take-append-drop, length-take-le, drop-drop, Bor, option_map, chars, IsCharBoundary}
-use Rattle.duration_str.proofs.Common.{cases_Bool, nat_tests, chars-append, IsUtf8-take, Options, width, is_blank, byte_len, goes_on, tokens_from, tokens_of, token_at, IsSliceOf}
-use Rattle.duration_str.specs.Tokens.{Token, join}
+use Rattle.std.proofs.Common.{◌≡◌, ℕ, ◌+◌, ◌-◌, ◌<◌, ◌≤◌, ◌==◌, inl, inr, true, false, List, [], ◌∷◌, ◌++◌, map, drop, take, Option, Some, None, IsUtf8, arith, refl, sym, ap, ◌∙◌, take-append-drop, length-take-le, drop-drop, add-zero, add_assoc, Bor, option_map, chars, IsCharBoundary}
+use Rattle.duration_str.proofs.Common.{cases_Bool, nat_tests, chars-append, IsUtf8-take, Options, width, is_blank, byte_len, goes_on, tokens_from, tokens_of, token_at, IsSliceOf, Token, join}
 use Rattle.duration_str.proofs.Characters.CharacterLemmas.{run-not_blank}
 use Rattle.duration_str.proofs.Characters.TextLemmas.{width_some}
 use Rattle.duration_str.proofs.OnePass.PlaceLemmas.{byte_count}
@@ -21,7 +20,7 @@ module _ (o : Options) where
   without_joined at place c [] before e = cc e
   without_joined at place c (d ∷ more) before e =
       let (cs, rest, is, _) = first_token o (at + width c) d more (run-not_blank o c d e) in
-      rw is (elsewhere place at (c ∷ cs) rest (omega (arith, before)) ∙ sym (elsewhere place (at + width c) cs rest before))
+      rw is (elsewhere place at _ rest (omega (arith, before)) ∙ sym (elsewhere place (at + width c) cs rest before))
 
   -- The token at the place is found without a character that ends before it.
   without_first : (at place c : ℕ) (text : List ℕ) → at + width c < place
@@ -38,12 +37,11 @@ module _ (o : Options) where
   -- The same for some first characters.
   without_front : (at place : ℕ) (front text : List ℕ) → (0 < byte_len front → at + byte_len front < place)
       → token_at place (tokens_from o at (front ++ text)) ≡ token_at place (tokens_from o (at + byte_len front) text)
-  without_front at place [] text before = ap (λ (n : ℕ). token_at place (tokens_from o n text)) (omega arith)
+  without_front at place [] text before = rw add-zero
   without_front at place (c ∷ front) text before =
       let some : 0 < width c + byte_len front = omega (arith, width_some c) in
       without_first at place c (front ++ text) (omega (arith, before some))
-      ∙ without_front (at + width c) place front text (λ _. omega (arith, before some))
-      ∙ ap (λ (n : ℕ). token_at place (tokens_from o n text)) (omega arith)
+      ∙ rw add_assoc at (without_front (at + width c) place front text (λ _. omega (arith, before some)))
 
 -- ---- Tokens so many bytes later
 
@@ -93,22 +91,13 @@ found_after o bs from place utf8 boundary within before =
     let text = chars (drop from bs) in
     let front_utf8 = IsUtf8-take bs from utf8 boundary in
     let parts = rw take-append-drop at (chars-append (take from bs) (drop from bs) front_utf8) in
-    let bytes : byte_len front ≡ from =
-    rw (byte_count (take from bs) (IsUtf8-take bs from utf8 boundary)) (length-take-le from bs boundary.0) in
+    let bytes : byte_len front ≡ from = rw (byte_count (take from bs) front_utf8) (length-take-le from bs boundary.0) in
     let there : place ≡ from + (place - from) = omega (arith, within) in
     let start : 0 + byte_len front ≡ from + 0 = omega (arith, bytes) in
     let later : 0 < byte_len front → 0 + byte_len front < place =
     λ some. omega (arith, bytes, before (omega (arith, bytes, some))) in
-    let found = rw (← there) at (found_later from (place - from) (tokens_of o text)) in
     rw (parts, without_front o 0 place front text later, start, tokens_later o from 0 text)
-    found
-
--- The slice of a text from a boundary on is one of the text.
-slice_after : (bs : List ℕ) (from start n : ℕ)
-    → slice_range (drop from bs) start (start + n) ≡ slice_range bs (from + start) (from + start + n)
-slice_after bs from start n =
-    let same : start + n - start ≡ from + start + n - (from + start) = omega arith in
-    rw (same, drop-drop start from bs)
+    (rw (← there) at (found_later from (place - from) (tokens_of o text)))
 
 pub slice_found : (o : Options) (bs : List ℕ) (from place : ℕ) (slice : Option (Bor (List ℕ))) → IsUtf8 bs
     → IsCharBoundary bs from → from ≤ place → (0 < from → from < place)
@@ -120,5 +109,5 @@ slice_found o bs from place (Some slice) utf8 boundary within before (token, is,
   later_token from token,
   rw (found_after o bs from place utf8 boundary within before, is),
   characters,
-  at ∙ slice_after bs from token.start (length slice.now),
+  rw (drop-drop token.start from bs) at at ∙ ap (λ (n : ℕ). take n (drop (from + token.start) bs)) (omega arith),
 )

@@ -1,7 +1,6 @@
 -- Tokens by their first character.
-use Rattle.std.proofs.Common.{◌≡◌, ℕ, ◌+◌, Bool, true, false, List, [], ◌∷◌, ◌++◌, length, ◌<◌, Option, Some, None, refl, sym, ap, ◌∙◌, add-zero, arith, IsTrue, if◌then◌else◌}
-use Rattle.duration_str.proofs.Common.{and_parts, list_all, Options, TimeUnit, CondUnit, Sort, Number, Word, byte_len, is_blank, is_digit, is_unit_letter, operator_of, number_of, IsBlank, IsNumber, unit_of_word, Terminal, number, word, operator_or_other, terminal_of, EndsRun, are_of_one_run, goes_on, IsLexeme, AreTokens, tokens_from, ahead, StandsAt, Between, Passes, Stops, sign_sort, sort_at, sort_of, is_number, IsSign}
-use Rattle.duration_str.specs.Tokens.{Token}
+use Rattle.std.proofs.Common.{◌≡◌, ℕ, Bool, true, false, inl, inr, List, [], ◌∷◌, length, ◌<◌, Option, Some, None, refl, sym, ◌∙◌, add-zero, arith, IsTrue, if◌then◌else◌}
+use Rattle.duration_str.proofs.Common.{cases_Bool, and_parts, list_all, Options, TimeUnit, CondUnit, Sort, Number, Word, is_blank, is_digit, is_unit_letter, operator_of, number_of, IsNumber, unit_of_word, Terminal, number, word, operator_or_other, terminal_of, EndsRun, are_of_one_run, goes_on, IsLexeme, AreTokens, tokens_from, ahead, StandsAt, Between, Passes, Stops, sign_sort, sort_at, sort_of, is_number, IsSign, Token, join}
 use Rattle.duration_str.proofs.Characters.CharacterLemmas.{digit-not_letter, letter-not_digit}
 use Rattle.duration_str.proofs.Cutting.TokenLemmas.{tokens_are}
 use Rattle.duration_str.proofs.Cutting.TerminalLemmas.{digits_are_lexeme, letters_are_lexeme, no_run, lexeme_sort}
@@ -31,8 +30,7 @@ run_stands : {text cs : List ℕ} {place next at c : ℕ} (o : Options) (test : 
     → test c ≡ true
     → (0 < length cs) × StandsToken o text place next (meaning cs)
 run_stands {cs = []} o test meaning apart lexeme between all stops stands e =
-    let same = sym between.cut ∙ stands.head in
-    absurd (cc (rw same at stops))
+    absurd (cc (rw (sym between.cut ∙ stands.head) at stops))
 run_stands {cs = d ∷ cs} o test meaning apart lexeme between all stops stands e = (
   omega arith,
   record {
@@ -76,23 +74,12 @@ sign_stands {text} {next = next} {c = c} o stands b e f = record {
 
 -- ---- the class of a character, given its sort
 
--- the sort, given the answers to the tests
-abbrev sort_by : Bool → Bool → Option CondUnit → Sort
-sort_by d l op = if d then Number else if l then Word else sign_sort op
-
-number_by : (d l : Bool) (op : Option CondUnit) → d ≡ is_number (Some (sort_by d l op))
+number_by : (d l : Bool) (op : Option CondUnit)
+    → d ≡ is_number (Some (if d then Number else if l then Word else sign_sort op))
 number_by true l op = refl
 number_by false true op = refl
 number_by false false None = refl
 number_by false false (Some op) = refl
-
-word_by : (d l : Bool) (op : Option CondUnit) → Word ≡ sort_by d l op → l ≡ true
-word_by d l op h = grind arith
-
-sign_by : (d l : Bool) (op : Option CondUnit) → IsSign (sort_by d l op) → (d ≡ false) × (l ≡ false)
-sign_by true l op sign = absurd sign
-sign_by false true op sign = absurd sign
-sign_by false false op sign = (refl, refl)
 
 module _ (o : Options) where
   -- A token is a number exactly if its first character is a digit.
@@ -103,13 +90,17 @@ module _ (o : Options) where
   digit_of_sort c is = rw (← is) at (digit_sort c)
 
   pub letter_of_sort : (c : ℕ) → Word ≡ sort_at o c → is_unit_letter o c ≡ true
-  letter_of_sort c is = word_by (is_digit c) (is_unit_letter o c) (operator_of c) is
+  letter_of_sort c is = grind arith
 
   pub sign_of_sort : (c : ℕ) (sort : Sort) → IsSign sort → sort ≡ sort_at o c
       → (is_digit c ≡ false) × (is_unit_letter o c ≡ false) × (sort ≡ sign_sort (operator_of c))
-  sign_of_sort c sort sign is =
-      let none = sign_by (is_digit c) (is_unit_letter o c) (operator_of c) (rw is at sign) in
-      (none.0, none.1, rw (none.0, none.1) at is)
+  sign_of_sort c sort sign is = elim (cases_Bool (is_digit c)) [
+    | inl e ↦ absurd (rw (is, e) at sign)
+    | inr e ↦ elim (cases_Bool (is_unit_letter o c)) [
+      | inl f ↦ absurd (rw (is, e, f) at sign)
+      | inr f ↦ (e, f, rw (e, f) at is)
+    ]
+  ]
 
 -- ---- the token that starts with a character
 
@@ -118,19 +109,13 @@ pub first_token : (o : Options) (at c : ℕ) (text : List ℕ) → is_blank c �
     → (cs : List ℕ) × (rest : List Token)
     × (tokens_from o at (c ∷ text) ≡ record { start = at; characters = cs } ∷ rest) ×
     (sort_at o c ≡ sort_of (terminal_of o cs))
-first_token o at c text e = of_tokens (tokens_from o at (c ∷ text)) (tokens_are o at (c ∷ text))
+first_token o at c text e = elim (cases_Bool (goes_on o c text)) [
+  | inl more ↦ rw (e, more) (joined _ (rw (e, more) at (tokens_are o at (c ∷ text))))
+  | inr alone ↦ rw (e, alone) (c ∷ [], _, refl, lexeme_sort o c [] (e, refl))
+]
   where
-    begins : (start : ℕ) (blanks cs rest : List ℕ) → IsBlank blanks → c ∷ text ≡ blanks ++ (cs ++ rest)
-        → start ≡ at + byte_len blanks → IsLexeme o cs → (start ≡ at) × (sort_at o c ≡ sort_of (terminal_of o cs))
-    begins start (b ∷ blanks) cs rest hb parts there p = cc (and_parts (is_blank b) _ hb).0
-    begins start [] [] rest hb parts there p = absurd p
-    begins start [] (d ∷ cs) rest hb parts there p =
-        let heads : c ≡ d = cc in (rw add-zero at there, rw heads (lexeme_sort o d cs p))
-
-    of_tokens : (ps : List Token) → AreTokens o at (c ∷ text) ps
-        → (cs : List ℕ) × (rest : List Token) × (ps ≡ record { start = at; characters = cs } ∷ rest)
+    joined : (ps : List Token) → AreTokens o at (c ∷ text) (join at c ps)
+        → (cs : List ℕ) × (rest : List Token) × (join at c ps ≡ record { start = at; characters = cs } ∷ rest)
         × (sort_at o c ≡ sort_of (terminal_of o cs))
-    of_tokens [] a = cc (e, (and_parts (is_blank c) _ a).0)
-    of_tokens (p ∷ ps) a =
-        let b = begins p.start a.1.blanks p.characters a.0 a.1.blank a.1.parts a.1.start a.1.is_lexeme in
-        (p.characters, ps, ap (λ start. record { start = start; characters = p.characters } ∷ ps) b.0, b.1)
+    joined [] a = (c ∷ [], [], refl, lexeme_sort o c [] a.1.is_lexeme)
+    joined (p ∷ ps) a = (c ∷ p.characters, ps, refl, lexeme_sort o c p.characters a.1.is_lexeme)

@@ -1,9 +1,7 @@
 -- The steps of `Tokens`: what is ahead, and the next token.
 use Rattle.std.proofs.Common.{Bool, ◌≡◌, ℕ, ◌-◌, ◌<◌, ◌%◌, ◌^◌, ◌≤◌, drop, length-drop, arith, true, List, [], ◌∷◌, length, Option, Some, None, IsUtf8, refl, ap, ◌∙◌, slice_range, IsCharBoundary, chars, length-take-le}
-use Rattle.duration_str.proofs.Common.{ForSome, IsUtf8-had, TimeUnit, CondUnit, Sort, Number, Word, Operator, Other, Tokens, Terminal, word, operator, other, operator_or_other, terminal_of, is_blank, is_digit, is_unit_letter, operator_of, number_of, IsNumber, unit_of_word, tokens_from, ahead, StandsAt, Passes, Stops, TakesDigits, TakesLetters, sort_of, u64_from, source, options_of, left, what_of, KeepsInput, YieldsNextToken, IsAhead, LooksAhead, IsSign, TakesToken, TakesTokenWith, TakesNumber}
+use Rattle.duration_str.proofs.Common.{ForSome, IsUtf8-had, TimeUnit, CondUnit, Sort, Number, Word, Operator, Other, Tokens, Terminal, word, operator, other, operator_or_other, terminal_of, is_blank, is_digit, is_unit_letter, operator_of, number_of, IsNumber, unit_of_word, tokens_from, ahead, StandsAt, Passes, Stops, TakesDigits, TakesLetters, sort_of, u64_from, source, options_of, tokens_left, what_of, KeepsInput, YieldsNextToken, IsAhead, LooksAhead, IsSign, TakesToken, TakesTokenWith, TakesNumber, Token, cut_place}
 use Rattle.duration_str.specs.declared.token.Token.{Token as RustToken}
-use Rattle.duration_str.specs.Tokens.{Token}
-use Rattle.duration_str.specs.Tokenizer.{place_of}
 use Rattle.duration_str.proofs.Cutting.CuttingLemmas.{TakesWord, chars_between, long_word, blanks_passed, token_taken, place_at_end}
 use Rattle.duration_str.proofs.Cutting.SortLemmas.{StandsToken, number_stands, word_stands, sign_stands, digit_of_sort, letter_of_sort, sign_of_sort, first_token}
 use Rattle.duration_str.proofs.Cutting.TerminalLemmas.{sign_sorts}
@@ -12,47 +10,42 @@ use Rattle.duration_str.specs.declared.token.What.TheVariants as whats
 pub keeps_all : (s : Tokens) → KeepsInput s s
 keeps_all s = record { text = refl; options = refl }
 
-pub keeps_on : (s m t : Tokens) → KeepsInput s m → KeepsInput m t → KeepsInput s t
-keeps_on s m t kept later = record { text = later.text ∙ kept.text; options = later.options ∙ kept.options }
+pub keeps_on : {s m t : Tokens} → KeepsInput s m → KeepsInput m t → KeepsInput s t
+keeps_on kept later = record { text = later.text ∙ kept.text; options = later.options ∙ kept.options }
 
 -- the tokens that are left after a step, in terms of the source and the options before it
 left_same : {s t : Tokens} → KeepsInput s t
-    → left t ≡ tokens_from (options_of s) (place_of t) (ahead (source s) (place_of t))
+    → tokens_left t ≡ tokens_from (options_of s) (cut_place t) (ahead (source s) (cut_place t))
 left_same kept = rw (kept.options, kept.text)
 
 -- ---- what is ahead
 
 -- Past the character ahead, fewer are ahead.
-pub fewer_ahead : (s t : Tokens) (c : ℕ) → KeepsInput s t
-    → ForSome s.head (StandsAt (source s) (place_of s) (place_of t)) → s.head ≡ Some c
-    → length (ahead (source t) (place_of t)) < length (ahead (source s) (place_of s))
-fewer_ahead s t c kept past is = simp (kept.text, (past c is).head) (omega arith)
+pub fewer_ahead : {s t : Tokens} {c : ℕ} → KeepsInput s t
+    → ForSome s.head (StandsAt (source s) (cut_place s) (cut_place t)) → s.head ≡ Some c
+    → length (ahead (source t) (cut_place t)) < length (ahead (source s) (cut_place s))
+fewer_ahead kept past is = simp (kept.text, (past _ is).head) (omega arith)
 
 -- skipping the blanks from s to t
 pub looks_ahead : {s t : Tokens} (sort : Option Sort) → KeepsInput s t
-    → Passes is_blank (source s) (place_of s) (place_of t) → IsAhead t sort → LooksAhead s t sort
+    → Passes is_blank (source s) (cut_place s) (cut_place t) → IsAhead t sort → LooksAhead s t sort
 looks_ahead {s} sort kept blanks ahead =
     record { kept = kept; same_left = rw (left_same kept, blanks_passed (options_of s) blanks); ahead = ahead }
 
-pub none_left : (s : Tokens) → IsAhead s None → (left s ≡ []) × (place_of s ≡ length (source s))
+pub none_left : (s : Tokens) → IsAhead s None → (tokens_left s ≡ []) × (cut_place s ≡ length (source s))
 none_left s end =
     let utf8 = IsUtf8-had s.eye.text.now s.eye.utf8 in
-    (rw (s.none end), place_at_end (source s) (place_of s) utf8 s.eye.at_place (s.none end))
+    (rw (s.none end), place_at_end (source s) (cut_place s) utf8 s.eye.at_place (s.none end))
 
 -- The first token that is left starts at the place, and its terminal has the sort ahead.
 pub first_left : (s : Tokens) (sort : Sort) → IsAhead s (Some sort)
-    → (cs : List ℕ) × (rest : List Token) × (left s ≡ record { start = place_of s; characters = cs } ∷ rest)
+    → (cs : List ℕ) × (rest : List Token) × (tokens_left s ≡ record { start = cut_place s; characters = cs } ∷ rest)
     × (sort ≡ sort_of (terminal_of (options_of s) cs))
 first_left s sort h =
-    let stands : StandsAt (source s) (place_of s) s.eye.next h.character = s.some h.character h.is_head in
+    let stands : StandsAt (source s) (cut_place s) s.eye.next h.character = s.some h.character h.is_head in
     let (cs, rest, is, sort_is) =
-    first_token (options_of s) (place_of s) h.character (ahead (source s) s.eye.next) h.not_blank in
+    first_token (options_of s) (cut_place s) h.character (ahead (source s) s.eye.next) h.not_blank in
     (cs, rest, rw stands.head is, rw h.is_sort sort_is)
-
-pub one_sort : (s : Tokens) (a b : Sort) → IsAhead s (Some a) → IsAhead s (Some b) → a ≡ b
-one_sort s a b h k =
-    let same : h.character ≡ k.character = cc (h.is_head, k.is_head) in
-    rw (h.is_sort, k.is_sort, same)
 
 -- a word starts with a unit letter
 pub letter_ahead : (s : Tokens) (c : ℕ) → IsAhead s (Some Word) → s.head ≡ Some c
@@ -64,7 +57,7 @@ letter_ahead s c h is =
 -- ---- the next token
 
 takes_token : {s t : Tokens} {terminal : Terminal} → KeepsInput s t
-    → StandsToken (options_of s) (source s) (place_of s) (place_of t) terminal → TakesToken s t terminal
+    → StandsToken (options_of s) (source s) (cut_place s) (cut_place t) terminal → TakesToken s t terminal
 takes_token {s} kept token = record {
   characters = token.characters;
   kept = kept;
@@ -74,48 +67,48 @@ takes_token {s} kept token = record {
 }
 
 -- a slice of the same text from the same place
-same_slice : {s t : Tokens} {slice : List ℕ} {start : ℕ} → KeepsInput s t → start ≡ place_of s
-    → slice ≡ slice_range (source t) start (place_of t) → slice ≡ slice_range (source s) (place_of s) (place_of t)
+same_slice : {s t : Tokens} {slice : List ℕ} {start : ℕ} → KeepsInput s t → start ≡ cut_place s
+    → slice ≡ slice_range (source t) start (cut_place t) → slice ≡ slice_range (source s) (cut_place s) (cut_place t)
 same_slice kept there is = simp (kept.text, there) at is
 
 -- The slice from s to t is the number ahead, and `low` is its value modulo 2^64.
-pub takes_number : (s t : Tokens) (low start : ℕ) (slice : List ℕ) → IsAhead s (Some Number) → KeepsInput s t
-    → TakesDigits (source s) (place_of s) (place_of t) low → Stops is_digit (ahead (source t) (place_of t))
-    → start ≡ place_of s → slice ≡ slice_range (source t) start (place_of t) → IsUtf8 slice
+pub takes_number : {s t : Tokens} {low start : ℕ} {slice : List ℕ} → IsAhead s (Some Number) → KeepsInput s t
+    → TakesDigits (source s) (cut_place s) (cut_place t) low → Stops is_digit (ahead (source t) (cut_place t))
+    → start ≡ cut_place s → slice ≡ slice_range (source t) start (cut_place t) → IsUtf8 slice
     → IsNumber (chars slice) × (low ≡ number_of (chars slice) % 2 ^ 64)
     × TakesNumber s t (u64_from (number_of (chars slice)))
-takes_number s t low start slice h kept taken stops there is utf8 =
+takes_number {s} h kept taken stops there is utf8 =
     let same = chars_between taken.run.between (same_slice kept there is) utf8 in
     let digit = digit_of_sort (options_of s) h.character h.is_sort in
-    let token = number_stands (options_of s) taken.run (simp kept.text at stops) (s.some h.character h.is_head) digit in (
-      rw same token.0,
+    let run = number_stands (options_of s) taken.run (simp kept.text at stops) (s.some h.character h.is_head) digit in (
+      rw same run.0,
       rw same taken.number,
-      record { n = number_of taken.run.characters; token = takes_token kept token.1; is_value = rw same },
+      record { n = number_of taken.run.characters; token = takes_token kept run.1; is_value = rw same },
     )
 
 pub takes_word : {s t : Tokens} {unit : Option TimeUnit} → IsAhead s (Some Word) → KeepsInput s t
-    → TakesWord (options_of s) (source s) (place_of s) (place_of t) unit
-    → Stops (is_unit_letter (options_of s)) (ahead (source t) (place_of t)) → TakesToken s t (word unit)
+    → TakesWord (options_of s) (source s) (cut_place s) (cut_place t) unit
+    → Stops (is_unit_letter (options_of s)) (ahead (source t) (cut_place t)) → TakesToken s t (word unit)
 takes_word {s} h kept taken stops =
     let letter = letter_of_sort (options_of s) h.character h.is_sort in
     takes_token kept (word_stands (options_of s) taken (simp kept.text at stops) (s.some h.character h.is_head) letter)
 
 -- a word by its slice: ASCII letters from s to m, then any unit letters up to t
 pub takes_long_word : {s m t : Tokens} {value start : ℕ} {capital : Bool} {slice : List ℕ} {unit : Option TimeUnit}
-    → IsAhead s (Some Word) → KeepsInput s m → TakesLetters (source s) (place_of s) (place_of m) value capital
-    → KeepsInput m t → Passes (is_unit_letter (options_of m)) (source m) (place_of m) (place_of t)
-    → Stops (is_unit_letter (options_of m)) (ahead (source t) (place_of t)) → start ≡ place_of s
-    → slice ≡ slice_range (source t) start (place_of t) → IsUtf8 slice
+    → IsAhead s (Some Word) → KeepsInput s m → TakesLetters (source s) (cut_place s) (cut_place m) value capital
+    → KeepsInput m t → Passes (is_unit_letter (options_of m)) (source m) (cut_place m) (cut_place t)
+    → Stops (is_unit_letter (options_of m)) (ahead (source t) (cut_place t)) → start ≡ cut_place s
+    → slice ≡ slice_range (source t) start (cut_place t) → IsUtf8 slice
     → unit ≡ unit_of_word (options_of t) (chars slice) → TakesToken s t (word unit)
 takes_long_word {s} {m} {t} h kept letters later passed stops there is utf8 found =
-    let all = keeps_on s m t kept later in
+    let all = keeps_on kept later in
     let word = long_word letters (rw (kept.options, kept.text) at passed) (same_slice all there is) utf8
     (rw all.options at found) in
     takes_word h all word (simp kept.options at stops)
 
 -- taking the single character ahead
 pub takes_sign : {s t : Tokens} (sort : Sort) → IsSign sort → IsAhead s (Some sort) → KeepsInput s t
-    → ((c : ℕ) → s.head ≡ Some c → StandsAt (source s) (place_of s) (place_of t) c)
+    → ((c : ℕ) → s.head ≡ Some c → StandsAt (source s) (cut_place s) (cut_place t) c)
     → TakesTokenWith s t (λ terminal. sort ≡ sort_of terminal)
 takes_sign {s} sort sign h kept past =
     let c = h.character in
@@ -137,18 +130,18 @@ other_what other e = refl
 other_what _ e = absurd cc
 
 -- the token that was taken is the next one
-pub takes_terminal : {s m t : Tokens} {terminal : Terminal} (x : RustToken) → KeepsInput s m → left m ≡ left s
-    → TakesToken m t terminal → x.start ≡ place_of m → x.text.now ≡ slice_range (source t) x.start (place_of t)
-    → IsUtf8 x.text.now → x.what ≡ what_of terminal → IsCharBoundary (source m) (place_of m)
-    → IsCharBoundary (source t) (place_of t) → YieldsNextToken s (Some x) t
+pub takes_terminal : {s m t : Tokens} {terminal : Terminal} (x : RustToken) → KeepsInput s m → tokens_left m ≡ tokens_left s
+    → TakesToken m t terminal → x.start ≡ cut_place m → x.text.now ≡ slice_range (source t) x.start (cut_place t)
+    → IsUtf8 x.text.now → x.what ≡ what_of terminal → IsCharBoundary (source m) (cut_place m)
+    → IsCharBoundary (source t) (cut_place t) → YieldsNextToken s (Some x) t
 takes_terminal {s} {m} {t} x kept same taken there is utf8 sort before boundary =
     let cs = chars_between taken.between (same_slice taken.kept there is) utf8 in
-    let order : x.start ≤ place_of t = omega (arith, taken.between.bytes, there) in
-    let len : length x.text.now ≡ place_of t - x.start =
+    let order : x.start ≤ cut_place t = omega (arith, taken.between.bytes, there) in
+    let len : length x.text.now ≡ cut_place t - x.start =
     ap length is
-    ∙ length-take-le (place_of t - x.start) (drop x.start (source t))
+    ∙ length-take-le (cut_place t - x.start) (drop x.start (source t))
     (simp length-drop (omega (arith, boundary.0, order))) in
-    let all = keeps_on s m t kept taken.kept in
+    let all = keeps_on kept taken.kept in
     record {
       first = rw (there, cs, ← same) taken.first;
       kept = all;

@@ -1,6 +1,6 @@
 -- Two durations print the same text exactly if they are equal.
-use Rattle.std.proofs.Common.{◌≡◌, ℕ, List, sym, ap, ◌∙◌}
-use Rattle.duration_str.proofs.Common.{FitsDuration, off, unit_lengths, Terminal, terminals_of, sum_of, terms_of, IsPrinted, printed_counts, counts_of, EqualTexts}
+use Rattle.std.proofs.Common.{◌≡◌, ℕ, List}
+use Rattle.duration_str.proofs.Common.{FitsDuration, off, terminals_of, sum_of, terms_of, IsPrinted, EqualTexts}
 use Rattle.duration_str.proofs.Sentences.SpellingLemmas.{sentence_terminals}
 use Rattle.duration_str.proofs.Printer.PrintingLemmas.{duration_lexemes, counts_are, printed_is_sum, duration_sum}
 
@@ -8,13 +8,9 @@ use Rattle.duration_str.proofs.Printer.PrintingLemmas.{duration_lexemes, counts_
 printed_sum : (nanos : ℕ) (text : List ℕ) → FitsDuration nanos → IsPrinted nanos text
     → sum_of (terms_of (terminals_of off text)) ≡ nanos
 printed_sum nanos text h p =
-    ap (λ (ts : List Terminal). sum_of (terms_of ts))
-    (sym (sentence_terminals off text (duration_lexemes nanos) (printed_is_sum off nanos text h p).sentence))
-    ∙ duration_sum off nanos h
+    let sentence = (printed_is_sum off nanos text h p).sentence in
+    rw (← sentence_terminals off text (duration_lexemes nanos) sentence) (duration_sum off nanos h)
 
 pub equal_texts_hold : EqualTexts
-equal_texts_hold m n a b fits_m fits_n p q = (
-  λ e. sym (printed_sum m a fits_m p) ∙ ap (λ (text : List ℕ). sum_of (terms_of (terminals_of off text))) e
-      ∙ printed_sum n b fits_n q,
-  λ e. counts_are m a p ∙ ap (λ (nanos : ℕ). printed_counts (counts_of unit_lengths nanos)) e ∙ sym (counts_are n b q),
-)
+equal_texts_hold m n a b fits_m fits_n p q =
+    (λ e. cc (printed_sum m a fits_m p, printed_sum n b fits_n q), λ e. cc (counts_are m a p, counts_are n b q))

@@ -1,5 +1,5 @@
 -- The counts by quotients and remainders are the greatest breakdown, and the only one.
-use Rattle.std.proofs.Common.{◌≡◌, ℕ, ◌+◌, ◌*◌, ◌/◌, ◌%◌, ◌≤◌, ◌<◌, ◌⊎◌, inl, inr, List, [], ◌∷◌, length, arith, refl, sym, le-div_iff_mul-le, div-add-mod'}
+use Rattle.std.proofs.Common.{◌≡◌, ℕ, ◌+◌, ◌*◌, ◌/◌, ◌%◌, ◌≤◌, ◌⊎◌, inl, inr, List, [], ◌∷◌, length, arith, refl, sym, le-div_iff_mul-le, div-add-mod'}
 use Rattle.duration_str.proofs.Common.{cases_lt, unit_lengths, weighted_sum, IsBefore, IsGreatestBreakdown, counts_of, GreatestBreakdown}
 
 -- Each length is above 0, and the last is 1.
@@ -13,10 +13,7 @@ counts_whole : (lengths : List ℕ) (nanos : ℕ) → EndInOne lengths
     → weighted_sum lengths (counts_of lengths nanos) ≡ nanos
 counts_whole [] nanos h = absurd h
 counts_whole (l ∷ []) nanos h = rw h (omega arith)
-counts_whole (l ∷ m ∷ lengths) nanos h =
-    let rest : weighted_sum (m ∷ lengths) (counts_of (m ∷ lengths) (nanos % l)) ≡ nanos % l =
-    counts_whole (m ∷ lengths) (nanos % l) h.1 in
-    omega arith
+counts_whole (l ∷ m ∷ lengths) nanos h = omega (arith, counts_whole (m ∷ lengths) (nanos % l) h.1)
 
 -- There is one count for each length.
 counts_each : (lengths : List ℕ) (nanos : ℕ) → length (counts_of lengths nanos) ≡ length lengths
@@ -26,28 +23,15 @@ counts_each (l ∷ lengths) nanos = rw (counts_each lengths (nanos % l))
 -- No breakdown has a greater first count than the quotient.
 first_within : (m l rest nanos : ℕ) → 1 ≤ l → m * l + rest ≡ nanos → m ≤ nanos / l
 first_within m l rest nanos h e =
-    let product : m * l ≤ nanos = omega arith in
-    (le-div_iff_mul-le h).1 product
+    let product : m * l ≤ nanos = omega arith in (le-div_iff_mul-le h).1 product
 
 -- If the first count is the quotient, the others total the remainder.
 rest_same : (m l rest nanos : ℕ) → m * l + rest ≡ nanos → m ≡ nanos / l → rest ≡ nanos % l
-rest_same m l rest nanos e s =
-    let product = rw s at e in omega (arith, div-add-mod' nanos l)
+rest_same m l rest nanos e s = let product = rw s at e in omega (arith, div-add-mod' nanos l)
 
 -- The only count of length 1 is the number of nanoseconds.
 only_count : (n l nanos : ℕ) → l ≡ 1 → n * l + 0 ≡ nanos → n ≡ nanos / l
-only_count n l nanos h e =
-    let one = rw h at e in rw h (omega arith)
-
--- A list is compared with the counts by its first count, then by the others.
-by_first : (x n nanos : ℕ) (others counts : List ℕ) → 1 ≤ x → (rest : ℕ) → n * x + rest ≡ nanos
-    → (rest ≡ nanos % x → (others ≡ counts) ⊎ IsBefore others counts) → (n < nanos / x) ⊎ (nanos / x ≤ n)
-    → (n ∷ others ≡ nanos / x ∷ counts) ⊎ IsBefore (n ∷ others) (nanos / x ∷ counts)
-by_first x n nanos others counts h rest e more (inl less) = inr (inl less)
-by_first x n nanos others counts h rest e more (inr up) =
-    let within : n ≤ nanos / x = first_within n x rest nanos h e in
-    let same : n ≡ nanos / x = omega arith in
-    elim (more (rest_same n x rest nanos e same)) [ inl s ↦ inl cc | inr before ↦ inr (inr (same, before)) ]
+only_count n l nanos h e = let one = rw h at e in rw h (omega arith)
 
 counts_greatest : (lengths : List ℕ) (nanos : ℕ) (others : List ℕ) → EndInOne lengths → length others ≡ length lengths
     → weighted_sum lengths others ≡ nanos
@@ -56,9 +40,18 @@ counts_greatest [] nanos others h l e = absurd h
 counts_greatest (x ∷ lengths) nanos [] h l e = absurd (omega arith)
 counts_greatest (x ∷ []) nanos (n ∷ m ∷ others) h l e = absurd (omega arith)
 counts_greatest (x ∷ []) nanos (n ∷ []) h l e = inl (rw (only_count n x nanos h e))
-counts_greatest (x ∷ y ∷ lengths) nanos (n ∷ others) h l e =
-    by_first x n nanos others (counts_of (y ∷ lengths) (nanos % x)) h.0 (weighted_sum (y ∷ lengths) others) e
-    (λ left. counts_greatest (y ∷ lengths) (nanos % x) others h.1 (omega arith) left) (cases_lt n (nanos / x))
+counts_greatest (x ∷ y ∷ lengths) nanos (n ∷ others) h l e = elim (cases_lt n (nanos / x)) [
+  | inl less ↦ inr (inl less)
+  | inr up ↦
+      let rest = weighted_sum (y ∷ lengths) others in
+      let within : n ≤ nanos / x = first_within n x rest nanos h.0 e in
+      let same : n ≡ nanos / x = omega arith in
+      let left = rest_same n x rest nanos e same in
+      elim (counts_greatest (y ∷ lengths) (nanos % x) others h.1 (omega arith) left) [
+        | inl s ↦ inl cc
+        | inr before ↦ inr (inr (same, before))
+      ]
+]
 
 units_end_in_one : EndInOne unit_lengths
 units_end_in_one = omega arith

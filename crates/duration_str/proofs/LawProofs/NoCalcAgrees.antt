@@ -1,6 +1,6 @@
 -- Without operators `no_calc` changes neither what is accepted nor its value.
 use Rattle.std.proofs.Common.{ℕ, ◌≡◌, ◌⊎◌, inl, inr, refl, Bool, true, false, not, List, [], ◌∷◌, map, Some}
-use Rattle.duration_str.proofs.Common.{and_parts, Options, Terminal, number, word, operator, terminal_of, IsSentence, NoCalcAgrees, HasNoOperator, is_operator}
+use Rattle.duration_str.proofs.Common.{and_parts, Options, Terminal, number, word, operator, terminal_of, IsSentence, NoCalcAgrees, HasNoOperator, is_operator, IsRead}
 use Rattle.duration_str.proofs.Cutting.TerminalLemmas.{terminal_cases}
 use Rattle.duration_str.proofs.Sentences.SpellingLemmas.{EachPasses, lexemes_pass}
 
@@ -33,20 +33,18 @@ no_operator_terminals o [] h = tt
 no_operator_terminals o (w ∷ lexemes) h =
     no_operator_terminal o (map (terminal_of o) lexemes) (no_operator_terminals o lexemes h.1) w h.0
 
+read_under : (o : Options) (a b : Bool) (text : List ℕ) (nanos : ℕ) → (r : IsRead (record o { no_calc = a }) text nanos)
+    → HaveNoOperator (map (terminal_of o) r.lexemes) ⊎ (b ≡ false) → IsRead (record o { no_calc = b }) text nanos
+read_under o a b text nanos r h = record {
+  lexemes = r.lexemes;
+  spells = (sentence_for a b (map (terminal_of o) r.lexemes) h r.spells.0, r.spells.1);
+  evaluates = r.evaluates;
+  value = r.value;
+}
+
 pub no_calc_agrees_holds : NoCalcAgrees
 no_calc_agrees_holds o text nanos plain = (
-  λ r. record {
-    lexemes = r.lexemes;
-    spells = (sentence_for true false (map (terminal_of o) r.lexemes) (inr refl) r.spells.0, r.spells.1);
-    evaluates = r.evaluates;
-    value = r.value;
-  },
+  λ r. read_under o true false text nanos r (inr refl),
   λ r. let passes = lexemes_pass (λ c. not (is_operator c)) r.lexemes text plain r.spells.1 in
-      let plus = no_operator_terminals o r.lexemes passes in
-      record {
-        lexemes = r.lexemes;
-        spells = (sentence_for false true (map (terminal_of o) r.lexemes) (inl plus) r.spells.0, r.spells.1);
-        evaluates = r.evaluates;
-        value = r.value;
-      },
+      read_under o false true text nanos r (inl (no_operator_terminals o r.lexemes passes)),
 )

@@ -1,7 +1,7 @@
 -- `lowercase` changes nothing without ASCII capitals, and `cn_unit` nothing without Chinese characters.
-use Rattle.std.proofs.Common.{◌≡◌, ℕ, ◌+◌, ◌<◌, ◌⊎◌, inl, inr, Bool, true, false, not, ◌&&◌, ◌||◌, ◌==◌, ◌↔◌, List, [], ◌∷◌, map, IsTrue, if◌then◌else◌, bytes_eq, arith, refl, sym, eqb-true, find}
-use Rattle.duration_str.proofs.Common.{cases_Bool, and_parts, and_from, not-true, nat_tests, is_ascii_uppercase, to_ascii_lowercase, list_all, list_any, Options, TimeUnit, Cause, width, is_unit_letter, is_chinese, row_of, units, comparison_form, unit_of_word, terminal_of, goes_on, tokens_from, tokens_of, terminals_of, IsRead, IsRefused, OptionsIdle, HasNoCapital, HasNoChinese}
-use Rattle.std.proofs.lemmas.Bool.{or_from}
+use Rattle.std.proofs.Common.{◌≡◌, ℕ, ◌+◌, ◌<◌, ◌⊎◌, inl, inr, Bool, true, false, not, ◌||◌, List, [], ◌∷◌, map, IsTrue, if◌then◌else◌, bytes_eq, arith, refl, sym, find}
+use Rattle.duration_str.proofs.Common.{false_from_ne_true, bytes_eq-Decides, and_parts, and_from, not-true, nat_tests, is_ascii_uppercase, to_ascii_lowercase, list_all, list_any, Options, TimeUnit, Cause, width, is_unit_letter, is_chinese, row_of, units, comparison_form, unit_of_word, terminal_of, goes_on, tokens_from, tokens_of, terminals_of, IsRead, IsRefused, OptionsIdle, HasNoCapital, HasNoChinese, or_from, IsIdle}
+use Rattle.duration_str.proofs.Characters.EachUnit.{all_units}
 use Rattle.duration_str.proofs.Sentences.SpellingLemmas.{tokens_spell, EachPasses, lexemes_pass}
 use Rattle.duration_str.proofs.Sentences.AnswerLemmas.{read_terminals, terminals_read}
 
@@ -13,9 +13,6 @@ record AreAlike (o p : Options) (text : List ℕ) : Type 0 where
   tokens : tokens_of o text ≡ tokens_of p text
   terminals : terminals_of o text ≡ terminals_of p text
 
-alike_back : {o p : Options} {text : List ℕ} → AreAlike o p text → AreAlike p o text
-alike_back h = record { grammar = sym h.grammar; tokens = sym h.tokens; terminals = sym h.terminals }
-
 read_alike : {o p : Options} {text : List ℕ} (nanos : ℕ) → AreAlike o p text → IsRead o text nanos → IsRead p text nanos
 read_alike {p = p} {text = text} nanos h r =
     terminals_read p text nanos (rw (h.grammar, h.terminals) at (read_terminals r))
@@ -24,6 +21,15 @@ refused_alike : {o p : Options} (text : List ℕ) (cause : Cause) → AreAlike o
     → IsRefused p text cause
 refused_alike [] cause h r = r
 refused_alike (c ∷ text) cause h r = (r.0, r.1, rw (h.grammar, h.terminals) at r.2, rw (h.grammar, h.tokens) at r.3)
+
+idle : (choice : Bool → Options) (text : List ℕ) → AreAlike (choice true) (choice false) text → IsIdle choice text
+idle choice text h =
+    let back : AreAlike (choice false) (choice true) text =
+    record { grammar = sym h.grammar; tokens = sym h.tokens; terminals = sym h.terminals } in
+    record {
+      value = λ nanos. (read_alike nanos h, read_alike nanos back);
+      cause = λ cause. (refused_alike text cause h, refused_alike text cause back);
+    }
 
 -- ---- Options that agree on characters and words give the same tokens and terminals
 
@@ -76,12 +82,6 @@ all_lower : (w : List ℕ) → HasNoCapital w → map to_ascii_lowercase w ≡ w
 all_lower [] h = refl
 all_lower (c ∷ w) h = let parts = and_parts _ _ h in rw (lower_same c parts.0, all_lower w parts.1)
 
-lowercase_alike : (o : Options) (text : List ℕ) → HasNoCapital text
-    → AreAlike (record o { lowercase = true }) (record o { lowercase = false }) text
-lowercase_alike o text h =
-    agree_alike (λ c. not (is_ascii_uppercase c)) _ _
-    (record { letter = λ c e. refl; unit = λ w e. rw (all_lower w e) }) text refl h
-
 -- ---- Chinese characters
 
 chinese_letter : (o : Options) (c : ℕ) → not (is_chinese c) ≡ true
@@ -103,79 +103,43 @@ lower_not_chinese c h = elim (lower_or_ascii c) [
 all_lower_not_chinese : (w : List ℕ) → HasNoChinese w → HasNoChinese (map to_ascii_lowercase w)
 all_lower_not_chinese [] h = refl
 all_lower_not_chinese (c ∷ w) h =
-    and_from _ _ (lower_not_chinese c (and_parts _ _ h).0) (all_lower_not_chinese w (and_parts _ _ h).1)
+    let parts = and_parts _ _ h in and_from _ _ (lower_not_chinese c parts.0) (all_lower_not_chinese w parts.1)
 
 form_not_chinese : (lowercase : Bool) (w : List ℕ) → HasNoChinese w
     → HasNoChinese (if lowercase then w else map to_ascii_lowercase w)
 form_not_chinese true w h = h
 form_not_chinese false w h = all_lower_not_chinese w h
 
-abbrev begins_chinese : List ℕ → Bool
-begins_chinese [] = false
-begins_chinese (d ∷ ds) = is_chinese d
+abbrev has_chinese : List ℕ → Bool
+has_chinese name = not (list_all (λ c. not (is_chinese c)) name)
 
--- A name that starts with a Chinese character is not a word without them.
-other_name : (w name : List ℕ) → HasNoChinese w → IsTrue (begins_chinese name) → bytes_eq w name ≡ false
-other_name [] [] h k = cc k
-other_name [] (d ∷ ds) h k = refl
-other_name (f ∷ fs) [] h k = refl
-other_name (f ∷ fs) (d ∷ ds) h k =
-    elim (cases_Bool (f == d)) [ inl e ↦ cc (rw (eqb-true f d e, k) at h) | inr e ↦ rw e ]
-
-other_names : (w : List ℕ) (names : List (List ℕ)) → HasNoChinese w → IsTrue (list_all begins_chinese names)
+-- A name with a Chinese character is not a word without them.
+other_names : (w : List ℕ) (names : List (List ℕ)) → HasNoChinese w → IsTrue (list_all has_chinese names)
     → list_any (bytes_eq w) names ≡ false
 other_names w [] h k = refl
 other_names w (name ∷ names) h k =
-    or_from _ _ (other_name w name h (and_parts _ _ k).0) (other_names w names h (and_parts _ _ k).1)
-
--- The word is not a Chinese name of these units.
-abbrev NamesNoChinese : List ℕ → List TimeUnit → Type 0
-NamesNoChinese w [] = Unit {0}
-NamesNoChinese w (u ∷ us) = (list_any (bytes_eq w) (row_of u).chinese ≡ false) × NamesNoChinese w us
-
-no_chinese_name : (w : List ℕ) (us : List TimeUnit) → HasNoChinese w
-    → IsTrue (list_all (λ u. list_all begins_chinese (row_of u).chinese) us) → NamesNoChinese w us
-no_chinese_name w [] h k = tt
-no_chinese_name w (u ∷ us) h k =
-    let parts = and_parts (list_all begins_chinese (row_of u).chinese)
-    (list_all (λ v. list_all begins_chinese (row_of v).chinese) us) k in
-    (other_names w (row_of u).chinese h parts.0, no_chinese_name w us h parts.1)
-
-find_alike : (w : List ℕ) (us : List TimeUnit) → NamesNoChinese w us
-    → find (λ u. list_any (bytes_eq w) (row_of u).names || (true && list_any (bytes_eq w) (row_of u).chinese)) us
-    ≡ find (λ u. list_any (bytes_eq w) (row_of u).names || (false && list_any (bytes_eq w) (row_of u).chinese)) us
-find_alike w [] h = refl
-find_alike w (u ∷ us) h = rw (h.0, find_alike w us h.1)
+    let parts = and_parts (has_chinese name) _ k in
+    let other = false_from_ne_true (bytes_eq w name) (λ e.
+    let same = (bytes_eq-Decides w name).0 e in cc (not-true _ parts.0, rw same at h)) in
+    or_from _ _ other (other_names w names h parts.1)
 
 cn_unit_unit : (o : Options) (w : List ℕ) → HasNoChinese w
     → unit_of_word (record o { cn_unit = true }) w ≡ unit_of_word (record o { cn_unit = false }) w
 cn_unit_unit o w h =
     let form = comparison_form o w in
-    find_alike form units (no_chinese_name form units (form_not_chinese o.lowercase w h) refl)
-
-cn_unit_alike : (o : Options) (text : List ℕ) → HasNoChinese text
-    → AreAlike (record o { cn_unit = true }) (record o { cn_unit = false }) text
-cn_unit_alike o text h =
-    agree_alike (λ c. not (is_chinese c)) _ _ (record { letter = chinese_letter o; unit = cn_unit_unit o }) text refl h
+    let none : (u : TimeUnit) → list_any (bytes_eq form) (row_of u).chinese ≡ false =
+    λ u. other_names form _ (form_not_chinese o.lowercase w h)
+    (all_units (λ v. list_all has_chinese (row_of v).chinese) refl u) in
+    λ i. find (λ u. list_any (bytes_eq form) (row_of u).names || none u i) units
 
 -- ---- The law
 
-same_value : {o p : Options} {text : List ℕ} (nanos : ℕ) → AreAlike o p text
-    → (IsRead o text nanos ↔ IsRead p text nanos)
-same_value nanos h = (read_alike nanos h, read_alike nanos (alike_back h))
-
-same_cause : {o p : Options} {text : List ℕ} (cause : Cause) → AreAlike o p text
-    → (IsRefused o text cause ↔ IsRefused p text cause)
-same_cause cause h = (refused_alike _ cause h, refused_alike _ cause (alike_back h))
-
 pub options_idle_holds : OptionsIdle
 options_idle_holds = record {
-  lowercase = λ o text h. record {
-    value = λ nanos. same_value nanos (lowercase_alike o text h);
-    cause = λ cause. same_cause cause (lowercase_alike o text h);
-  };
-  cn_unit = λ o text h. record {
-    value = λ nanos. same_value nanos (cn_unit_alike o text h);
-    cause = λ cause. same_cause cause (cn_unit_alike o text h);
-  };
+  lowercase = λ o text h. idle (λ on. record o { lowercase = on }) text
+      (agree_alike (λ c. not (is_ascii_uppercase c)) _ _
+      (record { letter = λ c e. refl; unit = λ w e. rw (all_lower w e) }) text refl h);
+  cn_unit = λ o text h. idle (λ on. record o { cn_unit = on }) text
+      (agree_alike (λ c. not (is_chinese c)) _ _
+      (record { letter = chinese_letter o; unit = cn_unit_unit o }) text refl h);
 }

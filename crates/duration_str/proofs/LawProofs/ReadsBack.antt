@@ -1,5 +1,5 @@
 -- A printed text is read back below 2^64 nanoseconds, and otherwise overflows.
-use Rattle.std.proofs.Common.{◌≡◌, ℕ, ◌+◌, ◌*◌, ◌/◌, ◌^◌, ◌≤◌, ◌<◌, Bool, true, false, ◌==◌, List, [], ◌∷◌, map, drop, Some, None, arith, sym, ap, subst, ◌∙◌, ne_eqb, lt-ltb, le-ltb}
+use Rattle.std.proofs.Common.{◌≡◌, ℕ, ◌+◌, ◌*◌, ◌/◌, ◌^◌, ◌≤◌, ◌<◌, Bool, true, false, ◌==◌, List, [], ◌∷◌, map, drop, Some, None, arith, sym, ne_eqb, lt-ltb, le-ltb}
 use Rattle.duration_str.proofs.Common.{FitsDuration, Options, Year, Overflow, units, nanos_of, unit_lengths, Terminal, number, word, terminal_of, sum_of, terms_of, early_fault, IsRead, early, IsRefused, IsPrinted, counts_of, ReadsBack}
 use Rattle.duration_str.proofs.Sentences.AnswerLemmas.{sentence_refused}
 use Rattle.duration_str.proofs.Sentences.SumReadings.{terms_of_lexemes, sum_read, EachFits, sum_fits_each, sum_overflows}
@@ -32,11 +32,9 @@ overflows_above o nanos text low high p =
     let terminals : map (terminal_of o) lexemes ≡ number (years nanos) ∷ word (Some Year) ∷ rest =
     years_first o nanos within (omega arith) in
     let whole : sum_of (terms_of_lexemes o lexemes) ≡ nanos = duration_sum o nanos within in
-    let parts : years nanos * nanos_of Year + sum_of (terms_of rest) ≡ nanos =
-    sym (ap (λ (ts : List Terminal). sum_of (terms_of ts)) terminals) ∙ whole in
+    let parts : years nanos * nanos_of Year + sum_of (terms_of rest) ≡ nanos = rw terminals at whole in
     let each : EachFits (terms_of_lexemes o lexemes) =
-    subst (λ (ts : List Terminal). EachFits (terms_of ts)) (sym terminals)
-    (omega arith, sum_fits_each (terms_of rest) (omega arith)) in
+    rw terminals (omega arith, sum_fits_each (terms_of rest) (omega arith)) in
     sum_overflows (printed_is_sum o nanos text within p) each (omega arith)
 
 -- The years overflow by themselves.

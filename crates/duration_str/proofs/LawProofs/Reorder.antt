@@ -36,21 +36,13 @@ is_times_one n = cond-true (n == n) 1 0 (eq-eqb n n refl)
 
 same_total : (xs ys : List ℕ) → ((n : ℕ) → times_in n xs ≡ times_in n ys) → total xs ≡ total ys
 same_total [] [] h = refl
-same_total [] (y ∷ ys) h =
-    let one : is_times y y ≡ 1 = is_times_one y in
-    let count : 0 ≡ is_times y y + times_in y ys = h y in
-    absurd (omega arith)
+same_total [] (y ∷ ys) h = let count : 0 ≡ is_times y y + times_in y ys = h y in absurd (omega (arith, is_times_one y))
 same_total (x ∷ xs) ys h =
-    let one : is_times x x ≡ 1 = is_times_one x in
     let count : is_times x x + times_in x xs ≡ times_in x ys = h x in
-    let there : 1 ≤ times_in x ys = omega arith in
+    let there : 1 ≤ times_in x ys = omega (arith, is_times_one x) in
     let counts : (n : ℕ) → times_in n xs ≡ times_in n (without x ys) = λ n.
-    let both : is_times x n + times_in n xs ≡ times_in n ys = h n in
-    let left : times_in n ys ≡ is_times x n + times_in n (without x ys) = without_times x n ys there in
-    omega arith in
-    let rest : total xs ≡ total (without x ys) = same_total xs (without x ys) counts in
-    let whole : total ys ≡ x + total (without x ys) = without_total x ys there in
-    omega arith
+    let both : is_times x n + times_in n xs ≡ times_in n ys = h n in omega (arith, without_times x n ys there) in
+    omega (arith, same_total xs (without x ys) counts, without_total x ys there)
 
 sum_total : (terms : List Term) → sum_of terms ≡ total (map value_of_term terms)
 sum_total [] = refl
@@ -58,9 +50,8 @@ sum_total (t ∷ terms) = rw (sum_total terms)
 
 pub reorder_holds : Reorder
 reorder_holds o a b lexemes others nanos s t plus other_plus counts r =
-    let xs : List Term = terms_of_lexemes o lexemes in
-    let ys : List Term = terms_of_lexemes o others in
+    let (xs, ys) : List Term × List Term = (terms_of_lexemes o lexemes, terms_of_lexemes o others) in
     let same = same_total (map value_of_term xs) (map value_of_term ys) counts in
     let sums : sum_of ys ≡ sum_of xs = rw (sum_total ys, sum_total xs, same) in
-    let found : sum_of xs ≡ nanos = read_sum (record { sentence = s; plus = plus }) r in
-    sum_read (record { sentence = t; plus = other_plus }) (sums ∙ found) (read_below r)
+    sum_read (record { sentence = t; plus = other_plus })
+    (sums ∙ read_sum (record { sentence = s; plus = plus }) r) (read_below r)

@@ -1,39 +1,30 @@
 -- Two accepted texts without `*`, joined by a plus, have the sum of their values, or overflow.
-use Rattle.std.proofs.Common.{◌≡◌, ℕ, ◌+◌, Bool, true, false, not, ◌==◌, List, [], ◌∷◌, ◌++◌, map, Some, codes, arith, refl, ◌∙◌, append_assoc}
-use Rattle.duration_str.proofs.Common.{and_parts, and_from, nat_tests, map-append, list_all-append, Options, CondUnit, Plus, IsBlank, operator_of, Terminal, number, word, operator, terminal_of, IsSentence, Spells, AllPlus, Term, sum_of, terms_of, terms_after, IsRead, SumOfTexts, HasNoStar}
+use Rattle.std.proofs.Common.{◌≡◌, ℕ, inl, inr, ◌+◌, true, false, not, ◌==◌, List, [], ◌∷◌, ◌++◌, map, Some, codes, arith, refl, ◌∙◌, append_assoc}
+use Rattle.duration_str.proofs.Common.{cases_Bool, and_parts, and_from, nat_tests, map-append, list_all-append, Options, CondUnit, Plus, IsBlank, operator_of, Terminal, number, word, operator, terminal_of, IsSentence, Spells, AllPlus, Term, sum_of, terms_of, terms_after, IsRead, SumOfTexts, HasNoStar}
 use Rattle.duration_str.proofs.Cutting.TerminalLemmas.{terminal_cases}
-use Rattle.duration_str.proofs.Sentences.SpellingLemmas.{EachPasses, lexemes_pass}
+use Rattle.duration_str.proofs.Sentences.SpellingLemmas.{EachPasses, lexemes_pass, begins_with}
 use Rattle.duration_str.proofs.Sentences.SumLemmas.{sum-append}
 use Rattle.duration_str.proofs.Sentences.AnswerLemmas.{read_below}
 use Rattle.duration_str.proofs.Sentences.SumReadings.{IsSumOf, terms_of_lexemes, sum_read, read_sum, EachFits, sum_fits_each, sum_overflows}
 
 -- ---- The joined lexemes spell the joined text
 
-pub spells_after_blanks : (lexemes : List (List ℕ)) (s t : List ℕ) → IsBlank s → Spells lexemes t
+spells_after_blanks : (lexemes : List (List ℕ)) (s t : List ℕ) → IsBlank s → Spells lexemes t
     → Spells lexemes (s ++ t)
 spells_after_blanks [] s t h k = list_all-append _ s t ∙ and_from _ _ h k
-spells_after_blanks (w ∷ lexemes) s t h k = (
-  s ++ k.0,
-  k.1,
-  list_all-append _ s k.0 ∙ and_from _ _ h k.2,
-  rw k.3 (simp append_assoc),
-  k.4,
-)
+spells_after_blanks (w ∷ lexemes) s t h k =
+    begins_with (s ++ k.blanks) k.rest (list_all-append _ s k.blanks ∙ and_from _ _ h k.blank)
+    (rw k.parts (simp append_assoc)) k.is_rest
 
 pub spells_both : (xs ys : List (List ℕ)) (s t : List ℕ) → Spells xs s → Spells ys t → Spells (xs ++ ys) (s ++ t)
 spells_both [] ys s t h k = spells_after_blanks ys s t h k
-spells_both (x ∷ xs) ys s t h k = (h.0, h.1 ++ t, h.2, rw h.3 (simp append_assoc), spells_both xs ys h.1 t h.4 k)
+spells_both (x ∷ xs) ys s t h k =
+    begins_with h.blanks (h.rest ++ t) h.blank (rw h.parts (simp append_assoc)) (spells_both xs ys h.rest t h.is_rest k)
 
 -- ---- They are a sentence, with the terms of both
 
-pub plus_terminal : (o : Options) → terminal_of o (codes "+") ≡ operator Plus
-plus_terminal o = at o.no_calc o.lowercase o.cn_unit
-  where
-    at : (no_calc lowercase cn_unit : Bool)
-        → terminal_of (record { no_calc = no_calc; lowercase = lowercase; cn_unit = cn_unit }) (codes "+")
-        ≡ operator Plus
-    at no_calc lowercase true = refl
-    at no_calc lowercase false = refl
+plus_terminal : (o : Options) → terminal_of o (codes "+") ≡ operator Plus
+plus_terminal o = elim (cases_Bool o.cn_unit) [ inl e ↦ rw e | inr e ↦ rw e ]
 
 both_sentence : (xs ys : List Terminal) → IsSentence false xs → IsSentence false ys
     → IsSentence false (xs ++ operator Plus ∷ ys)
@@ -99,7 +90,7 @@ joined_is_sum : {o : Options} {a b : List ℕ} {lexemes others : List (List ℕ)
     → IsSumOf o lexemes a → IsSumOf o others b → IsSumOf o (joined_lexemes lexemes others) (a ++ codes "+" ++ b)
 joined_is_sum {o} {a} {b} {lexemes} {others} calc s t =
     let (xs, ys) : List Terminal × List Terminal = (map (terminal_of o) lexemes, map (terminal_of o) others) in
-    let plus = spells_both lexemes (codes "+" ∷ []) a (codes "+") s.sentence.1 ([], [], refl, refl, refl) in
+    let plus = spells_both lexemes (codes "+" ∷ []) a (codes "+") s.sentence.1 (begins_with [] [] refl refl refl) in
     record {
       sentence = (
         rw (calc, joined_terminals o lexemes others)
@@ -112,7 +103,7 @@ joined_is_sum {o} {a} {b} {lexemes} {others} calc s t =
 joined_terms : (o : Options) (lexemes others : List (List ℕ)) → IsSentence false (map (terminal_of o) lexemes)
     → terms_of_lexemes o (joined_lexemes lexemes others) ≡ terms_of_lexemes o lexemes ++ terms_of_lexemes o others
 joined_terms o lexemes others s =
-    rw (joined_terminals o lexemes others) (both_terms Plus (map (terminal_of o) lexemes) (map (terminal_of o) others) s)
+    rw (joined_terminals o lexemes others) (both_terms Plus (map (terminal_of o) lexemes) _ s)
 
 -- What is known of the joined text of two texts that are read.
 record IsJoined (o : Options) (text : List ℕ) (nanos : ℕ) : Type 0 where
@@ -123,21 +114,16 @@ record IsJoined (o : Options) (text : List ℕ) (nanos : ℕ) : Type 0 where
 
 reads_joined : {o : Options} {a b : List ℕ} {m n : ℕ} → o.no_calc ≡ false → HasNoStar a → HasNoStar b → IsRead o a m
     → IsRead o b n → IsJoined o (a ++ codes "+" ++ b) (m + n)
-reads_joined {o} {m = m} {n = n} calc plain_a plain_b r q =
-    let s = read_is_sum o plain_a r in
-    let t = read_is_sum o plain_b q in
-    let xs = terms_of_lexemes o r.lexemes in
-    let ys = terms_of_lexemes o q.lexemes in
+reads_joined {o} {a} {b} calc plain_a plain_b r q =
+    let (s, t) : IsSumOf o r.lexemes a × IsSumOf o q.lexemes b = (read_is_sum o plain_a r, read_is_sum o plain_b q) in
+    let (xs, ys) : List Term × List Term = (terms_of_lexemes o r.lexemes, terms_of_lexemes o q.lexemes) in
     let terms = joined_terms o r.lexemes q.lexemes (rw calc at r.spells.0) in
-    let sum_a : sum_of xs ≡ m = read_sum s r in
-    let sum_b : sum_of ys ≡ n = read_sum t q in
-    let small_a = sum_fits_each xs (rw sum_a (read_below r)) in
-    let small_b = sum_fits_each ys (rw sum_b (read_below q)) in
     record {
       lexemes = joined_lexemes r.lexemes q.lexemes;
       sum = joined_is_sum calc s t;
-      total = rw (terms, sum-append xs ys, sum_a, sum_b);
-      each = rw terms (both_fit xs ys small_a small_b);
+      total = rw (terms, sum-append xs ys, read_sum s r, read_sum t q);
+      each = rw terms (both_fit xs ys (sum_fits_each xs (rw (read_sum s r) (read_below r)))
+          (sum_fits_each ys (rw (read_sum t q) (read_below q))));
     }
 
 pub sum_of_texts_holds : SumOfTexts

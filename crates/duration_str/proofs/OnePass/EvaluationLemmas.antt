@@ -1,9 +1,7 @@
 -- Combining the later terms one by one gives their faults in the order of the whole list.
 use Rattle.std.proofs.Common.{◌≡◌, ℕ, ◌+◌, ◌*◌, ◌^◌, ◌<◌, Bool, true, false, inl, inr, List, [], ◌∷◌, ◌++◌, Option, Some, None, Result, Ok, IsTrue, if◌then◌else◌, unwrap_or, refl, ap, ◌∙◌, arith, append_assoc, append-nil, ok_or, lt-ltb, le-ltb}
-use Rattle.duration_str.proofs.Common.{cases_Bool, cases_lt, CondUnit, Plus, Star, Cause, Overflow, Mixed, Term, value_of_term, sum_of, later_total, combination, value_of, fits, or_else, unless, term_fault, later_fault, evaluation_fault, is_same_operator, u64_from, term_value, first_fault, running_fault, fault_or, nothing_of, before_operator, at_once}
-use Rattle.std.specs.Result.{result_err}
+use Rattle.duration_str.proofs.Common.{cases_Bool, cases_lt, CondUnit, Plus, Star, Cause, Overflow, Mixed, Term, value_of_term, sum_of, later_total, combination, value_of, fits, or_else, unless, term_fault, later_fault, evaluation_fault, is_same_operator, u64_from, term_value, first_fault, running_fault, fault_or, nothing_of, before_operator, at_once, result_err, checked_combination}
 use Rattle.std.proofs.lemmas.List.Sums.{fold-append}
-use Rattle.duration_str.specs.Internal.Rest.{checked_combination}
 use Rattle.duration_str.proofs.Sentences.FaultLemmas.{no_fault, is_same_operator-true}
 use Rattle.duration_str.proofs.Sentences.SumLemmas.{AreAdded, sum-append, later_none, running_below, value_is_sum}
 use Rattle.duration_str.proofs.Sentences.AnswerLemmas.{later_value}
@@ -28,24 +26,24 @@ fault_or-or_else : (a b : Option Cause) (r : Result ℕ Cause) → fault_or (or_
 fault_or-or_else None b r = refl
 fault_or-or_else (Some cause) b r = refl
 
-checked_combination-fault_left : (set : CondUnit) (a : Option Cause) (x y : Result ℕ Cause)
-    → checked_combination set (fault_or a x) y ≡ fault_or a (checked_combination set x y)
-checked_combination-fault_left set None x y = refl
-checked_combination-fault_left set (Some cause) x y = refl
+checked_combination-fault_left : (op : CondUnit) (a : Option Cause) (x y : Result ℕ Cause)
+    → checked_combination op (fault_or a x) y ≡ fault_or a (checked_combination op x y)
+checked_combination-fault_left op None x y = refl
+checked_combination-fault_left op (Some cause) x y = refl
 
-checked_combination-fault_right : (set : CondUnit) (x : ℕ) (a : Option Cause) (y : Result ℕ Cause)
-    → checked_combination set (Ok x) (fault_or a y) ≡ fault_or a (checked_combination set (Ok x) y)
-checked_combination-fault_right set x None y = refl
-checked_combination-fault_right set x (Some cause) y = refl
+checked_combination-fault_right : (op : CondUnit) (x : ℕ) (a : Option Cause) (y : Result ℕ Cause)
+    → checked_combination op (Ok x) (fault_or a y) ≡ fault_or a (checked_combination op (Ok x) y)
+checked_combination-fault_right op x None y = refl
+checked_combination-fault_right op x (Some cause) y = refl
 
 ok_or-fits : (n : ℕ) → ok_or (u64_from n) (Overflow None) ≡ fault_or (unless (fits n) (Overflow None)) (Ok n)
 ok_or-fits n = elim (cases_Bool (fits n)) [ inl e ↦ rw e | inr e ↦ rw e ]
 
-before_operator-fault : (set next : CondUnit) (a : Option Cause) (x : ℕ)
-    → before_operator set (fault_or a (Ok x)) next
-    ≡ fault_or a (fault_or (unless (is_same_operator set next) (Mixed set next)) (Ok x))
-before_operator-fault set next (Some cause) x = refl
-before_operator-fault set next None x = elim (cases_Bool (is_same_operator set next)) [ inl e ↦ rw e | inr e ↦ rw e ]
+before_operator-fault : (op next : CondUnit) (a : Option Cause) (x : ℕ)
+    → before_operator op (fault_or a (Ok x)) next
+    ≡ fault_or a (fault_or (unless (is_same_operator op next) (Mixed op next)) (Ok x))
+before_operator-fault op next (Some cause) x = refl
+before_operator-fault op next None x = elim (cases_Bool (is_same_operator op next)) [ inl e ↦ rw e | inr e ↦ rw e ]
 
 ruleset in_order = (
   or_else_assoc,
@@ -62,24 +60,23 @@ running_append : (before xs ys : List Term)
 running_append before [] ys = rw append-nil
 running_append before (x ∷ xs) ys = simp (running_append (before ++ x ∷ []) xs ys, append_assoc, or_else_assoc)
 
-later_append : (set : CondUnit) (before xs ys : List Term)
-    → later_fault set before (xs ++ ys) ≡ or_else (later_fault set before xs) (later_fault set (before ++ xs) ys)
-later_append set before [] ys = rw append-nil
-later_append set before (x ∷ xs) ys = simp (later_append set (before ++ x ∷ []) xs ys, append_assoc, or_else_assoc)
+later_append : (op : CondUnit) (before xs ys : List Term)
+    → later_fault op before (xs ++ ys) ≡ or_else (later_fault op before xs) (later_fault op (before ++ xs) ys)
+later_append op before [] ys = rw append-nil
+later_append op before (x ∷ xs) ys = simp (later_append op (before ++ x ∷ []) xs ys, append_assoc, or_else_assoc)
 
 -- ---- One more later term
 
 -- the value of the later terms, or their first fault
 abbrev value_by : CondUnit → List Term → Result ℕ Cause
-value_by set later = fault_or (later_fault set [] later) (Ok (later_total set later))
+value_by op later = fault_or (later_fault op [] later) (Ok (later_total op later))
 
 -- The value of a term, or its fault, as `term_value` gives it.
 pub term_told : (place : Option ℕ) (t : Term)
     → term_value place (u64_from t.number) t.length ≡ fault_or (term_fault place t) (Ok (value_of_term t))
 term_told place t = elim (cases_Bool (fits t.number)) [
-  | inl number ↦
-      elim (cases_Bool (fits (value_of_term t))) [ inl value ↦ rw (number, value) | inr value ↦ rw (number, value) ]
-  | inr number ↦ rw number
+  | inl e ↦ rw e (elim (cases_Bool (fits (value_of_term t))) [ inl f ↦ rw f | inr f ↦ rw f ])
+  | inr e ↦ rw e
 ]
 
 -- A term's value is below 2^64.
@@ -90,27 +87,30 @@ value_below place (Some n) length value e = elim (cases_lt (n * length) (2 ^ 64)
   | inr above ↦ absurd (cc (rw (le-ltb _ _ above) at e))
 ]
 
-together-push : (set : CondUnit) (before : List Term) (t : Term)
-    → combination set (later_total set before) (value_of_term t) ≡ later_total set (before ++ t ∷ [])
+together-push : (op : CondUnit) (before : List Term) (t : Term)
+    → combination op (later_total op before) (value_of_term t) ≡ later_total op (before ++ t ∷ [])
 together-push Plus before t = omega (arith, sum-append before (t ∷ []))
 together-push Star before t = rw fold-append
 
--- One more term is combined if its operator is the one that was set.
-one_more : (set : CondUnit) (before : List Term) (t : Term)
-    → checked_combination set (before_operator set (value_by set before) t.operator) (term_value None (u64_from t.number) t.length)
-    ≡ value_by set (before ++ t ∷ [])
-one_more set before t =
-    simp (in_order, term_told None t, later_append set [] before (t ∷ []), together-push set before t)
+-- One more term is combined if its operator is the same.
+one_more : (op : CondUnit) (before : List Term) (t : Term)
+    → checked_combination op (before_operator op (value_by op before) t.operator)
+    (term_value None (u64_from t.number) t.length)
+    ≡ value_by op (before ++ t ∷ [])
+one_more op before t =
+    simp (in_order, term_told None t, later_append op [] before (t ∷ []), together-push op before t)
 
 -- ---- All terms, one by one
 
 -- the answer, given the first value and the later terms so far, the terms that are left, and the syntax fault after
 -- them
 abbrev pub answer_with : Bool → ℕ → CondUnit → Result ℕ Cause → List Term → Option Cause → Result ℕ Cause
-answer_with no_calc first set later [] syntax = fault_or syntax (checked_combination set (Ok first) later)
-answer_with no_calc first set later (t ∷ terms) syntax =
-    let next = checked_combination set (before_operator set later t.operator) (term_value None (u64_from t.number) t.length) in
-    fault_or (at_once no_calc (checked_combination set (Ok first) next)) (answer_with no_calc first set next terms syntax)
+answer_with no_calc first op later [] syntax = fault_or syntax (checked_combination op (Ok first) later)
+answer_with no_calc first op later (t ∷ terms) syntax =
+    let term = term_value None (u64_from t.number) t.length in
+    let next = checked_combination op (before_operator op later t.operator) term in
+    fault_or (at_once no_calc (checked_combination op (Ok first) next))
+    (answer_with no_calc first op next terms syntax)
 
 -- the answer, given the first value and the terms after it
 abbrev pub answer_after_first : Bool → ℕ → List Term → Option Cause → Result ℕ Cause
@@ -118,12 +118,12 @@ answer_after_first no_calc first [] syntax = fault_or syntax (Ok first)
 answer_after_first no_calc first (t ∷ terms) syntax =
     answer_with no_calc first t.operator (Ok (nothing_of t.operator)) (t ∷ terms) syntax
 
-default_left : (first : ℕ) (set : CondUnit) (before later : List Term) (syntax : Option Cause)
-    → answer_with false first set (value_by set before) later syntax
-    ≡ fault_or syntax (checked_combination set (Ok first) (value_by set (before ++ later)))
-default_left first set before [] syntax = rw append-nil
-default_left first set before (t ∷ later) syntax =
-    rw (one_more set before t, default_left first set (before ++ t ∷ []) later syntax, append_assoc before (t ∷ []) later)
+default_left : (first : ℕ) (op : CondUnit) (before later : List Term) (syntax : Option Cause)
+    → answer_with false first op (value_by op before) later syntax
+    ≡ fault_or syntax (checked_combination op (Ok first) (value_by op (before ++ later)))
+default_left first op before [] syntax = rw append-nil
+default_left first op before (t ∷ later) syntax =
+    rw (one_more op before t, default_left first op (before ++ t ∷ []) later syntax, append_assoc before)
 
 -- the overflow of the later terms' sum, and that of the sum with the first term, are one fault
 sum_told : (first sum : ℕ) (own : Option Cause)
@@ -147,10 +147,10 @@ checked_sum f before t plus a h =
     (sum_told (value_of_term f) (sum_of (before ++ t ∷ [])) (term_fault None t))
 
 -- Results after a fault are equal if they are without it.
-unless_fault : (fault : Option Cause) (x y : Result ℕ Cause) → (fault ≡ None → x ≡ y)
+unless_fault : {x y : Result ℕ Cause} (fault : Option Cause) → (fault ≡ None → x ≡ y)
     → fault_or fault x ≡ fault_or fault y
-unless_fault None x y h = h refl
-unless_fault (Some cause) x y h = refl
+unless_fault None h = h refl
+unless_fault (Some cause) h = refl
 
 added_push : (xs : List Term) (t : Term) (ys : List Term) → AreAdded xs → AreAdded (t ∷ ys) → AreAdded (xs ++ t ∷ [])
 added_push [] t ys a b = (b.0, b.1, tt)
@@ -170,7 +170,7 @@ no_calc_left f before (t ∷ later) syntax h a b =
       ← checked_sum f before t b.0 a h,
       running_append (f ∷ before) (t ∷ []) later,
       fault_or-or_else fault (running_fault (f ∷ next) later),
-    ) (unless_fault fault _ _ (λ e.
+    ) (unless_fault fault (λ e.
     let below = running_below (f ∷ before) (t ∷ []) h e in
     rw (no_calc_left f next later syntax below (added_push (f ∷ before) t later a b) b.2, append_assoc)))
 
@@ -181,9 +181,9 @@ whole_value : (f u : Term) (later : List Term)
 whole_value f u later =
     let fault = later_fault u.operator [] (u ∷ later) in
     rw (checked_combination-fault_right u.operator (value_of_term f) fault, ok_or-fits, fault_or-or_else fault)
-    (unless_fault fault _ _ (λ e. rw (later_value f u later e)))
+    (unless_fault fault (λ e. rw (later_value f u later e)))
 
-nothing_is : (set : CondUnit) → nothing_of set ≡ later_total set []
+nothing_is : (op : CondUnit) → nothing_of op ≡ later_total op []
 nothing_is Plus = refl
 nothing_is Star = refl
 
@@ -194,7 +194,7 @@ no_calc_after f [] syntax a h = refl
 no_calc_after f (u ∷ later) syntax a h =
     let start = ap (λ op. answer_with true (value_of_term f) op (Ok (nothing_of op)) (u ∷ later) syntax) a.2.0
     ∙ no_calc_left f [] (u ∷ later) syntax h (a.0, a.1, tt) a.2 in
-    rw start (unless_fault (running_fault (f ∷ []) (u ∷ later)) _ _ (λ e.
+    rw start (unless_fault (running_fault (f ∷ []) (u ∷ later)) (λ e.
     let below = running_below (f ∷ []) (u ∷ later) h e in
     let none = later_none [] (u ∷ later) a.2 (omega arith) in
     rw (value_is_sum (f ∷ u ∷ later) (omega arith) a, none, lt-ltb (sum_of (f ∷ u ∷ later)) _ below)))
@@ -208,7 +208,7 @@ one_by_one false f [] syntax added = refl
 one_by_one false f (u ∷ later) syntax added =
     rw (nothing_is u.operator, default_left (value_of_term f) u.operator [] (u ∷ later) syntax, whole_value f u later)
 one_by_one true f later syntax added =
-    rw (fault_or-or_else (term_fault (Some 0) f)) (unless_fault (term_fault (Some 0) f) _ _ (λ e.
+    rw (fault_or-or_else (term_fault (Some 0) f)) (unless_fault (term_fault (Some 0) f) (λ e.
     let below = simp no_fault at e in
     let own : sum_of (f ∷ []) < 2 ^ 64 = omega arith in
     rw (lt-ltb (sum_of (f ∷ [])) _ own) (no_calc_after f later syntax (added refl) own)))

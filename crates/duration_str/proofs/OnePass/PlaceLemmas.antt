@@ -1,9 +1,7 @@
 -- The place of a fault is a character boundary of the text.
-use Rattle.std.proofs.Common.{◌≡◌, ℕ, zero, suc, ◌+◌, ◌-◌, ◌≤◌, Bool, true, false, inl, inr, List, [], ◌∷◌, ◌++◌, length, take, drop, Option, Some, None, Result, Ok, Err, IsUtf8, refl, ap, sym, subst, ◌∙◌, arith, append_assoc, length-append, IsCharBoundary, chars, take-append-drop, length-take-le}
-use Rattle.duration_str.proofs.Common.{ForSome, IsUtf8-take, encodes-append, encodes-chars, scalars-chars, chars-append, cases_Bool, and_parts, scalar, scalars, encodes, encode, Options, CondUnit, Cause, Empty, Syntax, NumberTooLarge, Overflow, Mixed, OutOfRange, NotText, byte_len, Terminal, AreTokens, tokens_of, start_after, terminals_of, Term, or_else, unless, terms_of, term_fault, later_fault, evaluation_fault, complete_terms, place_after, first_fault, running_fault, early_fault, late_fault, is_whole, late_answer, answer_after, answer, front_of}
-use Rattle.std.proofs.lemmas.Str.{IsCharBoundary-start, IsCharBoundary-end, IsCharBoundary-at_seam, length-encode}
-use Rattle.std.proofs.Math.Seq.{take-append-add}
-use Rattle.duration_str.specs.Tokens.{Token}
+use Rattle.std.proofs.Common.{◌≡◌, ℕ, zero, suc, ◌+◌, ◌-◌, ◌≤◌, Bool, true, false, inl, inr, List, [], ◌∷◌, ◌++◌, length, take, drop, Option, Some, None, Err, IsUtf8, refl, ap, sym, ◌∙◌, arith, append_assoc, length-append, IsCharBoundary, chars}
+use Rattle.duration_str.proofs.Common.{ForSome, IsUtf8-take, encodes-append, encodes-chars, scalars-chars, chars-append, cases_Bool, and_from, and_parts, scalar, scalars, encodes, encode, Options, CondUnit, Cause, Syntax, byte_len, Terminal, AreTokens, tokens_of, start_after, terminals_of, Term, or_else, unless, terms_of, term_fault, later_fault, evaluation_fault, complete_terms, place_after, first_fault, running_fault, early_fault, late_fault, is_whole, late_answer, answer_after, answer, front_of, IsCharBoundary-start, IsCharBoundary-end, IsCharBoundary-at_seam, length-encode, Token, result_err}
+use Rattle.std.proofs.Math.Seq.{take-add}
 use Rattle.duration_str.specs.Faults.{place_of}
 use Rattle.duration_str.proofs.Characters.TextLemmas.{width-scalar, byte_len-append}
 use Rattle.duration_str.proofs.Cutting.TokenLemmas.{tokens_are}
@@ -11,19 +9,14 @@ use Rattle.duration_str.proofs.Cutting.TokenLemmas.{tokens_are}
 -- ---- A property of the place of a syntax fault
 
 -- The place of a syntax fault has the property; any other fault has no place, or stands at the start of the text.
-abbrev Stands : (ℕ → Type 0) → Cause → Type 0
+abbrev pub Stands : (ℕ → Type 0) → Cause → Type 0
 Stands P (Syntax place expected) = P place
 Stands P cause = ForSome (place_of cause) (λ place. place ≡ 0)
 
 -- The same for the fault, if there is one.
-abbrev FaultStands : (ℕ → Type 0) → Option Cause → Type 0
+abbrev pub FaultStands : (ℕ → Type 0) → Option Cause → Type 0
 FaultStands P None = Unit {0}
 FaultStands P (Some cause) = Stands P cause
-
--- The same for an answer.
-abbrev AnswerStands : (ℕ → Type 0) → Result ℕ Cause → Type 0
-AnswerStands P (Ok nanos) = Unit {0}
-AnswerStands P (Err cause) = Stands P cause
 
 abbrev pub AllStart : (ℕ → Type 0) → List Token → Type 0
 AllStart P [] = Unit {0}
@@ -49,15 +42,14 @@ module _ (P : ℕ → Type 0) where
 
   ruleset stands = (or_else_stands, unless_stands, term_stands, no_place)
 
-  later_stands : (set : CondUnit) (before later : List Term) → FaultStands P (later_fault set before later)
-  later_stands set before [] = tt
-  later_stands set before (t ∷ later) = search (stands, later_stands set (before ++ t ∷ []) later) depth 8
+  later_stands : (op : CondUnit) (before later : List Term) → FaultStands P (later_fault op before later)
+  later_stands op before [] = tt
+  later_stands op before (t ∷ later) = search (stands, later_stands op (before ++ t ∷ []) later) depth 8
 
   evaluation_stands : (terms : List Term) → FaultStands P (evaluation_fault terms)
-  evaluation_stands [] = tt
-  evaluation_stands (t ∷ []) = tt
   evaluation_stands (t ∷ u ∷ later) =
       search (or_else_stands, unless_stands, no_place, later_stands u.operator [] (u ∷ later))
+  evaluation_stands _ = tt
 
   first_place : (before : List Term) → ForSome (place_after before) (λ (place : ℕ). place ≡ 0)
   first_place [] = at_start
@@ -72,24 +64,23 @@ module _ (P : ℕ → Type 0) where
   first_stands [] = tt
   first_stands (t ∷ terms) = term_stands (Some 0) t at_start
 
-  early_stands : (no_calc : Bool) (front rest : List Terminal) → FaultStands P (early_fault no_calc front rest)
+  pub early_stands : (no_calc : Bool) (front rest : List Terminal) → FaultStands P (early_fault no_calc front rest)
   early_stands true front rest = running_stands [] (complete_terms front rest)
   early_stands false front rest = first_stands (complete_terms front rest)
 
-  late_stands : (no_calc : Bool) (terminals : List Terminal) → FaultStands P (late_fault no_calc terminals)
+  pub late_stands : (no_calc : Bool) (terminals : List Terminal) → FaultStands P (late_fault no_calc terminals)
   late_stands true terminals = tt
   late_stands false terminals = evaluation_stands (terms_of terminals)
 
-  late_answer_stands : (fault : Option Cause) (terminals : List Terminal) → FaultStands P fault
-      → AnswerStands P (late_answer fault terminals)
-  late_answer_stands None terminals h = tt
-  late_answer_stands (Some cause) terminals h = h
-
   answer_after_stands : (no_calc : Bool) (place : ℕ) (front rest : List Terminal) (fault : Option Cause)
-      → FaultStands P fault → P place → AnswerStands P (answer_after no_calc place front rest fault)
+      → FaultStands P fault → P place → FaultStands P (result_err (answer_after no_calc place front rest fault))
   answer_after_stands no_calc place front rest (Some cause) h k = h
   answer_after_stands no_calc place front rest None h k = elim (cases_Bool (is_whole no_calc front rest)) [
-    | inl e ↦ rw e (late_answer_stands (late_fault no_calc front) front (late_stands no_calc front))
+    | inl e ↦ rw e (elim (late_fault no_calc front) as (λ late. FaultStands P late
+        → FaultStands P (result_err (late_answer late front))) [
+          | None ↦ λ none. tt
+          | Some cause ↦ λ stands. stands
+        ] (late_stands no_calc front))
     | inr e ↦ rw e k
   ]
 
@@ -100,29 +91,27 @@ module _ (P : ℕ → Type 0) where
   start_among (suc n) len (p ∷ tokens) h k = start_among n len tokens h k.1
 
   pub answer_stands : (o : Options) (text : List ℕ) → P (byte_len text) → AllStart P (tokens_of o text)
-      → AnswerStands P (answer o text)
+      → FaultStands P (result_err (answer o text))
   answer_stands o [] k l = no_place
   answer_stands o (c ∷ text) k l =
       let terminals = terminals_of o (c ∷ text) in
       let n = front_of o.no_calc terminals in
-      answer_after_stands o.no_calc (start_after n (byte_len (c ∷ text)) (tokens_of o (c ∷ text))) (take n terminals)
-      (drop n terminals) _ (early_stands o.no_calc (take n terminals) (drop n terminals))
+      answer_after_stands o.no_calc _ (take n terminals) (drop n terminals) _
+      (early_stands o.no_calc (take n terminals) (drop n terminals))
       (start_among n (byte_len (c ∷ text)) (tokens_of o (c ∷ text)) k l)
 
 -- ---- Bytes and boundaries
-
-scalars-parts : (xs ys : List ℕ) → scalars (xs ++ ys) ≡ true → (scalars xs ≡ true) × (scalars ys ≡ true)
-scalars-parts [] ys e = (refl, e)
-scalars-parts (x ∷ xs) ys e =
-    let h = and_parts (scalar x) (scalars (xs ++ ys)) e in
-    let k = scalars-parts xs ys h.1 in
-    (rw (h.0, k.0) refl, k.1)
 
 encoded_len : (cs : List ℕ) → scalars cs ≡ true → byte_len cs ≡ length (encodes cs)
 encoded_len [] e = refl
 encoded_len (c ∷ cs) e =
     let h = and_parts (scalar c) (scalars cs) e in
     omega (arith, width-scalar c h.0, length-encode c, encoded_len cs h.1, length-append (encode c) (encodes cs))
+
+scalars-parts : (xs ys : List ℕ) → scalars (xs ++ ys) ≡ true → (scalars xs ≡ true) × (scalars ys ≡ true)
+scalars-parts [] ys e = (refl, e)
+scalars-parts (x ∷ xs) ys e =
+    let h = and_parts _ _ e in let k = scalars-parts xs ys h.1 in (and_from _ _ h.0 k.0, k.1)
 
 -- The bytes of a text are those of its characters.
 pub byte_count : (bs : List ℕ) → IsUtf8 bs → byte_len (chars bs) ≡ length bs
@@ -151,23 +140,15 @@ all_start o bs xs cs at (p ∷ tokens) utf8 e w a =
       all_start o bs (before ++ p.characters) rest (p.start + byte_len p.characters) tokens utf8 next end a.2,
     )
 
-at_zero : (P : ℕ → Type 0) → P 0 → (place : Option ℕ) → ForSome place (λ (n : ℕ). n ≡ 0) → ForSome place P
-at_zero P start place h n e = rw (h n e) start
-
 -- What holds of the start and of a syntax fault's place holds of the place of any fault.
 stands_at : (P : ℕ → Type 0) → P 0 → (cause : Cause) → Stands P cause → ForSome (place_of cause) P
-stands_at P start (Syntax place expected) h = λ n e. let same : place ≡ n = cc in subst P same h
-stands_at P start Empty h = at_zero P start _ h
-stands_at P start (NumberTooLarge place) h = at_zero P start _ h
-stands_at P start (Overflow place) h = at_zero P start _ h
-stands_at P start (Mixed first later) h = at_zero P start _ h
-stands_at P start OutOfRange h = at_zero P start _ h
-stands_at P start (NotText optional) h = at_zero P start _ h
+stands_at P start (Syntax place expected) h = λ n e. let same : place ≡ n = cc in rw (← same) h
+stands_at P start cause h = λ n e. rw (h n e) start
 
 -- The place of the answer's fault is a character boundary.
-pub fault_placed : (o : Options) (bs : List ℕ) (c : Cause) → IsUtf8 bs → answer o (chars bs) ≡ Err c
+pub fault_placed : {c : Cause} (o : Options) (bs : List ℕ) → IsUtf8 bs → answer o (chars bs) ≡ Err c
     → ForSome (place_of c) (IsCharBoundary bs)
-fault_placed o bs c utf8 e =
+fault_placed {c} o bs utf8 e =
     stands_at (IsCharBoundary bs) (IsCharBoundary-start bs utf8) c
     (rw e at (answer_stands (IsCharBoundary bs) o (chars bs) (rw (byte_count bs utf8) (IsCharBoundary-end bs))
     (all_start o bs [] (chars bs) 0 (tokens_of o (chars bs)) utf8 refl refl (tokens_are o 0 (chars bs)))))
@@ -176,13 +157,8 @@ fault_placed o bs c utf8 e =
 pub chars_before : (bs : List ℕ) (place at : ℕ) → IsUtf8 bs → IsCharBoundary bs place → place ≤ at
     → length (chars (take place bs)) ≤ length (chars (take at bs))
 chars_before bs place at utf8 boundary order =
-    let front = take place bs in
-    let more = take (at - place) (drop place bs) in
-    let len : length front ≡ place = length-take-le place bs boundary.0 in
-    let sum : at ≡ length front + (at - place) = omega (arith, len, order) in
-    let cut : take at bs ≡ front ++ more =
-    ap (λ n. take n bs) sum ∙ ap (take (length front + (at - place))) (sym (take-append-drop place bs))
-    ∙ take-append-add front (drop place bs) (at - place) in
-    let parts : chars (take at bs) ≡ chars front ++ chars more =
-    ap chars cut ∙ chars-append front more (IsUtf8-take bs place utf8 boundary) in
-    omega (arith, ap length parts, length-append (chars front) (chars more))
+    let (front, more) : List ℕ × List ℕ = (take place bs, take (at - place) (drop place bs)) in
+    let sum : at ≡ place + (at - place) = omega arith in
+    let cut : take at bs ≡ front ++ more = ap (λ n. take n bs) sum ∙ take-add place (at - place) bs in
+    rw (cut, chars-append front more (IsUtf8-take bs place utf8 boundary))
+    (omega (arith, length-append (chars front) (chars more)))

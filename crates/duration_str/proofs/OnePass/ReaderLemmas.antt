@@ -1,7 +1,7 @@
 -- The reader's steps: what comes next, by the sort ahead, and what is left after it.
 use Rattle.std.proofs.Common.{◌≡◌, ℕ, Bool, true, false, length, Option, Some, None, Result, Ok, Err, IsTrue, refl, sym, ap, ◌∙◌, if◌then◌else◌}
-use Rattle.duration_str.proofs.Common.{TimeUnit, Second, CondUnit, Plus, Cause, Syntax, Sort, Tokens, Terminal, number, word, operator, other, terminal_of, kinds_after, sort_of, source, options_of, left, IsAhead, LooksAhead, is_number, TakesToken, TakesSign, Rest, terminal_at, end_at, rest_from, rest_of, lacks_number, fault_or, Read, leaving, unit_read, operator_read}
-use Rattle.duration_str.specs.Tokenizer.{place_of}
+use Rattle.duration_str.proofs.Common.{TimeUnit, Second, CondUnit, Plus, Cause, Syntax, Sort, Tokens, Terminal, number, word, operator, other, terminal_of, kinds_at_start, sort_of, source, options_of, tokens_left, IsAhead, LooksAhead, is_number, TakesToken, TakesSign, Rest, terminal_at, end_at, rest_from, rest_of, lacks_number, fault_or, Read, leaving, unit_read, operator_read}
+use Rattle.duration_str.specs.Tokenizer.{cut_place}
 use Rattle.duration_str.proofs.Cutting.TokenizerLemmas.{keeps_all, none_left, first_left}
 use Rattle.duration_str.specs.declared.token.Sort.TheVariants as sorts
 
@@ -11,8 +11,8 @@ same_rest : {s m : Tokens} {sort : Option Sort} → LooksAhead s m sort → rest
 same_rest look = (λ i. rest_from (look.kept.options i) (length (look.kept.text i)) (look.same_left i))
 
 -- At the end the whole source is cut.
-pub at_end : (s m : Tokens) → LooksAhead s m None → (rest_of s ≡ end_at (place_of m)) × (place_of m ≡ length (source m))
-at_end s m look =
+pub at_end : {s m : Tokens} → LooksAhead s m None → (rest_of s ≡ end_at (cut_place m)) × (cut_place m ≡ length (source m))
+at_end {s} {m} look =
     let none = none_left m look.ahead in (rw (← same_rest look, none.0, ← none.1), none.1)
 
 -- The rest starts at this byte, with a terminal of this sort.
@@ -30,27 +30,27 @@ by_terminal (operator op) at rest more is = (more, is)
 by_terminal other at rest more is = (more, is)
 
 pub starts : {s m : Tokens} {ahead : Option Sort} {sort : Sort} → LooksAhead s m ahead → ahead ≡ Some sort
-    → StartsWith sort (place_of m) (rest_of s)
+    → StartsWith sort (cut_place m) (rest_of s)
 starts {s} {m} {sort = sort} look is =
     let (cs, rest, left_is, sort_is) = first_left m sort (rw is at look.ahead) in
     let here = rw left_is at (sym (same_rest look)) in
-    rw sort_is (by_terminal (terminal_of (options_of m) cs) (place_of m) (rest_of s) _ here)
+    rw sort_is (by_terminal (terminal_of (options_of m) cs) (cut_place m) (rest_of s) _ here)
 
 -- With a number ahead, the rest starts with it.
-pub at_number : (s : Tokens) → IsAhead s (Some sorts.Number) → StartsWith sorts.Number (place_of s) (rest_of s)
+pub at_number : (s : Tokens) → IsAhead s (Some sorts.Number) → StartsWith sorts.Number (cut_place s) (rest_of s)
 at_number s ahead =
     starts {m = s} {sort = sorts.Number} (record { kept = keeps_all s; same_left = refl; ahead = ahead }) refl
 
 -- ---- A number
 
 -- A number follows, or its absence is a fault at the place.
-pub number_comes : (s m : Tokens) (sort : Option Sort) → LooksAhead s m sort
-    → lacks_number (rest_of s) ≡ (if is_number sort then None else Some (Syntax (place_of m) (kinds_after false None)))
-number_comes s m None look = ap lacks_number (at_end s m look).0
-number_comes s m (Some sorts.Number) look = ap lacks_number (starts look refl).2
-number_comes s m (Some sorts.Word) look = ap lacks_number (starts look refl).2
-number_comes s m (Some (sorts.Operator op)) look = ap lacks_number (starts look refl).1
-number_comes s m (Some sorts.Other) look = ap lacks_number (starts look refl).1
+pub number_comes : {s m : Tokens} {sort : Option Sort} → LooksAhead s m sort
+    → lacks_number (rest_of s) ≡ (if is_number sort then None else Some (Syntax (cut_place m) kinds_at_start))
+number_comes {sort = None} look = rw (at_end look).0
+number_comes {sort = Some sorts.Number} look = rw (starts look refl).2
+number_comes {sort = Some sorts.Word} look = rw (starts look refl).2
+number_comes {sort = Some (sorts.Operator op)} look = rw (starts look refl).1
+number_comes {sort = Some sorts.Other} look = rw (starts look refl).1
 
 -- The only sort of numbers is `Number`.
 pub number_is : (sort : Option Sort) → is_number sort ≡ true → sort ≡ Some sorts.Number
@@ -75,11 +75,11 @@ operator_terminal (operator next) op e = cc
 operator_terminal _ op e = absurd cc
 
 pub after_token : {s t : Tokens} {terminal : Terminal} → TakesToken s t terminal
-    → rest_of s ≡ terminal_at (place_of s) terminal (rest_of t)
+    → rest_of s ≡ terminal_at (cut_place s) terminal (rest_of t)
 after_token {s} {t} taken =
     ap (rest_from (options_of s) (length (source s))) taken.first
-    ∙ (λ i. terminal_at (place_of s) (sym taken.is_terminal i)
-    (rest_from (sym taken.kept.options i) (length (sym taken.kept.text i)) (left t)))
+    ∙ (λ i. terminal_at (cut_place s) (sym taken.is_terminal i)
+    (rest_from (sym taken.kept.options i) (length (sym taken.kept.text i)) (tokens_left t)))
 
 pub operator_taken : {s m : Tokens} {ahead : Option Sort} {op : CondUnit} (t : Tokens) → LooksAhead s m ahead
     → ahead ≡ Some (sorts.Operator op) → TakesSign m t
@@ -94,8 +94,8 @@ operator_of (Ok r) = r.item
 operator_of (Err cause) = None
 
 -- Under `no_calc` the only operator is a plus that is left out.
-pub plus_alone : (no_calc : Bool) (rest after : Rest) (op : CondUnit)
+pub plus_alone : {after : Rest} {op : CondUnit} (no_calc : Bool) (rest : Rest)
     → leaving after (Ok (Some op)) ≡ operator_read no_calc rest → IsTrue no_calc → op ≡ Plus
-plus_alone no_calc (end_at at) after op e h = let none = ap operator_of e in absurd cc
-plus_alone no_calc (terminal_at at (number n) rest) after op e h = let same = ap operator_of e in cc
-plus_alone no_calc _ after op e h = absurd cc
+plus_alone no_calc (end_at at) e h = let none = ap operator_of e in absurd cc
+plus_alone no_calc (terminal_at at (number n) rest) e h = let same = ap operator_of e in cc
+plus_alone no_calc _ e h = absurd cc

@@ -1,8 +1,7 @@
 -- The terms that are left while a text is read, and the answer that they give.
 use Rattle.std.proofs.Common.{◌≡◌, ℕ, ◌^◌, ◌<◌, Bool, true, false, List, [], ◌∷◌, ◌++◌, length, take, drop, Option, Some, None, Result, Ok, Err, if◌then◌else◌, unwrap_or, IsTrue, refl, sym, ap, subst, ◌∙◌, arith}
-use Rattle.duration_str.proofs.Common.{TimeUnit, NanoSecond, CondUnit, Plus, Star, Cause, Syntax, Expected, Number, Tokens, nanos_of, Terminal, number, word, operator, AllPlus, Term, second, value_of_term, terms_of, terms_after, unless, value_of, term_value, term_of, without_last_number, complete, late_fault, late_answer, answer_after, answer_at, kinds_after, last_of, front_of, IsAhead, TakesNumber, Rest, terminal_at, rest_of, start_left, terminals_in, Read, leaving, unit_read, operator_read, answer_left, first_term, fault_or, nothing_of, before_operator, at_once}
-use Rattle.duration_str.specs.Tokenizer.{place_of}
-use Rattle.duration_str.specs.Internal.Rest.{checked_combination}
+use Rattle.duration_str.proofs.Common.{TimeUnit, NanoSecond, CondUnit, Plus, Star, Cause, Syntax, Expected, Number, Tokens, nanos_of, Terminal, number, word, operator, AllPlus, Term, value_of_term, terms_of, terms_after, unless, value_of, term_value, term_of, without_last_number, complete_terminals, early_fault, late_answer, answer_after, answer_at, kinds_after, last_of, front_of, IsAhead, TakesNumber, Rest, terminal_at, rest_of, start_left, terminals_in, Read, leaving, unit_read, operator_read, answer_left, first_term, fault_or, nothing_of, before_operator, at_once, checked_combination}
+use Rattle.duration_str.specs.Tokenizer.{cut_place}
 use Rattle.duration_str.proofs.Sentences.FaultLemmas.{term_below_no_fault}
 use Rattle.duration_str.proofs.Sentences.FrontLemmas.{begins_allowed, table_front}
 use Rattle.duration_str.proofs.Sentences.SumLemmas.{AreAdded, terms_added}
@@ -30,7 +29,7 @@ after_in no_calc rest = drop (front_of no_calc (terminals_in rest)) (terminals_i
 -- the terms that are left after the operator `op`, and the syntax fault after them
 abbrev pub left_after : Bool → CondUnit → Rest → Ended
 left_after no_calc op rest = record {
-  terms = terms_after op (complete (front_in no_calc rest) (after_in no_calc rest));
+  terms = terms_after op (complete_terminals (front_in no_calc rest) (after_in no_calc rest));
   fault = fault_at (start_left (front_of no_calc (terminals_in rest)) rest)
       (kinds_after no_calc (last_of None (front_in no_calc rest))) (after_in no_calc rest);
 }
@@ -56,119 +55,103 @@ after_number no_calc op n (Ok r) =
     record { terms = record { operator = op; number = n; length = nanos_of r.item } ∷ more.terms; fault = more.fault }
 after_number no_calc op n (Err cause) = no_terms cause
 
-with_unit : (op : CondUnit) (n : ℕ) (u : TimeUnit) (front rest : List Terminal)
-    → terms_after op (complete (number n ∷ word (Some u) ∷ front) rest)
-    ≡ record { operator = op; number = n; length = nanos_of u } ∷ terms_after Plus (complete front rest)
-with_unit op n u front [] = refl
-with_unit op n u front (terminal ∷ rest) = refl
-
-without_unit : (op next : CondUnit) (n : ℕ) (front rest : List Terminal)
-    → terms_after op (complete (number n ∷ operator next ∷ front) rest)
-    ≡ record { operator = op; number = n; length = second } ∷ terms_after next (complete front rest)
-without_unit op next n front [] = refl
-without_unit op next n front (terminal ∷ rest) = refl
-
-at_operator : (op next : CondUnit) (front rest : List Terminal)
-    → terms_after op (complete (operator next ∷ front) rest) ≡ terms_after next (complete front rest)
-at_operator op next front [] = refl
-at_operator op next front (terminal ∷ rest) = refl
+-- Terminals in front of which nothing ends are complete with what follows them.
+pulled : (ts front rest : List Terminal) → without_last_number (ts ++ front) ≡ ts ++ without_last_number front
+    → complete_terminals (ts ++ front) rest ≡ ts ++ complete_terminals front rest
+pulled ts front [] e = refl
+pulled ts front (terminal ∷ rest) e = e
 
 -- The terms from a number on are determined by the unit and the operator read after it.
 terms_read : (no_calc : Bool) (op : CondUnit) (at n : ℕ) (rest : Rest)
     → left_after no_calc op (terminal_at at (number n) rest) ≡ after_number no_calc op n (unit_read no_calc rest)
 terms_read no_calc op at n (terminal_at p (word (Some u)) (terminal_at q (number m) rest)) =
     let here = terminal_at q (number m) rest in
-    rw (with_unit op n u (front_in no_calc here) (after_in no_calc here))
-terms_read false op at n (terminal_at p (word (Some u)) (terminal_at q (operator next) (terminal_at r (number m) rest))) =
+    rw (pulled (number n ∷ word (Some u) ∷ []) (front_in no_calc here) (after_in no_calc here) refl)
+terms_read false op at n (terminal_at p (word (Some u)) (terminal_at q (operator next)
+    (terminal_at r (number m) rest))) =
     let here = terminal_at r (number m) rest in
-    let front = front_in false here in
-    let after = after_in false here in
-    rw (with_unit op n u (operator next ∷ front) after, at_operator Plus next front after)
+    rw (pulled (number n ∷ word (Some u) ∷ operator next ∷ []) (front_in false here) (after_in false here) refl)
 terms_read false op at n (terminal_at p (operator next) (terminal_at q (number m) rest)) =
     let here = terminal_at q (number m) rest in
-    rw (without_unit op next n (front_in false here) (after_in false here))
+    rw (pulled (number n ∷ operator next ∷ []) (front_in false here) (after_in false here) refl)
 terms_read no_calc op at n rest = refl
 
 -- A number is taken, and r is the result of reading the unit after it.
-pub number_taken : (no_calc : Bool) (op : CondUnit) (s a : Tokens) (n : Option ℕ) (taken : TakesNumber s a n)
+pub number_taken : {s a : Tokens} {n : Option ℕ} (no_calc : Bool) (op : CondUnit) (taken : TakesNumber s a n)
     (r : Result (Read TimeUnit) Cause) → r ≡ unit_read no_calc (rest_of a)
     → left_after no_calc op (rest_of s) ≡ after_number no_calc op taken.n r
-number_taken no_calc op s a n taken r is =
-    rw (after_token taken.token, terms_read no_calc op (place_of s) taken.n (rest_of a), is)
+number_taken {s} {a} no_calc op taken r is =
+    rw (after_token taken.token, terms_read no_calc op (cut_place s) taken.n (rest_of a), is)
 
 -- ---- Steps of the answer
 
 -- the answer, given the first value, the later terms so far, and what is left
 abbrev pub with_left : Bool → ℕ → CondUnit → Result ℕ Cause → Ended → Result ℕ Cause
-with_left no_calc first set later left = answer_with no_calc first set later left.terms left.fault
+with_left no_calc first op later left = answer_with no_calc first op later left.terms left.fault
 
 -- the answer, given the first value and what is left after it
 abbrev pub total_of : Bool → ℕ → Ended → Result ℕ Cause
 total_of no_calc first left = answer_after_first no_calc first left.terms left.fault
 
 -- A property of the terms that are left after a number holds if a number is ahead.
-by_number : {A : Type 0} (no_calc : Bool) (f g : Ended → A) (op next : CondUnit) (s : Tokens) → IsAhead s (Some Number)
+by_number : {A : Type 0} {s : Tokens} (no_calc : Bool) (f g : Ended → A) (op next : CondUnit)
+    → IsAhead s (Some Number)
     → ((n : ℕ) (r : Read TimeUnit) → f (after_number no_calc op n (Ok r)) ≡ g (after_number no_calc next n (Ok r)))
     → ((cause : Cause) → f (no_terms cause) ≡ g (no_terms cause))
     → f (left_after no_calc op (rest_of s)) ≡ g (left_after no_calc next (rest_of s))
-by_number no_calc f g op next s ahead terms none =
+by_number {s = s} no_calc f g op next ahead terms none =
     let (n, rest, is) = at_number s ahead in
-    rw (is, terms_read no_calc op (place_of s) n rest, terms_read no_calc next (place_of s) n rest)
-    (by n (unit_read no_calc rest))
-  where
-    by : (n : ℕ) (r : Result (Read TimeUnit) Cause)
-        → f (after_number no_calc op n r) ≡ g (after_number no_calc next n r)
-    by n (Ok r) = terms n r
-    by n (Err cause) = none cause
+    rw (is, terms_read no_calc op (cut_place s) n rest, terms_read no_calc next (cut_place s) n rest)
+    (elim (unit_read no_calc rest) as (λ r. f (after_number no_calc op n r) ≡ g (after_number no_calc next n r))
+    [ Ok r ↦ terms n r | Err cause ↦ none cause ])
 
 abbrev pub count : Ended → ℕ
 count left = length left.terms
 
 -- Taking a term leaves fewer.
-pub fewer : (no_calc : Bool) (set next : CondUnit) (s a b d : Tokens) (n : Option ℕ) (u : TimeUnit) → TakesNumber s a n
-    → leaving (rest_of b) (Ok u) ≡ unit_read no_calc (rest_of a)
-    → leaving (rest_of d) (Ok (Some next)) ≡ operator_read no_calc (rest_of b)
-    → IsAhead d (Some Number) → count (left_after no_calc set (rest_of d)) < count (left_after no_calc set (rest_of s))
-fewer no_calc set next s a b d n u taken unit op ahead =
-    let here = ap count (number_taken no_calc set s a n taken _ unit) in
-    let after = ap (λ r. count (after_unit no_calc r)) (sym op) in
-    omega (arith, here, after, by_number no_calc count count set next d ahead (λ n r. refl) (λ cause. refl))
+pub fewer : {s a d : Tokens} {b : Rest} {n : Option ℕ} {u : TimeUnit} {next : CondUnit} (no_calc : Bool)
+    (op : CondUnit) → TakesNumber s a n → leaving b (Ok u) ≡ unit_read no_calc (rest_of a)
+    → leaving (rest_of d) (Ok (Some next)) ≡ operator_read no_calc b → IsAhead d (Some Number)
+    → count (left_after no_calc op (rest_of d)) < count (left_after no_calc op (rest_of s))
+fewer {next = next} no_calc op taken unit read ahead =
+    let here = ap count (number_taken no_calc op taken _ unit) in
+    let after = ap (λ r. count (after_unit no_calc r)) read in
+    omega (arith, here, after, by_number no_calc count count op next ahead (λ n r. refl) (λ cause. refl))
 
--- The operator that was set is not a fault.
-same_operator : (set : CondUnit) (later : Result ℕ Cause) → before_operator set later set ≡ later
+-- The same operator is not a fault.
+same_operator : (op : CondUnit) (later : Result ℕ Cause) → before_operator op later op ≡ later
 same_operator Plus (Ok total) = refl
 same_operator Star (Ok total) = refl
-same_operator set (Err cause) = refl
+same_operator op (Err cause) = refl
 
-module _ (no_calc : Bool) (first : ℕ) (set : CondUnit) where
+module _ (no_calc : Bool) (first : ℕ) (op : CondUnit) where
   -- The first of the later terms sets the operator.
-  pub operator_set : (s : Tokens) → IsAhead s (Some Number)
-      → with_left no_calc first set (Ok (nothing_of set)) (left_after no_calc set (rest_of s))
-      ≡ total_of no_calc first (left_after no_calc set (rest_of s))
-  operator_set s ahead =
-      by_number no_calc (with_left no_calc first set (Ok (nothing_of set))) (total_of no_calc first) set set s ahead
+  pub operator_set : {s : Tokens} → IsAhead s (Some Number)
+      → with_left no_calc first op (Ok (nothing_of op)) (left_after no_calc op (rest_of s))
+      ≡ total_of no_calc first (left_after no_calc op (rest_of s))
+  operator_set ahead =
+      by_number no_calc (with_left no_calc first op (Ok (nothing_of op))) (total_of no_calc first) op op ahead
       (λ n r. refl) (λ cause. refl)
 
   -- Checking an operator when it is read gives the same answer as checking it with its term.
-  pub operator_next : (next : CondUnit) (later : Result ℕ Cause) (s : Tokens) → IsAhead s (Some Number)
-      → with_left no_calc first set (before_operator set later next) (left_after no_calc set (rest_of s))
-      ≡ with_left no_calc first set later (left_after no_calc next (rest_of s))
-  operator_next next later s ahead =
-      by_number no_calc (with_left no_calc first set (before_operator set later next))
-      (with_left no_calc first set later)
-      set next s ahead (λ n r. rw (same_operator set (before_operator set later next))) (λ cause. refl)
+  pub operator_next : {s : Tokens} (next : CondUnit) (later : Result ℕ Cause) → IsAhead s (Some Number)
+      → with_left no_calc first op (before_operator op later next) (left_after no_calc op (rest_of s))
+      ≡ with_left no_calc first op later (left_after no_calc next (rest_of s))
+  operator_next next later ahead =
+      by_number no_calc (with_left no_calc first op (before_operator op later next))
+      (with_left no_calc first op later) op next ahead
+      (λ n r. rw (same_operator op (before_operator op later next))) (λ cause. refl)
 
   -- A later term is read up to b and added: `next` is the later terms' value including it.
-  pub later_step : {next : Result ℕ Cause} {s a : Tokens} {n : Option ℕ} (later : Result ℕ Cause) (b : Tokens)
-      (u : TimeUnit)
-      → TakesNumber s a n → leaving (rest_of b) (Ok u) ≡ unit_read no_calc (rest_of a)
-      → next ≡ checked_combination set later (term_value None n (nanos_of u))
-      → with_left no_calc first set later (left_after no_calc set (rest_of s))
-      ≡ fault_or (at_once no_calc (checked_combination set (Ok first) next))
-      (with_left no_calc first set next (after_unit no_calc (operator_read no_calc (rest_of b))))
-  later_step {s = s} {a = a} {n = n} later b u taken unit is =
-      ap (with_left no_calc first set later) (number_taken no_calc set s a n taken _ unit)
-      ∙ rw (same_operator set later, is, taken.is_value)
+  pub later_step : {next : Result ℕ Cause} {s a : Tokens} {b : Rest} {n : Option ℕ} {u : TimeUnit}
+      (later : Result ℕ Cause) → TakesNumber s a n → leaving b (Ok u) ≡ unit_read no_calc (rest_of a)
+      → next ≡ checked_combination op later (term_value None n (nanos_of u))
+      → with_left no_calc first op later (left_after no_calc op (rest_of s))
+      ≡ fault_or (at_once no_calc (checked_combination op (Ok first) next))
+      (with_left no_calc first op next (after_unit no_calc (operator_read no_calc b)))
+  later_step later taken unit is =
+      ap (with_left no_calc first op later) (number_taken no_calc op taken _ unit)
+      ∙ rw (same_operator op later, is, taken.is_value)
 
 -- ---- The answer in order: the early fault, the syntax fault, the late fault, and the value
 
@@ -179,20 +162,17 @@ whole_told false cause late terminals = refl
 whole_told true cause None terminals = refl
 whole_told true cause (Some fault) terminals = refl
 
-answer_told : (no_calc : Bool) (place : ℕ) (front rest : List Terminal) (early : Option Cause)
-    → fault_or early (fault_or (fault_at place (kinds_after no_calc (last_of None front)) rest)
-    (fault_or (late_fault no_calc front) (Ok (unwrap_or (value_of (terms_of front)) 0))))
-    ≡ answer_after no_calc place front rest early
-answer_told no_calc place front rest (Some cause) = refl
-answer_told no_calc place front [] None =
-    whole_told (kinds_after no_calc (last_of None front)).text_end _ (late_fault no_calc front) front
-answer_told no_calc place front (terminal ∷ rest) None = refl
+early_told : (no_calc : Bool) (place : ℕ) (front rest : List Terminal) (early : Option Cause)
+    → fault_or early (answer_after no_calc place front rest None) ≡ answer_after no_calc place front rest early
+early_told no_calc place front rest None = refl
+early_told no_calc place front rest (Some cause) = refl
 
 in_order : (no_calc : Bool) (place : ℕ) (front rest : List Terminal)
-    → answer_of no_calc (terms_of (complete front rest))
+    → answer_of no_calc (terms_of (complete_terminals front rest))
     (fault_at place (kinds_after no_calc (last_of None front)) rest) ≡ answer_at no_calc place front rest
-in_order no_calc place front [] = answer_told no_calc place front [] _
-in_order no_calc place front (terminal ∷ rest) = answer_told no_calc place front (terminal ∷ rest) _
+in_order no_calc place front [] =
+    rw whole_told (early_told no_calc place front [] (early_fault no_calc front []))
+in_order no_calc place front (terminal ∷ rest) = early_told no_calc place front (terminal ∷ rest) _
 
 -- ---- The answer in terms of what is left
 
@@ -202,7 +182,7 @@ without_last_plus (number n ∷ []) a = tt
 without_last_plus (operator op ∷ terminals) a = (a.0, without_last_plus terminals a.1)
 without_last_plus (t ∷ terminals) a = without_last_plus terminals a
 
-complete_plus : (front rest : List Terminal) → AllPlus front → AllPlus (complete front rest)
+complete_plus : (front rest : List Terminal) → AllPlus front → AllPlus (complete_terminals front rest)
 complete_plus front [] a = a
 complete_plus front (terminal ∷ rest) a = without_last_plus front a
 
@@ -213,7 +193,8 @@ left_added false op rest plus h = cc h
 left_added true op rest plus h =
     let front = front_in true rest in
     let allowed = begins_allowed true front (table_front true (terminals_in rest)).begins in
-    rw plus (terms_added (complete front (after_in true rest)) (complete_plus front _ (allowed_plus None front allowed)))
+    rw plus (terms_added (complete_terminals front (after_in true rest))
+    (complete_plus front _ (allowed_plus None front allowed)))
 
 -- the answer, given the first value or its fault, and what is left after it
 abbrev pub by_first : Bool → Result ℕ Cause → Ended → Result ℕ Cause
@@ -237,33 +218,25 @@ fault_alone false cause = refl
 fault_alone true cause = refl
 
 -- The first unit cannot be read.
-pub first_unread : (no_calc : Bool) (s m a : Tokens) (n : Option ℕ) (cause : Cause) → rest_of m ≡ rest_of s
-    → TakesNumber m a n → Err cause ≡ unit_read no_calc (rest_of a) → Err cause ≡ answer_left no_calc [] (rest_of s)
-first_unread no_calc s m a n cause same taken unit =
-    rw (← same, ← from_start no_calc (rest_of m) _ (number_taken no_calc Plus m a n taken _ unit))
-    (fault_alone no_calc cause)
+pub first_unread : {m a : Tokens} {s : Rest} {n : Option ℕ} {cause : Cause} (no_calc : Bool) → rest_of m ≡ s
+    → TakesNumber m a n → Err cause ≡ unit_read no_calc (rest_of a) → Err cause ≡ answer_left no_calc [] s
+first_unread {m} {cause = cause} no_calc same taken unit =
+    rw (← same, ← from_start no_calc (rest_of m) _ (number_taken no_calc Plus taken _ unit)) (fault_alone no_calc cause)
 
 -- The first term is read up to b, and has this value or fault.
-pub first_step : {m a : Tokens} {n : Option ℕ} {first : Result ℕ Cause} (no_calc : Bool) (s b : Tokens) (u : TimeUnit)
-    → rest_of m ≡ rest_of s → TakesNumber m a n → leaving (rest_of b) (Ok u) ≡ unit_read no_calc (rest_of a)
+pub first_step : {m a : Tokens} {s b : Rest} {n : Option ℕ} {u : TimeUnit} {first : Result ℕ Cause} (no_calc : Bool)
+    → rest_of m ≡ s → TakesNumber m a n → leaving b (Ok u) ≡ unit_read no_calc (rest_of a)
     → first ≡ term_value (Some 0) n (nanos_of u)
-    → answer_left no_calc [] (rest_of s)
-    ≡ by_first no_calc first (after_unit no_calc (operator_read no_calc (rest_of b)))
-first_step {m = m} {a = a} {n = n} no_calc s b u same taken unit is =
+    → answer_left no_calc [] s ≡ by_first no_calc first (after_unit no_calc (operator_read no_calc b))
+first_step {m} {b = b} {u = u} no_calc same taken unit is =
     let t = term_of taken.n u in
-    let more = after_unit no_calc (operator_read no_calc (rest_of b)) in
-    let read = number_taken no_calc Plus m a n taken _ unit in
+    let more = after_unit no_calc (operator_read no_calc b) in
+    let read = number_taken no_calc Plus taken _ unit in
     let added =
     λ (h : IsTrue no_calc). subst (λ (l : Ended). AreAdded l.terms) read (left_added no_calc Plus (rest_of m) refl h) in
-    let whole = one_by_one no_calc t more.terms more.fault added in
     let start = from_start no_calc (rest_of m) _ read in
-    rw (← same, ← start, is, taken.is_value, term_told (Some 0) t, by_first-fault no_calc, whole)
-
-first_stands : (first : ℕ) (set : CondUnit) (front rest : List Terminal)
-    → terms_of (complete (first_term first set ++ front) rest)
-    ≡ term_of first NanoSecond ∷ terms_after set (complete front rest)
-first_stands first set front [] = refl
-first_stands first set front (terminal ∷ rest) = refl
+    rw (← same, ← start, is, taken.is_value, term_told (Some 0) t, by_first-fault no_calc)
+    (one_by_one no_calc t more.terms more.fault added)
 
 same_kinds : (no_calc : Bool) (op : CondUnit) (front : List Terminal)
     → kinds_after no_calc (last_of (Some (operator op)) front) ≡ kinds_after no_calc (last_of None front)
@@ -271,22 +244,22 @@ same_kinds no_calc op [] = refl
 same_kinds no_calc op (terminal ∷ front) = refl
 
 -- A first term of this many nanoseconds can stand for the first value.
-pub from_later : (no_calc : Bool) (first : ℕ) (set : CondUnit) (rest : Rest) → first < 2 ^ 64
-    → (IsTrue no_calc → set ≡ Plus)
-    → total_of no_calc first (left_after no_calc set rest) ≡ answer_left no_calc (first_term first set) rest
-from_later no_calc first set rest below plus =
+pub from_later : (no_calc : Bool) (first : ℕ) (op : CondUnit) (rest : Rest) → first < 2 ^ 64
+    → (IsTrue no_calc → op ≡ Plus)
+    → total_of no_calc first (left_after no_calc op rest) ≡ answer_left no_calc (first_term first op) rest
+from_later no_calc first op rest below plus =
     let front = front_in no_calc rest in
     let after = after_in no_calc rest in
-    let left = left_after no_calc set rest in
+    let left = left_after no_calc op rest in
     let f = term_of first NanoSecond in
     let value : first ≡ value_of_term f = omega arith in
     let none = sym (term_below_no_fault (Some 0) f (omega arith) (omega (arith, below))) in
     let added : IsTrue no_calc → AreAdded (f ∷ left.terms) =
-    λ h. (refl, omega arith, left_added no_calc set rest (plus h) h) in
-    let terms = sym (first_stands first set front after) in
-    let kinds = sym (same_kinds no_calc set front) in
+    λ h. (refl, omega arith, left_added no_calc op rest (plus h) h) in
+    let terms = ap terms_of (sym (pulled (first_term first op) front after refl)) in
+    let kinds = sym (same_kinds no_calc op front) in
     let place = start_left (front_of no_calc (terminals_in rest)) rest in
     (λ i. fault_or (none i) (total_of no_calc (value i) left))
     ∙ sym (one_by_one no_calc f left.terms left.fault added)
     ∙ (λ i. answer_of no_calc (terms i) (fault_at place (kinds i) after))
-    ∙ in_order no_calc place (first_term first set ++ front) after
+    ∙ in_order no_calc place (first_term first op ++ front) after

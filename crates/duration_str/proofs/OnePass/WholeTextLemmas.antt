@@ -1,8 +1,7 @@
 -- The result of reading everything from the start of a text is the text's answer.
 use Rattle.std.proofs.Common.{◌≡◌, ◌==◌, ℕ, zero, suc, ◌<◌, false, sym, List, [], ◌∷◌, Result, Err, map, length, IsUtf8, refl, arith, chars}
-use Rattle.duration_str.proofs.Common.{chars-nil, Options, Cause, Empty, Tokens, byte_len, terminal_of, tokens_of, lexemes_of, start_after, terminals_of, answer, front_of, rest_from, rest_of, start_left, terminals_in, answer_left, source, options_of, left}
+use Rattle.duration_str.proofs.Common.{chars-nil, Options, Cause, Empty, Tokens, byte_len, terminal_of, tokens_of, lexemes_of, start_after, terminals_of, answer, front_of, rest_from, rest_of, start_left, terminals_in, answer_left, source, options_of, tokens_left, Token}
 use Rattle.std.proofs.lemmas.Bool.{eqb-false}
-use Rattle.duration_str.specs.Tokens.{Token}
 use Rattle.duration_str.proofs.OnePass.PlaceLemmas.{byte_count}
 
 all_terminals : (o : Options) (len : ℕ) (tokens : List Token)
@@ -26,10 +25,10 @@ nonempty_answer o (c ∷ text) h =
     rw (all_terminals o len tokens, same_start o (front_of o.no_calc (terminals_of o (c ∷ text))) len tokens)
 
 -- The result of reading everything from the start of a text is the text's answer.
-pub text_answer : (o : Options) (bs : List ℕ) (tokens : Tokens) (r : Result ℕ Cause) → IsUtf8 bs
-    → false ≡ (length bs == 0) → source tokens ≡ bs → options_of tokens ≡ o → left tokens ≡ tokens_of o (chars bs)
+pub text_answer : {o : Options} {bs : List ℕ} {r : Result ℕ Cause} (tokens : Tokens) → IsUtf8 bs
+    → false ≡ (length bs == 0) → source tokens ≡ bs → options_of tokens ≡ o → tokens_left tokens ≡ tokens_of o (chars bs)
     → r ≡ answer_left o.no_calc [] (rest_of tokens) → answer o (chars bs) ≡ r
-text_answer o bs tokens r utf8 filled text options all is =
+text_answer {o} {bs} tokens utf8 filled text options all is =
     let count = byte_count bs utf8 in
     let some = eqb-false (length bs) 0 (sym filled) in
     rw (nonempty_answer o (chars bs) (omega (arith, count, some)), is, count, all, options, text)

@@ -1,8 +1,6 @@
 -- The steps of writing a number in decimal, and its length.
-use Rattle.std.proofs.Common.{◌≡◌, ℕ, suc, ◌+◌, ◌/◌, ◌%◌, ◌^◌, ◌<◌, ◌≤◌, ◌++◌, List, [], ◌∷◌, length, decimal, arith, append_assoc, sym, ap, ◌∙◌, length-append, ltb, refl, ltb-true}
-use Rattle.duration_str.proofs.Common.{decimal_digit, decimal_nonempty, length-decimal-le, pow-succ', TimeUnit, greatest_count}
-use Rattle.std.proofs.lemmas.Fmt.{decimal_step, decimal_by_steps}
-use Rattle.std.proofs.lemmas.List.{take_more_set}
+use Rattle.std.proofs.Common.{◌≡◌, ℕ, suc, ◌+◌, ◌/◌, ◌%◌, ◌^◌, ◌<◌, ◌≤◌, ◌++◌, List, [], ◌∷◌, length, decimal, arith, append_assoc, ap, ◌∙◌, length-append, ltb, refl, ltb-true}
+use Rattle.duration_str.proofs.Common.{decimal_digit, decimal_nonempty, length-decimal-le, pow-succ', TimeUnit, greatest_count, decimal_step, decimal_by_steps, take_more_set}
 use Rattle.duration_str.proofs.Characters.EachUnit.{all_units}
 
 pub length_one : (n : ℕ) → n < 10 → length (decimal n) ≡ 1
@@ -15,9 +13,8 @@ length_step n low high = ap length (decimal_step n low high) ∙ length-append _
 pub put_last : (bytes before after : List ℕ) (n : ℕ) → after ≡ before ++ decimal (n % 10)
     → before ≡ bytes ++ decimal (n / 10) → 10 ≤ n → n < 2 ^ 64 → after ≡ bytes ++ decimal n
 put_last bytes before after n last first low high =
-    last ∙ ap (λ bs. bs ++ decimal (n % 10)) first ∙ append_assoc bytes (decimal (n / 10)) (decimal (n % 10))
-    ∙ ap (λ digits. bytes ++ (decimal (n / 10) ++ digits)) (decimal_digit (n % 10) (omega arith))
-    ∙ ap (λ digits. bytes ++ digits) (sym (decimal_step n low high))
+    rw (last, first, decimal_digit (n % 10) (omega arith), decimal_step n low high)
+    (append_assoc bytes (decimal (n / 10)) ((48 + n % 10) ∷ []))
 
 pub ruleset put_steps = (decimal_digit, length_one, length_step, take_more_set)
 
@@ -28,12 +25,9 @@ below_power = decimal_by_steps (λ n ds. n < 10 ^ length ds) (λ n small. omega 
     omega (arith, length-append ds ((48 + n % 10) ∷ [])) in
     rw (longer, pow-succ' 10 (length ds)) (omega (arith, below)))
 
-greatest_fits : (u : TimeUnit) → greatest_count u < 2 ^ 64
-greatest_fits u = ltb-true (greatest_count u) (2 ^ 64) (all_units (λ v. ltb (greatest_count v) (2 ^ 64)) refl u)
-
 pub length_count : (u : TimeUnit) (count : ℕ) → count ≤ greatest_count u
     → length (decimal count) ≤ length (decimal (greatest_count u))
 length_count u count h =
-    let fits = greatest_fits u in
+    let fits = ltb-true (greatest_count u) (2 ^ 64) (all_units (λ v. ltb (greatest_count v) (2 ^ 64)) refl u) in
     length-decimal-le (length (decimal (greatest_count u))) count (decimal_nonempty (greatest_count u) fits)
     (omega (arith, below_power (greatest_count u) fits)) (omega (arith, fits))

@@ -1,23 +1,15 @@
 -- The text of a fault is UTF-8, and its last byte is no line feed.
-use Rattle.std.proofs.Common.{rules, ◌≡◌, ◌≢◌, ℕ, ◌<◌, ◌^◌, true, false, List, [], ◌∷◌, ◌++◌, Option, Some, None, IsUtf8, decimal, encode_utf8_all, replicate, take, inl, inr, refl, lit<}
-use Rattle.std.specs.Prelude.{IfSome}
-use Rattle.std.proofs.lemmas.Bool.{cases_Bool}
-use Rattle.std.proofs.lemmas.Fmt.{IsAscii-decimal}
+use Rattle.std.proofs.Common.{rules, ◌≡◌, ◌≢◌, ℕ, ◌<◌, ◌^◌, true, List, [], ◌∷◌, ◌++◌, Option, Some, None, IsUtf8, decimal, encode_utf8_all, replicate, take, inl, inr, refl, lit<, IfSome, codes}
+use Rattle.duration_str.proofs.Common.{cases_Bool, Plus, Star, Cause, Syntax, Mixed, NotText, IsAscii-decimal, IsUtf8-append, IsUtf8-from_ascii, EndsInsideLine, byte_text, caret_text, has_line_feed, placed_text, fault_text, line_of}
 use Rattle.std.proofs.lemmas.List.Elements.{All-replicate}
-use Rattle.std.proofs.lemmas.Str.{IsUtf8-append, IsUtf8-from_ascii}
 use Rattle.std.proofs.lemmas.Str.Ascii.{IsAscii-from_all}
 use Rattle.std.specs.List.{last_or}
-use lib.Chars.{codes}
-use Rattle.duration_str.specs.declared.operator.CondUnit.TheVariants.{Plus, Star}
-use Rattle.duration_str.specs.declared.fault.Cause.{Cause}
-use Rattle.duration_str.specs.declared.fault.Cause.TheVariants.{Empty, Syntax, NumberTooLarge, Overflow, Mixed, OutOfRange, NotText}
 use Rattle.duration_str.specs.Buffers.{IsInFront}
 use Rattle.duration_str.specs.Faults.{place_of}
-use Rattle.duration_str.specs.FaultText.{EndsInsideLine, byte_text, caret_text, has_line_feed, placed_text, fault_text, line_of}
 
 -- What holds of the bytes holds of the front of the buffer, if they are there.
-pub front_has : (P : List ℕ → Type 0) (bytes : List ℕ) (result : Option ℕ) (buffer : List ℕ) → P bytes → IsInFront bytes result buffer
-    → IfSome result (λ end. P (take end buffer))
+pub front_has : (P : List ℕ → Type 0) (bytes : List ℕ) (result : Option ℕ) (buffer : List ℕ) → P bytes
+    → IsInFront bytes result buffer → IfSome result (λ end. P (take end buffer))
 front_has P bytes None buffer h there = tt
 front_has P bytes (Some end) buffer h there = rw there.1 h
 
@@ -29,7 +21,8 @@ byte_text_utf8 place line small utf8 =
     (IsUtf8-append (decimal place) _ (IsUtf8-from_ascii (decimal place) (IsAscii-decimal place small))
     (IsUtf8-append (codes ": ") line (IsUtf8-from_ascii (codes ": ") (search rules)) utf8))
 
-pub caret_text_utf8 : (text : List ℕ) (spaces : ℕ) (line : List ℕ) → IsUtf8 text → IsUtf8 line → IsUtf8 (caret_text text spaces line)
+pub caret_text_utf8 : (text : List ℕ) (spaces : ℕ) (line : List ℕ) → IsUtf8 text → IsUtf8 line
+    → IsUtf8 (caret_text text spaces line)
 caret_text_utf8 text spaces line utf8 line_utf8 =
     let blanks = IsAscii-from_all (replicate spaces 32) (All-replicate (λ b. b < 128) spaces 32 (lit< tt)) in
     IsUtf8-append text _ utf8
@@ -44,9 +37,8 @@ last_or-append o [] ys = refl
 last_or-append o (x ∷ xs) ys = last_or-append (Some x) xs ys
 
 -- Whatever stands before a line, its last byte is no line feed.
-line_last : (cause : Cause) (o : Option ℕ) → last_or o (encode_utf8_all (line_of cause)) ≢ Some 10
+pub line_last : (cause : Cause) (o : Option ℕ) → last_or o (encode_utf8_all (line_of cause)) ≢ Some 10
 unfolding lib.Utf8.encode
-line_last Empty o = λ e. cc
 line_last (Syntax place expected) o = elim (cases_Bool expected.unit_word) [
   | inl unit ↦ rw unit (λ e. cc)
   | inr no_unit ↦ elim (cases_Bool expected.operator) [
@@ -54,21 +46,14 @@ line_last (Syntax place expected) o = elim (cases_Bool expected.unit_word) [
     | inr no_operator ↦ rw (no_unit, no_operator) (λ e. cc)
   ]
 ]
-line_last (NumberTooLarge place) o = λ e. cc
-line_last (Overflow place) o = λ e. cc
 line_last (Mixed Plus Plus) o = λ e. cc
-line_last (Mixed Plus Star) o = λ e. cc
 line_last (Mixed Star Plus) o = λ e. cc
-line_last (Mixed Star Star) o = λ e. cc
-line_last OutOfRange o = λ e. cc
 line_last (NotText true) o = λ e. cc
-line_last (NotText false) o = λ e. cc
+line_last _ o = λ e. cc
 
-pub line_ends : (cause : Cause) → EndsInsideLine (encode_utf8_all (line_of cause))
-line_ends cause = line_last cause None
-
-placed_ends : (text : List ℕ) (cause : Cause) (place : Option ℕ) → EndsInsideLine (placed_text text place (encode_utf8_all (line_of cause)))
-placed_ends text cause None = line_ends cause
+placed_ends : (text : List ℕ) (cause : Cause) (place : Option ℕ)
+    → EndsInsideLine (placed_text text place (encode_utf8_all (line_of cause)))
+placed_ends text cause None = line_last cause None
 placed_ends text cause (Some place) = elim (cases_Bool (has_line_feed text)) [
   | inl more ↦ rw more (simp last_or-append (line_last cause _))
   | inr one ↦ rw one (simp last_or-append (line_last cause _))

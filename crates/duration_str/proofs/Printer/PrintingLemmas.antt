@@ -1,9 +1,10 @@
 -- A printed text is spelled by a sum whose total is the duration.
 use Rattle.std.proofs.Common.{◌≡◌, ℕ, ◌%◌, ◌^◌, ◌<◌, inl, inr, Bool, true, false, ◌==◌, List, [], ◌∷◌, ◌++◌, map, drop, Some, if◌then◌else◌, decimal, codes, arith, refl, append_assoc, eqb-true, flat_map}
-use Rattle.duration_str.proofs.Common.{cases_Bool, decimal_digit, FitsDuration, Options, TimeUnit, Year, Second, row_of, units, nanos_of, unit_lengths, Terminal, number, word, terminal_of, IsSentence, Spells, AllPlus, sum_of, terms_of, weighted_sum, IsPrinted, counts_of, printed_parts, spaced, printed_counts}
+use Rattle.duration_str.proofs.Common.{cases_Bool, decimal_digit, FitsDuration, Options, TimeUnit, Year, Second, row_of, units, nanos_of, unit_lengths, Terminal, number, word, terminal_of, IsSentence, Spells, AllPlus, sum_of, terms_of, weighted_sum, IsPrinted, counts_of, printed_parts, spaced_parts, printed_counts}
 use Rattle.duration_str.proofs.Characters.NumberLemmas.{decimal_terminal}
 use Rattle.duration_str.proofs.LawProofs.GreatestBreakdown.{one_greatest, greatest_breakdown_holds}
 use Rattle.duration_str.proofs.Sentences.SumReadings.{IsSumOf, terms_of_lexemes}
+use Rattle.duration_str.proofs.Sentences.SpellingLemmas.{begins_with}
 
 -- the nonzero counts, each with its unit
 abbrev pub kept : List TimeUnit → List ℕ → List (ℕ × TimeUnit)
@@ -43,11 +44,13 @@ parts_kept _ _ = refl
 
 later_spelled : (ps : List (ℕ × TimeUnit)) → Spells (lexemes ps) (flat_map (λ part. codes " " ++ part) (map part ps))
 later_spelled [] = refl
-later_spelled (p ∷ ps) = (codes " ", _, refl, simp append_assoc, ([], _, refl, refl, later_spelled ps))
+later_spelled (p ∷ ps) =
+    begins_with (codes " ") _ refl (simp append_assoc) (begins_with [] _ refl refl (later_spelled ps))
 
-all_spelled : (ps : List (ℕ × TimeUnit)) → Spells (lexemes (or_zero ps)) (spaced (map part ps))
-all_spelled [] = ([], codes "s", refl, rw (decimal_digit 0 (omega arith)), ([], [], refl, refl, refl))
-all_spelled (p ∷ ps) = ([], _, refl, append_assoc (decimal p.0) _ _, ([], _, refl, refl, later_spelled ps))
+all_spelled : (ps : List (ℕ × TimeUnit)) → Spells (lexemes (or_zero ps)) (spaced_parts (map part ps))
+all_spelled [] = begins_with [] (codes "s") refl (rw (decimal_digit 0 (omega arith))) (begins_with [] [] refl refl refl)
+all_spelled (p ∷ ps) =
+    begins_with [] _ refl (append_assoc (decimal p.0) _ _) (begins_with [] _ refl refl (later_spelled ps))
 
 -- ---- The lexemes have these terminals
 
@@ -128,8 +131,7 @@ sum_kept (u ∷ us) (n ∷ counts) = elim (cases_Bool (n == 0)) [
   | inl e ↦ let none = eqb-true n 0 e in rw (e, none) (omega (arith, sum_kept us counts))
   | inr e ↦ rw (e, sum_kept us counts)
 ]
-sum_kept [] _ = refl
-sum_kept (u ∷ us) [] = refl
+sum_kept _ _ = refl
 
 sum_or_zero : (ps : List (ℕ × TimeUnit)) → sum_of (terms_of (terminals (or_zero ps))) ≡ sum_of (terms_of (terminals ps))
 sum_or_zero [] = refl

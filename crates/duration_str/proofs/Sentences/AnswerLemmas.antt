@@ -1,10 +1,10 @@
 -- A text is read or refused, not both, and the computed answer says which.
 use Rattle.std.proofs.Common.{◌≡◌, ℕ, ◌^◌, ◌<◌, ◌≤◌, Bool, true, false, ◌⊎◌, ◌↔◌, inl, inr, List, [], ◌∷◌, ◌++◌, map, length, take, Option, Some, None, Result, Ok, Err, if◌then◌else◌, arith, refl, sym, ap, ◌∙◌, append-nil, length-take-le}
-use Rattle.duration_str.proofs.Common.{and_parts, cond-true, list_all, Options, CondUnit, Cause, Syntax, byte_len, Terminal, number, word, operator, other, terminal_of, IsSentence, IsSentenceOf, tokens_of, lexemes_of, IsFront, start_after, terminals_of, AllPlus, Term, value_of_term, later_total, total_of, value_of, terms_of, later_fault, evaluation_fault, is_same_operator, Evaluates, first_fault, early_fault, late_fault, IsRead, IsRefusedAt, early, syntax_fault, late, IsRefused, is_whole, late_answer, answer_after, answer, kinds_after, last_of, front_of, OneAnswer, IsAnswer}
+use Rattle.duration_str.proofs.Common.{and_parts, cond-true, list_all, Options, CondUnit, Cause, Syntax, byte_len, Terminal, number, word, operator, other, terminal_of, IsSentence, IsSentenceOf, tokens_of, lexemes_of, IsFront, start_after, terminals_of, AllPlus, Term, value_of_term, combination, later_total, value_of, terms_of, later_fault, evaluation_fault, is_same_operator, Evaluates, first_fault, early_fault, late_fault, IsRead, IsRefusedAt, early, syntax_fault, late, IsRefused, is_whole, late_answer, answer_after, answer, kinds_after, last_of, front_of, OneAnswer, IsAnswer}
 use Rattle.duration_str.proofs.Sentences.FrontLemmas.{AreAllowed, sentence_allowed, no_operators, one_front, one_expected, table_front, front_within, ends_by_table, kinds_by_table}
 use Rattle.duration_str.proofs.Sentences.SpellingLemmas.{sentence_terminals, tokens_spell, empty_no_sentence}
 use Rattle.duration_str.proofs.Sentences.FaultLemmas.{no_fault, or_else-none, is_same_operator-true}
-use Rattle.duration_str.proofs.Sentences.SumLemmas.{terms_added, has_terms, running_none, running_none_below, below_evaluate, evaluate_below}
+use Rattle.duration_str.proofs.Sentences.SumLemmas.{terms_added, has_terms, running_none, running_below, below_evaluate, evaluate_below}
 
 -- ---- The faults of a sentence
 
@@ -17,9 +17,6 @@ allowed_plus last (word u ∷ terminals) h = allowed_plus (Some (word u)) termin
 allowed_plus last (operator op ∷ terminals) h = let none = no_operators true last refl in cc h.0
 allowed_plus last (other ∷ terminals) h = cc h.0
 
-no_calc_plus : (terminals : List Terminal) → IsSentence true terminals → AllPlus terminals
-no_calc_plus terminals s = allowed_plus None terminals (sentence_allowed true terminals s)
-
 evaluates_by_faults : (terms : List Term) → 1 ≤ length terms
     → (Evaluates terms ↔ (first_fault terms ≡ None) × (evaluation_fault terms ≡ None))
 evaluates_by_faults [] l = absurd (omega arith)
@@ -28,26 +25,27 @@ evaluates_by_faults (t ∷ terms) l =
 
 -- A sentence evaluates exactly if it has neither an early nor a late fault.
 evaluates_by : (no_calc : Bool) (terminals : List Terminal) → IsSentence no_calc terminals
-    → (Evaluates (terms_of terminals) ↔ (early_fault no_calc terminals [] ≡ None) × (late_fault no_calc terminals ≡ None))
+    → (Evaluates (terms_of terminals)
+    ↔ (early_fault no_calc terminals [] ≡ None) × (late_fault no_calc terminals ≡ None))
 evaluates_by false terminals s = evaluates_by_faults (terms_of terminals) (has_terms false terminals s)
 evaluates_by true terminals s =
     let terms = terms_of terminals in
-    let added = terms_added terminals (no_calc_plus terminals s) in (
+    let added = terms_added terminals (allowed_plus None terminals (sentence_allowed true terminals s)) in (
       λ e. (running_none [] terms added (evaluate_below terms added e), refl),
-      λ f. below_evaluate terms (has_terms true terminals s) added (running_none_below terms f.0),
+      λ f. below_evaluate terms (has_terms true terminals s) added (running_below [] terms (omega arith) f.0),
     )
 
 -- ---- The value of terms that evaluate
 
-same_later : (set : CondUnit) (before later : List Term) → later_fault set before later ≡ None
-    → list_all (λ v. is_same_operator set v.operator) later ≡ true
-same_later set before [] h = refl
-same_later set before (t ∷ later) h =
+same_later : (op : CondUnit) (before later : List Term) → later_fault op before later ≡ None
+    → list_all (λ v. is_same_operator op v.operator) later ≡ true
+same_later op before [] h = refl
+same_later op before (t ∷ later) h =
     let parts = simp no_fault at h in
-    rw ((is_same_operator-true set t.operator).1 parts.0) (same_later set (before ++ t ∷ []) later parts.1.1.1)
+    rw ((is_same_operator-true op t.operator).1 parts.0) (same_later op (before ++ t ∷ []) later parts.1.1.1)
 
 pub later_value : (t u : Term) (later : List Term) → later_fault u.operator [] (u ∷ later) ≡ None
-    → value_of (t ∷ u ∷ later) ≡ Some (total_of u.operator t (later_total u.operator (u ∷ later)))
+    → value_of (t ∷ u ∷ later) ≡ Some (combination u.operator (value_of_term t) (later_total u.operator (u ∷ later)))
 later_value t u later h =
     cond-true _ _ _ (and_parts (is_same_operator u.operator u.operator) _ (same_later u.operator [] (u ∷ later) h)).1
 
@@ -69,22 +67,22 @@ sentence_front no_calc terminals s = record {
 }
 
 -- These terminals are a sentence, evaluate, and have this value.
-pub record IsReadAs (no_calc : Bool) (terminals : List Terminal) (nanos : ℕ) : Type 0 where
+pub record EvaluatesTo (no_calc : Bool) (terminals : List Terminal) (nanos : ℕ) : Type 0 where
   pub sentence : IsSentence no_calc terminals
   pub evaluates : Evaluates (terms_of terminals)
   pub value : value_of (terms_of terminals) ≡ Some nanos
 
 pub read_terminals : {o : Options} {text : List ℕ} {nanos : ℕ} → IsRead o text nanos
-    → IsReadAs o.no_calc (terminals_of o text) nanos
+    → EvaluatesTo o.no_calc (terminals_of o text) nanos
 read_terminals {o} {text} r =
     rw (← sentence_terminals o text r.lexemes r.spells)
     (record { sentence = r.spells.0; evaluates = r.evaluates; value = r.value })
 
 pub read_sentence : {o : Options} {text : List ℕ} {nanos : ℕ} (lexemes : List (List ℕ)) → IsSentenceOf o lexemes text
-    → IsRead o text nanos → IsReadAs o.no_calc (map (terminal_of o) lexemes) nanos
+    → IsRead o text nanos → EvaluatesTo o.no_calc (map (terminal_of o) lexemes) nanos
 read_sentence {o} {text} lexemes s r = rw (sentence_terminals o text lexemes s) (read_terminals r)
 
-pub terminals_read : (o : Options) (text : List ℕ) (nanos : ℕ) → IsReadAs o.no_calc (terminals_of o text) nanos
+pub terminals_read : (o : Options) (text : List ℕ) (nanos : ℕ) → EvaluatesTo o.no_calc (terminals_of o text) nanos
     → IsRead o text nanos
 terminals_read o text nanos r = record {
   lexemes = lexemes_of (tokens_of o text);
@@ -170,7 +168,7 @@ Means o text (Err cause) = IsRefused o text cause
 
 -- the meaning of a result for a front and a rest that starts at byte `place`
 abbrev MeansAt : Bool → ℕ → List Terminal → List Terminal → Result ℕ Cause → Type 0
-MeansAt no_calc place front rest (Ok nanos) = (rest ≡ []) × IsReadAs no_calc front nanos
+MeansAt no_calc place front rest (Ok nanos) = (rest ≡ []) × EvaluatesTo no_calc front nanos
 MeansAt no_calc place front rest (Err cause) = IsRefusedAt no_calc place front rest cause
 
 module _ (no_calc : Bool) (place : ℕ) where
@@ -223,24 +221,20 @@ answer_means o (c ∷ text) =
     let long : length (take n terminals) ≡ n = length-take-le n terminals (front_within o.no_calc None terminals) in
     text_means o c text _ _ _ f (rw long (front_means o.no_calc _ _ _ f _ refl))
 
-some_answer : (o : Options) (text : List ℕ) (result : Result ℕ Cause) → Means o text result
-    → ((nanos : ℕ) × IsRead o text nanos) ⊎ ((cause : Cause) × IsRefused o text cause)
-some_answer o text (Ok nanos) h = inl (nanos, h)
-some_answer o text (Err cause) h = inr (cause, h)
-
-by_value : (o : Options) (text : List ℕ) (nanos : ℕ) → IsRead o text nanos → (result : Result ℕ Cause)
-    → Means o text result → result ≡ Ok nanos
-by_value o text nanos r (Ok n) h = ap Ok (one_value h r)
-by_value o text nanos r (Err cause) h = absurd (not_both o text nanos cause r h)
-
-by_cause : (o : Options) (text : List ℕ) (cause : Cause) → IsRefused o text cause → (result : Result ℕ Cause)
-    → Means o text result → result ≡ Err cause
-by_cause o text cause r (Ok n) h = absurd (not_both o text n cause h r)
-by_cause o text cause r (Err d) h = ap Err (one_cause o text d cause h r)
+-- The result that means what is known of the text is its answer.
+only_meaning : (o : Options) (text : List ℕ) (x y : Result ℕ Cause) → Means o text x → Means o text y → x ≡ y
+only_meaning o text (Ok m) (Ok n) h k = ap Ok (one_value h k)
+only_meaning o text (Ok m) (Err cause) h k = absurd (not_both o text m cause h k)
+only_meaning o text (Err cause) (Ok n) h k = absurd (not_both o text n cause k h)
+only_meaning o text (Err c) (Err d) h k = ap Err (one_cause o text c d h k)
 
 pub one_answer_holds : OneAnswer
 one_answer_holds = record {
-  some = λ o text. some_answer o text (answer o text) (answer_means o text);
+  some = λ o text. elim (answer o text) as (λ r. Means o text r
+      → ((nanos : ℕ) × IsRead o text nanos) ⊎ ((cause : Cause) × IsRefused o text cause)) [
+        | Ok nanos ↦ λ h. inl (nanos, h)
+        | Err cause ↦ λ h. inr (cause, h)
+      ] (answer_means o text);
   one_value = λ o text m n. one_value;
   one_cause = one_cause;
   not_both = not_both;
@@ -248,6 +242,6 @@ one_answer_holds = record {
 
 pub is_answer_holds : IsAnswer
 is_answer_holds = record {
-  read = λ o text nanos. (λ e. rw e at (answer_means o text), λ r. by_value o text nanos r _ (answer_means o text));
-  refused = λ o text cause. (λ e. rw e at (answer_means o text), λ r. by_cause o text cause r _ (answer_means o text));
+  read = λ o text nanos. let is = answer_means o text in (λ e. rw e at is, only_meaning o text _ (Ok nanos) is);
+  refused = λ o text cause. let is = answer_means o text in (λ e. rw e at is, only_meaning o text _ (Err cause) is);
 }

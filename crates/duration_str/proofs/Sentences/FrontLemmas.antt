@@ -1,7 +1,6 @@
 -- Sentences in terms of the table of what may follow a terminal, and the front of a list of terminals.
 use Rattle.std.proofs.Common.{◌≡◌, ℕ, suc, zero, ◌≤◌, Bool, true, false, ◌↔◌, inl, inr, List, [], ◌∷◌, ◌++◌, Option, Some, None, take, drop, length, IsTrue, arith, refl, sym, ap, ◌∙◌, zero-le, le_antisymm, suc-le-suc, le_of_suc-le-suc, take-append-drop, take_at, drop_at, length-append}
-use Rattle.duration_str.proofs.Common.{same_from_decides, cases_Bool, not-true, and_from, and_parts, Second, Plus, Expected, Terminal, number, word, operator, IsSentence, BeginsSentence, CanFollow, IsFront, kinds_after, allows, last_of, front_after, front_of}
-use Rattle.std.proofs.lemmas.Bool.{not_from_false, not_from_true}
+use Rattle.duration_str.proofs.Common.{same_from_decides, cases_Bool, not-true, and_from, and_parts, Second, Plus, Expected, Terminal, number, word, operator, IsSentence, BeginsSentence, CanFollow, IsFront, kinds_after, allows, last_of, front_after, front_of, not_from_false, not_from_true}
 
 -- The table allows each terminal after the one before it, and the first one after `last`.
 abbrev pub AreAllowed : Bool → Option Terminal → List Terminal → Type 0
@@ -53,9 +52,8 @@ module _ (no_calc : Bool) where
   allowed_begins (number n ∷ operator op ∷ number m ∷ more) h =
       let rest = allowed_begins (number m ∷ more) h.1.1 in (rest.0, (not-true _ h.1.0, rest.1))
   allowed_begins (number n ∷ word (Some u) ∷ []) h = ([], tt)
-  allowed_begins (number n ∷ word (Some u) ∷ operator op ∷ []) h = (number 0 ∷ [], (not-true _ h.1.1.0, tt))
-  allowed_begins (number n ∷ word (Some u) ∷ operator op ∷ number m ∷ more) h =
-      let rest = allowed_begins (number m ∷ more) h.1.1.1 in (rest.0, (not-true _ h.1.1.0, rest.1))
+  allowed_begins (number n ∷ word (Some u) ∷ operator op ∷ more) h =
+      allowed_begins (number n ∷ operator op ∷ more) (refl, h.1.1)
   allowed_begins (number n ∷ word (Some u) ∷ number m ∷ more) h = allowed_begins (number m ∷ more) h.1.1
   allowed_begins _ h = cc
 
@@ -69,14 +67,14 @@ module _ (no_calc : Bool) where
   allowed_ends (number n ∷ operator op ∷ number m ∷ more) h =
       let rest = allowed_ends (number m ∷ more) h.1.1 in (λ k. (not-true _ h.1.0, rest.0 k), λ s. rest.1 s.1)
   allowed_ends (number n ∷ word (Some u) ∷ []) h = (λ _. tt, λ _. refl)
-  allowed_ends (number n ∷ word (Some u) ∷ operator op ∷ []) h = (λ k. cc k, λ s. absurd s.1)
-  allowed_ends (number n ∷ word (Some u) ∷ operator op ∷ number m ∷ more) h =
-      let rest = allowed_ends (number m ∷ more) h.1.1.1 in (λ k. (not-true _ h.1.1.0, rest.0 k), λ s. rest.1 s.1)
+  allowed_ends (number n ∷ word (Some u) ∷ operator op ∷ more) h =
+      allowed_ends (number n ∷ operator op ∷ more) (refl, h.1.1)
   allowed_ends (number n ∷ word (Some u) ∷ number m ∷ more) h = allowed_ends (number m ∷ more) h.1.1
   allowed_ends _ h = cc
 
-  allowed_push : (last : Option Terminal) (terminals : List Terminal) (t : Terminal) → AreAllowed no_calc last terminals
-      → (IsTrue (allows (kinds_after no_calc (last_of last terminals)) t) ↔ AreAllowed no_calc last (terminals ++ t ∷ []))
+  allowed_push : (last : Option Terminal) (terminals : List Terminal) (t : Terminal)
+      → AreAllowed no_calc last terminals → (IsTrue (allows (kinds_after no_calc (last_of last terminals)) t)
+      ↔ AreAllowed no_calc last (terminals ++ t ∷ []))
   allowed_push last [] t h = (λ k. (k, tt), λ k. k.0)
   allowed_push last (s ∷ terminals) t h =
       let rest = allowed_push (Some s) terminals t h.1 in (λ k. (h.0, rest.0 k), λ k. rest.1 k.1)
@@ -140,8 +138,8 @@ module _ (no_calc : Bool) where
   longest_allowed last (t ∷ terminals) (suc n) l h =
       rw h.0 (suc-le-suc (longest_allowed (Some t) terminals n (le_of_suc-le-suc l) h.1))
 
-  pub table_front : (terminals : List Terminal)
-      → IsFront no_calc terminals (take (front_of no_calc terminals) terminals) (drop (front_of no_calc terminals) terminals)
+  pub table_front : (terminals : List Terminal) → IsFront no_calc terminals
+      (take (front_of no_calc terminals) terminals) (drop (front_of no_calc terminals) terminals)
   table_front terminals = record {
     parts = sym (take-append-drop (front_of no_calc terminals) terminals);
     begins = allowed_begins _ (front_allowed None terminals);

@@ -1,11 +1,15 @@
 -- A sentence spells a text exactly if its lexemes are those of the text's tokens.
 use Rattle.std.proofs.Common.{◌≡◌, ℕ, ◌+◌, Bool, true, false, List, [], ◌∷◌, ◌++◌, map, Option, Some, None, IsTrue, refl, sym, ◌∙◌}
-use Rattle.duration_str.proofs.Common.{and_parts, false_from_ne_true, list_all-append, list_all, Options, Expected, is_blank, IsBlank, byte_len, Terminal, number, word, operator, other, terminal_of, IsSentenceOf, Spells, are_of_one_run, goes_on, IsLexeme, EndsRun, AreTokens, tokens_of, lexemes_of, terminals_of, kinds_after, allows, sort_of}
-use Rattle.duration_str.specs.Tokens.{Token}
+use Rattle.duration_str.proofs.Common.{and_parts, false_from_ne_true, list_all-append, list_all, Options, Expected, is_blank, IsBlank, byte_len, Terminal, number, word, operator, other, terminal_of, IsSentenceOf, BeginsWith, Spells, are_of_one_run, goes_on, IsLexeme, EndsRun, AreTokens, tokens_of, lexemes_of, terminals_of, kinds_after, allows, sort_of, Token}
 use Rattle.duration_str.proofs.Characters.CharacterLemmas.{operator-not_blank, run-not_blank}
 use Rattle.duration_str.proofs.Cutting.TokenLemmas.{tokens_once, tokens_are}
 use Rattle.duration_str.proofs.Cutting.TerminalLemmas.{terminal_cases, digits_are_lexeme, letters_are_lexeme, lexeme_sort, run_sort}
 use Rattle.duration_str.proofs.Sentences.FrontLemmas.{AreAllowed, sentence_allowed}
+
+pub begins_with : {lexeme text : List ℕ} {IsRest : List ℕ → Type 0} (blanks rest : List ℕ) → IsBlank blanks
+    → text ≡ blanks ++ (lexeme ++ rest) → IsRest rest → BeginsWith lexeme IsRest text
+begins_with blanks rest blank parts is_rest =
+    record { blanks = blanks; rest = rest; blank = blank; parts = parts; is_rest = is_rest }
 
 -- Characters whose terminal is of an expected kind are a lexeme.
 allowed_is_lexeme : (o : Options) (expected : Expected) (w : List ℕ) → IsTrue (allows expected (terminal_of o w))
@@ -49,7 +53,7 @@ module _ (o : Options) where
   ends_in_sentence (c ∷ cs) (d ∷ rest) [] p a s = stops_at_blank c d (and_parts _ _ s).0
   ends_in_sentence (c ∷ cs) rest (v ∷ ws) p a s =
       let expected = kinds_after o.no_calc (Some (terminal_of o (c ∷ cs))) in
-      rw s.3 (stops_before c cs s.0 v s.1 s.2 p (allowed_is_lexeme o expected v a.0) a.0)
+      rw s.parts (stops_before c cs s.blanks v s.rest s.blank p (allowed_is_lexeme o expected v a.0) a.0)
 
   -- The lexemes of a sentence that spells the text are the characters of its tokens.
   spelled_tokens : (at : ℕ) (last : Option Terminal) (lexemes : List (List ℕ)) (text : List ℕ)
@@ -57,12 +61,23 @@ module _ (o : Options) where
       → (tokens : List Token) × AreTokens o at text tokens × (lexemes_of tokens ≡ lexemes)
   spelled_tokens at last [] text a s = ([], s, refl)
   spelled_tokens at last (w ∷ ws) text a s =
-      let start = at + byte_len s.0 in
+      let start = at + byte_len s.blanks in
       let is_lexeme = allowed_is_lexeme o (kinds_after o.no_calc last) w a.0 in
-      let ends = ends_in_sentence w s.1 ws is_lexeme a.1 s.4 in
-      let more = spelled_tokens (start + byte_len w) (Some (terminal_of o w)) ws s.1 a.1 s.4 in (
+      let ends = ends_in_sentence w s.rest ws is_lexeme a.1 s.is_rest in
+      let more = spelled_tokens (start + byte_len w) (Some (terminal_of o w)) ws s.rest a.1 s.is_rest in (
         record { start = start; characters = w } ∷ more.0,
-        (s.1, record { blanks = s.0; blank = s.2; parts = s.3; start = refl; is_lexeme = is_lexeme; ends = ends }, more.1),
+        (
+          s.rest,
+          record {
+            blanks = s.blanks;
+            blank = s.blank;
+            parts = s.parts;
+            start = refl;
+            is_lexeme = is_lexeme;
+            ends = ends;
+          },
+          more.1,
+        ),
         rw more.2,
       )
 
@@ -70,7 +85,8 @@ module _ (o : Options) where
       → Spells (lexemes_of tokens) text
   tokens_spell_at at text [] h = h
   tokens_spell_at at text (p ∷ tokens) h =
-      (h.1.blanks, h.0, h.1.blank, h.1.parts, tokens_spell_at (p.start + byte_len p.characters) h.0 tokens h.2)
+      let others = tokens_spell_at (p.start + byte_len p.characters) h.0 tokens h.2 in
+      begins_with h.1.blanks h.0 h.1.blank h.1.parts others
 
   pub tokens_spell : (text : List ℕ) → Spells (lexemes_of (tokens_of o text)) text
   tokens_spell text = tokens_spell_at 0 text (tokens_of o text) (tokens_are o 0 text)
@@ -98,6 +114,6 @@ pub lexemes_pass : (test : ℕ → Bool) (lexemes : List (List ℕ)) (text : Lis
     → Spells lexemes text → EachPasses test lexemes
 lexemes_pass test [] text h s = tt
 lexemes_pass test (w ∷ lexemes) text h s =
-    let whole = rw (s.3, list_all-append, list_all-append) at h in
-    let parts = and_parts (list_all test w) _ (and_parts (list_all test s.0) _ whole).1 in
-    (parts.0, lexemes_pass test lexemes s.1 parts.1 s.4)
+    let whole = rw (s.parts, list_all-append, list_all-append) at h in
+    let parts = and_parts (list_all test w) _ (and_parts (list_all test s.blanks) _ whole).1 in
+    (parts.0, lexemes_pass test lexemes s.rest parts.1 s.is_rest)

@@ -1,6 +1,6 @@
 -- Terms that are added evaluate exactly if their sum is below 2^64, and the sum is their value.
 use Rattle.std.proofs.Common.{◌≡◌, ◌+◌, ◌^◌, ◌≤◌, ◌<◌, Bool, true, leb, List, [], ◌∷◌, ◌++◌, length, Some, None, arith, refl, ap, append_assoc, append-nil, leb-true}
-use Rattle.duration_str.proofs.Common.{list_all, TimeUnit, CondUnit, Plus, Overflow, nanos_of, Terminal, number, word, operator, IsSentence, AllPlus, Term, value_of_term, sum_of, later_total, total_of, value_of, terms_of, terms_after, fits, unless, or_else, later_fault, evaluation_fault, is_same_operator, Evaluates, running_fault, place_after}
+use Rattle.duration_str.proofs.Common.{list_all, TimeUnit, CondUnit, Plus, Overflow, nanos_of, Terminal, number, word, operator, IsSentence, AllPlus, Term, value_of_term, combination, sum_of, later_total, value_of, terms_of, terms_after, fits, unless, or_else, later_fault, evaluation_fault, is_same_operator, Evaluates, running_fault, place_after}
 use Rattle.duration_str.proofs.Sentences.FaultLemmas.{no_fault, term_below_no_fault}
 use Rattle.duration_str.proofs.Characters.EachUnit.{all_units}
 
@@ -24,20 +24,15 @@ terms_added terminals a = terms_added_after Plus terminals refl a
 
 pub has_terms : (no_calc : Bool) (terminals : List Terminal) → IsSentence no_calc terminals
     → 1 ≤ length (terms_of terminals)
-has_terms no_calc (number n ∷ []) h = omega arith
-has_terms no_calc (number n ∷ operator op ∷ more) h = omega arith
-has_terms no_calc (number n ∷ word (Some u) ∷ []) h = omega arith
-has_terms no_calc (number n ∷ word (Some u) ∷ operator op ∷ more) h = omega arith
-has_terms no_calc (number n ∷ word (Some u) ∷ number m ∷ more) h = omega arith
+has_terms no_calc (number n ∷ word (Some u) ∷ more) h = omega arith
+has_terms no_calc (number n ∷ more) h = omega arith
 has_terms no_calc _ h = absurd h
 
 pub sum-append : (xs ys : List Term) → sum_of (xs ++ ys) ≡ sum_of xs + sum_of ys
 sum-append [] ys = omega arith
-sum-append (x ∷ xs) ys =
-    let more : sum_of (xs ++ ys) ≡ sum_of xs + sum_of ys = sum-append xs ys in
-    omega arith
+sum-append (x ∷ xs) ys = rw (sum-append xs ys) (omega arith)
 
-pub step_within : (before : List Term) (t : Term) (later : List Term)
+step_within : (before : List Term) (t : Term) (later : List Term)
     → sum_of (before ++ t ∷ []) ≤ sum_of (before ++ t ∷ later)
 step_within before t later = omega (arith, sum-append before (t ∷ []), sum-append before (t ∷ later))
 
@@ -69,15 +64,12 @@ running_below before (t ∷ later) b h =
     let parts = simp no_fault at h in
     rw (← append_assoc before (t ∷ []) later) (running_below (before ++ t ∷ []) later parts.1.0 parts.1.1)
 
-pub running_none_below : (terms : List Term) → running_fault [] terms ≡ None → sum_of terms < 2 ^ 64
-running_none_below terms h = running_below [] terms (omega arith) h
-
 pub fault_of_sum : (t u : Term) (later : List Term) → u.operator ≡ Plus
     → evaluation_fault (t ∷ u ∷ later)
     ≡ or_else (later_fault Plus [] (u ∷ later)) (unless (fits (sum_of (t ∷ u ∷ later))) (Overflow None))
 fault_of_sum t u later e =
-    ap (λ set. or_else (later_fault set [] (u ∷ later))
-    (unless (fits (total_of set t (later_total set (u ∷ later)))) (Overflow None))) e
+    ap (λ op. or_else (later_fault op [] (u ∷ later))
+    (unless (fits (combination op (value_of_term t) (later_total op (u ∷ later)))) (Overflow None))) e
 
 pub below_evaluate : (terms : List Term) → 1 ≤ length terms → AreAdded terms → sum_of terms < 2 ^ 64 → Evaluates terms
 below_evaluate [] l a h = absurd (omega arith)

@@ -1,5 +1,5 @@
 -- A text that a sum spells is read as the sum if it is below 2^64, and otherwise refused as an overflow.
-use Rattle.std.proofs.Common.{◌≡◌, ℕ, ◌^◌, ◌≤◌, ◌<◌, ◌⊎◌, inl, inr, Bool, true, false, List, [], ◌∷◌, ◌++◌, map, Some, None, arith, refl, sym, ap, subst, ◌∙◌, append_assoc, append-nil, lt-ltb, le-ltb}
+use Rattle.std.proofs.Common.{length, ◌≡◌, ℕ, ◌^◌, ◌≤◌, ◌<◌, ◌⊎◌, inl, inr, Bool, true, false, List, [], ◌∷◌, ◌++◌, map, Some, None, arith, refl, ap, ◌∙◌, append_assoc, append-nil, lt-ltb, le-ltb}
 use Rattle.duration_str.proofs.Common.{cases_lt, Options, Plus, Overflow, Terminal, terminal_of, IsSentence, IsSentenceOf, AllPlus, Term, terms_of, value_of_term, sum_of, later_fault, evaluation_fault, first_fault, running_fault, place_after, IsRead, IsRefusedAt, early, late, IsRefused}
 use Rattle.duration_str.proofs.Sentences.FaultLemmas.{is_same_operator-true, term_below_no_fault}
 use Rattle.duration_str.proofs.Sentences.SumLemmas.{AreAdded, terms_added, has_terms, fault_of_sum, below_evaluate, value_is_sum}
@@ -13,27 +13,30 @@ pub record IsSumOf (o : Options) (lexemes : List (List ℕ)) (text : List ℕ) :
 abbrev pub terms_of_lexemes : Options → List (List ℕ) → List Term
 terms_of_lexemes o lexemes = terms_of (map (terminal_of o) lexemes)
 
+sum_terms : {o : Options} {lexemes : List (List ℕ)} {text : List ℕ} → IsSumOf o lexemes text
+    → (1 ≤ length (terms_of_lexemes o lexemes)) × AreAdded (terms_of_lexemes o lexemes)
+sum_terms {o} {lexemes} s =
+    let terminals = map (terminal_of o) lexemes in
+    (has_terms o.no_calc terminals s.sentence.0, terms_added terminals s.plus)
+
 -- ---- Sums below 2^64
 
 pub sum_read : {o : Options} {lexemes : List (List ℕ)} {text : List ℕ} {nanos : ℕ} → IsSumOf o lexemes text
     → sum_of (terms_of_lexemes o lexemes) ≡ nanos → nanos < 2 ^ 64 → IsRead o text nanos
 sum_read {o} {lexemes} s e h =
-    let terms = terms_of_lexemes o lexemes in
-    let some = has_terms o.no_calc (map (terminal_of o) lexemes) s.sentence.0 in
-    let added = terms_added (map (terminal_of o) lexemes) s.plus in
+    let (some, added) = sum_terms s in
     record {
       lexemes = lexemes;
       spells = s.sentence;
-      evaluates = below_evaluate terms some added (rw e h);
-      value = value_is_sum terms some added ∙ ap Some e;
+      evaluates = below_evaluate (terms_of_lexemes o lexemes) some added (rw e h);
+      value = value_is_sum (terms_of_lexemes o lexemes) some added ∙ ap Some e;
     }
 
 pub read_sum : {o : Options} {lexemes : List (List ℕ)} {text : List ℕ} {nanos : ℕ} → IsSumOf o lexemes text
     → IsRead o text nanos → sum_of (terms_of_lexemes o lexemes) ≡ nanos
 read_sum {o} {lexemes} s r =
-    let terminals = map (terminal_of o) lexemes in
-    let some = has_terms o.no_calc terminals s.sentence.0 in
-    cc ((read_sentence lexemes s.sentence r).value, value_is_sum (terms_of terminals) some (terms_added terminals s.plus))
+    let (some, added) = sum_terms s in
+    cc ((read_sentence lexemes s.sentence r).value, value_is_sum (terms_of_lexemes o lexemes) some added)
 
 -- ---- Sums from 2^64 on, of terms below 2^64
 
@@ -46,7 +49,7 @@ pub sum_fits_each : (terms : List Term) → sum_of terms < 2 ^ 64 → EachFits t
 sum_fits_each [] h = tt
 sum_fits_each (t ∷ terms) h = (omega arith, sum_fits_each terms (omega arith))
 
-pub running_overflow : (before terms : List Term) → AreAdded terms → EachFits terms → sum_of before < 2 ^ 64
+running_overflow : (before terms : List Term) → AreAdded terms → EachFits terms → sum_of before < 2 ^ 64
     → 2 ^ 64 ≤ sum_of (before ++ terms) → running_fault before terms ≡ Some (Overflow None)
 running_overflow before [] a f b h = let e = append-nil before in absurd (omega (arith, rw e at h))
 running_overflow before (t ∷ later) a f b h =
@@ -84,9 +87,8 @@ terminals_overflow : (no_calc : Bool) (place : ℕ) (terminals : List Terminal) 
     → AreAdded (terms_of terminals) → EachFits (terms_of terminals) → 2 ^ 64 ≤ sum_of (terms_of terminals)
     → IsRefusedAt no_calc place terminals [] (Overflow None)
 terminals_overflow false place terminals s a f h =
-    let same : terminals ≡ terminals ++ [] = sym (append-nil terminals) in
-    late (first_fits (terms_of terminals) a f) (subst (IsSentence false) same s)
-    (rw (← same) (added_overflow (terms_of terminals) a f h))
+    late (first_fits (terms_of terminals) a f) (rw append-nil s)
+    (rw append-nil (added_overflow (terms_of terminals) a f h))
 terminals_overflow true place terminals s a f h = early (running_overflow [] (terms_of terminals) a f (omega arith) h)
 
 pub sum_overflows : {o : Options} {lexemes : List (List ℕ)} {text : List ℕ} → IsSumOf o lexemes text

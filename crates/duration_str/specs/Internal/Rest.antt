@@ -9,14 +9,15 @@ use Rattle.duration_str.specs.declared.operator.CondUnit.{CondUnit}
 use Rattle.duration_str.specs.declared.operator.CondUnit.TheVariants.{Plus, Star}
 use Rattle.duration_str.specs.declared.fault.Cause.{Cause}
 use Rattle.duration_str.specs.declared.fault.Cause.TheVariants.{Syntax, Overflow, Mixed}
+use Rattle.duration_str.specs.declared.fault.Expected.{Expected}
 use Rattle.duration_str.specs.declared.token.Tokens.{Tokens}
 use Rattle.duration_str.specs.Grammar.{Terminal, number, word, operator, terminal_of}
 use Rattle.duration_str.specs.Tokens.{Token}
 use Rattle.duration_str.specs.Value.{second, combination, is_same_operator}
 use Rattle.duration_str.specs.Internal.Numbers.{u64_from, term_value}
-use Rattle.duration_str.specs.Answer.{answer_at, kinds_after, front_of}
-use Rattle.duration_str.specs.Faults.{place_of as fault_place}
-use Rattle.duration_str.specs.Tokenizer.{source, options_of, place_of, left}
+use Rattle.duration_str.specs.Answer.{answer_at, kinds_at_start, kinds_after_number, kinds_after_unit, front_of}
+use Rattle.duration_str.specs.Faults.{place_of}
+use Rattle.duration_str.specs.Tokenizer.{source, options_of, cut_place, tokens_left}
 use Rattle.duration_str.specs.Internal.Tokenizer.{IsAhead}
 use Rattle.duration_str.specs.Units.{nanos_of}
 use Rattle.duration_str.specs.declared.token.Sort.TheVariants.{Number}
@@ -35,7 +36,7 @@ rest_from o len (p ∷ tokens) = terminal_at p.start (terminal_of o p.characters
 
 -- what is left to read
 abbrev pub rest_of : Tokens → Rest
-rest_of s = rest_from (options_of s) (length (source s)) (left s)
+rest_of s = rest_from (options_of s) (length (source s)) (tokens_left s)
 
 -- the byte at which the rest after its first n terminals starts, or at which the text ends
 abbrev pub start_left : ℕ → Rest → ℕ
@@ -48,9 +49,9 @@ abbrev pub terminals_in : Rest → List Terminal
 terminals_in (terminal_at at terminal rest) = terminal ∷ terminals_in rest
 terminals_in (end_at at) = []
 
--- the syntax fault that the rest may not follow the terminal `last`, or may not start a text
-abbrev pub misplaced : Bool → Option Terminal → Rest → Cause
-misplaced no_calc last rest = Syntax (start_left 0 rest) (kinds_after no_calc last)
+-- the syntax fault that the rest starts with none of the kinds that could stand there
+abbrev pub misplacement : Expected → Rest → Cause
+misplacement expected rest = Syntax (start_left 0 rest) expected
 
 -- what was read, and the rest after it
 pub record Read (A : Type 0) : Type 0 where
@@ -65,7 +66,7 @@ leaving rest (Err cause) = Err cause
 -- the fault if the rest does not start with a number, as it must at the start of a text and after an operator
 abbrev pub lacks_number : Rest → Option Cause
 lacks_number (terminal_at at (number n) rest) = None
-lacks_number rest = Some (misplaced false None rest)
+lacks_number rest = Some (misplacement kinds_at_start rest)
 
 -- the fault if there is one, otherwise the result
 abbrev pub fault_or : {A : Type 0} → Option Cause → Result A Cause → Result A Cause
@@ -77,24 +78,24 @@ abbrev pub unit_read : Bool → Rest → Result (Read TimeUnit) Cause
 unit_read no_calc (terminal_at at (word (Some u)) rest) = leaving rest (Ok u)
 unit_read false (terminal_at at (operator op) rest) = leaving (terminal_at at (operator op) rest) (Ok Second)
 unit_read no_calc (end_at at) = leaving (end_at at) (Ok Second)
-unit_read no_calc rest = Err (misplaced no_calc (Some (number 0)) rest)
+unit_read no_calc rest = Err (misplacement (kinds_after_number no_calc) rest)
 
 -- the operator after a unit, which a number must follow; plus if it is left out, `None` at the end
 abbrev pub operator_read : Bool → Rest → Result (Read (Option CondUnit)) Cause
 operator_read no_calc (terminal_at at (number n) rest) = leaving (terminal_at at (number n) rest) (Ok (Some Plus))
 operator_read false (terminal_at at (operator op) rest) = leaving rest (fault_or (lacks_number rest) (Ok (Some op)))
 operator_read no_calc (end_at at) = leaving (end_at at) (Ok None)
-operator_read no_calc rest = Err (misplaced no_calc (Some (word None)) rest)
+operator_read no_calc rest = Err (misplacement (kinds_after_unit no_calc) rest)
 
 -- ---- Places
 
 -- The fault has no place, or one at or before byte `at`.
 abbrev pub IsCut : ℕ → Cause → Type 0
-IsCut at cause = ForSome (fault_place cause) (λ place. place ≤ at)
+IsCut at cause = ForSome (place_of cause) (λ place. place ≤ at)
 
 -- The fault has no place.
 abbrev pub IsPlaceless : Cause → Type 0
-IsPlaceless cause = fault_place cause ≡ None
+IsPlaceless cause = place_of cause ≡ None
 
 -- ---- The answer
 
@@ -122,9 +123,9 @@ abbrev pub nothing_of : CondUnit → ℕ
 nothing_of Plus = 0
 nothing_of Star = second
 
--- the later terms' value, or their first fault; `Mixed` if the operator `next` differs from `set`
+-- the later terms' value, or their first fault; `Mixed` if the operator `next` differs from `op`
 abbrev pub before_operator : CondUnit → Result ℕ Cause → CondUnit → Result ℕ Cause
-before_operator set later next = result_and later (if is_same_operator set next then later else Err (Mixed set next))
+before_operator op later next = result_and later (if is_same_operator op next then later else Err (Mixed op next))
 
 -- the value of a later term, or its fault, which has no place
 abbrev pub later_term : Option ℕ → TimeUnit → Result ℕ Cause
@@ -143,9 +144,9 @@ Reads f old new result = leaving (rest_of new) result ≡ f (rest_of old)
 -- The source stays the same, and the place of a fault is not beyond the place reached.
 pub record CutsOn {A : Type 0} (old new : Tokens) (result : Result A Cause) : Type 0 where
   pub same_source : source new ≡ source old
-  pub reached : IfErr result (IsCut (place_of new))
+  pub reached : IfErr result (IsCut (cut_place new))
 
 -- After an operator a number is ahead; without an operator the whole source is cut.
 abbrev pub IsFollowed : Tokens → Option CondUnit → Type 0
-IsFollowed s None = place_of s ≡ length (source s)
+IsFollowed s None = cut_place s ≡ length (source s)
 IsFollowed s (Some op) = IsAhead s (Some Number)

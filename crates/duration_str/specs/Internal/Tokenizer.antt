@@ -7,7 +7,7 @@ use Rattle.duration_str.specs.declared.token.Number.{Number}
 use Rattle.duration_str.specs.declared.token.Tokens.{Tokens}
 use Rattle.duration_str.specs.Text.{is_blank, number_of}
 use Rattle.duration_str.specs.Grammar.{Terminal, number, terminal_of}
-use Rattle.duration_str.specs.Tokenizer.{source, options_of, place_of, left, KeepsInput}
+use Rattle.duration_str.specs.Tokenizer.{source, options_of, cut_place, tokens_left, KeepsInput}
 use Rattle.duration_str.specs.Internal.Numbers.{u64_from}
 use Rattle.duration_str.specs.Internal.Cutting.{Between}
 use Rattle.duration_str.specs.Internal.Sorts.{sort_at, sort_of}
@@ -28,7 +28,7 @@ IsAhead s (Some sort) = StartsToken s sort
 -- end.
 pub record LooksAhead (old new : Tokens) (sort : Option Sort) : Type 0 where
   pub kept : KeepsInput old new
-  pub same_left : left new ≡ left old
+  pub same_left : tokens_left new ≡ tokens_left old
   pub ahead : IsAhead new sort
 
 -- whether a number is ahead
@@ -52,8 +52,8 @@ IsSign _ = ⊤
 pub record TakesToken (old new : Tokens) (terminal : Terminal) : Type 0 where
   pub characters : List ℕ
   pub kept : KeepsInput old new
-  pub first : left old ≡ record { start = place_of old; characters = characters } ∷ left new
-  pub between : Between (source old) (place_of old) (place_of new) characters
+  pub first : tokens_left old ≡ record { start = cut_place old; characters = characters } ∷ tokens_left new
+  pub between : Between (source old) (cut_place old) (cut_place new) characters
   pub is_terminal : terminal ≡ terminal_of (options_of old) characters
 
 -- the number, or `None` from 2^64 on

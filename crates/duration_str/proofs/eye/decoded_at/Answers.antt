@@ -1,5 +1,5 @@
 use Rattle.std.proofs.Common.{sym, ◌∙◌}
-use Rattle.std.proofs.lemmas.Str.{IsCharBoundary-past_char}
+use Rattle.duration_str.proofs.Common.{IsCharBoundary-past_char}
 use Rattle.duration_str.proofs.Characters.TextLemmas.{stands_char}
 use Rattle.duration_str.proofs.eye.decoded_at.Goals as goal
 
@@ -7,11 +7,12 @@ pub returns-clause-stands : goal.returns-clause-stands
 returns-clause-stands c =
     let value = c.range_from.ensures.value in
     let begins = sym value ∙ sym c.chars.ensures.rest ∙ (c.in-Some.ensures {u = tt}).steps.0 in
-    rw c.len_utf8.ensures.value (stands_char c.args.text.now c.next.new.self.rest.now c.args.place c.in-Some.c (rw value at c.range_from.utf8) begins)
+    rw c.len_utf8.ensures.value (stands_char c.args.text.now _ c.args.place _ (rw value at c.range_from.utf8) begins)
 
 pub returns-clause-boundary : goal.returns-clause-boundary
 returns-clause-boundary c =
     let value = c.range_from.ensures.value in
     let begins = sym value ∙ sym c.chars.ensures.rest ∙ (c.in-Some.ensures {u = tt}).steps.0 in
-    rw c.len_utf8.ensures.value (IsCharBoundary-past_char c.args.text.now c.next.new.self.rest.now c.args.place c.in-Some.c
-    c.requires.boundary.0 (rw value at c.range_from.utf8) begins)
+    let utf8 = rw value at c.range_from.utf8 in
+    rw c.len_utf8.ensures.value
+    (IsCharBoundary-past_char c.args.text.now _ c.args.place _ c.requires.boundary.0 utf8 begins)

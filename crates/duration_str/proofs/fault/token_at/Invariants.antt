@@ -1,12 +1,12 @@
 use Rattle.std.proofs.Common.{◌≡◌, length}
-use Rattle.duration_str.proofs.Common.{token_at, source, left}
+use Rattle.duration_str.proofs.Common.{token_at, source, tokens_left}
 use Rattle.duration_str.proofs.fault.token_at.Given as goal
 
 abbrev pub invariant-loop-token : goal.invariant-loop-token
 invariant-loop-token l = record {
   same_source : source l.tokens ≡ source l.fn.tokens;
-  passed : token_at l.place (left l.tokens) ≡ token_at l.place (left l.fn.tokens);
+  passed : token_at l.place (tokens_left l.tokens) ≡ token_at l.place (tokens_left l.fn.tokens);
 }
 
 abbrev pub decreases-loop-token : goal.decreases-loop-token
-decreases-loop-token l = length (left l.tokens)
+decreases-loop-token l = length (tokens_left l.tokens)

@@ -9,4 +9,4 @@ unfolding unit_of_packed
 returns-then-name-packed c = slot_found SLOTS _ c.args.packed refl refl c.ranges.packed.fits c.if-name-packed.true
 
 pub returns-else-name-packed : goal.returns-else-name-packed
-returns-else-name-packed c = slot_empty SLOTS _ c.args.packed refl c.if-name-packed.false
+returns-else-name-packed c = slot_empty SLOTS _ c.args.packed c.if-name-packed.false refl

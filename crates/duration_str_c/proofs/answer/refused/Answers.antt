@@ -1,6 +1,6 @@
 use Rattle.std.proofs.Common.{rules, ◌≡◌, ◌∙◌, ap}
 use Rattle.std.specs.Str.{chars}
-use Rattle.duration_str.specs.Faults.{found}
+use Rattle.duration_str.specs.Faults.{found_token}
 use Rattle.duration_str_c.specs.Told.{token_length, refusal_told, cause_told}
 use Rattle.duration_str_c.proofs.CauseLemmas.{of_text}
 use Rattle.duration_str_c.proofs.ToldLemmas.{told_again}
@@ -10,6 +10,6 @@ pub returns : goal.returns
 returns c =
     let text = chars c.args.fault.text.now in
     let cause = c.args.fault.cause in
-    let len = token_length (found c.args.options text cause) in
+    let len = token_length (found_token c.args.options text cause) in
     let told : c.refusal.result ≡ refusal_told cause len = search rules in
     (c.requires, told, ap cause_told told ∙ told_again cause len (of_text c.args.options text cause c.requires), c.args.fault.placed)

@@ -1,7 +1,6 @@
 use Rattle.duration_str.proofs.Common.{FitsDuration, as_nanos, off}
 use Rattle.std.proofs.Common.{◌≡◌, sym, ◌∙◌, arith}
-use Rattle.uses.proofs.CacheLemmas.{key_is_printed}
-use Rattle.uses.proofs.TextLemmas.{equal_by_chars}
+use Rattle.uses.proofs.CacheLemmas.{key_is_printed, equal_by_chars}
 use Rattle.uses.proofs.cache.share_entry.Goals as goal
 
 pub returns-clause-same : goal.returns-clause-same

@@ -1,4 +1,4 @@
-use Rattle.std.proofs.lemmas.Str.{IsCharBoundary-start}
+use Rattle.duration_str.proofs.Common.{IsCharBoundary-start}
 use Rattle.duration_str.proofs.eye.Eye.new.Goals as goal
 
 pub invariant_of-result-clause-at_place : goal.invariant_of-result-clause-at_place

@@ -1,4 +1,4 @@
-use Rattle.std.proofs.lemmas.Str.{IsUtf8-had}
+use Rattle.duration_str.proofs.Common.{IsUtf8-had}
 use Rattle.duration_str.proofs.Cutting.CuttingLemmas.{short_number}
 use Rattle.duration_str.proofs.token.Number.value.Goals as goal
 

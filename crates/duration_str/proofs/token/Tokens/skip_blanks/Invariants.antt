@@ -1,13 +1,12 @@
 use Rattle.std.proofs.Common.{length}
-use Rattle.duration_str.proofs.Common.{is_blank, ahead, Passes, source, KeepsInput}
-use Rattle.duration_str.specs.Tokenizer.{place_of}
+use Rattle.duration_str.proofs.Common.{is_blank, ahead, Passes, source, KeepsInput, cut_place}
 use Rattle.duration_str.proofs.token.Tokens.skip_blanks.Given as goal
 
 abbrev pub invariant-loop-self : goal.invariant-loop-self
 invariant-loop-self l = record {
   kept : KeepsInput l.initial.self l.self;
-  blanks : Passes is_blank (source l.initial.self) (place_of l.initial.self) (place_of l.self);
+  blanks : Passes is_blank (source l.initial.self) (cut_place l.initial.self) (cut_place l.self);
 }
 
 abbrev pub decreases-loop-self : goal.decreases-loop-self
-decreases-loop-self l = length (ahead (source l.self) (place_of l.self))
+decreases-loop-self l = length (ahead (source l.self) (cut_place l.self))

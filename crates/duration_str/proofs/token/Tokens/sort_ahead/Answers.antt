@@ -1,17 +1,12 @@
-use Rattle.std.proofs.Common.{subst, sym}
-use Rattle.duration_str.proofs.Common.{IsAhead}
 use Rattle.duration_str.proofs.Cutting.TokenizerLemmas.{looks_ahead}
 use Rattle.duration_str.proofs.token.Tokens.sort_ahead.Goals as goal
 
 pub returns-in_err-first : goal.returns-in_err-first
 returns-in_err-first c =
-    let m = c.skip_blanks.new.self in
-    let e = c.skip_blanks.ensures in
-    looks_ahead _ e.kept e.blanks (subst (IsAhead m) (sym c.from_residual.ensures) (c.in_err-first.was {u = tt}))
+    let e = c.skip_blanks.ensures in rw c.from_residual.ensures (looks_ahead _ e.kept e.blanks (c.in_err-first.was {u = tt}))
 
 pub returns : goal.returns
 returns c =
-    let m = c.skip_blanks.new.self in
     let e = c.skip_blanks.ensures in
     let head = c.in_ok-first.was {u = tt} in
     let first = c.in_ok-first.first in

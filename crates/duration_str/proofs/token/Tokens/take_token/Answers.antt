@@ -4,7 +4,7 @@ use Rattle.duration_str.proofs.token.Tokens.take_token.Goals as goal
 pub returns-in-Operator : goal.returns-in-Operator
 returns-in-Operator c =
     let taken = c.advance.ensures.sign _ tt (rw c.in-Operator.is at c.requires) in
-    record { terminal = taken.terminal; token = taken.token; has = sign_what taken.terminal c.in-Operator.operator taken.has }
+    record { terminal = taken.terminal; token = taken.token; has = sign_what taken.terminal _ taken.has }
 
 pub returns-in-Other : goal.returns-in-Other
 returns-in-Other c =

@@ -1,29 +1,26 @@
-use Rattle.std.proofs.Common.{◌∙◌, sym, subst, arith}
-use Rattle.duration_str.proofs.Common.{not-true, is_unit_letter, ahead, Stops, source, options_of}
-use Rattle.duration_str.specs.Tokenizer.{place_of}
+use Rattle.std.proofs.Common.{◌∙◌, sym, arith}
+use Rattle.duration_str.proofs.Common.{not-true, is_unit_letter, ahead, Stops, source, options_of, cut_place}
 use Rattle.duration_str.proofs.Characters.CharacterLemmas.{no_letter_of_ascii}
-use Rattle.duration_str.proofs.Cutting.CuttingLemmas.{short_word, stops_at}
+use Rattle.duration_str.proofs.Cutting.CuttingLemmas.{short_word}
 use Rattle.duration_str.proofs.Cutting.TokenizerLemmas.{takes_word, takes_long_word}
 use Rattle.duration_str.proofs.token.Tokens.take_word.Goals.{in-Some, in-None}
 use Rattle.duration_str.proofs.token.Tokens.take_word.Goals as goal
 
 pub returns-then-place-start-le-MOST_LETTERS : goal.returns-then-place-start-le-MOST_LETTERS
 returns-then-place-start-le-MOST_LETTERS c =
-    let s = c.args.self.now in
     let t = c.take_ascii_letters-letters.new.self in
-    let letters = c.take_ascii_letters-letters.result in
     let e = c.take_ascii_letters-letters.ensures in
-    let o = options_of s in
-    let stops : Stops (is_unit_letter o) (ahead (source t) (place_of t)) = elim c.match-self.branch [
+    let o = options_of c.args.self.now in
+    let stops : Stops (is_unit_letter o) (ahead (source t) (cut_place t)) = elim c.match-self.branch [
       | in-Some w ↦
-          stops_at (is_unit_letter o) (source t) (place_of t) t.eye.next w.in-Some.c (t.some w.in-Some.c w.in-Some.is)
+          rw (t.some w.in-Some.c w.in-Some.is).head
           (no_letter_of_ascii o w.in-Some.c (sym w.is_ascii-ended.ensures ∙ sym w.ended-is ∙ c.if-ended.true)
           (e.stops w.in-Some.c w.in-Some.is))
-      | in-None w ↦ subst (Stops (is_unit_letter o)) (sym (t.none w.in-None.is)) tt
+      | in-None w ↦ rw (t.none w.in-None.is) tt
     ] in
     takes_word c.requires e.kept (short_word o e.letters
     (rw e.kept.options at (not-true _ (sym c.ignore_case.ensures ∙ c.if-ignore_case.true)))
-    (let h = c.if-place-start-le-MOST_LETTERS.true in omega (arith, h, c.place.ensures, c.place-start.ensures))
+    (omega (arith, c.if-place-start-le-MOST_LETTERS.true, c.place.ensures, c.place-start.ensures))
     c.unit_of_packed.ensures)
     stops
 
@@ -31,14 +28,12 @@ pub returns-in_err-unit : goal.returns-in_err-unit
 returns-in_err-unit c =
     let m = c.take_ascii_letters-letters.ensures in
     let t = c.skip_letters.ensures in
-    let unit = c.from_residual.ensures ∙ sym (c.in_err-unit.was {u = tt}) ∙ c.unit_by_name.ensures in
     takes_long_word c.requires m.kept m.letters t.kept t.letters t.stops c.place-start.ensures c.since.ensures
-    c.since.utf8 unit
+    c.since.utf8 (c.from_residual.ensures ∙ sym (c.in_err-unit.was {u = tt}) ∙ c.unit_by_name.ensures)
 
 pub returns-in_ok-unit : goal.returns-in_ok-unit
 returns-in_ok-unit c =
     let m = c.take_ascii_letters-letters.ensures in
     let t = c.skip_letters.ensures in
-    let unit = sym (c.in_ok-unit.was {u = tt}) ∙ c.unit_by_name.ensures in
     takes_long_word c.requires m.kept m.letters t.kept t.letters t.stops c.place-start.ensures c.since.ensures
-    c.since.utf8 unit
+    c.since.utf8 (sym (c.in_ok-unit.was {u = tt}) ∙ c.unit_by_name.ensures)

@@ -1,0 +1,53 @@
+"""Times of columns from Python: what is timed, a tab, and the nanoseconds a text, over a million texts as `3m 13s 29ms`, or
+over fewer where each takes a call. Of each it is the least of the rounds, which take turns, and the time of the processor,
+since a call is longer than what a busy machine gives a program at once."""
+
+import random
+import time
+from array import array
+from itertools import accumulate
+
+import duration_str
+import pandas
+import pytimeparse
+
+COUNT = 1_000_000
+FEW = 50_000
+ROUNDS = 11
+
+
+def nanos_a_text(call, texts):
+    start = time.process_time_ns()
+    call(texts)
+    return (time.process_time_ns() - start) / len(texts)
+
+
+def in_a_loop(call):
+    return lambda texts: [call(text) for text in texts]
+
+
+seed = random.Random(19)
+texts = [f"{seed.randrange(60)}m {seed.randrange(60)}s {seed.randrange(1000)}ms" for _ in range(COUNT)]
+whole = [f"{seed.randrange(24)}h {seed.randrange(60)}m {seed.randrange(60)}s" for _ in range(FEW)]
+series = pandas.Series(texts)
+lengths = duration_str.to_timedelta(series)
+if not lengths.equals(pandas.to_timedelta(series)):
+    raise SystemExit("columns: pandas reads the texts otherwise")
+if duration_str.parse_many(whole).tolist() != [pytimeparse.parse(text) * 10**9 for text in whole]:
+    raise SystemExit("columns: pytimeparse reads the texts otherwise")
+data, wide = "".join(texts).encode(), array("q", accumulate(map(len, texts), initial=0))
+narrow = array("i", wide)
+
+timed = [
+    ("`parse_ns` in a loop", in_a_loop(duration_str.parse_ns), texts[:FEW]),
+    ("`parse_buffers`, offsets of 8 bytes", lambda _: duration_str.parse_buffers(data, wide), texts),
+    ("`parse_buffers`, offsets of 4 bytes", lambda _: duration_str.parse_buffers(data, narrow), texts),
+    ("`parse_many` of a list", duration_str.parse_many, texts),
+    ("`to_timedelta` of a Series", duration_str.to_timedelta, series),
+    ("`pandas.to_timedelta` of the Series", pandas.to_timedelta, series[:FEW]),
+    ("pytimeparse in a loop, without milliseconds", in_a_loop(pytimeparse.parse), whole),
+    ("`format_many` of a Series, which prints", duration_str.format_many, lengths[:FEW]),
+]
+rounds = [[nanos_a_text(call, given) for _, call, given in timed] for _ in range(ROUNDS)]
+for (what, _, _), taken in zip(timed, zip(*rounds)):
+    print(f"{what}\t{min(taken):.0f}")

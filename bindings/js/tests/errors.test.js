@@ -1,0 +1,131 @@
+import assert from "node:assert/strict";
+import test from "node:test";
+
+import { DurationError, parse } from "duration-str";
+import { IS_UNDER, OPTIONS, VECTORS } from "./vectors.js";
+
+const NOTHING = { number: false, unit: false, operator: false, end: false };
+const NUMBER = { ...NOTHING, number: true };
+const NUMBER_OR_END = { ...NUMBER, end: true };
+const AFTER_NUMBER = { number: false, unit: true, operator: true, end: true };
+const AFTER_UNIT = { number: true, unit: false, operator: true, end: true };
+
+/** The error by which a text is refused. */
+function errorOf(text, options) {
+    try {
+        parse(text, options);
+    } catch (error) {
+        assert.ok(error instanceof DurationError, error);
+        return error;
+    }
+    return assert.fail(`${JSON.stringify(text)} is read`);
+}
+
+/** The message where the fault has a place: the text, a caret below the character of this number, and the line. */
+function pointed(text, column, line) {
+    return `${text}\n${" ".repeat(column)}^\n${line}`;
+}
+
+test("makes room for each message, also where the text just fits", () => {
+    for (let count = 1; count < 22_000; count += 20) {
+        const text = `1s${" ".repeat(count)}x`;
+        assert.equal(errorOf(text).message, pointed(text, count + 2, VECTORS.lines.operators));
+    }
+});
+
+test("tells the vectors' messages", () => {
+    for (const [name, rows] of Object.entries(VECTORS.faults)) {
+        for (const options of OPTIONS.filter(IS_UNDER[name])) {
+            for (const [text, column, lineName] of rows) {
+                const error = errorOf(text, options);
+                const line = VECTORS.lines[lineName];
+                assert.equal(error.message, column === null ? line : pointed(text, column, line));
+                assert.deepEqual([error.text, error.column, error.line], [text, column, line]);
+            }
+        }
+    }
+});
+
+test("points at what it found, in each count", () => {
+    const rows = [
+        // text, options, index, byte, column, found, expected
+        ["0mxyz", {}, 1, 1, 1, "mxyz", AFTER_NUMBER],
+        ["1m 3-5", {}, 4, 4, 4, "-", AFTER_NUMBER],
+        ["1m+", {}, 3, 3, 3, null, NUMBER],
+        ["1µs …!", {}, 4, 5, 4, "…", AFTER_UNIT],
+        ["1 12", {}, 2, 2, 2, "12", AFTER_NUMBER],
+        ["3ms*2ms", { noCalc: true }, 3, 3, 3, "*", NUMBER_OR_END],
+        ["1分s", { cnUnit: true }, 1, 1, 1, "分s", AFTER_NUMBER],
+        ["1分 2秒 …", { cnUnit: true }, 6, 10, 6, "…", AFTER_UNIT],
+        ["1s 😀", {}, 3, 3, 3, "😀", AFTER_UNIT],
+        ["\ufeff1s", {}, 0, 0, 0, "\ufeff", NUMBER],
+        ["1s\0", {}, 2, 2, 2, "\0", AFTER_UNIT],
+        ["1s \u202e", {}, 3, 3, 3, "\u202e", AFTER_UNIT],
+        ["1s <b>", {}, 3, 3, 3, "<", AFTER_UNIT],
+    ];
+    for (const [text, options, index, byte, column, found, expected] of rows) {
+        const error = errorOf(text, options);
+        assert.equal(error.code, "SYNTAX");
+        assert.deepEqual([error.index, error.byte, error.column, error.found], [index, byte, column, found], text);
+        assert.deepEqual(error.expected, expected, text);
+        assert.equal(error.message, pointed(text, column, error.line));
+        assert.ok(text.slice(index).startsWith(found ?? ""));
+    }
+});
+
+test("tells the cause of other faults", () => {
+    const rows = [
+        ["", "EMPTY", null],
+        ["99999999999999999999y", "NUMBER_TOO_LARGE", 0],
+        ["1s 99999999999999999999", "NUMBER_TOO_LARGE", null],
+        ["600y", "OVERFLOW", 0],
+        ["580y*2", "OVERFLOW", null],
+        ["1s+2*3", "MIXED", null],
+    ];
+    for (const [text, code, place] of rows) {
+        const error = errorOf(text);
+        assert.equal(error.code, code);
+        assert.deepEqual([error.index, error.byte, error.column, error.found], [place, place, place, null]);
+        assert.deepEqual(error.expected, NOTHING);
+    }
+});
+
+test("refuses lone surrogates, wherever they stand", () => {
+    const rows = [
+        ["\ud800", 0],
+        ["1s\udfff", 2],
+        ["\udc801s", 0],
+        ["1\ud83ds", 1],
+        ["😀\ude00", 2],
+        [`${"1s".repeat(100_000)}\ud83d`, 200_000],
+    ];
+    for (const [text, index] of rows) {
+        for (const options of OPTIONS) {
+            const error = errorOf(text, options);
+            assert.deepEqual([error.code, error.text], ["NOT_TEXT", text]);
+            assert.deepEqual([error.index, error.byte, error.column, error.found], [null, null, null, null]);
+            assert.equal(error.line, `not UTF-8: the character at index ${index} is a lone surrogate`);
+            assert.equal(error.message, error.line);
+        }
+    }
+});
+
+test("is an Error of its own name", () => {
+    const error = errorOf("600y");
+    assert.ok(error instanceof Error);
+    assert.equal(String(error), "DurationError: 600y\n^\noverflow error");
+    assert.match(error.stack, /^DurationError: 600y/);
+    assert.ok(!Object.hasOwn(error, "name"));
+});
+
+test("tells the byte where the text has lines", () => {
+    assert.equal(errorOf("1µ\n2x").message, `byte 1: ${VECTORS.lines.units}`);
+});
+
+test("writes the message about 10 MB", () => {
+    const blanks = " ".repeat(10_000_000);
+    const error = errorOf(`1µs${blanks}😀x`);
+    assert.deepEqual([error.index, error.byte, error.found], [10_000_003, 10_000_004, "😀"]);
+    assert.equal(error.message, pointed(`1µs${blanks}😀x`, 10_000_003, VECTORS.lines.operators));
+    assert.equal(parse("1s"), 1_000_000_000n);
+});

@@ -1,0 +1,110 @@
+import assert from "node:assert/strict";
+import test from "node:test";
+
+import { DurationError, parse, parseMs } from "duration-str";
+import { IS_UNDER, OPTIONS, VECTORS } from "./vectors.js";
+
+const LARGEST = 2n ** 64n - 1n;
+
+test("makes room for what is longer in UTF-8", () => {
+    const count = 1_000_000;
+    assert.equal(parse("1分".repeat(count), { cnUnit: true }), BigInt(count) * 60_000_000_000n);
+});
+
+test("reads the vectors, and refuses them under the other options", () => {
+    for (const [name, rows] of Object.entries(VECTORS.values)) {
+        for (const options of OPTIONS) {
+            for (const [secs, nanos, texts] of rows) {
+                const value = BigInt(secs) * 1_000_000_000n + BigInt(nanos);
+                for (const text of texts) {
+                    if (IS_UNDER[name](options)) assert.equal(parse(text, options), value, text);
+                    else assert.throws(() => parse(text, options), DurationError, text);
+                }
+            }
+        }
+    }
+});
+
+test("reads as without options where they are left out or undefined", () => {
+    for (const options of [undefined, {}, { noCalc: undefined }, { noCalc: false, lowercase: false, cnUnit: false }]) {
+        assert.equal(parse("1M*2", options), 120_000_000_000n);
+        assert.throws(() => parse("1分", options), DurationError);
+    }
+});
+
+test("takes options that are inherited", () => {
+    assert.equal(parse("1分", Object.create({ cnUnit: true })), 60_000_000_000n);
+});
+
+test("refuses what is no option", () => {
+    const rows = [
+        [{ no_calc: true }, "unknown option: no_calc"],
+        [{ nocalc: undefined }, "unknown option: nocalc"],
+        [{ noCalc: 1 }, "the option noCalc must be a boolean, not number"],
+        [{ lowercase: "no" }, "the option lowercase must be a boolean, not string"],
+        [{ cnUnit: null }, "the option cnUnit must be a boolean, not null"],
+        [null, "the options must be an object, not null"],
+        [0, "the options must be an object, not number"],
+        ["noCalc", "the options must be an object, not string"],
+    ];
+    for (const [options, message] of rows) {
+        for (const call of [parse, parseMs]) assert.throws(() => call("1s", options), new TypeError(message));
+    }
+});
+
+test("refuses what is no string", () => {
+    const rows = [
+        [undefined, "undefined"],
+        [null, "null"],
+        [1, "number"],
+        [1n, "bigint"],
+        [Symbol("1s"), "symbol"],
+        [["1s"], "object"],
+        [new String("1s"), "object"],
+        [{ toString: () => "1s" }, "object"],
+        [() => "1s", "function"],
+    ];
+    for (const [value, type] of rows) {
+        const error = new TypeError(`a duration's text must be a string, not ${type}`);
+        for (const call of [parse, parseMs]) assert.throws(() => call(value), error);
+    }
+});
+
+test("rounds down to whole milliseconds", () => {
+    const rows = [
+        ["1m 30s", 90_000],
+        ["0", 0],
+        ["999999ns", 0],
+        ["1999999ns", 1],
+        [`${LARGEST}ns`, 18_446_744_073_709],
+    ];
+    for (const [text, value] of rows) assert.equal(parseMs(text), value, text);
+    assert.equal(parseMs("1分", { cnUnit: true }), 60_000);
+});
+
+test("reads up to the largest value", () => {
+    assert.equal(parse(`${LARGEST}ns`), LARGEST);
+    assert.throws(() => parse(`${LARGEST}ns 1ns`), { code: "OVERFLOW" });
+});
+
+test("reads 10 MB, and keeps the memory for later texts", (context) => {
+    const grow = context.mock.method(WebAssembly.Memory.prototype, "grow");
+    const count = 3_400_000;
+    assert.equal(parse("1s ".repeat(count)), BigInt(count) * 1_000_000_000n);
+    assert.equal(grow.mock.callCount(), 1);
+    for (let round = 0; round < 5; round++) {
+        assert.equal(parse(`1µs${" ".repeat(10_000_000)}1µs`), 2000n);
+        assert.equal(parse("2s"), 2_000_000_000n);
+    }
+    assert.equal(grow.mock.callCount(), 1);
+});
+
+test("is not confused by an option that reads another text", () => {
+    const options = {
+        get noCalc() {
+            assert.throws(() => parse("x".repeat(100_000)), DurationError);
+            return false;
+        },
+    };
+    assert.equal(parse("1m+2", options), 62_000_000_000n);
+});

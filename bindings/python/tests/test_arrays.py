@@ -1,0 +1,196 @@
+"""What columns of NumPy and pandas are read as, and what they print. Without NumPy that it is missed."""
+
+import datetime
+import decimal
+import subprocess
+import sys
+import unittest
+from array import array
+
+from duration_str import Cause, DurationError, format, format_many, to_timedelta
+from tests.columns import arrow_columns, value_columns
+
+try:
+    import numpy
+    import pandas
+except ImportError:
+    numpy = pandas = None
+
+SECOND = 10**9
+MINUTE = 60 * SECOND
+
+
+def numbers(result):
+    """The nanoseconds of timedelta64[ns], one after the other, with None where one is missing."""
+    values = result if isinstance(result, numpy.ndarray) else result.to_numpy()
+    assert values.dtype == numpy.dtype("timedelta64[ns]"), values.dtype
+    return [None if number == -(2**63) else number for number in values.ravel().view("int64").tolist()]
+
+
+@unittest.skipIf(numpy, "NumPy and pandas are installed")
+class Nothing(unittest.TestCase):
+    def test_misses_numpy(self):
+        with self.assertRaisesRegex(ImportError, "numpy"):
+            to_timedelta(["1s"])
+
+    def test_prints_lists(self):
+        self.assertEqual(format_many([MINUTE, None, datetime.timedelta(1)]), ["1min", None, "1d"])
+
+
+@unittest.skipUnless(numpy, "NumPy or pandas is missing")
+class Reading(unittest.TestCase):
+    def test_reads_the_vectors(self):
+        for options, rows in value_columns():
+            texts = [text for text, _ in rows]
+            wanted = [value if value is not None and value < 2**63 else None for _, value in rows]
+            for values in [texts, numpy.array(texts, dtype=object), pandas.Series(texts), *arrow_columns(texts)]:
+                with self.subTest(type=type(values), **options):
+                    self.assertEqual(numbers(to_timedelta(values, errors="coerce", **options)), wanted)
+
+    def test_keeps_index_and_name(self):
+        series = pandas.Series(["1s", None, "2m"], index=["a", "b", "b"], name="wait")
+        wanted = pandas.Series([SECOND, None, 2 * MINUTE], index=series.index, name="wait", dtype="timedelta64[ns]")
+        pandas.testing.assert_series_equal(to_timedelta(series), wanted)
+        for kind in ["string", "category"]:
+            pandas.testing.assert_series_equal(to_timedelta(series.astype(kind)), wanted)
+        index = pandas.Index(["1s", None, "2m"], name="wait")
+        pandas.testing.assert_index_equal(to_timedelta(index), pandas.TimedeltaIndex(wanted, name="wait"))
+        self.assertEqual(numbers(to_timedelta(series.array)), [SECOND, None, 2 * MINUTE])
+        self.assertEqual(list(series), ["1s", None, "2m"])
+
+    def test_keeps_the_shape(self):
+        for shape in [(), (0,), (6,), (2, 3), (3, 0, 2)]:
+            for kind in [object, "U5"]:
+                values = numpy.full(shape, "1s", dtype=kind)
+                with self.subTest(shape=shape, kind=kind):
+                    read = to_timedelta(values)
+                    self.assertEqual((read.shape, numbers(read)), (shape, [SECOND] * values.size))
+        table = numpy.array([["1s", "2s", "3s"], ["4s", "5s", "6s"]])
+        self.assertEqual(to_timedelta(table.T).tolist(), [[n * SECOND, (n + 3) * SECOND] for n in (1, 2, 3)])
+        self.assertEqual(numbers(to_timedelta(numpy.asfortranarray(table))), [n * SECOND for n in range(1, 7)])
+        self.assertEqual(numbers(to_timedelta(table[:, ::2])), [n * SECOND for n in (1, 3, 4, 6)])
+        self.assertEqual(to_timedelta([]).shape, (0,))
+
+    def test_answers_arrays_that_can_be_written(self):
+        read = to_timedelta(pandas.Series(["1s", "2s"]))
+        read.iloc[0] = pandas.Timedelta(0)
+        self.assertEqual(numbers(read), [0, 2 * SECOND])
+
+    def test_keeps_what_is_missing(self):
+        missing = [None, float("nan"), numpy.nan, numpy.float32("nan"), pandas.NA, pandas.NaT, decimal.Decimal("nan")]
+        missing += [numpy.timedelta64("NaT"), numpy.datetime64("NaT")]
+        values = ["1s", *missing, "1m"]
+        wanted = [SECOND, *[None] * len(missing), MINUTE]
+        for errors in ["raise", "coerce"]:
+            for column in [values, pandas.Series(values), numpy.array(values, dtype=object)]:
+                self.assertEqual(numbers(to_timedelta(column, errors=errors)), wanted)
+            for arrow in arrow_columns(["1s", None, "1m"]):
+                self.assertEqual(numbers(to_timedelta(arrow, errors=errors)), [SECOND, None, MINUTE])
+        self.assertEqual(numbers(to_timedelta(numpy.full(3, numpy.nan))), [None] * 3)
+        self.assertEqual(numbers(to_timedelta(pandas.Series([pandas.NaT] * 3))), [None] * 3)
+        masked = numpy.ma.array(["1s", "x", "1m"], mask=[False, True, False])
+        self.assertEqual(numbers(to_timedelta(masked)), [SECOND, None, MINUTE])
+
+    def test_knows_missing_values_without_pandas(self):
+        program = (
+            "import sys, numpy, duration_str\n"
+            "values = ['1s', None, float('nan'), numpy.float32('nan'), numpy.timedelta64('NaT')]\n"
+            "print(duration_str.to_timedelta(values).astype('int64').tolist(), 'pandas' in sys.modules)\n"
+        )
+        told = subprocess.run([sys.executable, "-c", program], capture_output=True, text=True, check=True)
+        self.assertEqual(told.stdout, f"{[SECOND, *[-(2**63)] * 4]} False\n")
+
+    def test_refuses_what_timedelta64_lacks(self):
+        most = 2**63 - 1
+        self.assertEqual(numbers(to_timedelta([f"{most}ns"])), [most])
+        for text in [f"{2**63}ns", f"{2**63 + 1}ns", "300y", f"{2**64 - 1}ns"]:
+            with self.subTest(text=text):
+                self.assertEqual(numbers(to_timedelta(["1s", text], errors="coerce")), [SECOND, None])
+                with self.assertRaisesRegex(DurationError, "timedelta64 doesn't have\nat index 1$") as told:
+                    to_timedelta(["1s", text, "x"])
+                self.assertEqual((told.exception.index, told.exception.cause), (1, Cause.OVERFLOW))
+                self.assertEqual((told.exception.text, told.exception.place), (text, None))
+
+    def test_raises_the_first_refusal(self):
+        for columns in [[["1s", None, "1m 3-5", "300y", "x"]], arrow_columns(["1s", None, "1m 3-5", "300y", "x"])]:
+            for column in columns:
+                with self.assertRaisesRegex(DurationError, "^1m 3-5\n    \\^\nexpected .*\nat index 2$") as told:
+                    to_timedelta(column)
+                self.assertEqual((told.exception.index, told.exception.found), (2, "-"))
+        labelled = pandas.Series(["1s", "x"], index=[10, 20])
+        with self.assertRaises(DurationError) as told:
+            to_timedelta(labelled)
+        self.assertEqual(told.exception.index, 1)
+
+    def test_wants_texts(self):
+        for value in [b"1s", 1, 1.5, True, ["1s"], datetime.timedelta(1), numpy.int64(1), pandas.Timedelta(1)]:
+            with self.subTest(value=value):
+                with self.assertRaisesRegex(TypeError, "must be a str, not .*, at index 2$"):
+                    to_timedelta(["x", None, value])
+                self.assertEqual(numbers(to_timedelta(["1s", value], errors="coerce")), [SECOND, None])
+        for column in [numpy.array([b"1s"]), numpy.array([1]), pandas.Series([1.5]), {1}]:
+            with self.assertRaisesRegex(TypeError, "at index 0$"):
+                to_timedelta(column)
+        for column in ["1s", b"1s", None, 5, pandas.DataFrame({"wait": ["1s"]})]:
+            with self.assertRaises(TypeError):
+                to_timedelta(column)
+
+    def test_reads_as_pandas_does_where_both_read(self):
+        texts = [f"{n % 50}d {n % 24}h {n % 60}m {n % 61}s {n}ms {n % 7}us {n % 3}ns" for n in range(20_000)]
+        for column in [pandas.Series(texts), pandas.Series([*texts, None])]:
+            pandas.testing.assert_series_equal(to_timedelta(column), pandas.to_timedelta(column))
+
+
+@unittest.skipUnless(numpy, "NumPy or pandas is missing")
+class Printing(unittest.TestCase):
+    NANOS = [0, 1, 193_029_000_000, 365 * 1440 * MINUTE, 2**63 - 1]
+
+    def test_prints_columns(self):
+        printed = [*map(format, self.NANOS), None]
+        values = numpy.array([*self.NANOS, "NaT"], dtype="timedelta64[ns]")
+        self.assertEqual(format_many(values).tolist(), printed)
+        self.assertEqual(format_many(values.reshape(2, 3)).tolist(), [printed[:3], printed[3:]])
+        self.assertEqual(format_many(values.astype(">m8[ns]")).tolist(), printed)
+        self.assertEqual(format_many(values[::-1]).tolist(), printed[::-1])
+        series = pandas.Series(values, index=list("abcdef"), name="wait")
+        wanted = pandas.Series(printed, index=series.index, name="wait", dtype=object)
+        pandas.testing.assert_series_equal(format_many(series), wanted)
+        pandas.testing.assert_index_equal(format_many(pandas.Index(series)), pandas.Index(printed, name="wait"))
+        pandas.testing.assert_series_equal(to_timedelta(format_many(series)), series)
+
+    def test_prints_ints_and_timedeltas(self):
+        values = [2**63, 5, datetime.timedelta(1), pandas.Timedelta(1, "ns"), pandas.NaT, numpy.int64(7), float("nan")]
+        values += [numpy.timedelta64(3, "ns"), numpy.timedelta64(3, "D"), numpy.timedelta64("NaT")]
+        printed = [format(2**63), "5ns", "1d", "1ns", None, "7ns", None, "3ns", "3d", None]
+        self.assertEqual(format_many(values), printed)
+        self.assertEqual(format_many(numpy.array(values, dtype=object)).tolist(), printed)
+        self.assertEqual(format_many(array("Q", [1, 2**64 - 1])), ["1ns", format(2**64 - 1)])
+        largest = numpy.array([1, 2**64 - 1], dtype="uint64")
+        self.assertEqual(format_many(largest).tolist(), ["1ns", format(2**64 - 1)])
+        masked = numpy.ma.array([1, 2], mask=[True, False])
+        self.assertEqual(format_many(masked).tolist(), [None, "2ns"])
+        self.assertEqual(format_many(masked.astype("timedelta64[s]")).tolist(), [None, "2s"])
+        self.assertEqual(format_many([]), [])
+
+    def test_prints_units_beyond_nanoseconds(self):
+        for unit, length in [("W", 604_800), ("D", 86_400), ("h", 3_600), ("m", 60), ("s", 1)]:
+            values = numpy.array([1, 2**33], dtype=f"timedelta64[{unit}]")
+            self.assertEqual(format_many(values).tolist(), [format(n * length * SECOND) for n in (1, 2**33)])
+        self.assertEqual(format_many(numpy.array([3], dtype="timedelta64[10ms]")).tolist(), ["30ms"])
+        for unit in ["Y", "M", "ps"]:
+            with self.assertRaisesRegex(TypeError, "not of timedelta64"):
+                format_many(numpy.array([1], dtype=f"timedelta64[{unit}]"))
+
+    def test_names_the_position(self):
+        rows = [(ValueError, -1), (OverflowError, 2**64 * SECOND)]
+        rows += [(TypeError, value) for value in (1.5, "1s", True)]
+        for error, value in rows:
+            for column in [[1, value], numpy.array([1, value], dtype=object)]:
+                with self.subTest(value=value), self.assertRaisesRegex(error, ", at index 1$"):
+                    format_many(column)
+        with self.assertRaisesRegex(ValueError, "at index 0$"):
+            format_many(pandas.Series([pandas.Timedelta(-1)]))
+
+
+if __name__ == "__main__":
+    unittest.main()

@@ -1,0 +1,245 @@
+"""What columns of texts are read as."""
+
+import mmap
+import pickle
+import tempfile
+import unittest
+from array import array
+from itertools import accumulate
+
+import duration_str
+from duration_str import Cause, DurationError, parse_buffers, parse_many, parse_ns
+from tests.columns import arrow_columns, refused_positions, value_columns
+
+SECOND = 10**9
+# A call reads 8,192 texts.
+LENGTHS = [0, 1, 2, 8_191, 8_192, 8_193, 20_000]
+
+
+def buffers_of(encoded, code="q"):
+    """The bytes of texts one after the other, and their offsets."""
+    return b"".join(encoded), array(code, accumulate(map(len, encoded), initial=0))
+
+
+def error_of(call, *arguments, **words):
+    try:
+        value = call(*arguments, **words)
+    except DurationError as error:
+        return error
+    raise AssertionError(f"it is read as {value}")
+
+
+class Named(str):
+    """A str that says other things of itself than it holds."""
+
+    def __len__(self):
+        return 7
+
+    def __str__(self):
+        return "3s"
+
+    def encode(self, *_):
+        return b"4s"
+
+    def isascii(self):
+        return False
+
+
+class Columns(unittest.TestCase):
+    def test_reads_the_vectors(self):
+        for options, rows in value_columns():
+            texts, values = zip(*rows)
+            wanted = (array("Q", [value or 0 for value in values]), array("Q", refused_positions(values)))
+            with self.subTest(**options):
+                self.assertEqual(parse_many(texts, errors="coerce", **options), wanted)
+                for code in "qQiI":
+                    buffers = buffers_of([text.encode() for text in texts], code)
+                    self.assertEqual(parse_buffers(*buffers, errors="coerce", **options), wanted)
+                for arrow in arrow_columns(list(texts)):
+                    self.assertEqual(parse_many(arrow, errors="coerce", **options), wanted)
+
+    def test_raises_what_the_text_alone_raises(self):
+        for options, rows in value_columns():
+            accepted = [text for text, value in rows if value is not None]
+            for text in {text for text, value in rows if value is None}:
+                column = [*accepted[:3], text, "x"]
+                alone = error_of(parse_ns, text, **options)
+                for call, arguments in [
+                    (parse_many, [column]),
+                    (parse_buffers, buffers_of([text.encode() for text in column])),
+                ]:
+                    with self.subTest(text=text, call=call, **options):
+                        error = error_of(call, *arguments, **options)
+                        self.assertEqual(str(error), f"{alone}\nat index 3")
+                        self.assertEqual({**vars(error), "index": None}, vars(alone))
+                        self.assertEqual(error.index, 3)
+                        again = pickle.loads(pickle.dumps(error))
+                        self.assertEqual((str(again), vars(again)), (str(error), vars(error)))
+
+    def test_reads_any_length(self):
+        for length in LENGTHS:
+            with self.subTest(length=length):
+                values = array("Q", range(length))
+                texts = [f"{value}ns" for value in values]
+                self.assertEqual(parse_many(texts), values)
+                self.assertEqual(parse_many(texts, errors="coerce"), (values, array("Q")))
+                self.assertEqual(parse_buffers(*buffers_of([text.encode() for text in texts])), values)
+                for place in {0, length // 2, length - 1} if length else ():
+                    spoilt = [*texts[:place], "1µx", *texts[place + 1 :]]
+                    self.assertEqual(error_of(parse_many, spoilt).index, place)
+                    values[place], kept = 0, values[place]
+                    self.assertEqual(parse_many(spoilt, errors="coerce"), (values, array("Q", [place])))
+                    values[place] = kept
+
+    def test_reads_ten_million(self):
+        nanos = parse_many(["1ns", "2 µs"] * 5_000_000)
+        self.assertEqual((len(nanos), sum(nanos)), (10**7, 2_001 * 5_000_000))
+
+    def test_reads_a_long_text_among_short_ones(self):
+        long = "1s " * 3_500_000
+        self.assertEqual(list(parse_many(["1s", long, "2s"])), [SECOND, 3_500_000 * SECOND, 2 * SECOND])
+        error = error_of(parse_many, ["1s", f"{long}µ", "2s"])
+        self.assertEqual((error.index, error.column, error.found), (1, len(long), "µ"))
+
+    def test_takes_any_sequence(self):
+        for texts in [("1s", "2s"), {"1s": 0, "2s": 0}, (text for text in ("1s", "2s")), map(str, ["1s", "2s"])]:
+            self.assertEqual(list(parse_many(texts)), [SECOND, 2 * SECOND])
+        for text in ["12", b"12", bytearray(b"12")]:
+            with self.assertRaisesRegex(TypeError, "not one (str|bytes|bytearray)$"):
+                parse_many(text)
+        with self.assertRaises(TypeError):
+            parse_many(12)
+
+    def test_reads_what_a_subclass_holds(self):
+        texts = ["1s", Named("1m"), Named("1分"), Named("x")]
+        self.assertEqual(list(parse_many(texts[:3], cn_unit=True)), [SECOND, 60 * SECOND, 60 * SECOND])
+        error = error_of(parse_many, texts, cn_unit=True)
+        self.assertEqual((error.index, error.text, type(error.text)), (3, "x", str))
+
+    def test_refuses_lone_surrogates(self):
+        texts = ["1s", "\ud800", "1\udc00s", "\ud83d\ude00", "1µs"]
+        wanted = (array("Q", [SECOND, 0, 0, 0, 1000]), array("Q", [1, 2, 3]))
+        self.assertEqual(parse_many(texts, errors="coerce"), wanted)
+        error = error_of(parse_many, texts)
+        self.assertEqual((error.index, error.cause, error.text), (1, Cause.NOT_TEXT, "\ud800"))
+        # Two halves of a character that stand in two texts are no character.
+        self.assertEqual(list(parse_many(["\ud83d", "\ude00"], errors="coerce")[1]), [0, 1])
+
+    def test_wants_str(self):
+        class Pretender:
+            __class__ = str
+
+        for value in [None, float("nan"), b"1s", 1, ["1s"], Pretender()]:
+            with self.subTest(value=value):
+                with self.assertRaisesRegex(TypeError, f"must be a str, not {type(value).__name__}, at index 2$"):
+                    parse_many(["1s", "x", value])
+                answer = parse_many(["1s", value, "2s"], errors="coerce")
+                self.assertEqual(answer, (array("Q", [SECOND, 0, 2 * SECOND]), array("Q", [1])))
+
+    def test_knows_two_ways_with_errors(self):
+        for errors in ["ignore", None, "", True]:
+            for call in (parse_many, duration_str.to_timedelta):
+                with self.assertRaisesRegex(ValueError, "^errors must be 'raise' or 'coerce', not "):
+                    call(["1s"], errors=errors)
+        with self.assertRaises(TypeError):
+            parse_many(["1s"], "coerce")
+
+
+class Buffers(unittest.TestCase):
+    def test_takes_any_contiguous_buffer(self):
+        data, offsets = buffers_of([b"1s", b"2m"])
+        wanted = array("Q", [SECOND, 120 * SECOND])
+        with mmap.mmap(-1, len(data)) as mapped:
+            mapped[:] = data
+            for given in [data, bytearray(data), memoryview(data), array("b", data), mapped]:
+                self.assertEqual(parse_buffers(given, offsets), wanted)
+        for given in [memoryview(offsets), memoryview(offsets).toreadonly(), array("l", offsets), array("Q", offsets)]:
+            self.assertEqual(parse_buffers(data, given), wanted)
+
+    def test_leaves_buffers_free(self):
+        data, offsets = bytearray(b"1s"), array("q", [0, 2])
+        nanos = parse_buffers(data, offsets)
+        data.extend(b"2s")
+        offsets.append(4)
+        nanos.append(0)
+        with self.assertRaises(DurationError):
+            parse_buffers(bytearray(b"1x"), offsets[:2])
+
+    def test_skips_bytes_outside(self):
+        self.assertEqual(list(parse_buffers(b"..1s2s..", array("i", [2, 4, 6]))), [SECOND, 2 * SECOND])
+        for offsets in ([], [0], [5], [-1]):
+            self.assertEqual(parse_buffers(b"1s", array("q", offsets)), array("Q"))
+
+    def test_refuses_offsets_that_lead_elsewhere(self):
+        for code in "qi":
+            for offsets in ([0, 2, 1], [0, 2, 5], [0, 2, -1], [0, 2, 2**31 - 1]):
+                with self.subTest(code=code, offsets=offsets):
+                    numbers = array(code, offsets)
+                    with self.assertRaisesRegex(ValueError, "^the offsets .* lie beyond 4 bytes, at index 1$") as told:
+                        parse_buffers(b"1s2s", numbers)
+                    self.assertNotIsInstance(told.exception, DurationError)
+                    answer = parse_buffers(b"1s2s", numbers, errors="coerce")
+                    self.assertEqual(answer, (array("Q", [SECOND, 0]), array("Q", [1])))
+        self.assertEqual(list(parse_buffers(b"1s2s", array("q", [3, 1, 2, 4]), errors="coerce")[0]), [0, 0, 2 * SECOND])
+
+    def test_takes_no_negative_offset_for_a_large_one(self):
+        with tempfile.TemporaryFile() as file:
+            file.truncate(2**32)
+            file.seek(2**32 - 6)
+            file.write(b"1s")
+            file.flush()
+            with mmap.mmap(file.fileno(), 2**32, access=mmap.ACCESS_READ) as mapped:
+                offsets = array("Q", [2**32 - 6, 2**32 - 4])
+                self.assertEqual(parse_buffers(mapped, offsets, errors="coerce"), (array("Q", [SECOND]), array("Q")))
+                narrow = array("i", [-6, -4])
+                self.assertEqual(parse_buffers(mapped, narrow, errors="coerce"), (array("Q", [0]), array("Q", [0])))
+                with self.assertRaisesRegex(ValueError, "^the offsets -6 and -4 decrease or lie beyond .*, at index 0$"):
+                    parse_buffers(mapped, narrow)
+
+    def test_refuses_what_is_no_text(self):
+        for encoded in [b"\xff", b"1\xb5s", "\ud800".encode("utf-8", "surrogatepass")]:
+            error = error_of(parse_buffers, *buffers_of([b"1s", encoded]))
+            self.assertEqual((error.index, error.cause, error.place), (1, Cause.NOT_TEXT, None))
+            self.assertEqual(error.text.encode("utf-8", "surrogateescape"), encoded)
+            self.assertEqual(str(error), "not UTF-8\nat index 1")
+        # Two texts that are cut within a character
+        self.assertEqual(list(parse_buffers("1µs".encode(), array("q", [0, 2, 4]), errors="coerce")[1]), [0, 1])
+
+    def test_wants_bytes_and_integers(self):
+        offsets = array("q", [0, 2])
+        for data in ["1s", None, 5]:
+            with self.assertRaises(TypeError):
+                parse_buffers(data, offsets)
+        table = memoryview(bytes(16)).cast("q", [2, 1])
+        for wrong in [[0, 2], array("d", [0, 2]), array("H", [0, 2]), b"\0\2", table, None]:
+            with self.subTest(offsets=wrong), self.assertRaises(TypeError):
+                parse_buffers(b"1s", wrong)
+        with self.assertRaises(TypeError):
+            parse_buffers(memoryview(b"1.s.")[::2], offsets)
+
+
+class Arrow(unittest.TestCase):
+    def test_refuses_nulls_whatever_stands_there(self):
+        texts = ["1s", None, "x", "4s", *["1ns"] * 12, None]
+        wanted = (array("Q", [SECOND, 0, 0, 4 * SECOND, *[1] * 12, 0]), array("Q", [1, 2, 16]))
+        for column in arrow_columns(texts):
+            with self.subTest(type=column.type):
+                self.assertEqual(parse_many(column, errors="coerce"), wanted)
+                with self.assertRaisesRegex(TypeError, "not NoneType, at index 1$"):
+                    parse_many(column)
+
+    def test_counts_through_chunks(self):
+        for column in arrow_columns(["1s", "2s", "x", "4s"]):
+            self.assertEqual(error_of(parse_many, column).index, 2)
+        for column in arrow_columns([]):
+            self.assertEqual(parse_many(column), array("Q"))
+
+    def test_counts_bad_offsets_through_chunks(self):
+        column = list(arrow_columns(["1s", "2s", "4s"]))[3]
+        column.chunks[2].parts[1][2] = 100
+        with self.assertRaisesRegex(ValueError, "at index 2$"):
+            parse_many(column)
+
+
+if __name__ == "__main__":
+    unittest.main()
