@@ -31,7 +31,7 @@ evaluates_by false terminals s = evaluates_by_faults (terms_of terminals) (has_t
 evaluates_by true terminals s =
     let terms = terms_of terminals in
     let added = terms_added terminals (allowed_plus None terminals (sentence_allowed true terminals s)) in (
-      λ e. (running_none [] terms added (evaluate_below terms added e), refl),
+      λ e. (running_none terms added (evaluate_below terms added e), refl),
       λ f. below_evaluate terms (has_terms true terminals s) added (running_below [] terms (omega arith) f.0),
     )
 
