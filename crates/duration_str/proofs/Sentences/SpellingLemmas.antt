@@ -62,20 +62,13 @@ module _ (o : Options) where
   spelled_tokens at last [] text a s = ([], s, refl)
   spelled_tokens at last (w ∷ ws) text a s =
       let start = at + byte_len s.blanks in
-      let is_lexeme = allowed_is_lexeme o (kinds_after o.no_calc last) w a.0 in
-      let ends = ends_in_sentence w s.rest ws is_lexeme a.1 s.is_rest in
+      let p = allowed_is_lexeme o (kinds_after o.no_calc last) w a.0 in
+      let ends = ends_in_sentence w s.rest ws p a.1 s.is_rest in
       let more = spelled_tokens (start + byte_len w) (Some (terminal_of o w)) ws s.rest a.1 s.is_rest in (
         record { start = start; characters = w } ∷ more.0,
         (
           s.rest,
-          record {
-            blanks = s.blanks;
-            blank = s.blank;
-            parts = s.parts;
-            start = refl;
-            is_lexeme = is_lexeme;
-            ends = ends;
-          },
+          record { blanks = s.blanks; blank = s.blank; parts = s.parts; start = refl; is_lexeme = p; ends = ends },
           more.1,
         ),
         rw more.2,

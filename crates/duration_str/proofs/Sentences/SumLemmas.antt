@@ -60,7 +60,8 @@ running_overflow before [] a f =
 running_overflow before (t ∷ later) a f =
     let rest = rw append_assoc at (running_overflow (before ++ t ∷ []) later a.2 f.1) in
     let same = (is_same_operator-true Plus t.operator).1 a.0 in
-    let grows = overflow_grows (sum_of before) (sum_of (before ++ t ∷ later)) (omega (arith, sum-append before (t ∷ later))) in
+    let grows = overflow_grows (sum_of before) (sum_of (before ++ t ∷ later))
+    (omega (arith, sum-append before (t ∷ later))) in
     rw (same, term_below_no_fault None t a.1 f.0, term_below_no_fault (place_after before) t a.1 f.0, rest.0, rest.1)
     (grows, grows)
 
