@@ -8,4 +8,8 @@ put_number-requires c =
 
 pub returns-clause-short : goal.returns-clause-short
 returns-clause-short c =
-    omega (arith, c.put_number.ensures.end, length-decimal-le 20 c.args.number (omega arith) (omega arith) (omega arith))
+    omega (
+      arith,
+      c.put_number.ensures.end,
+      length-decimal-le 20 c.args.number (omega arith) (omega arith) (omega arith),
+    )
