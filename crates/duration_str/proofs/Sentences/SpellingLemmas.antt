@@ -28,22 +28,17 @@ sorts_apart no_calc other other a e = cc
 sorts_apart no_calc s t a e = cc
 
 module _ (o : Options) where
-  -- If the table allows the terminal of one lexeme after that of another, the two are not of one run.
-  allowed_apart : (c : ℕ) (cs : List ℕ) (d : ℕ) (ds : List ℕ) → IsLexeme o (c ∷ cs) → IsLexeme o (d ∷ ds)
-      → IsTrue (allows (kinds_after o.no_calc (Some (terminal_of o (c ∷ cs)))) (terminal_of o (d ∷ ds)))
-      → are_of_one_run o c d ≡ false
-  allowed_apart c cs d ds p q a = false_from_ne_true _ (λ run.
-      sorts_apart o.no_calc _ _ a (sym (lexeme_sort o c cs p) ∙ run_sort o c d run ∙ lexeme_sort o d ds q))
-
   stops_at_blank : (c d : ℕ) → is_blank d ≡ true → are_of_one_run o c d ≡ false
   stops_at_blank c d e = false_from_ne_true _ (λ run. cc (run-not_blank o c d run))
 
+  -- Two lexemes that the table allows after one another are not of one run.
   stops_before : (c : ℕ) (cs blanks w rest : List ℕ) → IsBlank blanks → IsLexeme o (c ∷ cs) → IsLexeme o w
       → IsTrue (allows (kinds_after o.no_calc (Some (terminal_of o (c ∷ cs)))) (terminal_of o w))
       → goes_on o c (blanks ++ (w ++ rest)) ≡ false
   stops_before c cs (b ∷ blanks) w rest h p q a = stops_at_blank c b (and_parts _ _ h).0
   stops_before c cs [] [] rest h p q a = absurd q
-  stops_before c cs [] (d ∷ ds) rest h p q a = allowed_apart c cs d ds p q a
+  stops_before c cs [] (d ∷ ds) rest h p q a = false_from_ne_true _ (λ run.
+      sorts_apart o.no_calc _ _ a (sym (lexeme_sort o c cs p) ∙ run_sort o c d run ∙ lexeme_sort o d ds q))
 
   -- A run in a sentence ends where its lexeme ends.
   ends_in_sentence : (w rest : List ℕ) (ws : List (List ℕ)) → IsLexeme o w
