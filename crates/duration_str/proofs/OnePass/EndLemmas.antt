@@ -1,5 +1,6 @@
 -- Of a syntax fault no token is found exactly if it stands at the end of the text.
-use Rattle.std.proofs.Common.{eq-eqb, ne_eqb, true≢false, chars, ◌≡◌, ◌↔◌, ℕ, zero, suc, ◌+◌, ◌<◌, ◌==◌, ◌∙◌, List, [], ◌∷◌, length, Option, Some, None, IsUtf8, inl, inr, refl, arith, IsNone, Bor}
+use Rattle.std.proofs.Common.{eq-eqb, ne_eqb, true≢false, chars, ◌≡◌, ◌↔◌, ℕ, zero, suc, ◌+◌, ◌<◌, ◌==◌, ap, ◌∙◌, List, [], ◌∷◌, length, Option, Some, None, IsUtf8, inl, inr, refl, arith, IsNone, Bor}
+use Rattle.std.proofs.Math.Seq.{drop-nil}
 use Rattle.duration_str.proofs.Characters.TextLemmas.{width_some, byte_len-append}
 use Rattle.duration_str.proofs.Cutting.TokenLemmas.{tokens_are}
 use Rattle.duration_str.proofs.OnePass.PlaceLemmas.{byte_count, refused_stands}
@@ -14,8 +15,7 @@ none_at : (o : Options) (n at : ℕ) (text : List ℕ) (tokens : List Token) →
     → AreTokens o at text tokens → token_at n tokens ≡ None
 none_at o n at text [] e a = refl
 none_at o n at text (p ∷ tokens) e (rest, next, more) =
-    let len : byte_len text ≡ byte_len next.blanks + (byte_len p.characters + byte_len rest) =
-    rw (next.parts, byte_len-append, byte_len-append) refl in
+    let len = simp byte_len-append at (ap byte_len next.parts) in
     let some = lexeme_some o p.characters next.is_lexeme in
     rw (
       ne_eqb p.start n (λ (same : p.start ≡ n). omega (arith, next.start)),
@@ -25,8 +25,7 @@ none_at o n at text (p ∷ tokens) e (rest, next, more) =
 -- A token is found at the start of each.
 found_at : (n len : ℕ) (tokens : List Token) → token_at (start_after n len tokens) tokens ≡ None
     → start_after n len tokens ≡ len
-found_at zero len [] none = refl
-found_at (suc n) len [] none = refl
+found_at n len [] none = rw drop-nil
 found_at zero len (p ∷ tokens) none = absurd (cc (rw (eq-eqb p.start p.start refl) at none))
 found_at (suc n) len (p ∷ tokens) none = elim (cases_Bool (p.start == start_after n len tokens)) [
   | inl e ↦ absurd (cc (rw e at none))

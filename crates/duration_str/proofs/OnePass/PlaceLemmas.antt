@@ -1,7 +1,7 @@
 -- The place of a fault is a character boundary of the text.
 use Rattle.std.proofs.Common.{◌≡◌, ℕ, zero, suc, ◌+◌, ◌-◌, ◌≤◌, Bool, true, false, List, [], ◌∷◌, ◌++◌, length, take, drop, Option, Some, None, Err, IfSome, IsUtf8, refl, ap, sym, subst, ◌∙◌, arith, append_assoc, append-nil, length-append, IsCharBoundary, chars}
 use Rattle.duration_str.proofs.Common.{ForSome, IsUtf8-take, encodes-append, encodes-chars, scalars-chars, chars-append, and_parts, scalar, scalars, encodes, encode, Options, CondUnit, Cause, Syntax, byte_len, Terminal, AreTokens, tokens_of, start_after, Term, or_else, unless, terms_of, later_fault, evaluation_fault, complete_terms, first_fault, running_fault, early_fault, late_fault, answer, IsRefused, early, syntax_fault, late, IsCharBoundary-start, IsCharBoundary-at_seam, length-encode, Token}
-use Rattle.std.proofs.Math.Seq.{take-add}
+use Rattle.std.proofs.Math.Seq.{drop-nil, take-add}
 use Rattle.duration_str.specs.Faults.{place_of}
 use Rattle.duration_str.proofs.Characters.TextLemmas.{width-scalar, byte_len-append}
 use Rattle.duration_str.proofs.Cutting.TokenLemmas.{tokens_are}
@@ -33,10 +33,6 @@ module _ (P : ℕ → Type 0) where
   evaluation_stands (t ∷ u ∷ later) = search (stands, later_stands u.operator [] (u ∷ later))
   evaluation_stands _ = tt
 
-  first_stands : (terms : List Term) → IfSome (first_fault terms) (Stands P)
-  first_stands [] = tt
-  first_stands (t ∷ terms) = search stands
-
   running_stands : (before terms : List Term) → IfSome (running_fault before terms) (Stands P)
   running_stands before [] = tt
   running_stands [] (t ∷ terms) = search (stands, running_stands (t ∷ []) terms) depth 8
@@ -44,7 +40,9 @@ module _ (P : ℕ → Type 0) where
 
   pub early_stands : (no_calc : Bool) (front rest : List Terminal) → IfSome (early_fault no_calc front rest) (Stands P)
   early_stands true front rest = running_stands [] (complete_terms front rest)
-  early_stands false front rest = first_stands (complete_terms front rest)
+  early_stands false front rest =
+      elim (complete_terms front rest) as (λ terms. IfSome (first_fault terms) (Stands P))
+      [ [] ↦ tt | t ∷ terms ↦ search stands ]
 
   pub late_stands : (no_calc : Bool) (terminals : List Terminal) → IfSome (late_fault no_calc terminals) (Stands P)
   late_stands true terminals = tt
@@ -85,8 +83,7 @@ seam bs xs ys utf8 e =
 -- The characters `xs` come before those with these tokens, whose starts are boundaries, as is the end.
 start_placed : (o : Options) (bs xs cs : List ℕ) (n at : ℕ) (tokens : List Token) → IsUtf8 bs → chars bs ≡ xs ++ cs
     → at ≡ byte_len xs → AreTokens o at cs tokens → IsCharBoundary bs (start_after n (byte_len (chars bs)) tokens)
-start_placed o bs xs cs zero at [] utf8 e w a = seam bs (chars bs) [] utf8 (rw append-nil)
-start_placed o bs xs cs (suc n) at [] utf8 e w a = seam bs (chars bs) [] utf8 (rw append-nil)
+start_placed o bs xs cs n at [] utf8 e w a = rw drop-nil (seam bs (chars bs) [] utf8 (rw append-nil))
 start_placed o bs xs cs zero at (p ∷ tokens) utf8 e w (rest, next, more) =
     rw (next.start, w, ← byte_len-append)
     (seam bs (xs ++ next.blanks) (p.characters ++ rest) utf8 (rw append_assoc (rw next.parts at e)))

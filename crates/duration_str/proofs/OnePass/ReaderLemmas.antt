@@ -5,8 +5,6 @@ use Rattle.duration_str.specs.Tokenizer.{cut_place}
 use Rattle.duration_str.proofs.Cutting.TokenizerLemmas.{none_left, first_left}
 use Rattle.duration_str.specs.declared.token.Sort.TheVariants as sorts
 
--- ---- What comes next
-
 pub same_rest : {s m : Tokens} {sort : Option Sort} → LooksAhead s m sort → rest_of m ≡ rest_of s
 same_rest look = (λ i. rest_from (look.kept.options i) (length (look.kept.text i)) (look.same_left i))
 
@@ -36,8 +34,6 @@ starts {s} {m} {sort = sort} look is =
     let here = rw left_is at (sym (same_rest look)) in
     rw sort_is (by_terminal (terminal_of (options_of m) cs) (cut_place m) (rest_of s) _ here)
 
--- ---- A number
-
 -- A number follows, or its absence is a fault at the place.
 pub number_comes : {s m : Tokens} {sort : Option Sort} → LooksAhead s m sort
     → lacks_number (rest_of s) ≡ (if is_number sort then None else Some (Syntax (cut_place m) kinds_at_start))
@@ -51,8 +47,6 @@ number_comes {sort = Some sorts.Other} look = rw (starts look refl).1
 pub number_is : (sort : Option Sort) → is_number sort ≡ true → sort ≡ Some sorts.Number
 number_is (Some sorts.Number) e = refl
 number_is _ e = absurd cc
-
--- ---- An operator
 
 operator_terminal : (terminal : Terminal) (op : CondUnit) → sorts.Operator op ≡ sort_of terminal
     → terminal ≡ operator op
