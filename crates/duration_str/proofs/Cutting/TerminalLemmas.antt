@@ -7,7 +7,8 @@ use Rattle.duration_str.proofs.Characters.CharacterLemmas.{all_weaker, digit-not
 -- operator, and anything else.
 pub terminal_cases : (o : Options) (P : List ℕ → Terminal → Type 0) → P [] other
     → ((c : ℕ) (cs : List ℕ) → IsTrue (list_all is_digit (c ∷ cs)) → P (c ∷ cs) (number (number_of (c ∷ cs))))
-    → ((c : ℕ) (cs : List ℕ) → IsTrue (list_all (is_unit_letter o) (c ∷ cs)) → P (c ∷ cs) (word (unit_of_word o (c ∷ cs))))
+    → ((c : ℕ) (cs : List ℕ) → IsTrue (list_all (is_unit_letter o) (c ∷ cs))
+    → P (c ∷ cs) (word (unit_of_word o (c ∷ cs))))
     → ((c : ℕ) (op : CondUnit) → list_all is_digit (c ∷ []) ≡ false → list_all (is_unit_letter o) (c ∷ []) ≡ false
     → operator_of c ≡ Some op → P (c ∷ []) (operator op))
     → ((c : ℕ) (cs : List ℕ) → list_all is_digit (c ∷ cs) ≡ false → list_all (is_unit_letter o) (c ∷ cs) ≡ false

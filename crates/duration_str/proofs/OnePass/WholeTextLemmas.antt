@@ -1,6 +1,6 @@
 -- The result of reading everything from the start of a text is the text's answer.
 use Rattle.std.proofs.Common.{◌≡◌, ◌==◌, ℕ, zero, suc, ◌<◌, false, sym, List, [], ◌∷◌, Result, Err, map, length, IsUtf8, refl, arith, chars}
-use Rattle.duration_str.proofs.Common.{chars-nil, Options, Cause, Empty, Tokens, byte_len, terminal_of, tokens_of, lexemes_of, start_after, terminals_of, answer, front_of, rest_from, rest_of, start_left, terminals_in, answer_left, source, options_of, tokens_left, Token}
+use Rattle.duration_str.proofs.Common.{chars-nil, Options, Cause, Empty, Tokens, byte_len, terminal_of, tokens_of, lexemes_of, start_after, answer, rest_from, rest_of, start_left, terminals_in, answer_left, source, options_of, tokens_left, Token}
 use Rattle.std.proofs.Math.Seq.{drop-nil}
 use Rattle.std.proofs.lemmas.Bool.{eqb-false}
 use Rattle.duration_str.proofs.OnePass.PlaceLemmas.{byte_count}
@@ -19,10 +19,7 @@ same_start o (suc n) len (p ∷ tokens) = same_start o n len tokens
 nonempty_answer : (o : Options) (text : List ℕ) → 0 < byte_len text
     → answer o text ≡ answer_left o.no_calc [] (rest_from o (byte_len text) (tokens_of o text))
 nonempty_answer o [] h = absurd (omega arith)
-nonempty_answer o (c ∷ text) h =
-    let tokens = tokens_of o (c ∷ text) in
-    let len = byte_len (c ∷ text) in
-    rw (all_terminals o len tokens, same_start o (front_of o.no_calc (terminals_of o (c ∷ text))) len tokens)
+nonempty_answer o (c ∷ text) h = simp (all_terminals, same_start)
 
 pub text_answer : {o : Options} {bs : List ℕ} {r : Result ℕ Cause} (tokens : Tokens) → IsUtf8 bs
     → false ≡ (length bs == 0) → source tokens ≡ bs → options_of tokens ≡ o
