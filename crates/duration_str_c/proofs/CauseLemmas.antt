@@ -1,5 +1,6 @@
 -- The causes for which a text can be refused: all but a date out of range and a value that is not a text.
 use Rattle.std.proofs.Common.{ℕ, Bool, true, false, List, [], ◌∷◌, ◌++◌, Option, Some, None, subst, sym}
+use Rattle.std.specs.Prelude.{⊤}
 use Rattle.duration_str.specs.declared.options.Options.{Options}
 use Rattle.duration_str.specs.declared.operator.CondUnit.{CondUnit}
 use Rattle.duration_str.specs.declared.fault.Cause.{Cause}
@@ -12,11 +13,11 @@ use Rattle.duration_str.specs.Reading.{place_after, first_fault, running_fault, 
 abbrev pub IsOfText : Cause → Type 0
 IsOfText OutOfRange = ⊥
 IsOfText (NotText optional) = ⊥
-IsOfText _ = Unit {0}
+IsOfText _ = ⊤
 
 -- The same for a fault, if there is one.
 abbrev AnyOfText : Option Cause → Type 0
-AnyOfText None = Unit {0}
+AnyOfText None = ⊤
 AnyOfText (Some cause) = IsOfText cause
 
 or_else_any : (a b : Option Cause) → AnyOfText a → AnyOfText b → AnyOfText (or_else a b)

@@ -1,24 +1,32 @@
 -- Columns: many texts in one run of bytes, and what is told of each.
-use Rattle.std.specs.Prelude.{◌≡◌, ℕ, false, ◌+◌, ◌-◌, ◌<◌, ◌≤◌, List, length, slice_index, slice_range, min, IsUtf8}
+use Rattle.std.specs.Prelude.{◌≡◌, ℕ, false, ◌+◌, ◌-◌, ◌<◌, ◌≤◌, ◌⊎◌, List, length, slice_index, slice_range, min, IsUtf8}
+use Rattle.std.specs.Str.{chars}
 use Rattle.duration_str.specs.declared.options.Options.{Options}
+use Rattle.duration_str.specs.declared.fault.Cause.{Cause}
 use Rattle.duration_str.specs.declared.fault.Cause.TheVariants.{NotText}
-use Rattle.duration_str_c.specs.declared.answer.Answer.{Answer}
-use Rattle.duration_str_c.specs.Told.{refusal_told, IsTold}
+use Rattle.duration_str.specs.Reading.{IsRead, IsRefused}
+use Rattle.duration_str_c.specs.Told.{number_of}
 
 -- the offsets do not decrease, and lie within the bytes
 abbrev pub AreOffsets : ℕ → ℕ → List ℕ → Type 0
 AreOffsets start end bytes = (start ≤ end) × (end ≤ length bytes)
 
--- The value and the cause are those of the answer that the text alone gets.
+-- The text is read as the value, and the cause is 0; or it is refused for the cause with this number, and the value is 0.
 abbrev pub IsTextTold : Options → List ℕ → ℕ → ℕ → Type 0
 IsTextTold o text nanos cause =
-    (answer : Answer) × (IsUtf8 text → IsTold o text answer) × (¬ (IsUtf8 text) → answer ≡ refusal_told (NotText false) 0)
-    × (nanos ≡ answer.nanos) × (cause ≡ answer.cause)
+    (IsRead o (chars text) nanos × (cause ≡ 0))
+    ⊎ ((reason : Cause) × IsRefused o (chars text) reason × (nanos ≡ 0) × (cause ≡ number_of reason))
+
+-- what is told of bytes, which may be no text
+abbrev pub AreBytesTold : Options → List ℕ → ℕ → ℕ → Type 0
+AreBytesTold o bytes nanos cause =
+    (IsUtf8 bytes → IsTextTold o bytes nanos cause)
+    × (¬ (IsUtf8 bytes) → (nanos ≡ 0) × (cause ≡ number_of (NotText false)))
 
 -- The value and the cause tell of the text between two offsets; or these are refused, with a cause of their own.
 abbrev pub IsPartTold : Options → List ℕ → ℕ → ℕ → ℕ → ℕ → Type 0
 IsPartTold o bytes start end nanos cause =
-    (AreOffsets start end bytes → IsTextTold o (slice_range bytes start end) nanos cause)
+    (AreOffsets start end bytes → AreBytesTold o (slice_range bytes start end) nanos cause)
     × (¬ (AreOffsets start end bytes) → (nanos ≡ 0) × (cause ≡ 8))
 
 -- how many texts are read: one for two neighbouring offsets, as far as there is room for its value and its cause

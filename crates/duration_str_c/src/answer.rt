@@ -152,7 +152,7 @@ fn found_length(fault: &Fault<'_>, options: Options) -> usize
 }
 
 /// The number of a cause.
-fn number_of(cause: Cause) -> u32
+pub(crate) fn number_of(cause: Cause) -> u32
     ensures { result ≡ number_of cause }
 {
     match cause {

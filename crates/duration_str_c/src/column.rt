@@ -1,9 +1,13 @@
 //! Columns: many texts in one run of bytes, read by one call.
 ghost use Rattle.std.specs.Prelude.{◌≡◌, ◌==◌, take, drop, count_by};
+ghost use Rattle.duration_str.specs.Results.{ParsesText};
 ghost use Rattle.duration_str_c.specs.Told.{options_of};
 ghost use Rattle.duration_str_c.specs.Columns.{column_length, IsPartTold, IsColumnTold};
 
-use crate::told;
+use crate::answer::number_of;
+use crate::{options_of, text_of};
+use duration_str::{Cause, Fault, parse, parse_with};
+use std::time::Duration;
 
 /// The cause of a text whose offsets decrease or lie beyond the bytes.
 const BAD_OFFSETS: u32 = 8;
@@ -52,6 +56,24 @@ fn told_between(bytes: &[u8], start: usize, end: usize, options: u32) -> (u64, u
     if start > end || end > bytes.len() {
         return (0, BAD_OFFSETS);
     }
-    let answer = told(&bytes[start..end], options);
-    (answer.nanos, answer.cause)
+    let Some(text) = text_of(&bytes[start..end]) else {
+        return (0, number_of(Cause::NotText { optional: false }));
+    };
+    match read(text, options) {
+        Ok(length) => (length.as_nanos() as u64, 0),
+        Err(fault) => (0, number_of(fault.cause())),
+    }
+}
+
+/// What a text is read as under the options whose bits are set. Most callers set none: `parse` takes a quarter fewer
+/// instructions than `parse_with`.
+#[inline(always)]
+fn read(text: &str, options: u32) -> Result<Duration, Fault<'_>>
+    ensures { ParsesText (options_of options) text.now result }
+{
+    if options == 0 {
+        parse(text)
+    } else {
+        parse_with(text, options_of(options))
+    }
 }

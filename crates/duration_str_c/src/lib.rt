@@ -20,7 +20,7 @@ pub mod message;
 pub mod moment;
 
 use crate::answer::{Answer, refused};
-use duration_str::{Cause, Options, parse_with};
+use duration_str::{Cause, Options, parse, parse_with};
 use std::time::Duration;
 
 const NO_CALC: u32 = 1;
@@ -30,7 +30,7 @@ const LOWERCASE: u32 = 2;
 const CN_UNIT: u32 = 4;
 
 /// The options whose bits are set. Other bits have no effect.
-fn options_of(bits: u32) -> Options
+pub(crate) fn options_of(bits: u32) -> Options
     ensures options { result ≡ options_of bits }
     ensures three_bits { result ≡ options_of (bit_and bits 7) }
 {
@@ -53,7 +53,7 @@ pub extern "C" fn duration_str_parse(text: &[u8], nanos: &mut u64) -> bool
     let Some(text) = text_of(text) else {
         return false;
     };
-    match duration_str::parse(text) {
+    match parse(text) {
         Ok(length) => {
             *nanos = length.as_nanos() as u64;
             true
@@ -118,7 +118,7 @@ pub extern "C" fn duration_str_version() -> u32
 
 /// The bytes as a text, if they are UTF-8. Most are ASCII, which can be tested faster.
 #[inline(always)]
-fn text_of(bytes: &[u8]) -> Option<&str>
+pub(crate) fn text_of(bytes: &[u8]) -> Option<&str>
     ensures text { IfSome result (λ text. (text.now ≡ bytes.now) × IsUtf8 bytes.now) }
     ensures not_text { IfNone result (¬ (IsUtf8 bytes.now)) }
 {

@@ -12,23 +12,17 @@ all_weaker p q (c ∷ cs) weaker h =
 letter_above : (o : Options) (c : ℕ) → is_unit_letter o c ≡ true → 65 ≤ c
 letter_above o c e = grind (arith, nat_tests)
 
-digit_below : (c : ℕ) → is_digit c ≡ true → c ≤ 57
-digit_below c e = grind (arith, nat_tests)
-
 pub digit-not_blank : (c : ℕ) → is_digit c ≡ true → is_blank c ≡ false
 digit-not_blank c e = grind (arith, nat_tests)
 
-above_blank : (c : ℕ) → 65 ≤ c → is_blank c ≡ false
-above_blank c h = grind (arith, nat_tests)
-
 pub letter-not_blank : (o : Options) (c : ℕ) → is_unit_letter o c ≡ true → is_blank c ≡ false
-letter-not_blank o c e = above_blank c (letter_above o c e)
+letter-not_blank o c e = let above = letter_above o c e in grind (arith, nat_tests)
 
 pub operator-not_blank : (c : ℕ) (op : CondUnit) → operator_of c ≡ Some op → is_blank c ≡ false
 operator-not_blank c op e = grind (arith, nat_tests)
 
 pub digit-not_letter : (o : Options) (c : ℕ) → is_digit c ≡ true → is_unit_letter o c ≡ false
-digit-not_letter o c e = false_from_ne_true _ (λ t. omega (arith, digit_below c e, letter_above o c t))
+digit-not_letter o c e = false_from_ne_true _ (λ t. let above = letter_above o c t in grind (arith, nat_tests))
 
 pub letter-not_digit : (o : Options) (c : ℕ) → is_unit_letter o c ≡ true → is_digit c ≡ false
 letter-not_digit o c e = false_from_ne_true _ (λ t. cc (digit-not_letter o c t))

@@ -21,7 +21,8 @@ pub parsed_u64 : {E : Type 0} (bs : List ℕ) (r : Result ℕ E) (parsed : Optio
 parsed_u64 bs r parsed utf8 digits parses is =
     let own = encodes-IsAscii (chars bs) (IsAscii-from_digits (chars bs) (decimal_digits.to (chars bs) digits.1)) in
     let same : bs ≡ chars bs = sym (encodes-chars bs utf8) ∙ own in
-    is ∙ ok_u64 r _ (length (chars bs)) digits.0 (parse_digits decimal_digits 64 (chars bs) r (rw same at parses) digits.1)
+    let read = parse_digits decimal_digits 64 (chars bs) r (rw same at parses) digits.1 in
+    is ∙ ok_u64 r _ (length (chars bs)) digits.0 read
 
 digits_terminal : (o : Options) (digits : List ℕ) → 0 < length digits → IsTrue (list_all is_digit digits)
     → terminal_of o digits ≡ number (number_of digits)

@@ -60,17 +60,14 @@ packed_same xs ys h k e =
 
 -- ---- a word in small letters
 
-lower_letter : (c : ℕ) → is_ascii_alphabetic c ≡ true
-    → (is_small_letter (to_ascii_lowercase c) ≡ true) × (to_ascii_lowercase c % 32 ≡ c % 32)
-lower_letter c e = (grind (arith, nat_tests), grind (arith, nat_tests))
-
 lower_word : (w : List ℕ) → list_all is_ascii_alphabetic w ≡ true → (are_small (map to_ascii_lowercase w) ≡ true)
     × ((n : ℕ) → packed_number_after n (map to_ascii_lowercase w) ≡ packed_number_after n w)
 lower_word [] e = (refl, λ n. refl)
 lower_word (c ∷ cs) e =
-    let b = and_parts (is_ascii_alphabetic c) (list_all is_ascii_alphabetic cs) e in
-    let (small, packed) = lower_letter c b.0 in
-    let (rest, more) = lower_word cs b.1 in
+    let (letter, letters) = and_parts (is_ascii_alphabetic c) (list_all is_ascii_alphabetic cs) e in
+    let small : is_small_letter (to_ascii_lowercase c) ≡ true = grind (arith, nat_tests) in
+    let packed : to_ascii_lowercase c % 32 ≡ c % 32 = grind (arith, nat_tests) in
+    let (rest, more) = lower_word cs letters in
     (and_from _ _ small rest, λ n. rw (more (n * 32 + to_ascii_lowercase c % 32), packed))
 
 -- ---- a word of small letters is a name if their packed numbers are equal
@@ -91,15 +88,12 @@ names_test v (name ∷ names) small = rw (name_test v name small, names_test v n
 no_chinese : (n : ℕ) (u : TimeUnit) → list_any (packs_to n) (row_of u).chinese ≡ false
 no_chinese n = each_unit (λ u. list_any (packs_to n) (row_of u).chinese ≡ false) assumption
 
--- only capitals are changed
-small_same : (c : ℕ) → is_ascii_uppercase c ≡ false → to_ascii_lowercase c ≡ c
-small_same c e = grind (arith, nat_tests)
-
 no_capital : (w : List ℕ) → list_any is_ascii_uppercase w ≡ false → map to_ascii_lowercase w ≡ w
 no_capital [] e = refl
 no_capital (c ∷ w) e =
-    let parts = or_parts (is_ascii_uppercase c) (list_any is_ascii_uppercase w) e in
-    rw (small_same c parts.0, no_capital w parts.1)
+    let (small, rest) = or_parts (is_ascii_uppercase c) (list_any is_ascii_uppercase w) e in
+    let same : to_ascii_lowercase c ≡ c = grind (arith, nat_tests) in
+    rw (same, no_capital w rest)
 
 form_lower : (o : Options) (w : List ℕ) → (o.lowercase && list_any is_ascii_uppercase w) ≡ false
     → comparison_form o w ≡ map to_ascii_lowercase w

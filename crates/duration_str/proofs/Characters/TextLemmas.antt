@@ -3,8 +3,7 @@ use Rattle.std.proofs.Common.{◌≡◌, ℕ, ◌+◌, ◌<◌, ◌≤◌, true,
 use Rattle.duration_str.proofs.Common.{cases_Bool, and_parts, nat_tests, chars-nil, encode_ascii, scalars-chars, IsUtf8-drop, scalar, scalars, width, byte_len, ahead, StandsAt, drop_more, drop_all, nil_from_length, len_utf8_ascii, len_utf8_bounds, IsUtf8-past_char, IsCharBoundary-past_char, chars_past_char, drop_past_char, len_utf8, scalar_cases}
 
 not_surrogate : (c : ℕ) → (c < 55296) ⊎ ((57344 ≤ c) × (c < 1114112)) → (leb 55296 c && leb c 57343) ≡ false
-not_surrogate c (inl h) = grind (arith, nat_tests)
-not_surrogate c (inr h) = grind (arith, nat_tests)
+not_surrogate c h = grind (arith, nat_tests)
 
 -- the width of a character is the length of its UTF-8
 pub width-scalar : (c : ℕ) → scalar c ≡ true → width c ≡ len_utf8 c

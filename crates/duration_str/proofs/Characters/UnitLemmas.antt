@@ -89,22 +89,17 @@ any_name o word texts names r small utf8 encoded is =
     is ∙ rw (any_now (λ bytes. bytes_eq (comparison_form o word) (comparison_form o bytes)) texts, encoded)
     (names_test o word names utf8 small)
 
--- the names in the table have no ASCII capitals
-names_small : (u : TimeUnit)
-    → (list_all is_small (row_of u).names ≡ true) × (list_all is_small (row_of u).chinese ≡ true)
-names_small =
-    each_unit (λ u. (list_all is_small (row_of u).names ≡ true) × (list_all is_small (row_of u).chinese ≡ true))
-    assumption
-
--- the word is among the unit's names
+-- the word is among the unit's names, which have no ASCII capitals
 pub by_name : (o : Options) (word : List ℕ) (u : TimeUnit) (texts : List (Bor (List ℕ))) (r : Bool)
     → FindsName o word (row_of u).names texts r
-by_name o word u texts r = any_name o word texts (row_of u).names r (names_small u).0
+by_name o word u texts r =
+    any_name o word texts (row_of u).names r (all_units (λ v. list_all is_small (row_of v).names) refl u)
 
 -- the word is among the names that `cn_unit` adds
 pub by_chinese : (o : Options) (word : List ℕ) (u : TimeUnit) (texts : List (Bor (List ℕ))) (r : Bool)
     → FindsName o word (row_of u).chinese texts r
-by_chinese o word u texts r = any_name o word texts (row_of u).chinese r (names_small u).1
+by_chinese o word u texts r =
+    any_name o word texts (row_of u).chinese r (all_units (λ v. list_all is_small (row_of v).chinese) refl u)
 
 -- ---- a name belongs to one unit
 

@@ -1,5 +1,5 @@
 -- The possible terminals of a list of characters, and the sort of a lexeme's terminal.
-use Rattle.std.proofs.Common.{◌≡◌, ℕ, Bool, true, false, ◌&&◌, ◌||◌, inl, inr, List, [], ◌∷◌, Option, Some, None, IsTrue, if◌then◌else◌, refl, arith}
+use Rattle.std.proofs.Common.{◌≡◌, ℕ, Bool, true, false, ◌&&◌, inl, inr, List, [], ◌∷◌, Option, Some, None, IsTrue, if◌then◌else◌, refl, arith}
 use Rattle.duration_str.proofs.Common.{cases_Bool, and_parts, and_from, or_cases, list_all, Options, CondUnit, is_blank, is_digit, is_unit_letter, operator_of, number_of, unit_of_word, are_of_one_run, goes_on, IsLexeme, Terminal, number, word, operator, other, terminal_of, sign_terminal, operator_or_other, sign_sort, sort_at, sort_of, or_right}
 use Rattle.duration_str.proofs.Characters.CharacterLemmas.{all_weaker, digit-not_blank, letter-not_blank, digit-not_letter, letter-not_digit}
 
@@ -7,7 +7,8 @@ use Rattle.duration_str.proofs.Characters.CharacterLemmas.{all_weaker, digit-not
 -- operator, and anything else.
 pub terminal_cases : (o : Options) (P : List ℕ → Terminal → Type 0) → P [] other
     → ((c : ℕ) (cs : List ℕ) → IsTrue (list_all is_digit (c ∷ cs)) → P (c ∷ cs) (number (number_of (c ∷ cs))))
-    → ((c : ℕ) (cs : List ℕ) → IsTrue (list_all (is_unit_letter o) (c ∷ cs)) → P (c ∷ cs) (word (unit_of_word o (c ∷ cs))))
+    → ((c : ℕ) (cs : List ℕ) → IsTrue (list_all (is_unit_letter o) (c ∷ cs))
+    → P (c ∷ cs) (word (unit_of_word o (c ∷ cs))))
     → ((c : ℕ) (op : CondUnit) → list_all is_digit (c ∷ []) ≡ false → list_all (is_unit_letter o) (c ∷ []) ≡ false
     → operator_of c ≡ Some op → P (c ∷ []) (operator op))
     → ((c : ℕ) (cs : List ℕ) → list_all is_digit (c ∷ cs) ≡ false → list_all (is_unit_letter o) (c ∷ cs) ≡ false
@@ -64,19 +65,13 @@ sign_alone : (o : Options) (c : ℕ) (ds : List ℕ) → is_digit c ≡ false �
 sign_alone o c [] e f all = rw (e, f) (sign_sorts (operator_of c))
 sign_alone o c (d ∷ ds) e f all = cc (no_run o c (d ∷ ds) e f, (and_parts (are_of_one_run o c d) _ all).0)
 
-left_false : (a b p q : Bool) → a ≡ false → ((a && b) || (p && q)) ≡ true → q ≡ true
-left_false a b p q e h = grind arith
-
-right_false : (a b p q : Bool) → p ≡ false → ((a && b) || (p && q)) ≡ true → b ≡ true
-right_false a b p q e h = grind arith
-
 -- The first character of a lexeme determines the sort of its terminal.
 pub lexeme_sort : (o : Options) (c : ℕ) (cs : List ℕ) → IsLexeme o (c ∷ cs)
     → sort_at o c ≡ sort_of (terminal_of o (c ∷ cs))
 lexeme_sort o c cs p = elim (cases_Bool (is_digit c)) [
-  | inl e ↦ rw (e, all_weaker _ is_digit cs (λ d. right_false _ _ _ _ (digit-not_letter o c e)) p.1)
+  | inl e ↦ rw (e, all_weaker _ is_digit cs (λ d h. grind (arith, digit-not_letter o c e)) p.1)
   | inr e ↦ elim (cases_Bool (is_unit_letter o c)) [
-    | inl f ↦ rw (e, f, all_weaker _ (is_unit_letter o) cs (λ d. left_false _ _ _ _ e) p.1)
+    | inl f ↦ rw (e, f, all_weaker _ (is_unit_letter o) cs (λ d h. grind arith) p.1)
     | inr f ↦ sign_alone o c cs e f p.1
   ]
 ]

@@ -34,7 +34,8 @@ module _ (o : Options) where
   -- The tokens of a text are its first token and those of the rest.
   pub tokens_step : (at : ℕ) (blanks cs rest : List ℕ) → IsBlank blanks → IsLexeme o cs → EndsRun o cs rest
       → tokens_from o at (blanks ++ (cs ++ rest))
-      ≡ record { start = at + byte_len blanks; characters = cs } ∷ tokens_from o (at + byte_len blanks + byte_len cs) rest
+      ≡ record { start = at + byte_len blanks; characters = cs }
+      ∷ tokens_from o (at + byte_len blanks + byte_len cs) rest
   tokens_step at blanks [] rest b p e = absurd p
   tokens_step at blanks (c ∷ cs) rest b p e =
       blanks_no_token o at blanks (c ∷ (cs ++ rest)) b ∙ run_token (at + byte_len blanks) c cs rest p e

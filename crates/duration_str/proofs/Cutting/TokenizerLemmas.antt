@@ -130,8 +130,9 @@ other_what other e = refl
 other_what _ e = absurd cc
 
 -- the token that was taken is the next one
-pub takes_terminal : {s m t : Tokens} {terminal : Terminal} (x : RustToken) → KeepsInput s m → tokens_left m ≡ tokens_left s
-    → TakesToken m t terminal → x.start ≡ cut_place m → x.text.now ≡ slice_range (source t) x.start (cut_place t)
+pub takes_terminal : {s m t : Tokens} {terminal : Terminal} (x : RustToken) → KeepsInput s m
+    → tokens_left m ≡ tokens_left s → TakesToken m t terminal
+    → x.start ≡ cut_place m → x.text.now ≡ slice_range (source t) x.start (cut_place t)
     → IsUtf8 x.text.now → x.what ≡ what_of terminal → IsCharBoundary (source m) (cut_place m)
     → IsCharBoundary (source t) (cut_place t) → YieldsNextToken s (Some x) t
 takes_terminal {s} {m} {t} x kept same taken there is utf8 sort before boundary =

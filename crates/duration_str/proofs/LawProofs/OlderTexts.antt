@@ -15,9 +15,11 @@ kept _ = inr refl
 same_row : (u : TimeUnit) (row : UnitRow) → older_row_of u ≡ Some row → row_of u ≡ row
 same_row u row e = elim (kept u) [ inl none ↦ cc | inr same ↦ cc ]
 
--- A name of a unit is still its name.
-still_named : (o : Options) (w : List ℕ) (u : TimeUnit) → was_named o w u ≡ true → is_named o w u ≡ true
-still_named o w u named = elim (kept u) [ inl none ↦ cc (rw none at named) | inr same ↦ rw same at named ]
+-- A name of a unit is still its name, and the unit has its length.
+still_named : (o : Options) (w : List ℕ) (u : TimeUnit) → was_named o w u ≡ true
+    → (is_named o w u ≡ true) × (older_nanos_of u ≡ nanos_of u)
+still_named o w u named =
+    elim (kept u) [ inl none ↦ cc (rw none at named) | inr same ↦ (rw same at named, rw same refl) ]
 
 -- A unit found among these is named by the word.
 found_named : (o : Options) (w : List ℕ) (us : List TimeUnit) (u : TimeUnit) → find (was_named o w) us ≡ Some u
@@ -28,10 +30,6 @@ found_named o w (v ∷ us) u h = elim (cases_Bool (was_named o w v)) [
   | inr e ↦ found_named o w us u (rw e at h)
 ]
 
--- A word that named a unit names the same one.
-same_unit : (o : Options) (w : List ℕ) (u : TimeUnit) → older_unit_of_word o w ≡ Some u → unit_of_word o w ≡ Some u
-same_unit o w u e = named_unit o w u (still_named o w u (found_named o w older_units u e))
-
 -- ---- Terminals and terms
 
 -- The unit of a word, if it names one, still has its length.
@@ -40,14 +38,11 @@ KeepLengths [] = ⊤
 KeepLengths (word (Some u) ∷ terminals) = (older_nanos_of u ≡ nanos_of u) × KeepLengths terminals
 KeepLengths (terminal ∷ terminals) = KeepLengths terminals
 
-same_length : (o : Options) (w : List ℕ) (u : TimeUnit) → was_named o w u ≡ true → older_nanos_of u ≡ nanos_of u
-same_length o w u named = elim (kept u) [ inl none ↦ cc (rw none at named) | inr same ↦ rw same refl ]
-
 same_word : (o : Options) (last : Option Terminal) (w : List ℕ) (found : Option TimeUnit) (terminals : List Terminal)
     → older_unit_of_word o w ≡ found → IsTrue (allows (kinds_after o.no_calc last) (word found)) → KeepLengths terminals
     → (word found ≡ word (unit_of_word o w)) × KeepLengths (word found ∷ terminals)
 same_word o last w (Some u) terminals e a k =
-    (rw (same_unit o w u e), (same_length o w u (found_named o w older_units u e), k))
+    let named = still_named o w u (found_named o w older_units u e) in (rw (named_unit o w u named.0), (named.1, k))
 same_word o last w None terminals e a k =
     absurd (true≢false (sym (and_parts (kinds_after o.no_calc last).unit_word false a).1))
 

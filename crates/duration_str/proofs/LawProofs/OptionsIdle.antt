@@ -75,12 +75,11 @@ module _ (test : ℕ → Bool) (o p : Options) (same : Agree test o p) where
 
 -- ---- ASCII capitals
 
-lower_same : (c : ℕ) → not (is_ascii_uppercase c) ≡ true → to_ascii_lowercase c ≡ c
-lower_same c h = grind (arith, nat_tests)
-
 all_lower : (w : List ℕ) → HasNoCapital w → map to_ascii_lowercase w ≡ w
 all_lower [] h = refl
-all_lower (c ∷ w) h = let parts = and_parts _ _ h in rw (lower_same c parts.0, all_lower w parts.1)
+all_lower (c ∷ w) h =
+    let parts = and_parts (not (is_ascii_uppercase c)) _ h in
+    let same : to_ascii_lowercase c ≡ c = grind (arith, nat_tests, parts.0) in rw (same, all_lower w parts.1)
 
 -- ---- Chinese characters
 
@@ -88,17 +87,8 @@ chinese_letter : (o : Options) (c : ℕ) → not (is_chinese c) ≡ true
     → is_unit_letter (record o { cn_unit = true }) c ≡ is_unit_letter (record o { cn_unit = false }) c
 chinese_letter o c h = rw (not-true (is_chinese c) h)
 
-lower_or_ascii : (c : ℕ) → (to_ascii_lowercase c ≡ c) ⊎ (to_ascii_lowercase c < 128)
-lower_or_ascii c = grind (arith, nat_tests)
-
-ascii_not_chinese : (c : ℕ) → c < 128 → is_chinese c ≡ false
-ascii_not_chinese c h = grind (arith, nat_tests)
-
 lower_not_chinese : (c : ℕ) → not (is_chinese c) ≡ true → not (is_chinese (to_ascii_lowercase c)) ≡ true
-lower_not_chinese c h = elim (lower_or_ascii c) [
-  | inl same ↦ rw same h
-  | inr ascii ↦ rw (ascii_not_chinese (to_ascii_lowercase c) ascii)
-]
+lower_not_chinese c h = grind (arith, nat_tests)
 
 all_lower_not_chinese : (w : List ℕ) → HasNoChinese w → HasNoChinese (map to_ascii_lowercase w)
 all_lower_not_chinese [] h = refl

@@ -50,16 +50,15 @@ no_star_plus : (c : ℕ) (op : CondUnit) → not (c == 42) ≡ true → operator
 no_star_plus c op h e = grind (arith, nat_tests)
 
 module _ (o : Options) where
-  plus_terminal_first : (terminals : List Terminal) → AllPlus terminals → (w : List ℕ) → HasNoStar w
-      → AllPlus (terminal_of o w ∷ terminals)
-  plus_terminal_first terminals h = terminal_cases o (λ w t. HasNoStar w → AllPlus (t ∷ terminals))
-      (λ plain. h) (λ c cs digits plain. h) (λ c cs letters plain. h)
-      (λ c op _ _ sign plain. (no_star_plus c op (and_parts (not (c == 42)) _ plain).0 sign, h)) (λ c cs _ _ plain. h)
-
   lexemes_plus : (lexemes : List (List ℕ)) → EachPasses (λ c. not (c == 42)) lexemes
       → AllPlus (map (terminal_of o) lexemes)
   lexemes_plus [] h = tt
-  lexemes_plus (w ∷ lexemes) h = plus_terminal_first (map (terminal_of o) lexemes) (lexemes_plus lexemes h.1) w h.0
+  lexemes_plus (w ∷ lexemes) h =
+      let more = lexemes_plus lexemes h.1 in
+      terminal_cases o (λ w t. HasNoStar w → AllPlus (t ∷ map (terminal_of o) lexemes))
+      (λ plain. more) (λ c cs digits plain. more) (λ c cs letters plain. more)
+      (λ c op _ _ sign plain. (no_star_plus c op (and_parts (not (c == 42)) _ plain).0 sign, more))
+      (λ c cs _ _ plain. more) w h.0
 
   read_is_sum : {text : List ℕ} {nanos : ℕ} → HasNoStar text → (r : IsRead o text nanos) → IsSumOf o r.lexemes text
   read_is_sum {text} plain r = record {

@@ -1,19 +1,17 @@
 -- The reader's steps: what comes next, by the sort ahead, and what is left after it.
 use Rattle.std.proofs.Common.{◌≡◌, ℕ, Bool, true, false, length, Option, Some, None, Result, Ok, Err, IsTrue, refl, sym, ap, ◌∙◌, if◌then◌else◌}
-use Rattle.duration_str.proofs.Common.{TimeUnit, Second, CondUnit, Plus, Cause, Syntax, Sort, Tokens, Terminal, number, word, operator, other, terminal_of, kinds_at_start, sort_of, source, options_of, tokens_left, IsAhead, LooksAhead, is_number, TakesToken, TakesSign, Rest, terminal_at, end_at, rest_from, rest_of, lacks_number, fault_or, Read, leaving, unit_read, operator_read}
+use Rattle.duration_str.proofs.Common.{TimeUnit, CondUnit, Plus, Cause, Syntax, Sort, Tokens, Terminal, number, word, operator, other, terminal_of, kinds_at_start, sort_of, source, options_of, tokens_left, LooksAhead, is_number, TakesToken, TakesSign, Rest, terminal_at, end_at, rest_from, rest_of, lacks_number, fault_or, Read, leaving, operator_read}
 use Rattle.duration_str.specs.Tokenizer.{cut_place}
-use Rattle.duration_str.proofs.Cutting.TokenizerLemmas.{keeps_all, none_left, first_left}
+use Rattle.duration_str.proofs.Cutting.TokenizerLemmas.{none_left, first_left}
 use Rattle.duration_str.specs.declared.token.Sort.TheVariants as sorts
 
--- ---- What comes next
-
-same_rest : {s m : Tokens} {sort : Option Sort} → LooksAhead s m sort → rest_of m ≡ rest_of s
+pub same_rest : {s m : Tokens} {sort : Option Sort} → LooksAhead s m sort → rest_of m ≡ rest_of s
 same_rest look = (λ i. rest_from (look.kept.options i) (length (look.kept.text i)) (look.same_left i))
 
 -- At the end the whole source is cut.
-pub at_end : {s m : Tokens} → LooksAhead s m None → (rest_of s ≡ end_at (cut_place m)) × (cut_place m ≡ length (source m))
-at_end {s} {m} look =
-    let none = none_left m look.ahead in (rw (← same_rest look, none.0, ← none.1), none.1)
+pub at_end : {s m : Tokens} → LooksAhead s m None
+    → (rest_of s ≡ end_at (cut_place m)) × (cut_place m ≡ length (source m))
+at_end {s} {m} look = let none = none_left m look.ahead in (rw (← same_rest look, none.0, ← none.1), none.1)
 
 -- The rest starts at this byte, with a terminal of this sort.
 abbrev pub StartsWith : Sort → ℕ → Rest → Type 0
@@ -36,13 +34,6 @@ starts {s} {m} {sort = sort} look is =
     let here = rw left_is at (sym (same_rest look)) in
     rw sort_is (by_terminal (terminal_of (options_of m) cs) (cut_place m) (rest_of s) _ here)
 
--- With a number ahead, the rest starts with it.
-pub at_number : (s : Tokens) → IsAhead s (Some sorts.Number) → StartsWith sorts.Number (cut_place s) (rest_of s)
-at_number s ahead =
-    starts {m = s} {sort = sorts.Number} (record { kept = keeps_all s; same_left = refl; ahead = ahead }) refl
-
--- ---- A number
-
 -- A number follows, or its absence is a fault at the place.
 pub number_comes : {s m : Tokens} {sort : Option Sort} → LooksAhead s m sort
     → lacks_number (rest_of s) ≡ (if is_number sort then None else Some (Syntax (cut_place m) kinds_at_start))
@@ -56,18 +47,6 @@ number_comes {sort = Some sorts.Other} look = rw (starts look refl).1
 pub number_is : (sort : Option Sort) → is_number sort ≡ true → sort ≡ Some sorts.Number
 number_is (Some sorts.Number) e = refl
 number_is _ e = absurd cc
-
--- ---- A unit or an operator that is left out, and an operator
-
--- seconds before an operator, which is not taken
-pub unit_left_out : {s m : Tokens} {ahead : Option Sort} {op : CondUnit} → LooksAhead s m ahead
-    → ahead ≡ Some (sorts.Operator op) → leaving (rest_of m) (Ok Second) ≡ unit_read false (rest_of s)
-unit_left_out look is = rw (same_rest look, (starts look is).1)
-
--- plus before a number, which is not taken
-pub plus_left_out : {s m : Tokens} {ahead : Option Sort} (no_calc : Bool) → LooksAhead s m ahead
-    → ahead ≡ Some sorts.Number → leaving (rest_of m) (Ok (Some Plus)) ≡ operator_read no_calc (rest_of s)
-plus_left_out no_calc look is = rw (same_rest look, (starts look is).2)
 
 operator_terminal : (terminal : Terminal) (op : CondUnit) → sorts.Operator op ≡ sort_of terminal
     → terminal ≡ operator op

@@ -1,13 +1,14 @@
 -- The terms that are left while a text is read, and the answer that they give.
 use Rattle.std.proofs.Common.{◌≡◌, ℕ, ◌^◌, ◌<◌, Bool, true, false, List, [], ◌∷◌, ◌++◌, length, take, drop, Option, Some, None, Result, Ok, Err, if◌then◌else◌, unwrap_or, IsTrue, refl, sym, ap, subst, ◌∙◌, arith}
-use Rattle.duration_str.proofs.Common.{TimeUnit, NanoSecond, CondUnit, Plus, Star, Cause, Syntax, Expected, Number, Tokens, nanos_of, Terminal, number, word, operator, AllPlus, Term, value_of_term, terms_of, terms_after, unless, value_of, term_value, term_of, without_last_number, complete_terminals, early_fault, late_answer, answer_after, answer_at, kinds_after, last_of, front_of, IsAhead, TakesNumber, Rest, terminal_at, rest_of, start_left, terminals_in, Read, leaving, unit_read, operator_read, answer_left, first_term, fault_or, nothing_of, before_operator, at_once, checked_combination}
+use Rattle.duration_str.proofs.Common.{TimeUnit, NanoSecond, CondUnit, Plus, Star, Cause, Syntax, Expected, Number, Tokens, nanos_of, Terminal, number, word, operator, AllPlus, Term, value_of_term, terms_of, terms_after, unless, value_of, term_value, term_of, without_last_number, complete_terminals, early_fault, late_answer, answer_after, answer_at, kinds_after, last_of, front_of, IsAhead, LooksAhead, TakesNumber, Rest, terminal_at, rest_of, start_left, terminals_in, Read, leaving, unit_read, operator_read, answer_left, first_term, fault_or, nothing_of, before_operator, at_once, checked_combination}
 use Rattle.duration_str.specs.Tokenizer.{cut_place}
 use Rattle.duration_str.proofs.Sentences.FaultLemmas.{term_below_no_fault}
 use Rattle.duration_str.proofs.Sentences.FrontLemmas.{begins_allowed, table_front}
 use Rattle.duration_str.proofs.Sentences.SumLemmas.{AreAdded, terms_added}
 use Rattle.duration_str.proofs.Sentences.AnswerLemmas.{allowed_plus}
 use Rattle.duration_str.proofs.OnePass.EvaluationLemmas.{answer_of, term_told, answer_with, answer_after_first, one_by_one}
-use Rattle.duration_str.proofs.OnePass.ReaderLemmas.{at_number, after_token}
+use Rattle.duration_str.proofs.OnePass.ReaderLemmas.{starts, after_token}
+use Rattle.duration_str.proofs.Cutting.TokenizerLemmas.{keeps_all}
 
 -- terms, and the syntax fault after them
 pub record Ended : Type 0 where
@@ -100,7 +101,8 @@ by_number : {A : Type 0} {s : Tokens} (no_calc : Bool) (f g : Ended → A) (op n
     → ((cause : Cause) → f (no_terms cause) ≡ g (no_terms cause))
     → f (left_after no_calc op (rest_of s)) ≡ g (left_after no_calc next (rest_of s))
 by_number {s = s} no_calc f g op next ahead terms none =
-    let (n, rest, is) = at_number s ahead in
+    let look : LooksAhead s s (Some Number) = record { kept = keeps_all s; same_left = refl; ahead = ahead } in
+    let (n, rest, is) = starts look refl in
     rw (is, terms_read no_calc op (cut_place s) n rest, terms_read no_calc next (cut_place s) n rest)
     (elim (unit_read no_calc rest) as (λ r. f (after_number no_calc op n r) ≡ g (after_number no_calc next n r))
     [ Ok r ↦ terms n r | Err cause ↦ none cause ])
@@ -213,15 +215,12 @@ from_start no_calc rest left is =
     ∙ in_order no_calc (start_left (front_of no_calc (terminals_in rest)) rest) (front_in no_calc rest)
     (after_in no_calc rest)
 
-fault_alone : (no_calc : Bool) (cause : Cause) → Err cause ≡ answer_of no_calc [] (Some cause)
-fault_alone false cause = refl
-fault_alone true cause = refl
-
 -- The first unit cannot be read.
 pub first_unread : {m a : Tokens} {s : Rest} {n : Option ℕ} {cause : Cause} (no_calc : Bool) → rest_of m ≡ s
     → TakesNumber m a n → Err cause ≡ unit_read no_calc (rest_of a) → Err cause ≡ answer_left no_calc [] s
 first_unread {m} {cause = cause} no_calc same taken unit =
-    rw (← same, ← from_start no_calc (rest_of m) _ (number_taken no_calc Plus taken _ unit)) (fault_alone no_calc cause)
+    rw (← same, ← from_start no_calc (rest_of m) _ (number_taken no_calc Plus taken _ unit))
+    (elim no_calc as (λ b. Err cause ≡ answer_of b [] (Some cause)) [ false ↦ refl | true ↦ refl ])
 
 -- The first term is read up to b, and has this value or fault.
 pub first_step : {m a : Tokens} {s b : Rest} {n : Option ℕ} {u : TimeUnit} {first : Result ℕ Cause} (no_calc : Bool)
@@ -252,14 +251,16 @@ from_later no_calc first op rest below plus =
     let after = after_in no_calc rest in
     let left = left_after no_calc op rest in
     let f = term_of first NanoSecond in
-    let value : first ≡ value_of_term f = omega arith in
-    let none = sym (term_below_no_fault (Some 0) f (omega arith) (omega (arith, below))) in
+    let value : value_of_term f ≡ first = omega arith in
+    let none = term_below_no_fault (Some 0) f (omega arith) (omega (arith, below)) in
     let added : IsTrue no_calc → AreAdded (f ∷ left.terms) =
     λ h. (refl, omega arith, left_added no_calc op rest (plus h) h) in
-    let terms = ap terms_of (sym (pulled (first_term first op) front after refl)) in
-    let kinds = sym (same_kinds no_calc op front) in
-    let place = start_left (front_of no_calc (terminals_in rest)) rest in
-    (λ i. fault_or (none i) (total_of no_calc (value i) left))
-    ∙ sym (one_by_one no_calc f left.terms left.fault added)
-    ∙ (λ i. answer_of no_calc (terms i) (fault_at place (kinds i) after))
-    ∙ in_order no_calc place (first_term first op ++ front) after
+    let all = first_term first op ++ front in
+    rw (
+      ← in_order no_calc (start_left (front_of no_calc (terminals_in rest)) rest) all after,
+      pulled (first_term first op) front after refl,
+      same_kinds no_calc op front,
+      one_by_one no_calc f left.terms left.fault added,
+      none,
+      value,
+    )

@@ -1,7 +1,7 @@
 -- A text is read or refused, not both, and the computed answer says which.
-use Rattle.std.proofs.Common.{◌≡◌, ℕ, ◌^◌, ◌<◌, ◌≤◌, Bool, true, false, ◌⊎◌, ◌↔◌, inl, inr, List, [], ◌∷◌, ◌++◌, map, length, take, Option, Some, None, Result, Ok, Err, if◌then◌else◌, arith, refl, sym, ap, ◌∙◌, append-nil, length-take-le}
-use Rattle.duration_str.proofs.Common.{and_parts, cond-true, list_all, Options, CondUnit, Cause, Syntax, byte_len, Terminal, number, word, operator, other, terminal_of, IsSentence, IsSentenceOf, tokens_of, lexemes_of, IsFront, start_after, terminals_of, AllPlus, Term, value_of_term, combination, later_total, value_of, terms_of, later_fault, evaluation_fault, is_same_operator, Evaluates, first_fault, early_fault, late_fault, IsRead, IsRefusedAt, early, syntax_fault, late, IsRefused, is_whole, late_answer, answer_after, answer, kinds_after, last_of, front_of, OneAnswer, IsAnswer}
-use Rattle.duration_str.proofs.Sentences.FrontLemmas.{AreAllowed, sentence_allowed, no_operators, one_front, one_expected, table_front, front_within, ends_by_table, kinds_by_table}
+use Rattle.std.proofs.Common.{◌≡◌, ℕ, ◌^◌, ◌<◌, ◌≤◌, Bool, true, false, ◌⊎◌, ◌↔◌, inl, inr, List, [], ◌∷◌, ◌++◌, map, length, Option, Some, None, Result, Ok, Err, if◌then◌else◌, arith, refl, sym, ap, ◌∙◌, append-nil}
+use Rattle.duration_str.proofs.Common.{and_parts, cond-true, list_all, Options, CondUnit, Cause, Syntax, byte_len, Terminal, number, word, operator, other, terminal_of, IsSentence, IsSentenceOf, tokens_of, lexemes_of, IsFront, start_after, terminals_of, AllPlus, Term, value_of_term, combination, later_total, value_of, terms_of, later_fault, evaluation_fault, is_same_operator, Evaluates, first_fault, early_fault, late_fault, IsRead, IsRefusedAt, early, syntax_fault, late, IsRefused, is_whole, late_answer, answer_after, answer, kinds_after, last_of, OneAnswer, IsAnswer}
+use Rattle.duration_str.proofs.Sentences.FrontLemmas.{AreAllowed, sentence_allowed, no_operators, one_front, one_expected, table_front, front_allowed, ends_by_table, kinds_by_table}
 use Rattle.duration_str.proofs.Sentences.SpellingLemmas.{sentence_terminals, tokens_spell, empty_no_sentence}
 use Rattle.duration_str.proofs.Sentences.FaultLemmas.{no_fault, or_else-none, is_same_operator-true}
 use Rattle.duration_str.proofs.Sentences.SumLemmas.{terms_added, has_terms, running_none, running_below, below_evaluate, evaluate_below}
@@ -31,7 +31,7 @@ evaluates_by false terminals s = evaluates_by_faults (terms_of terminals) (has_t
 evaluates_by true terminals s =
     let terms = terms_of terminals in
     let added = terms_added terminals (allowed_plus None terminals (sentence_allowed true terminals s)) in (
-      λ e. (running_none [] terms added (evaluate_below terms added e), refl),
+      λ e. (running_none terms added (evaluate_below terms added e), refl),
       λ f. below_evaluate terms (has_terms true terminals s) added (running_below [] terms (omega arith) f.0),
     )
 
@@ -216,10 +216,8 @@ answer_means : (o : Options) (text : List ℕ) → Means o text (answer o text)
 answer_means o [] = refl
 answer_means o (c ∷ text) =
     let terminals : List Terminal = terminals_of o (c ∷ text) in
-    let n : ℕ = front_of o.no_calc terminals in
     let f = table_front o.no_calc terminals in
-    let long : length (take n terminals) ≡ n = length-take-le n terminals (front_within o.no_calc None terminals) in
-    text_means o c text _ _ _ f (rw long (front_means o.no_calc _ _ _ f _ refl))
+    text_means o c text _ _ _ f (rw (front_allowed o.no_calc None terminals).1 (front_means o.no_calc _ _ _ f _ refl))
 
 -- The result that means what is known of the text is its answer.
 only_meaning : (o : Options) (text : List ℕ) (x y : Result ℕ Cause) → Means o text x → Means o text y → x ≡ y

@@ -16,8 +16,7 @@ fits-true n = (ltb-true n (2 ^ 64), lt-ltb n (2 ^ 64))
 pub is_same_operator-true : (op next : CondUnit) → (is_same_operator op next ≡ true) ↔ (next ≡ op)
 is_same_operator-true Plus Plus = (λ h. refl, λ h. refl)
 is_same_operator-true Star Star = (λ h. refl, λ h. refl)
-is_same_operator-true Plus Star = (λ h. cc, λ h. cc)
-is_same_operator-true Star Plus = (λ h. cc, λ h. cc)
+is_same_operator-true _ _ = (λ h. cc, λ h. cc)
 
 -- There is no fault: each number is below 2^64, and the operators are the same.
 pub ruleset no_fault = (or_else-none, unless-none, fits-true, is_same_operator-true)

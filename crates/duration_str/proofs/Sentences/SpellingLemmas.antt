@@ -1,6 +1,6 @@
 -- A sentence spells a text exactly if its lexemes are those of the text's tokens.
 use Rattle.std.proofs.Common.{◌≡◌, ℕ, ◌+◌, Bool, true, false, List, [], ◌∷◌, ◌++◌, map, Option, Some, None, IsTrue, refl, sym, ◌∙◌}
-use Rattle.duration_str.proofs.Common.{and_parts, false_from_ne_true, list_all-append, list_all, Options, Expected, is_blank, IsBlank, byte_len, Terminal, number, word, operator, other, terminal_of, IsSentenceOf, BeginsWith, Spells, are_of_one_run, goes_on, IsLexeme, EndsRun, AreTokens, tokens_of, lexemes_of, terminals_of, kinds_after, allows, sort_of, Token}
+use Rattle.duration_str.proofs.Common.{⊤, and_parts, false_from_ne_true, list_all-append, list_all, Options, Expected, is_blank, IsBlank, byte_len, Terminal, number, word, operator, other, terminal_of, IsSentenceOf, BeginsWith, Spells, are_of_one_run, goes_on, IsLexeme, EndsRun, AreTokens, tokens_of, lexemes_of, terminals_of, kinds_after, allows, sort_of, Token}
 use Rattle.duration_str.proofs.Characters.CharacterLemmas.{operator-not_blank, run-not_blank}
 use Rattle.duration_str.proofs.Cutting.TokenLemmas.{tokens_once, tokens_are}
 use Rattle.duration_str.proofs.Cutting.TerminalLemmas.{terminal_cases, digits_are_lexeme, letters_are_lexeme, lexeme_sort, run_sort}
@@ -28,22 +28,17 @@ sorts_apart no_calc other other a e = cc
 sorts_apart no_calc s t a e = cc
 
 module _ (o : Options) where
-  -- If the table allows the terminal of one lexeme after that of another, the two are not of one run.
-  allowed_apart : (c : ℕ) (cs : List ℕ) (d : ℕ) (ds : List ℕ) → IsLexeme o (c ∷ cs) → IsLexeme o (d ∷ ds)
-      → IsTrue (allows (kinds_after o.no_calc (Some (terminal_of o (c ∷ cs)))) (terminal_of o (d ∷ ds)))
-      → are_of_one_run o c d ≡ false
-  allowed_apart c cs d ds p q a = false_from_ne_true _ (λ run.
-      sorts_apart o.no_calc _ _ a (sym (lexeme_sort o c cs p) ∙ run_sort o c d run ∙ lexeme_sort o d ds q))
-
   stops_at_blank : (c d : ℕ) → is_blank d ≡ true → are_of_one_run o c d ≡ false
   stops_at_blank c d e = false_from_ne_true _ (λ run. cc (run-not_blank o c d run))
 
+  -- Two lexemes that the table allows after one another are not of one run.
   stops_before : (c : ℕ) (cs blanks w rest : List ℕ) → IsBlank blanks → IsLexeme o (c ∷ cs) → IsLexeme o w
       → IsTrue (allows (kinds_after o.no_calc (Some (terminal_of o (c ∷ cs)))) (terminal_of o w))
       → goes_on o c (blanks ++ (w ++ rest)) ≡ false
   stops_before c cs (b ∷ blanks) w rest h p q a = stops_at_blank c b (and_parts _ _ h).0
   stops_before c cs [] [] rest h p q a = absurd q
-  stops_before c cs [] (d ∷ ds) rest h p q a = allowed_apart c cs d ds p q a
+  stops_before c cs [] (d ∷ ds) rest h p q a = false_from_ne_true _ (λ run.
+      sorts_apart o.no_calc _ _ a (sym (lexeme_sort o c cs p) ∙ run_sort o c d run ∙ lexeme_sort o d ds q))
 
   -- A run in a sentence ends where its lexeme ends.
   ends_in_sentence : (w rest : List ℕ) (ws : List (List ℕ)) → IsLexeme o w
@@ -62,20 +57,13 @@ module _ (o : Options) where
   spelled_tokens at last [] text a s = ([], s, refl)
   spelled_tokens at last (w ∷ ws) text a s =
       let start = at + byte_len s.blanks in
-      let is_lexeme = allowed_is_lexeme o (kinds_after o.no_calc last) w a.0 in
-      let ends = ends_in_sentence w s.rest ws is_lexeme a.1 s.is_rest in
+      let p = allowed_is_lexeme o (kinds_after o.no_calc last) w a.0 in
+      let ends = ends_in_sentence w s.rest ws p a.1 s.is_rest in
       let more = spelled_tokens (start + byte_len w) (Some (terminal_of o w)) ws s.rest a.1 s.is_rest in (
         record { start = start; characters = w } ∷ more.0,
         (
           s.rest,
-          record {
-            blanks = s.blanks;
-            blank = s.blank;
-            parts = s.parts;
-            start = refl;
-            is_lexeme = is_lexeme;
-            ends = ends;
-          },
+          record { blanks = s.blanks; blank = s.blank; parts = s.parts; start = refl; is_lexeme = p; ends = ends },
           more.1,
         ),
         rw more.2,
@@ -107,7 +95,7 @@ module _ (o : Options) where
 
 -- All characters of each lexeme pass the test.
 abbrev pub EachPasses : (ℕ → Bool) → List (List ℕ) → Type 0
-EachPasses test [] = Unit {0}
+EachPasses test [] = ⊤
 EachPasses test (w ∷ lexemes) = IsTrue (list_all test w) × EachPasses test lexemes
 
 pub lexemes_pass : (test : ℕ → Bool) (lexemes : List (List ℕ)) (text : List ℕ) → IsTrue (list_all test text)

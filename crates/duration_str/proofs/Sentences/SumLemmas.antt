@@ -1,12 +1,12 @@
 -- Terms that are added evaluate exactly if their sum is below 2^64, and the sum is their value.
-use Rattle.std.proofs.Common.{◌≡◌, ◌+◌, ◌^◌, ◌≤◌, ◌<◌, Bool, true, leb, List, [], ◌∷◌, ◌++◌, length, Some, None, arith, refl, ap, append_assoc, append-nil, leb-true}
-use Rattle.duration_str.proofs.Common.{list_all, TimeUnit, CondUnit, Plus, Overflow, nanos_of, Terminal, number, word, operator, IsSentence, AllPlus, Term, value_of_term, combination, sum_of, later_total, value_of, terms_of, terms_after, fits, unless, or_else, later_fault, evaluation_fault, is_same_operator, Evaluates, running_fault, place_after}
-use Rattle.duration_str.proofs.Sentences.FaultLemmas.{no_fault, term_below_no_fault}
+use Rattle.std.proofs.Common.{ℕ, ◌≡◌, ◌+◌, ◌^◌, ◌≤◌, ◌<◌, inl, inr, lt-ltb, le-ltb, Option, Bool, true, leb, List, [], ◌∷◌, ◌++◌, length, Some, None, arith, refl, ap, append_assoc, append-nil, leb-true}
+use Rattle.duration_str.proofs.Common.{⊤, cases_lt, cases_Bool, Cause, first_fault, list_all, TimeUnit, CondUnit, Plus, Overflow, nanos_of, Terminal, number, word, operator, IsSentence, AllPlus, Term, value_of_term, combination, sum_of, later_total, value_of, terms_of, terms_after, fits, unless, or_else, later_fault, evaluation_fault, is_same_operator, Evaluates, running_fault, place_after}
+use Rattle.duration_str.proofs.Sentences.FaultLemmas.{no_fault, is_same_operator-true, term_below_no_fault}
 use Rattle.duration_str.proofs.Characters.EachUnit.{all_units}
 
 -- Each term is added, and its length is above 0.
 abbrev pub AreAdded : List Term → Type 0
-AreAdded [] = Unit {0}
+AreAdded [] = ⊤
 AreAdded (t ∷ terms) = (t.operator ≡ Plus) × (1 ≤ t.length) × AreAdded terms
 
 unit_above_zero : (u : TimeUnit) → 1 ≤ nanos_of u
@@ -32,30 +32,59 @@ pub sum-append : (xs ys : List Term) → sum_of (xs ++ ys) ≡ sum_of xs + sum_o
 sum-append [] ys = omega arith
 sum-append (x ∷ xs) ys = rw (sum-append xs ys) (omega arith)
 
-step_within : (before : List Term) (t : Term) (later : List Term)
-    → sum_of (before ++ t ∷ []) ≤ sum_of (before ++ t ∷ later)
-step_within before t later = omega (arith, sum-append before (t ∷ []), sum-append before (t ∷ later))
+-- Each term's value is below 2^64.
+abbrev pub EachFits : List Term → Type 0
+EachFits [] = ⊤
+EachFits (t ∷ terms) = (value_of_term t < 2 ^ 64) × EachFits terms
 
-term_within : (before : List Term) (t : Term) → value_of_term t ≤ sum_of (before ++ t ∷ [])
-term_within before t = omega (arith, sum-append before (t ∷ []))
+pub sum_fits_each : (terms : List Term) → sum_of terms < 2 ^ 64 → EachFits terms
+sum_fits_each [] h = tt
+sum_fits_each (t ∷ terms) h = (omega arith, sum_fits_each terms (omega arith))
+
+-- ---- Terms that fit have no fault but that of their sum
+
+abbrev overflow : ℕ → Option Cause
+overflow n = unless (fits n) (Overflow None)
+
+overflow_grows : (m n : ℕ) → m ≤ n → or_else (overflow m) (overflow n) ≡ overflow n
+overflow_grows m n h = elim (cases_lt m (2 ^ 64)) [
+  | inl below ↦ rw (lt-ltb m _ below)
+  | inr above ↦ rw (le-ltb m _ above, le-ltb n (2 ^ 64) (omega arith))
+]
+
+pub running_overflow : (before terms : List Term) → AreAdded terms → EachFits terms
+    → (or_else (overflow (sum_of before)) (running_fault before terms) ≡ overflow (sum_of (before ++ terms)))
+    × (or_else (overflow (sum_of before)) (later_fault Plus before terms) ≡ overflow (sum_of (before ++ terms)))
+running_overflow before [] a f =
+    rw append-nil (elim (cases_Bool (fits (sum_of before))) [ inl e ↦ rw e (refl, refl) | inr e ↦ rw e (refl, refl) ])
+running_overflow before (t ∷ later) a f =
+    let rest = rw append_assoc at (running_overflow (before ++ t ∷ []) later a.2 f.1) in
+    let same = (is_same_operator-true Plus t.operator).1 a.0 in
+    let grows = overflow_grows (sum_of before) (sum_of (before ++ t ∷ later))
+    (omega (arith, sum-append before (t ∷ later))) in
+    rw (same, term_below_no_fault None t a.1 f.0, term_below_no_fault (place_after before) t a.1 f.0, rest.0, rest.1)
+    (grows, grows)
+
+pub added_overflow : (terms : List Term) → AreAdded terms → EachFits terms
+    → (first_fault terms ≡ None) × (evaluation_fault terms ≡ overflow (sum_of terms))
+added_overflow [] a f = (refl, refl)
+added_overflow (t ∷ []) a f =
+    (term_below_no_fault (Some 0) t a.1 f.0, rw (lt-ltb (sum_of (t ∷ [])) (2 ^ 64) (omega (arith, f.0))))
+added_overflow (t ∷ u ∷ later) a f =
+    let plus = ap (λ op. or_else (later_fault op [] (u ∷ later))
+    (unless (fits (combination op (value_of_term t) (later_total op (u ∷ later)))) (Overflow None))) a.2.0 in (
+      term_below_no_fault (Some 0) t a.1 f.0,
+      rw (plus, (running_overflow [] (u ∷ later) a.2 f.1).1) (overflow_grows (sum_of (u ∷ later)) _ (omega arith)),
+    )
 
 pub later_none : (before terms : List Term) → AreAdded terms → sum_of (before ++ terms) < 2 ^ 64
     → later_fault Plus before terms ≡ None
-later_none before [] a h = refl
-later_none before (t ∷ later) a h =
-    let step = step_within before t later in
-    let own = term_within before t in
-    let rest = later_none (before ++ t ∷ []) later a.2 (rw append_assoc h) in
-    rw (term_below_no_fault None t a.1 (omega arith)) (simp no_fault (a.0, (refl, (omega arith, rest))))
+later_none before terms a h =
+    let fits = sum_fits_each terms (omega (arith, sum-append before terms)) in
+    (simp no_fault at (rw (lt-ltb _ _ h) at (running_overflow before terms a fits).1)).1
 
-pub running_none : (before terms : List Term) → AreAdded terms → sum_of (before ++ terms) < 2 ^ 64
-    → running_fault before terms ≡ None
-running_none before [] a h = refl
-running_none before (t ∷ later) a h =
-    let step = step_within before t later in
-    let own = term_within before t in
-    let rest = running_none (before ++ t ∷ []) later a.2 (rw append_assoc h) in
-    rw (term_below_no_fault (place_after before) t a.1 (omega arith)) (simp no_fault (refl, (omega arith, rest)))
+pub running_none : (terms : List Term) → AreAdded terms → sum_of terms < 2 ^ 64 → running_fault [] terms ≡ None
+running_none terms a h = rw ((running_overflow [] terms a (sum_fits_each terms h)).0, lt-ltb _ _ h)
 
 pub running_below : (before terms : List Term) → sum_of before < 2 ^ 64 → running_fault before terms ≡ None
     → sum_of (before ++ terms) < 2 ^ 64
@@ -64,19 +93,11 @@ running_below before (t ∷ later) b h =
     let parts = simp no_fault at h in
     rw (← append_assoc before (t ∷ []) later) (running_below (before ++ t ∷ []) later parts.1.0 parts.1.1)
 
-pub fault_of_sum : (t u : Term) (later : List Term) → u.operator ≡ Plus
-    → evaluation_fault (t ∷ u ∷ later)
-    ≡ or_else (later_fault Plus [] (u ∷ later)) (unless (fits (sum_of (t ∷ u ∷ later))) (Overflow None))
-fault_of_sum t u later e =
-    ap (λ op. or_else (later_fault op [] (u ∷ later))
-    (unless (fits (combination op (value_of_term t) (later_total op (u ∷ later)))) (Overflow None))) e
-
 pub below_evaluate : (terms : List Term) → 1 ≤ length terms → AreAdded terms → sum_of terms < 2 ^ 64 → Evaluates terms
 below_evaluate [] l a h = absurd (omega arith)
-below_evaluate (t ∷ []) l a h = (term_below_no_fault None t a.1 (omega arith), refl)
-below_evaluate (t ∷ u ∷ later) l a h =
-    let none = later_none [] (u ∷ later) a.2 (omega arith) in
-    (term_below_no_fault None t a.1 (omega arith), rw (fault_of_sum t u later a.2.0, none) (simp no_fault (refl, h)))
+below_evaluate (t ∷ later) l a h =
+    let fits = sum_fits_each (t ∷ later) h in
+    (term_below_no_fault None t a.1 fits.0, rw ((added_overflow (t ∷ later) a fits).1, lt-ltb _ _ h))
 
 pub evaluate_below : (terms : List Term) → AreAdded terms → Evaluates terms → sum_of terms < 2 ^ 64
 evaluate_below [] a h = absurd h

@@ -8,4 +8,5 @@ put_number-requires c =
 
 pub returns-clause-short : goal.returns-clause-short
 returns-clause-short c =
-    omega (arith, c.put_number.ensures.end, length-decimal-le 20 c.args.number (omega arith) (omega arith) (omega arith))
+    let digits = length-decimal-le 20 c.args.number (omega arith) (omega arith) (omega arith) in
+    omega (arith, c.put_number.ensures.end, digits)

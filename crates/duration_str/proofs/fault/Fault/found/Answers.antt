@@ -1,5 +1,5 @@
-use Rattle.std.proofs.Common.{◌≡◌, ◌∙◌, drop, IsUtf8, rules, arith, chars}
-use Rattle.duration_str.proofs.Common.{tokens_of, source, tokens_left}
+use Rattle.std.proofs.Common.{◌≡◌, ◌∙◌, drop, IsUtf8, rules, arith}
+use Rattle.duration_str.proofs.Common.{source}
 use Rattle.duration_str.proofs.Cutting.FoundLemmas.{slice_found}
 use Rattle.duration_str.proofs.OnePass.EndLemmas.{missing_at_end}
 use Rattle.duration_str.proofs.fault.Fault.found.Goals as goal
@@ -12,7 +12,7 @@ returns-clause-token c =
     let utf8 : IsUtf8 text = search rules in
     let rest = c.range_from.ensures.value in
     let is_source : source c.new.result ≡ drop from text = c.new.ensures.source ∙ rest in
-    let is_left : tokens_left c.new.result ≡ tokens_of c.args.o (chars (drop from text)) = rw rest at c.new.ensures.left in
+    let is_left = rw rest at c.new.ensures.left in
     let cut = rw (is_left, is_source) at c.token_at.ensures in
     rw c.in-Syntax.is (slice_found c.args.o text from c.in-Syntax.place c.token_at.result utf8 floor.boundary
     (omega (arith, floor.bound)) (λ some. omega (arith, floor.bound, some)) cut)

@@ -9,4 +9,5 @@ returns-clause-most c =
 pub returns-clause-least : goal.returns-clause-least
 returns-clause-least c =
     let s = c.args.self.now in
-    rw c.looks.ensures (looks_least s.eye.place _ s.head (IsUtf8-had s.eye.text.now s.eye.utf8) s.eye.at_place s.counted)
+    let utf8 = IsUtf8-had s.eye.text.now s.eye.utf8 in
+    rw c.looks.ensures (looks_least s.eye.place _ s.head utf8 s.eye.at_place s.counted)

@@ -5,7 +5,8 @@ use Rattle.duration_str.proofs.token.Tokens.skip_letters.Given as goal
 abbrev pub invariant-loop-self : goal.invariant-loop-self
 invariant-loop-self l = record {
   kept : KeepsInput l.initial.self l.self;
-  letters : let s = l.initial.self in Passes (is_unit_letter (options_of s)) (source s) (cut_place s) (cut_place l.self);
+  letters : let s = l.initial.self in
+      Passes (is_unit_letter (options_of s)) (source s) (cut_place s) (cut_place l.self);
 }
 
 abbrev pub decreases-loop-self : goal.decreases-loop-self

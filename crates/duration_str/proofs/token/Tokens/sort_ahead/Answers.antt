@@ -3,7 +3,8 @@ use Rattle.duration_str.proofs.token.Tokens.sort_ahead.Goals as goal
 
 pub returns-in_err-first : goal.returns-in_err-first
 returns-in_err-first c =
-    let e = c.skip_blanks.ensures in rw c.from_residual.ensures (looks_ahead _ e.kept e.blanks (c.in_err-first.was {u = tt}))
+    let e = c.skip_blanks.ensures in
+    rw c.from_residual.ensures (looks_ahead _ e.kept e.blanks (c.in_err-first.was {u = tt}))
 
 pub returns : goal.returns
 returns c =

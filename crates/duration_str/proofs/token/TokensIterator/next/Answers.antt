@@ -24,7 +24,8 @@ returns-clause-steps c =
     let t = c.take_token-what.new.self in
     let e = c.sort_ahead.ensures in
     let taken = c.take_token-what.ensures in
-    let x : Token = record { start = c.place-start.result; text = c.since-text.result; what = c.take_token-what.result } in
+    let start = c.place-start.result in
+    let x : Token = record { start = start; text = c.since-text.result; what = c.take_token-what.result } in
     takes_terminal x e.kept e.same_left taken.token c.place-start.ensures c.since-text.ensures c.since-text.utf8
     taken.has m.eye.at_place t.eye.at_place
 
