@@ -11,7 +11,7 @@ use Rattle.duration_str_c.specs.Told.{number_of}
 abbrev pub AreOffsets : ℕ → ℕ → List ℕ → Type 0
 AreOffsets start end bytes = (start ≤ end) × (end ≤ length bytes)
 
--- The text is read as the value, and the cause is 0; or it is refused for the cause with this number, and the value is 0.
+-- The text is read as the value, and the cause is 0; or it is refused for the cause of this number, and the value is 0.
 abbrev pub IsTextTold : Options → List ℕ → ℕ → ℕ → Type 0
 IsTextTold o text nanos cause =
     (IsRead o (chars text) nanos × (cause ≡ 0))
