@@ -30,14 +30,14 @@ pub use Rattle.duration_str.specs.declared.unit.TimeUnit.{TimeUnit}
 pub use Rattle.duration_str.specs.declared.unit.TimeUnit.TheVariants.{Day, Hour, MicroSecond, MilliSecond, Minute, Month, NanoSecond, Quarter, Second, Week, Year}
 pub use Rattle.duration_str.specs.Answer.{allows, answer, answer_after, answer_at, front_after, front_of, is_whole, kinds_after, kinds_at_start, last_of, late_answer}
 pub use Rattle.duration_str.specs.FaultText.{EndsInsideLine, byte_text, caret_text, fault_text, has_line_feed, line_of, placed_text}
-pub use Rattle.duration_str.specs.Faults.{IsSliceOf, found_token, token_at}
+pub use Rattle.duration_str.specs.Faults.{IsMissingAtEnd, IsSliceOf, found_token, token_at}
 pub use Rattle.duration_str.specs.Grammar.{BeginsWith, IsSentence, IsSentenceOf, Spells, Terminal, number, operator, operator_or_other, other, sign_terminal, terminal_by, terminal_of, word}
 pub use Rattle.duration_str.specs.Laws.{BlanksFree, EqualTexts, GreatestBreakdown, HasNoCapital, HasNoChinese, HasNoOperator, HasNoStar, IsAnswer, IsIdle, NoCalcAgrees, OlderTexts, OneAnswer, OneCut, OneSentence, OptionsIdle, PlaceAndKinds, ReadsBack, Reorder, SumOfTexts, TwoFactors, is_operator, times_in}
 pub use Rattle.duration_str.specs.Older.{WasRead, WasRefused, WasSentenceOf, older_nanos_of, older_row_of, older_terminals, older_terms, older_unit_of_word, older_units, sentence_fault, was_named}
 pub use Rattle.duration_str.specs.Place.{BeginsSentence, CanFollow, IsFront, start_after, terminals_of}
 pub use Rattle.duration_str.specs.Printing.{IsBefore, IsGreatestBreakdown, IsPrinted, counts_of, printed_counts, printed_parts, spaced_parts, weighted_sum}
 pub use Rattle.duration_str.specs.Reading.{IsRead, IsRefused, IsRefusedAt, complete_terminals, complete_terms, early, early_fault, first_fault, late, late_fault, place_after, running_fault, syntax_fault, without_last_number}
-pub use Rattle.duration_str.specs.Results.{IsAnswered, IsMissingAtEnd, ParsesText}
+pub use Rattle.duration_str.specs.Results.{IsAnswered, ParsesText}
 pub use Rattle.duration_str.specs.Terms.{term_of}
 pub use Rattle.duration_str.specs.Text.{IsBlank, IsNumber, byte_len, is_blank, is_chinese, is_digit, is_unit_letter, number_after, number_of, operator_of, width}
 pub use Rattle.duration_str.specs.Tokenizer.{KeepsInput, YieldsNextToken, tokens_left, options_of, cut_place, source, what_of}

@@ -46,7 +46,8 @@ last_of last (terminal ∷ terminals) = last_of (Some terminal) terminals
 -- how many terminals after `last` the table allows
 abbrev pub front_after : Bool → Option Terminal → List Terminal → ℕ
 front_after no_calc last [] = 0
-front_after no_calc last (terminal ∷ terminals) = if allows (kinds_after no_calc last) terminal then suc (front_after no_calc (Some terminal) terminals) else 0
+front_after no_calc last (terminal ∷ terminals) =
+    if allows (kinds_after no_calc last) terminal then suc (front_after no_calc (Some terminal) terminals) else 0
 
 -- the length of the front, by the table
 abbrev pub front_of : Bool → List Terminal → ℕ
@@ -79,4 +80,5 @@ answer o [] = Err Empty
 answer o (c ∷ text) =
     let terminals = terminals_of o (c ∷ text) in
     let n = front_of o.no_calc terminals in
-    answer_at o.no_calc (start_after n (byte_len (c ∷ text)) (tokens_of o (c ∷ text))) (take n terminals) (drop n terminals)
+    answer_at o.no_calc (start_after n (byte_len (c ∷ text)) (tokens_of o (c ∷ text)))
+    (take n terminals) (drop n terminals)

@@ -52,7 +52,8 @@ running_fault before (t ∷ terms) =
 
 -- the fault that precedes a syntax fault: of the first complete term, or under `no_calc` the first of adding them all
 abbrev pub early_fault : Bool → List Terminal → List Terminal → Option Cause
-early_fault no_calc front rest = if no_calc then running_fault [] (complete_terms front rest) else first_fault (complete_terms front rest)
+early_fault no_calc front rest =
+    if no_calc then running_fault [] (complete_terms front rest) else first_fault (complete_terms front rest)
 
 -- the fault of a text without a syntax fault
 abbrev pub late_fault : Bool → List Terminal → Option Cause
@@ -66,7 +67,8 @@ pub data IsRefusedAt (no_calc : Bool) (place : ℕ) (front rest : List Terminal)
       → CanFollow no_calc front expected
       → cause ≡ Syntax place expected
       → IsRefusedAt no_calc place front rest cause
-  late : early_fault no_calc front rest ≡ None → IsSentence no_calc (front ++ rest) → late_fault no_calc (front ++ rest) ≡ Some cause
+  late : early_fault no_calc front rest ≡ None → IsSentence no_calc (front ++ rest)
+      → late_fault no_calc (front ++ rest) ≡ Some cause
       → IsRefusedAt no_calc place front rest cause
 
 -- The text is refused for this cause: the empty text as `Empty`, any other by its front and the rest after it.

@@ -42,7 +42,8 @@ pub record IsNextToken (o : Options) (at : ℕ) (text : List ℕ) (token : Token
 abbrev pub AreTokens : Options → ℕ → List ℕ → List Token → Type 0
 AreTokens o at text [] = IsBlank text
 AreTokens o at text (token ∷ tokens) =
-    (rest : List ℕ) × IsNextToken o at text token rest × AreTokens o (token.start + byte_len token.characters) rest tokens
+    (rest : List ℕ) × IsNextToken o at text token rest
+    × AreTokens o (token.start + byte_len token.characters) rest tokens
 
 -- the tokens with the character c, at byte `at`, added to the front of the first one
 abbrev pub join : ℕ → ℕ → List Token → List Token

@@ -137,6 +137,14 @@ pub fn deserialize_duration_time<'de>(value: &'de Value) -> Result<SignedDuratio
 }
 
 /// What `deserialize_duration` returns for an `Option<Duration>`.
+///
+/// ```text
+/// // a field that may be missing
+/// match config.get("keep_alive") {
+///     Some(value) => deserialize_option_duration(value),
+///     None => Ok(None),
+/// }
+/// ```
 pub fn deserialize_option_duration<'de>(value: &'de Value) -> Result<Option<Duration>, Fault<'de>>
     ensures { IsOptional (λ d. pos (as_nanos d)) (view value.now) result }
 {

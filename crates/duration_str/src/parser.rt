@@ -14,8 +14,8 @@ use std::time::Duration;
 
 /// The duration that a text means with all options off.
 ///
-/// It returns what `parse_with` returns for `Options::off()`. Terms such as `3m`, `29ms` or `10` (no unit means seconds)
-/// are joined by `+` or by `*`; an operator that is left out is a plus. The value is below 2^64 nanoseconds.
+/// It returns what `parse_with` returns for `Options::off()`. Terms such as `3m`, `29ms` or `10` (no unit means
+/// seconds) are joined by `+` or by `*`; an operator that is left out is a plus. The value is below 2^64 nanoseconds.
 ///
 /// ```
 /// use duration_str::parse;

@@ -3,7 +3,7 @@ ghost use Rattle.std.specs.Prelude.{◌≡◌, ℕ, IsOk, pos, ◌^◌, ◌<◌}
 ghost use Rattle.std.specs.Duration.{as_nanos};
 ghost use Rattle.std.specs.Str.{chars};
 ghost use Rattle.jiff.specs.Words.{signed_nanos};
-ghost use Rattle.duration_str.specs.Results.{IsReadAs};
+ghost use Rattle.duration_str.specs.Configuration.{IsReadAs};
 ghost use Rattle.duration_str.specs.Reading.{IsRead};
 ghost use Rattle.duration_str.specs.Units.{off};
 

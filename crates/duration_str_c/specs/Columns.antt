@@ -37,4 +37,5 @@ column_length offsets nanos causes = min (length offsets - 1) (min (length nanos
 abbrev pub IsColumnTold : Options → List ℕ → List ℕ → ℕ → List ℕ → List ℕ → Type 0
 IsColumnTold o bytes offsets count nanos causes =
     (k : ℕ) → k < count
-    → IsPartTold o bytes (slice_index offsets k) (slice_index offsets (k + 1)) (slice_index nanos k) (slice_index causes k)
+    → IsPartTold o bytes (slice_index offsets k) (slice_index offsets (k + 1))
+    (slice_index nanos k) (slice_index causes k)

@@ -29,6 +29,8 @@ moved Before instant nanos = instant -ℤ pos nanos
 -- unchanged, and the answer has the refusal of the bytes, or says that the instant is out of range.
 abbrev pub IsMoved : (ℕ → ℤ) → Options → List ℕ → Moment → Moment → Answer → Type 0
 IsMoved reached o bytes old new answer =
-    ((nanos : ℕ) × IsRead o (chars bytes) nanos × IsMoment new × (instant_of new ≡ reached nanos) × (answer ≡ value_told nanos))
+    ((nanos : ℕ) × IsRead o (chars bytes) nanos × IsMoment new
+    × (instant_of new ≡ reached nanos) × (answer ≡ value_told nanos))
     ⊎ ((cause : Cause) × IsRefusalTold o bytes cause answer × (new ≡ old))
-    ⊎ ((nanos : ℕ) × IsRead o (chars bytes) nanos × IsOutOfRange (reached nanos) × (answer ≡ refusal_told OutOfRange 0) × (new ≡ old))
+    ⊎ ((nanos : ℕ) × IsRead o (chars bytes) nanos × IsOutOfRange (reached nanos)
+    × (answer ≡ refusal_told OutOfRange 0) × (new ≡ old))

@@ -36,7 +36,8 @@ number_of (NotText optional) = 7
 -- the bits of the kinds that could stand at a place
 abbrev pub bits_of : Expected → ℕ
 bits_of e =
-    (if e.number then 1 else 0) + (if e.unit_word then 2 else 0) + (if e.operator then 4 else 0) + (if e.text_end then 8 else 0)
+    (if e.number then 1 else 0) + (if e.unit_word then 2 else 0) + (if e.operator then 4 else 0)
+    + (if e.text_end then 8 else 0)
 
 -- the bits of the kinds that could stand at the place of a syntax fault; 0 for other causes
 abbrev pub expected_bits : Cause → ℕ

@@ -86,8 +86,8 @@ impl Answer {
         }
     }
 
-    /// The cause in this answer, in which the fields that the cause does not use have no effect; `None` if the number is
-    /// no cause's, or an operator that counts is none.
+    /// The cause in this answer, in which the fields that the cause does not use have no effect; `None` if the number
+    /// is no cause's, or an operator that counts is none.
     pub(crate) fn cause(self) -> Option<Cause>
         ensures { result ≡ cause_told self }
     {

@@ -14,4 +14,5 @@ IsWithoutLineFeed line text = (line ≡ line_of text) ⊎ ((text ≡ line) × ((
 -- refused for its cause.
 pub record IsReadAsBefore (old new : List ℕ) : Type 0 where
   pub value : (o : Options) (nanos : ℕ) → IsRead o old nanos → IsRead o new nanos
-  pub cause : (o : Options) (lexemes : List (List ℕ)) (cause : Cause) → IsSentenceOf o lexemes old → IsRefused o old cause → IsRefused o new cause
+  pub cause : (o : Options) (lexemes : List (List ℕ)) (cause : Cause) → IsSentenceOf o lexemes old
+      → IsRefused o old cause → IsRefused o new cause

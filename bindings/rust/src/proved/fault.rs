@@ -75,8 +75,8 @@ pub enum Cause {
 }
 
 impl Cause {
-    /// Byte offset of the fault: set for syntax faults, 0 for an oversized first term, otherwise `None`. In a `Fault` it
-    /// is a character boundary within the text.
+    /// Byte offset of the fault: set for syntax faults, 0 for an oversized first term, otherwise `None`. In a `Fault`
+    /// it is a character boundary within the text.
     ///
     /// ```
     /// use duration_str::{Options, parse_with};

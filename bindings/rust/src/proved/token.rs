@@ -143,8 +143,8 @@ impl<'a> Tokens<'a> {
         self.eye.place()
     }
 
-    /// Moves past the character ahead, and looks at the next one. So an operator, or a character that is neither a digit
-    /// nor a unit letter, is taken as a token.
+    /// Moves past the character ahead, and looks at the next one. So an operator, or a character that is neither a
+    /// digit nor a unit letter, is taken as a token.
     #[inline(always)]
     pub(crate) fn advance(&mut self) {
         self.eye.step();
