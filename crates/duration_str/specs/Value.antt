@@ -78,7 +78,7 @@ abbrev pub combination : CondUnit → ℕ → ℕ → ℕ
 combination Plus x rest = x + rest
 combination Star x rest = x * rest / second
 
--- the value of a sentence in nanoseconds, given its terms; `None` if its operators are mixed
+-- the value of a sentence in nanoseconds, given its terms; `None` without terms, or if its operators are mixed
 abbrev pub value_of : List Term → Option ℕ
 value_of [] = None
 value_of (t ∷ []) = Some (value_of_term t)

@@ -7,6 +7,11 @@ use std::alloc::{AllocError, Allocator, Global};
 use thiserror::Error;
 
 /// A fault without the text that was read. It prints as the line that says what is wrong.
+///
+/// ```text
+/// DError::ParseError(line) // for the empty text; its line is "Empty input"
+/// DError::OverflowError    // for `600y`
+/// ```
 #[derive(Debug, PartialEq, Drop, Error)]
 pub enum DError<A: Allocator = Global> {
     /// Any fault except an overflow, with its line.

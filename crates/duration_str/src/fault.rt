@@ -305,7 +305,7 @@ impl<'a> Fault<'a> {
         self.layout().len(self.text, self.cause.line())
     }
 
-    /// Writes what the fault prints as to the start of a buffer, and returns its length in bytes.
+    /// Writes the fault's message to the start of a buffer, and returns its length in bytes.
     ///
     /// `None` if it is longer than the buffer, which is then unchanged. Allocates nothing.
     ///

@@ -7,7 +7,7 @@ ghost use Rattle.duration_str.specs.declared.unit.TimeUnit.{TimeUnit};
 ghost use Rattle.duration_str.specs.declared.unit.TimeUnit.TheVariants.{Second};
 ghost use Rattle.duration_str.specs.Units.{nanos_of, row_of, comparison_form, is_named, unit_of_word};
 ghost use Rattle.duration_str.specs.Internal.UnitTable.{IsRow};
-ghost use Rattle.duration_str.specs.Internal.Numbers.{term_value};
+ghost use Rattle.duration_str.specs.Internal.Numbers.{checked_term};
 ghost use Rattle.duration_str.specs.Terms.{term_of, term_answer};
 
 use crate::fault::Cause;
@@ -205,7 +205,7 @@ impl TimeUnit {
     /// The value of a term in nanoseconds. `number` is `None` if it exceeds `u64`; `place` goes into the error.
     #[inline]
     pub(crate) fn times(self, number: Option<u64>, place: Option<usize>) -> Result<u64, Cause>
-        ensures { result ≡ term_value place number (nanos_of self) }
+        ensures { result ≡ checked_term place number (nanos_of self) }
     {
         let Some(n) = number else {
             return Err(Cause::NumberTooLarge { place });

@@ -60,6 +60,10 @@ pub fn parse_with(input: &str, o: Options) -> Result<Duration, Fault<'_>> {
 ///
 /// There are at most as many looks as characters; reading again what was cut off is no look. All characters of an
 /// accepted text are looked at, and at least those before the place of a syntax fault.
+///
+/// ```text
+/// parse_looked("3m 13s", Options::off()) // (Ok(Duration::from_secs(193)), 6)
+/// ```
 pub fn parse_looked(input: &str, o: Options) -> (Result<Duration, Fault<'_>>, u64) {
     read_text(input, o)
 }
