@@ -3,11 +3,11 @@ pub use Rattle.std.proofs.Math.Nat.{mod-le, pow-le-pow_right, pow-succ'}
 pub use Rattle.std.proofs.lemmas.Bool.{and_from, and_parts, cases_Bool, cases_lt, cond-true, false_from_ne_true, not-true, not_from_false, not_from_true, or_cases, or_from, or_parts, or_right}
 pub use Rattle.std.proofs.lemmas.Bool.Decides.{nat_tests, same_from_decides}
 pub use Rattle.std.proofs.lemmas.Fmt.{IsAscii-decimal, IsAscii-decimal_wide, IsAscii-from_digits, decimal_by_steps, decimal_by_steps_wide, decimal_digit, decimal_nonempty, decimal_step, digits_decimal, digits_value-decimal, length-decimal-le}
-pub use Rattle.std.proofs.lemmas.List.{append_cancel_right, drop_all, drop_more, length-reverse, map-append, nil_from_length, replicate-append-replicate, reverse-reverse, take-replicate, take_more_set}
+pub use Rattle.std.proofs.lemmas.List.{append_cancel_right, drop_all, drop_more, length-reverse, map-append, replicate-append-replicate, reverse-reverse, take-replicate, take_more_set}
 pub use Rattle.std.proofs.lemmas.List.Folds.{list_all-append, list_any-append}
 pub use Rattle.std.proofs.lemmas.Result.{err_from_is_err_and}
 pub use Rattle.std.proofs.lemmas.Slice.Eq.{bytes_eq-Decides}
-pub use Rattle.std.proofs.lemmas.Str.{IsCharBoundary-at_seam, IsCharBoundary-end, IsCharBoundary-from_ascii, IsCharBoundary-past_char, IsCharBoundary-start, IsUtf8-append, IsUtf8-between, IsUtf8-drop, IsUtf8-from_ascii, IsUtf8-had, IsUtf8-nil, IsUtf8-past_char, IsUtf8-take, chars-IsAscii, chars-append, chars-nil, chars_from_encodes, chars_past_char, drop_past_char, encode_ascii, encodes-IsAscii, encodes-append, encodes-chars, encodes_same, len_utf8_ascii, len_utf8_bounds, length-encode, length-le-encodes, scalars-chars}
+pub use Rattle.std.proofs.lemmas.Str.{IsCharBoundary-at_seam, IsCharBoundary-from_ascii, IsCharBoundary-past_char, IsCharBoundary-start, IsUtf8-append, IsUtf8-between, IsUtf8-drop, IsUtf8-from_ascii, IsUtf8-had, IsUtf8-nil, IsUtf8-take, chars-IsAscii, chars-append, chars-nil, chars_from_encodes, chars_past_char, drop_past_char, encode_ascii, encodes-IsAscii, encodes-append, encodes-chars, encodes_same, len_utf8_ascii, len_utf8_bounds, length-encode, length-le-encodes, scalars-chars}
 pub use Rattle.std.specs.Char.{is_ascii, is_ascii_alphabetic, is_ascii_uppercase, len_utf8, to_ascii_lowercase}
 pub use Rattle.std.specs.Duration.{FitsDuration, as_nanos}
 pub use Rattle.std.specs.List.{list_all, list_any}
@@ -16,7 +16,7 @@ pub use Rattle.std.specs.Prelude.{⊤}
 pub use Rattle.std.specs.Result.{result_err}
 pub use lib.Utf8.{encode, encodes, scalar, scalar_cases, scalars}
 pub use Rattle.duration_str.specs.declared.fault.Cause.{Cause}
-pub use Rattle.duration_str.specs.declared.fault.Cause.TheVariants.{Empty, Mixed, NotText, NumberTooLarge, OutOfRange, Overflow, Syntax}
+pub use Rattle.duration_str.specs.declared.fault.Cause.TheVariants.{Empty, Mixed, NotText, NumberTooLarge, Overflow, Syntax}
 pub use Rattle.duration_str.specs.declared.fault.Expected.{Expected}
 pub use Rattle.duration_str.specs.declared.fault.Fault.{Fault}
 pub use Rattle.duration_str.specs.declared.operator.CondUnit.{CondUnit}
@@ -28,27 +28,27 @@ pub use Rattle.duration_str.specs.declared.token.Sort.TheVariants.{Number, Opera
 pub use Rattle.duration_str.specs.declared.token.Tokens.{Tokens}
 pub use Rattle.duration_str.specs.declared.unit.TimeUnit.{TimeUnit}
 pub use Rattle.duration_str.specs.declared.unit.TimeUnit.TheVariants.{Day, Hour, MicroSecond, MilliSecond, Minute, Month, NanoSecond, Quarter, Second, Week, Year}
-pub use Rattle.duration_str.specs.Answer.{allows, answer, answer_after, answer_at, front_after, front_of, is_whole, kinds_after, kinds_at_start, last_of, late_answer}
+pub use Rattle.duration_str.specs.Answer.{allows, answer, answer_at, front_after, front_of, is_whole, kinds_after, kinds_at_start, last_of, late_answer}
 pub use Rattle.duration_str.specs.FaultText.{EndsInsideLine, byte_text, caret_text, fault_text, has_line_feed, line_of, placed_text}
-pub use Rattle.duration_str.specs.Faults.{IsSliceOf, found_token, token_at}
+pub use Rattle.duration_str.specs.Faults.{IsMissingAtEnd, IsSliceOf, found_token, token_at}
 pub use Rattle.duration_str.specs.Grammar.{BeginsWith, IsSentence, IsSentenceOf, Spells, Terminal, number, operator, operator_or_other, other, sign_terminal, terminal_by, terminal_of, word}
 pub use Rattle.duration_str.specs.Laws.{BlanksFree, EqualTexts, GreatestBreakdown, HasNoCapital, HasNoChinese, HasNoOperator, HasNoStar, IsAnswer, IsIdle, NoCalcAgrees, OlderTexts, OneAnswer, OneCut, OneSentence, OptionsIdle, PlaceAndKinds, ReadsBack, Reorder, SumOfTexts, TwoFactors, is_operator, times_in}
 pub use Rattle.duration_str.specs.Older.{WasRead, WasRefused, WasSentenceOf, older_nanos_of, older_row_of, older_terminals, older_terms, older_unit_of_word, older_units, sentence_fault, was_named}
 pub use Rattle.duration_str.specs.Place.{BeginsSentence, CanFollow, IsFront, start_after, terminals_of}
 pub use Rattle.duration_str.specs.Printing.{IsBefore, IsGreatestBreakdown, IsPrinted, counts_of, printed_counts, printed_parts, spaced_parts, weighted_sum}
 pub use Rattle.duration_str.specs.Reading.{IsRead, IsRefused, IsRefusedAt, complete_terminals, complete_terms, early, early_fault, first_fault, late, late_fault, place_after, running_fault, syntax_fault, without_last_number}
-pub use Rattle.duration_str.specs.Results.{IsAnswered, IsMissingAtEnd, ParsesText}
-pub use Rattle.duration_str.specs.Terms.{term_of}
+pub use Rattle.duration_str.specs.Results.{IsAnswered, ParsesText}
+pub use Rattle.duration_str.specs.Terms.{fault_or, term_of}
 pub use Rattle.duration_str.specs.Text.{IsBlank, IsNumber, byte_len, is_blank, is_chinese, is_digit, is_unit_letter, number_after, number_of, operator_of, width}
 pub use Rattle.duration_str.specs.Tokenizer.{KeepsInput, YieldsNextToken, tokens_left, options_of, cut_place, source, what_of}
-pub use Rattle.duration_str.specs.Tokens.{AreTokens, EndsRun, IsLexeme, IsNextToken, Token, are_of_one_run, goes_on, join, lexemes_of, tokens_from, tokens_of}
+pub use Rattle.duration_str.specs.Tokens.{AreTokens, EndsRun, IsLexeme, Token, are_of_one_run, goes_on, with_first_character, lexemes_of, tokens_from, tokens_of}
 pub use Rattle.duration_str.specs.Units.{UnitRow, comparison_form, is_named, nanos_of, off, row_of, unit_lengths, unit_of_word, units}
 pub use Rattle.duration_str.specs.Value.{AllPlus, Evaluates, Term, combination, evaluation_fault, fits, is_same_operator, later_fault, later_total, or_else, second, sum_of, term_fault, terms_after, terms_by, terms_of, unless, value_of, value_of_term}
 pub use Rattle.duration_str.specs.Internal.Cutting.{Between, Passes, StandsAt, Stops, TakesDigits, TakesLetters, ahead, packed_number, packed_number_after}
-pub use Rattle.duration_str.specs.Internal.Numbers.{term_value, u64_from}
+pub use Rattle.duration_str.specs.Internal.Numbers.{checked_term, u64_from}
 pub use Rattle.duration_str.specs.Internal.Packed.{packs_to, unit_of_packed}
 pub use Rattle.duration_str.specs.Internal.PrintedBytes.{greatest_count, max_printed_len, units_below_year, with_part, with_parts, with_space}
-pub use Rattle.duration_str.specs.Internal.Rest.{Read, Rest, answer_left, at_once, before_operator, checked_combination, end_at, fault_or, first_term, lacks_number, leaving, nothing_of, operator_read, rest_from, rest_of, start_left, terminal_at, terminals_in, unit_read}
+pub use Rattle.duration_str.specs.Internal.Rest.{Read, Rest, answer_left, at_once, before_operator, checked_combination, end_at, first_term, lacks_number, leaving, identity_of, operator_read, rest_from, rest_of, start_left, terminal_at, terminals_in, unit_read}
 pub use Rattle.duration_str.specs.Internal.Sorts.{sign_sort, sort_at, sort_of}
 pub use Rattle.duration_str.specs.Internal.Tokenizer.{IsAhead, IsSign, LooksAhead, TakesNumber, TakesSign, TakesToken, TakesTokenWith, is_number}
 pub use Rattle.duration_str.specs.Internal.UnitTable.{AreEncoded}

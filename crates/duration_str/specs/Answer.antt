@@ -9,6 +9,7 @@ use Rattle.duration_str.specs.Grammar.{Terminal, number, word, operator, other}
 use Rattle.duration_str.specs.Tokens.{tokens_of}
 use Rattle.duration_str.specs.Place.{start_after, terminals_of}
 use Rattle.duration_str.specs.Value.{terms_of, value_of}
+use Rattle.duration_str.specs.Terms.{fault_or}
 use Rattle.duration_str.specs.Reading.{early_fault, late_fault}
 
 -- what may start a text or follow an operator: a number
@@ -46,7 +47,8 @@ last_of last (terminal ∷ terminals) = last_of (Some terminal) terminals
 -- how many terminals after `last` the table allows
 abbrev pub front_after : Bool → Option Terminal → List Terminal → ℕ
 front_after no_calc last [] = 0
-front_after no_calc last (terminal ∷ terminals) = if allows (kinds_after no_calc last) terminal then suc (front_after no_calc (Some terminal) terminals) else 0
+front_after no_calc last (terminal ∷ terminals) =
+    if allows (kinds_after no_calc last) terminal then suc (front_after no_calc (Some terminal) terminals) else 0
 
 -- the length of the front, by the table
 abbrev pub front_of : Bool → List Terminal → ℕ
@@ -59,19 +61,14 @@ is_whole no_calc front (terminal ∷ rest) = false
 
 -- the answer to a sentence, given its evaluation's fault or `None`
 abbrev pub late_answer : Option Cause → List Terminal → Result ℕ Cause
-late_answer (Some cause) terminals = Err cause
-late_answer None terminals = Ok (unwrap_or (value_of (terms_of terminals)) 0)
-
--- the answer, given the fault that precedes a syntax fault, or `None`
-abbrev pub answer_after : Bool → ℕ → List Terminal → List Terminal → Option Cause → Result ℕ Cause
-answer_after no_calc place front rest (Some cause) = Err cause
-answer_after no_calc place front rest None =
-    if is_whole no_calc front rest then late_answer (late_fault no_calc front) front
-    else Err (Syntax place (kinds_after no_calc (last_of None front)))
+late_answer fault terminals = fault_or fault (Ok (unwrap_or (value_of (terms_of terminals)) 0))
 
 -- the answer to this front and this rest, which starts at byte `place`
 abbrev pub answer_at : Bool → ℕ → List Terminal → List Terminal → Result ℕ Cause
-answer_at no_calc place front rest = answer_after no_calc place front rest (early_fault no_calc front rest)
+answer_at no_calc place front rest =
+    fault_or (early_fault no_calc front rest)
+    (if is_whole no_calc front rest then late_answer (late_fault no_calc front) front
+    else Err (Syntax place (kinds_after no_calc (last_of None front))))
 
 -- the value in nanoseconds, or the cause of the refusal
 abbrev pub answer : Options → List ℕ → Result ℕ Cause
@@ -79,4 +76,5 @@ answer o [] = Err Empty
 answer o (c ∷ text) =
     let terminals = terminals_of o (c ∷ text) in
     let n = front_of o.no_calc terminals in
-    answer_at o.no_calc (start_after n (byte_len (c ∷ text)) (tokens_of o (c ∷ text))) (take n terminals) (drop n terminals)
+    answer_at o.no_calc (start_after n (byte_len (c ∷ text)) (tokens_of o (c ∷ text)))
+    (take n terminals) (drop n terminals)

@@ -1,9 +1,26 @@
--- What a configuration value is read as.
-use Rattle.std.specs.Prelude.{◌≡◌, ℤ, [], ◌∷◌, Bool, true, false, Option, None, Result, Ok}
+-- What texts are read as with all options off, as signed durations and as configuration values.
+use Rattle.std.specs.Prelude.{◌≡◌, ℕ, ℤ, pos, List, [], ◌∷◌, Bool, true, false, Option, None, IsSomeAnd, Result, Ok}
+use Rattle.std.specs.Str.{chars}
 use Rattle.serde_json.specs.Data.{Data, null, string}
 use Rattle.duration_str.specs.declared.fault.Cause.TheVariants.{NotText}
 use Rattle.duration_str.specs.declared.fault.Fault.{Fault}
-use Rattle.duration_str.specs.Results.{Answers, IsReadAs, IsReadAsSome}
+use Rattle.duration_str.specs.Units.{off}
+use Rattle.duration_str.specs.Reading.{IsRead, IsRefused}
+use Rattle.duration_str.specs.Results.{Answers}
+
+-- With all options off, the bytes are read as a value that the result shows, or refused for its cause.
+abbrev pub AnswersBy : {T : Type 0} → (T → ℕ → Type 0) → List ℕ → Result T Fault → Type 0
+AnswersBy shows bytes result =
+    Answers (λ v. (nanos : ℕ) × IsRead off (chars bytes) nanos × shows v nanos)
+    (IsRefused off (chars bytes)) bytes result
+
+-- The bytes are read as the value in `Ok`, in nanoseconds, or refused.
+abbrev pub IsReadAs : {T : Type 0} → (T → ℤ) → List ℕ → Result T Fault → Type 0
+IsReadAs nanos_of bytes result = AnswersBy (λ v nanos. nanos_of v ≡ pos nanos) bytes result
+
+-- The bytes are read as the value in `Ok (Some ..)`, in nanoseconds, or refused.
+abbrev pub IsReadAsSome : {T : Type 0} → (T → ℤ) → List ℕ → Result (Option T) Fault → Type 0
+IsReadAsSome nanos_of bytes result = AnswersBy (λ o nanos. IsSomeAnd o (λ v. nanos_of v ≡ pos nanos)) bytes result
 
 -- The value is refused because it is not a text.
 abbrev pub IsNotText : {T : Type 0} → Bool → Result T Fault → Type 0

@@ -18,7 +18,8 @@ sign_of Star = codes "*"
 -- the line of a syntax fault: it names the units if a unit could stand there, otherwise the operators if one could
 abbrev pub expected_line : Expected → List ℕ
 expected_line expected =
-    if expected.unit_word then codes "expected [\"y\", \"q\", \"mon\", \"w\", \"d\", \"h\", \"m\", \"s\", \"ms\", \"µs\", \"us\", \"ns\"]"
+    if expected.unit_word then
+    codes "expected [\"y\", \"q\", \"mon\", \"w\", \"d\", \"h\", \"m\", \"s\", \"ms\", \"µs\", \"us\", \"ns\"]"
     else if expected.operator then codes "expected ['+', '*']"
     else codes "expected number"
 
@@ -28,7 +29,8 @@ line_of Empty = codes "Empty input"
 line_of (Syntax place expected) = expected_line expected
 line_of (NumberTooLarge place) = codes "number too large to fit in target type"
 line_of (Overflow place) = codes "overflow error"
-line_of (Mixed first later) = codes "not support '" ++ (sign_of first ++ (codes "' with '" ++ (sign_of later ++ codes "' calculate")))
+line_of (Mixed first later) =
+    codes "not support '" ++ (sign_of first ++ (codes "' with '" ++ (sign_of later ++ codes "' calculate")))
 line_of OutOfRange = codes "date out of range"
 line_of (NotText optional) =
     if optional then codes "expect duration string, null, or missing field"
@@ -54,7 +56,8 @@ chars_before text place = length (chars (take place text))
 -- caret after one space for each character before the place, and the line
 abbrev pub placed_text : List ℕ → Option ℕ → List ℕ → List ℕ
 placed_text text None line = line
-placed_text text (Some place) line = if has_line_feed text then byte_text place line else caret_text text (chars_before text place) line
+placed_text text (Some place) line =
+    if has_line_feed text then byte_text place line else caret_text text (chars_before text place) line
 
 -- The last byte, if there is one, is no line feed.
 abbrev pub EndsInsideLine : List ℕ → Type 0

@@ -1,10 +1,12 @@
 -- The place of a fault, and the token there.
 use denote.Ref.{Bor}
-use Rattle.std.specs.Prelude.{◌≡◌, ℕ, ◌+◌, ◌==◌, List, length, Option, Some, None, slice_range}
+use Rattle.std.specs.Prelude.{◌≡◌, ℕ, ◌+◌, ◌==◌, ◌↔◌, List, length, Option, Some, None, IsNone, slice_range}
 use Rattle.std.specs.List.{find}
 use Rattle.std.specs.Str.{chars}
 use Rattle.duration_str.specs.declared.options.Options.{Options}
 use Rattle.duration_str.specs.Tokens.{Token, tokens_of}
+use Rattle.duration_str.specs.Reading.{IsRefused}
+use Rattle.duration_str.specs.declared.fault.Expected.{Expected}
 use Rattle.duration_str.specs.declared.fault.Cause.{Cause}
 use Rattle.duration_str.specs.declared.fault.Cause.TheVariants.{Empty, Syntax, NumberTooLarge, Overflow, Mixed, OutOfRange, NotText}
 
@@ -31,4 +33,12 @@ found_token o text cause = None
 abbrev pub IsSliceOf : List ℕ → Option Token → Option (Bor (List ℕ)) → Type 0
 IsSliceOf bytes token None = token ≡ None
 IsSliceOf bytes token (Some slice) =
-    (p : Token) × (token ≡ Some p) × (chars slice.now ≡ p.characters) × (slice.now ≡ slice_range bytes p.start (p.start + length slice.now))
+    (p : Token) × (token ≡ Some p) × (chars slice.now ≡ p.characters)
+    × (slice.now ≡ slice_range bytes p.start (p.start + length slice.now))
+
+-- Of a syntax fault for which the bytes are refused under these options, no token is found exactly if it stands at
+-- their end.
+abbrev pub IsMissingAtEnd : Options → List ℕ → Cause → Option (Bor (List ℕ)) → Type 0
+IsMissingAtEnd o bytes cause token =
+    (place : ℕ) (expected : Expected) → cause ≡ Syntax place expected → IsRefused o (chars bytes) cause
+    → (IsNone token ↔ (place ≡ length bytes))

@@ -67,7 +67,8 @@ pub record WasRead (o : Options) (text : List ℕ) (nanos : ℕ) : Type 0 where
 -- the fault of a sentence with these terms: under `no_calc` the first of adding them, otherwise that of the first term,
 -- and then that of the evaluation
 abbrev pub sentence_fault : Bool → List Term → Option Cause
-sentence_fault no_calc terms = if no_calc then running_fault [] terms else or_else (first_fault terms) (evaluation_fault terms)
+sentence_fault no_calc terms =
+    if no_calc then running_fault [] terms else or_else (first_fault terms) (evaluation_fault terms)
 
 -- A sentence spelled the text, and its evaluation was refused for this cause.
 pub record WasRefused (o : Options) (text : List ℕ) (cause : Cause) : Type 0 where

@@ -25,8 +25,10 @@ pub record IsFront (no_calc : Bool) (terminals front rest : List Terminal) : Typ
 -- if the front is a sentence.
 pub record CanFollow (no_calc : Bool) (front : List Terminal) (expected : Expected) : Type 0 where
   pub number_expected : IsTrue expected.number ↔ ((n : ℕ) × BeginsSentence no_calc (front ++ number n ∷ []))
-  pub unit_expected : IsTrue expected.unit_word ↔ ((u : TimeUnit) × BeginsSentence no_calc (front ++ word (Some u) ∷ []))
-  pub operator_expected : IsTrue expected.operator ↔ ((op : CondUnit) × BeginsSentence no_calc (front ++ operator op ∷ []))
+  pub unit_expected : IsTrue expected.unit_word
+      ↔ ((u : TimeUnit) × BeginsSentence no_calc (front ++ word (Some u) ∷ []))
+  pub operator_expected : IsTrue expected.operator
+      ↔ ((op : CondUnit) × BeginsSentence no_calc (front ++ operator op ∷ []))
   pub end_expected : IsTrue expected.text_end ↔ IsSentence no_calc front
 
 -- the byte at which the first token starts; `len` without one

@@ -42,7 +42,8 @@ printed_counts counts = spaced_parts (printed_parts units counts)
 
 -- A duration of `nanos` nanoseconds prints as this text.
 abbrev pub IsPrinted : ℕ → List ℕ → Type 0
-IsPrinted nanos text = (counts : List ℕ) × IsGreatestBreakdown unit_lengths nanos counts × (text ≡ printed_counts counts)
+IsPrinted nanos text =
+    (counts : List ℕ) × IsGreatestBreakdown unit_lengths nanos counts × (text ≡ printed_counts counts)
 
 -- how often each length goes into what the longer lengths leave
 abbrev pub counts_of : List ℕ → ℕ → List ℕ

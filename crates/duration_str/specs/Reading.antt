@@ -17,7 +17,7 @@ pub record IsRead (o : Options) (text : List ℕ) (nanos : ℕ) : Type 0 where
   pub evaluates : Evaluates (written_terms o lexemes)
   pub value : value_of (written_terms o lexemes) ≡ Some nanos
 
--- the terminals, less a number at the end
+-- the terminals, without a number at the end
 abbrev pub without_last_number : List Terminal → List Terminal
 without_last_number [] = []
 without_last_number (number n ∷ []) = []
@@ -52,13 +52,14 @@ running_fault before (t ∷ terms) =
 
 -- the fault that precedes a syntax fault: of the first complete term, or under `no_calc` the first of adding them all
 abbrev pub early_fault : Bool → List Terminal → List Terminal → Option Cause
-early_fault no_calc front rest = if no_calc then running_fault [] (complete_terms front rest) else first_fault (complete_terms front rest)
+early_fault no_calc front rest =
+    if no_calc then running_fault [] (complete_terms front rest) else first_fault (complete_terms front rest)
 
--- the fault of a text without a syntax fault
+-- the fault that is reported after any syntax fault: the evaluation's; none under `no_calc`, where each is early
 abbrev pub late_fault : Bool → List Terminal → Option Cause
 late_fault no_calc terminals = if no_calc then None else evaluation_fault (terms_of terminals)
 
--- The text `front ++ rest`, whose rest starts at byte `place`, is refused for this cause.
+-- The terminals `front ++ rest`, whose rest starts at byte `place`, are refused for this cause.
 pub data IsRefusedAt (no_calc : Bool) (place : ℕ) (front rest : List Terminal) (cause : Cause) : Type 0 where
   early : early_fault no_calc front rest ≡ Some cause → IsRefusedAt no_calc place front rest cause
   syntax_fault : (expected : Expected) → early_fault no_calc front rest ≡ None
@@ -66,7 +67,8 @@ pub data IsRefusedAt (no_calc : Bool) (place : ℕ) (front rest : List Terminal)
       → CanFollow no_calc front expected
       → cause ≡ Syntax place expected
       → IsRefusedAt no_calc place front rest cause
-  late : early_fault no_calc front rest ≡ None → IsSentence no_calc (front ++ rest) → late_fault no_calc (front ++ rest) ≡ Some cause
+  late : early_fault no_calc front rest ≡ None → IsSentence no_calc (front ++ rest)
+      → late_fault no_calc (front ++ rest) ≡ Some cause
       → IsRefusedAt no_calc place front rest cause
 
 -- The text is refused for this cause: the empty text as `Empty`, any other by its front and the rest after it.

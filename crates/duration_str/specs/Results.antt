@@ -1,6 +1,5 @@
 -- What a call that reads a text returns.
-use denote.Ref.{Bor}
-use Rattle.std.specs.Prelude.{◌≡◌, ℕ, ◌^◌, ◌<◌, ◌≤◌, ◌↔◌, ℤ, pos, List, Option, Result, Ok, Err, IfOk, IfErr, IsOk, IsNone, IsSomeAnd, length, take}
+use Rattle.std.specs.Prelude.{◌≡◌, ℕ, ◌^◌, ◌<◌, ◌≤◌, List, Result, Ok, Err, IfOk, IfErr, IsOk, length, take}
 use Rattle.std.specs.Duration.{as_nanos}
 use Rattle.std.specs.declared.time.Duration.{Duration}
 use Rattle.std.specs.Str.{chars}
@@ -9,7 +8,6 @@ use Rattle.duration_str.specs.declared.fault.Cause.{Cause}
 use Rattle.duration_str.specs.declared.fault.Cause.TheVariants.{Syntax}
 use Rattle.duration_str.specs.declared.fault.Expected.{Expected}
 use Rattle.duration_str.specs.declared.fault.Fault.{Fault}
-use Rattle.duration_str.specs.Units.{off}
 use Rattle.duration_str.specs.Reading.{IsRead, IsRefused}
 use Rattle.duration_str.specs.Answer.{answer}
 
@@ -35,23 +33,3 @@ pub record ParsesText (o : Options) (bytes : List ℕ) (result : Result Duration
 abbrev pub ReachesPlace : List ℕ → Cause → ℕ → Type 0
 ReachesPlace bytes cause looks =
     (place : ℕ) (expected : Expected) → cause ≡ Syntax place expected → length (chars (take place bytes)) ≤ looks
-
--- Of a syntax fault for which the bytes are refused under these options, no token is found exactly if it stands at their
--- end.
-abbrev pub IsMissingAtEnd : Options → List ℕ → Cause → Option (Bor (List ℕ)) → Type 0
-IsMissingAtEnd o bytes cause token =
-    (place : ℕ) (expected : Expected) → cause ≡ Syntax place expected → IsRefused o (chars bytes) cause
-    → (IsNone token ↔ (place ≡ length bytes))
-
--- With all options off, the bytes are read as a value that the result shows, or refused for its cause.
-abbrev pub AnswersBy : {T : Type 0} → (T → ℕ → Type 0) → List ℕ → Result T Fault → Type 0
-AnswersBy shows bytes result =
-    Answers (λ v. (nanos : ℕ) × IsRead off (chars bytes) nanos × shows v nanos) (IsRefused off (chars bytes)) bytes result
-
--- The bytes are read as the value in `Ok`, in nanoseconds, or refused.
-abbrev pub IsReadAs : {T : Type 0} → (T → ℤ) → List ℕ → Result T Fault → Type 0
-IsReadAs nanos_of bytes result = AnswersBy (λ v nanos. nanos_of v ≡ pos nanos) bytes result
-
--- The bytes are read as the value in `Ok (Some ..)`, in nanoseconds, or refused.
-abbrev pub IsReadAsSome : {T : Type 0} → (T → ℤ) → List ℕ → Result (Option T) Fault → Type 0
-IsReadAsSome nanos_of bytes result = AnswersBy (λ o nanos. IsSomeAnd o (λ v. nanos_of v ≡ pos nanos)) bytes result

@@ -10,11 +10,11 @@ use Rattle.duration_str.specs.Value.{Term, value_of_term, term_fault}
 abbrev pub term_of : ℕ → TimeUnit → Term
 term_of n u = record { operator = Plus; number = n; length = nanos_of u }
 
--- the value, unless there is a fault
-abbrev pub value_or_fault : Option Cause → ℕ → Result ℕ Cause
-value_or_fault None value = Ok value
-value_or_fault (Some cause) value = Err cause
+-- the fault if there is one, otherwise the result
+abbrev pub fault_or : {A : Type 0} → Option Cause → Result A Cause → Result A Cause
+fault_or (Some cause) result = Err cause
+fault_or None result = result
 
 -- the value of a term, or its fault
 abbrev pub term_answer : Option ℕ → Term → Result ℕ Cause
-term_answer place t = value_or_fault (term_fault place t) (value_of_term t)
+term_answer place t = fault_or (term_fault place t) (Ok (value_of_term t))

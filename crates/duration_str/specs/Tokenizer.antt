@@ -11,7 +11,7 @@ use Rattle.duration_str.specs.Grammar.{Terminal, number, word, operator, other, 
 use Rattle.duration_str.specs.Tokens.{Token, tokens_from}
 use Rattle.duration_str.specs.Internal.Cutting.{ahead}
 
--- a terminal as the sort of its token
+-- what the token of a terminal is
 abbrev pub what_of : Terminal → What
 what_of (number n) = whats.Number
 what_of (word u) = whats.Word u
@@ -47,7 +47,7 @@ pub record KeepsInput (old new : Tokens) : Type 0 where
   pub text : source new ≡ source old
   pub options : options_of new ≡ options_of old
 
--- The token is the text from its start to the place, with its sort.
+-- The token is the text from its start to the place, and says what it is.
 pub record IsCutAt (o : Options) (text : List ℕ) (place : ℕ) (token : RustToken) : Type 0 where
   pub end : place ≡ token.start + length token.text.now
   pub slice : token.text.now ≡ slice_range text token.start place

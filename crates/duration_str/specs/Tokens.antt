@@ -42,19 +42,20 @@ pub record IsNextToken (o : Options) (at : ℕ) (text : List ℕ) (token : Token
 abbrev pub AreTokens : Options → ℕ → List ℕ → List Token → Type 0
 AreTokens o at text [] = IsBlank text
 AreTokens o at text (token ∷ tokens) =
-    (rest : List ℕ) × IsNextToken o at text token rest × AreTokens o (token.start + byte_len token.characters) rest tokens
+    (rest : List ℕ) × IsNextToken o at text token rest
+    × AreTokens o (token.start + byte_len token.characters) rest tokens
 
 -- the tokens with the character c, at byte `at`, added to the front of the first one
-abbrev pub join : ℕ → ℕ → List Token → List Token
-join at c [] = record { start = at; characters = c ∷ [] } ∷ []
-join at c (token ∷ tokens) = record { start = at; characters = c ∷ token.characters } ∷ tokens
+abbrev pub with_first_character : ℕ → ℕ → List Token → List Token
+with_first_character at c [] = record { start = at; characters = c ∷ [] } ∷ []
+with_first_character at c (token ∷ tokens) = record { start = at; characters = c ∷ token.characters } ∷ tokens
 
 -- the tokens of a text that starts at byte `at`, computed from the right
 abbrev pub tokens_from : Options → ℕ → List ℕ → List Token
 tokens_from o at [] = []
 tokens_from o at (c ∷ text) =
     if is_blank c then tokens_from o (at + width c) text
-    else if goes_on o c text then join at c (tokens_from o (at + width c) text)
+    else if goes_on o c text then with_first_character at c (tokens_from o (at + width c) text)
     else record { start = at; characters = c ∷ [] } ∷ tokens_from o (at + width c) text
 
 -- the tokens of a text

@@ -52,7 +52,8 @@ comparison_form o word = if o.lowercase then word else map to_ascii_lowercase wo
 -- whether the word is a name in the row
 abbrev pub is_in_row : Options → List ℕ → UnitRow → Bool
 is_in_row o word row =
-    list_any (bytes_eq (comparison_form o word)) row.names || (o.cn_unit && list_any (bytes_eq (comparison_form o word)) row.chinese)
+    list_any (bytes_eq (comparison_form o word)) row.names
+    || (o.cn_unit && list_any (bytes_eq (comparison_form o word)) row.chinese)
 
 -- whether the word is a name of the unit
 abbrev pub is_named : Options → List ℕ → TimeUnit → Bool

@@ -28,8 +28,10 @@ second = nanos_of Second
 -- the terms after the operator `op`, with these lengths of the units; an operator that is left out is plus, and a unit
 -- that is left out is the second
 abbrev pub terms_by : (TimeUnit → ℕ) → CondUnit → List Terminal → List Term
-terms_by length_of op (number n ∷ word (Some u) ∷ more) = record { operator = op; number = n; length = length_of u } ∷ terms_by length_of Plus more
-terms_by length_of op (number n ∷ more) = record { operator = op; number = n; length = length_of Second } ∷ terms_by length_of Plus more
+terms_by length_of op (number n ∷ word (Some u) ∷ more) =
+    record { operator = op; number = n; length = length_of u } ∷ terms_by length_of Plus more
+terms_by length_of op (number n ∷ more) =
+    record { operator = op; number = n; length = length_of Second } ∷ terms_by length_of Plus more
 terms_by length_of op (operator next ∷ more) = terms_by length_of next more
 terms_by length_of op _ = []
 
@@ -76,7 +78,7 @@ abbrev pub combination : CondUnit → ℕ → ℕ → ℕ
 combination Plus x rest = x + rest
 combination Star x rest = x * rest / second
 
--- the value of a sentence in nanoseconds, given its terms; `None` if its operators are mixed
+-- the value of a sentence in nanoseconds, given its terms; `None` without terms, or if its operators are mixed
 abbrev pub value_of : List Term → Option ℕ
 value_of [] = None
 value_of (t ∷ []) = Some (value_of_term t)
@@ -101,7 +103,8 @@ unless false cause = Some cause
 
 -- the fault of a single term
 abbrev pub term_fault : Option ℕ → Term → Option Cause
-term_fault place t = or_else (unless (fits t.number) (NumberTooLarge place)) (unless (fits (value_of_term t)) (Overflow place))
+term_fault place t =
+    or_else (unless (fits t.number) (NumberTooLarge place)) (unless (fits (value_of_term t)) (Overflow place))
 
 -- the first fault of the later terms after those in `before`, which have none; `op` is that of the first later term
 abbrev pub later_fault : CondUnit → List Term → List Term → Option Cause

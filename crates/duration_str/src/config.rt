@@ -21,6 +21,10 @@ use std::time::Duration;
 /// `Duration` and `SignedDuration` are required values: a text is read by `parse`, and anything else is
 /// `NotText { optional: false }`. Their `Option`s are optional values: null and the empty text are `None`, any other
 /// text is read by `parse`, and anything else is `NotText { optional: true }`.
+///
+/// ```text
+/// Option::<Duration>::deserialize_duration(&Value::Null) // Ok(None)
+/// ```
 pub trait DeserializeDuration<'de>: Sized {
     /// What the data of a value is read as.
     ghost gives: { Data → Result Self PlainFault → Type 0 };
@@ -123,6 +127,10 @@ pub fn deserialize_duration<'de, T: DeserializeDuration<'de>>(
 }
 
 /// What `deserialize_duration` returns for a `SignedDuration`.
+///
+/// ```text
+/// deserialize_duration_chrono(&json!(in alloc; "1min+30")?) // Ok(SignedDuration::from_secs(90))
+/// ```
 pub fn deserialize_duration_chrono<'de>(value: &'de Value) -> Result<SignedDuration, Fault<'de>>
     ensures { IsRequired signed_nanos (view value.now) result }
 {
@@ -130,6 +138,10 @@ pub fn deserialize_duration_chrono<'de>(value: &'de Value) -> Result<SignedDurat
 }
 
 /// What `deserialize_duration_chrono` returns.
+///
+/// ```text
+/// deserialize_duration_time(&json!(in alloc; "1min+30")?) // Ok(SignedDuration::from_secs(90))
+/// ```
 pub fn deserialize_duration_time<'de>(value: &'de Value) -> Result<SignedDuration, Fault<'de>>
     ensures { IsRequired signed_nanos (view value.now) result }
 {
@@ -137,6 +149,14 @@ pub fn deserialize_duration_time<'de>(value: &'de Value) -> Result<SignedDuratio
 }
 
 /// What `deserialize_duration` returns for an `Option<Duration>`.
+///
+/// ```text
+/// // a field that may be missing
+/// match config.get("keep_alive") {
+///     Some(value) => deserialize_option_duration(value),
+///     None => Ok(None),
+/// }
+/// ```
 pub fn deserialize_option_duration<'de>(value: &'de Value) -> Result<Option<Duration>, Fault<'de>>
     ensures { IsOptional (λ d. pos (as_nanos d)) (view value.now) result }
 {
@@ -144,6 +164,10 @@ pub fn deserialize_option_duration<'de>(value: &'de Value) -> Result<Option<Dura
 }
 
 /// What `deserialize_duration` returns for an `Option<SignedDuration>`.
+///
+/// ```text
+/// deserialize_option_duration_chrono(&Value::Null) // Ok(None)
+/// ```
 pub fn deserialize_option_duration_chrono<'de>(
     value: &'de Value,
 ) -> Result<Option<SignedDuration>, Fault<'de>>
@@ -153,6 +177,10 @@ pub fn deserialize_option_duration_chrono<'de>(
 }
 
 /// What `deserialize_option_duration_chrono` returns.
+///
+/// ```text
+/// deserialize_option_duration_time(&Value::Null) // Ok(None)
+/// ```
 pub fn deserialize_option_duration_time<'de>(
     value: &'de Value,
 ) -> Result<Option<SignedDuration>, Fault<'de>>

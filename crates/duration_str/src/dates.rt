@@ -58,6 +58,10 @@ fn in_range<'a>(at: Option<DateTime>, input: &'a str) -> Result<DateTime, Fault<
 /// The moment minus the value of the text, as a date and time in UTC.
 ///
 /// The text is read by `parse`, and its refusal comes first. `OutOfRange` if the instant is before `Timestamp::MIN`.
+///
+/// ```text
+/// before_naive_date_time(Timestamp::UNIX_EPOCH, "1ns") // Ok, 1969-12-31T23:59:59.999999999
+/// ```
 pub fn before_naive_date_time(moment: Timestamp, input: &str) -> Result<DateTime, Fault<'_>>
     ensures { IsDated IsCivil (λ nanos. moment.nanosecond -ℤ pos nanos) input.now result }
 {
@@ -80,6 +84,10 @@ pub fn after_naive_date_time(moment: Timestamp, input: &str) -> Result<DateTime,
 }
 
 /// The date of `before_naive_date_time`.
+///
+/// ```text
+/// before_naive_date(Timestamp::UNIX_EPOCH, "90d") // Ok, 1969-10-03
+/// ```
 pub fn before_naive_date(moment: Timestamp, input: &str) -> Result<Date, Fault<'_>>
     ensures { IsDated IsCivilDay (λ nanos. moment.nanosecond -ℤ pos nanos) input.now result }
 {
@@ -90,6 +98,10 @@ pub fn before_naive_date(moment: Timestamp, input: &str) -> Result<Date, Fault<'
 }
 
 /// The date of `after_naive_date_time`.
+///
+/// ```text
+/// after_naive_date(Timestamp::UNIX_EPOCH, "180d") // Ok, 1970-06-30
+/// ```
 pub fn after_naive_date(moment: Timestamp, input: &str) -> Result<Date, Fault<'_>>
     ensures { IsDated IsCivilDay (λ nanos. moment.nanosecond +ℤ pos nanos) input.now result }
 {

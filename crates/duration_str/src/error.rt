@@ -7,6 +7,11 @@ use std::alloc::{AllocError, Allocator, Global};
 use thiserror::Error;
 
 /// A fault without the text that was read. It prints as the line that says what is wrong.
+///
+/// ```text
+/// DError::ParseError(line) // for the empty text; its line is "Empty input"
+/// DError::OverflowError    // for `600y`
+/// ```
 #[derive(Debug, PartialEq, Drop, Error)]
 pub enum DError<A: Allocator = Global> {
     /// Any fault except an overflow, with its line.
@@ -21,8 +26,8 @@ pub enum DError<A: Allocator = Global> {
 pub type DResult<T> = Result<T, DError>;
 
 impl Fault<'_> {
-    /// The error for this fault: `OverflowError` for an overflow, which always succeeds; otherwise `ParseError` with the
-    /// line, which fails only if memory is refused.
+    /// The error for this fault: `OverflowError` for an overflow, which always succeeds; otherwise `ParseError` with
+    /// the line, which fails only if memory is refused.
     ///
     /// ```text
     /// match parse("") {

@@ -2,7 +2,7 @@
 //!
 //! The text has the greatest possible count of years, then the greatest count of quarters in what is left, and so on
 //! down to nanoseconds. Counts of 0 are left out, and the duration 0 is `0s`.
-ghost use Rattle.std.specs.Prelude.{◌≡◌, ◌+◌, ◌*◌, ◌/◌, ◌%◌, ◌^◌, ◌<◌, ◌≤◌, ◌++◌, take, length, decimal, encode_utf8_all, chars, IsUtf8, ◌↔◌, IsTrue, ℤ, pos, ◌≤ℤ◌, unsigned_abs, IfOk, string_bytes};
+ghost use Rattle.std.specs.Prelude.{◌≡◌, ◌+◌, ◌*◌, ◌/◌, ◌%◌, ◌<◌, ◌≤◌, ◌++◌, take, length, decimal, encode_utf8_all, chars, IsUtf8, ◌↔◌, IsTrue, ℤ, pos, ◌≤ℤ◌, unsigned_abs, IfOk, string_bytes};
 ghost use Rattle.std.specs.Duration.{as_nanos};
 ghost use Rattle.duration_str.specs.declared.unit.TimeUnit.TheVariants.{Year};
 ghost use Rattle.duration_str.specs.Units.{nanos_of, unit_lengths};

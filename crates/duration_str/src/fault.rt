@@ -84,8 +84,8 @@ pub enum Cause {
 }
 
 impl Cause {
-    /// Byte offset of the fault: set for syntax faults, 0 for an oversized first term, otherwise `None`. In a `Fault` it
-    /// is a character boundary within the text.
+    /// Byte offset of the fault: set for syntax faults, 0 for an oversized first term, otherwise `None`. In a `Fault`
+    /// it is a character boundary within the text.
     ///
     /// ```
     /// use duration_str::{Options, parse_with};
@@ -226,7 +226,7 @@ pub struct Fault<'a> {
 }
 
 impl<'a> Fault<'a> {
-    ghost use Rattle.duration_str.specs.Results.{IsMissingAtEnd};
+    ghost use Rattle.duration_str.specs.Faults.{IsMissingAtEnd};
 
     /// The whole text that was read; the empty text for `NotText`.
     ///
@@ -305,7 +305,7 @@ impl<'a> Fault<'a> {
         self.layout().len(self.text, self.cause.line())
     }
 
-    /// Writes what the fault prints as to the start of a buffer, and returns its length in bytes.
+    /// Writes the fault's message to the start of a buffer, and returns its length in bytes.
     ///
     /// `None` if it is longer than the buffer, which is then unchanged. Allocates nothing.
     ///

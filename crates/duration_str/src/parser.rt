@@ -1,5 +1,5 @@
 //! Reading: the duration that a text means, or why it means none.
-ghost use Rattle.std.specs.Prelude.{◌≡◌, ℕ, ◌^◌, ◌<◌, ◌≤◌, length, take, IfOk, IfErr, IsOk, OnOk};
+ghost use Rattle.std.specs.Prelude.{◌≡◌, ◌^◌, ◌<◌, ◌≤◌, length, IfOk, IfErr, OnOk};
 ghost use Rattle.std.specs.Duration.{as_nanos};
 ghost use Rattle.std.specs.Str.{chars};
 ghost use Rattle.duration_str.specs.Answer.{answer};
@@ -14,8 +14,8 @@ use std::time::Duration;
 
 /// The duration that a text means with all options off.
 ///
-/// It returns what `parse_with` returns for `Options::off()`. Terms such as `3m`, `29ms` or `10` (no unit means seconds)
-/// are joined by `+` or by `*`; an operator that is left out is a plus. The value is below 2^64 nanoseconds.
+/// It returns what `parse_with` returns for `Options::off()`. Terms such as `3m`, `29ms` or `10` (no unit means
+/// seconds) are joined by `+` or by `*`; an operator that is left out is a plus. The value is below 2^64 nanoseconds.
 ///
 /// ```
 /// use duration_str::parse;
@@ -71,11 +71,15 @@ pub fn parse_with(input: &str, o: Options) -> Result<Duration, Fault<'_>>
 ///
 /// There are at most as many looks as characters; reading again what was cut off is no look. All characters of an
 /// accepted text are looked at, and at least those before the place of a syntax fault.
+///
+/// ```text
+/// parse_looked("3m 13s", Options::off()) // (Ok(Duration::from_secs(193)), 6)
+/// ```
 pub fn parse_looked(input: &str, o: Options) -> (Result<Duration, Fault<'_>>, u64)
     ensures parsed { ParsesText o input.now result.0 }
     ensures once { result.1 ≤ length (chars input.now) }
     ensures whole { OnOk result.0 (result.1 ≡ length (chars input.now)) }
-    ensures front { IfErr result.0 (λ f. ReachesPlace input.now f.cause result.1) }
+    ensures reaches { IfErr result.0 (λ f. ReachesPlace input.now f.cause result.1) }
 {
     read_text(input, o)
 }
@@ -87,7 +91,7 @@ fn read_text(input: &str, o: Options) -> (Result<Duration, Fault<'_>>, u64)
     ensures fits { IfOk result.0 (λ d. as_nanos d < 2 ^ 64) }
     ensures once { result.1 ≤ length (chars input.now) }
     ensures whole { OnOk result.0 (result.1 ≡ length (chars input.now)) }
-    ensures front { IfErr result.0 (λ f. ReachesPlace input.now f.cause result.1) }
+    ensures reaches { IfErr result.0 (λ f. ReachesPlace input.now f.cause result.1) }
 {
     if input.is_empty() {
         let fault = Fault {

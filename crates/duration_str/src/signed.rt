@@ -3,7 +3,7 @@ ghost use Rattle.std.specs.Prelude.{◌≡◌, ℕ, IsOk, pos, ◌^◌, ◌<◌}
 ghost use Rattle.std.specs.Duration.{as_nanos};
 ghost use Rattle.std.specs.Str.{chars};
 ghost use Rattle.jiff.specs.Words.{signed_nanos};
-ghost use Rattle.duration_str.specs.Results.{IsReadAs};
+ghost use Rattle.duration_str.specs.Configuration.{IsReadAs};
 ghost use Rattle.duration_str.specs.Reading.{IsRead};
 ghost use Rattle.duration_str.specs.Units.{off};
 
@@ -49,6 +49,10 @@ pub fn parse_chrono(input: &str) -> Result<SignedDuration, Fault<'_>>
 }
 
 /// What `parse_chrono` returns.
+///
+/// ```text
+/// parse_time("1h+30s") // Ok(SignedDuration::from_secs(3_630))
+/// ```
 pub fn parse_time(input: &str) -> Result<SignedDuration, Fault<'_>>
     ensures answer { IsReadAs signed_nanos input.now result }
     ensures accepts { (nanos : ℕ) → IsRead off (chars input.now) nanos → IsOk result }

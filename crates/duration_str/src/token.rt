@@ -17,7 +17,7 @@ use crate::eye::Eye;
 use crate::packed::unit_of_packed;
 use crate::unit::{CondUnit, Options, TimeUnit};
 
-/// The sort of a token.
+/// What a token is: a number, a word with the unit that it names, an operator, or another character.
 ///
 /// ```
 /// use duration_str::{Options, TimeUnit, Tokens, What};
@@ -52,7 +52,7 @@ pub struct Token<'a> {
     pub start: usize,
     /// Its slice of the source.
     pub text: &'a str,
-    /// Its sort.
+    /// What it is.
     pub what: What,
 }
 
@@ -103,7 +103,7 @@ struct Letters {
 impl Letters {
     /// Whether the packed number, which ignores case, is enough to find the unit.
     #[inline(always)]
-    fn ignore_case(self, lowercase: bool) -> bool
+    fn can_ignore_case(self, lowercase: bool) -> bool
         ensures { result ≡ not (lowercase && self.has_capital) }
     {
         !(lowercase && self.has_capital)
@@ -131,7 +131,7 @@ pub struct Tokens<'a> {
 }
 
 impl<'a> Tokens<'a> {
-    ghost use Rattle.duration_str.specs.Grammar.{Terminal, word};
+    ghost use Rattle.duration_str.specs.Grammar.{word};
     ghost use Rattle.duration_str.specs.Tokenizer.{source, options_of, cut_place, looks_of, tokens_left, what_of, KeepsInput};
     ghost use Rattle.duration_str.specs.Internal.Tokenizer.{IsAhead, LooksAhead, LooksForNumber, u64_of, TakesNumber, TakesToken, TakesTokenWith, TakesSign};
 
@@ -183,8 +183,8 @@ impl<'a> Tokens<'a> {
         self.eye.place()
     }
 
-    /// Moves past the character ahead, and looks at the next one. So an operator, or a character that is neither a digit
-    /// nor a unit letter, is taken as a token.
+    /// Moves past the character ahead, and looks at the next one. So an operator, or a character that is neither a
+    /// digit nor a unit letter, is taken as a token.
     #[inline(always)]
     pub(crate) fn advance(&mut self)
         requires { IsSome self.old.head }
@@ -300,13 +300,13 @@ impl<'a> Tokens<'a> {
     {
         let start = self.eye.place();
         let letters = self.take_ascii_letters();
-        // No letter beyond ASCII follows.
+        // Whether the word certainly ends here: the end or an ASCII character follows.
         let ended = match self.head {
             Some(c) => c.is_ascii(),
             None => true,
         };
         if ended
-            && letters.ignore_case(self.options.lowercase)
+            && letters.can_ignore_case(self.options.lowercase)
             && self.eye.place() - start <= MOST_LETTERS
         {
             unit_of_packed(letters.packed)
@@ -427,8 +427,8 @@ fn sort_at(first: char, o: Options) -> Sort
     }
 }
 
-/// The unit that a word names. For words with many letters or with letters beyond ASCII, and for words with a capital
-/// under `lowercase`.
+/// The unit that a word names. For words with many letters, with letters beyond ASCII or directly before a character
+/// beyond ASCII, and for words with a capital under `lowercase`.
 #[cold]
 #[inline(never)]
 fn unit_by_name(word: &str, no_calc: bool, lowercase: bool, cn_unit: bool) -> Option<TimeUnit>

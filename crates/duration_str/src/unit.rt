@@ -1,14 +1,13 @@
 //! The units of time and their names, with the options and operators that are used with them.
-ghost use Rattle.std.specs.Prelude.{◌≡◌, ◌∷◌, None, Some, true, encode_utf8_all};
+ghost use Rattle.std.specs.Prelude.{◌≡◌, None, Some, true, encode_utf8_all};
 ghost use Rattle.std.specs.List.{list_any};
-ghost use Rattle.std.specs.Option.{ForSome, option_to_list};
 ghost use Rattle.std.specs.Str.{bytes_eq, chars};
 ghost use Rattle.duration_str.specs.Text.{IsNumber, number_of};
 ghost use Rattle.duration_str.specs.declared.unit.TimeUnit.{TimeUnit};
 ghost use Rattle.duration_str.specs.declared.unit.TimeUnit.TheVariants.{Second};
 ghost use Rattle.duration_str.specs.Units.{nanos_of, row_of, comparison_form, is_named, unit_of_word};
 ghost use Rattle.duration_str.specs.Internal.UnitTable.{IsRow};
-ghost use Rattle.duration_str.specs.Internal.Numbers.{term_value};
+ghost use Rattle.duration_str.specs.Internal.Numbers.{checked_term};
 ghost use Rattle.duration_str.specs.Terms.{term_of, term_answer};
 
 use crate::fault::Cause;
@@ -179,10 +178,11 @@ impl TimeUnit {
         ensures only { (unit : TimeUnit) → is_named o (chars word.now) unit ≡ true
             → unit_of_word o (chars word.now) ≡ Some unit }
     {
-        match unit_of_short_name(word, o) {
-            Some(unit) => Some(unit),
-            None => named_unit(word, o),
+        let likely = likely_unit(word, o);
+        if likely.is_named(word, o) {
+            return Some(likely);
         }
+        named_unit(word, o)
     }
 
     /// The value in nanoseconds of a term with this number, a nonempty run of digits.
@@ -205,7 +205,7 @@ impl TimeUnit {
     /// The value of a term in nanoseconds. `number` is `None` if it exceeds `u64`; `place` goes into the error.
     #[inline]
     pub(crate) fn times(self, number: Option<u64>, place: Option<usize>) -> Result<u64, Cause>
-        ensures { result ≡ term_value place number (nanos_of self) }
+        ensures { result ≡ checked_term place number (nanos_of self) }
     {
         let Some(n) = number else {
             return Err(Cause::NumberTooLarge { place });
@@ -272,49 +272,23 @@ fn named_unit(word: &str, o: Options) -> Option<TimeUnit>
     UNITS.iter().copied().find(|unit| unit.is_named(word, o))
 }
 
-/// The unit that a word names, if it is spelled like one of the short names beyond ASCII. After `None` the caller still
-/// compares the word with every name, so a name that is missing here costs time and changes no answer.
-fn unit_of_short_name(word: &str, o: Options) -> Option<TimeUnit>
-    ensures { ForSome result (λ unit. unit_of_word o (chars word.now) ≡ Some unit) }
-{
-    let (first, second) = one_or_two_chars(word)?;
-    unit_of_letters(first, second, o)
-}
-
-/// The characters of a text that has one or two.
-#[inline(always)]
-fn one_or_two_chars(text: &str) -> Option<(char, Option<char>)>
-    ensures { ForSome result (λ letters. chars text.now ≡ letters.0 ∷ option_to_list letters.1) }
-{
-    let mut letters = text.chars();
-    let first = letters.next()?;
-    let second = letters.next();
-    match letters.next() {
-        None => Some((first, second)),
-        Some(_) => None,
+/// The unit that the word most likely names. No contract says which: the caller tests it, so that a wrong guess costs
+/// time and changes no answer.
+fn likely_unit(word: &str, o: Options) -> TimeUnit {
+    if !o.cn_unit {
+        return TimeUnit::MicroSecond;
     }
-}
-
-/// The unit with this name of one or two letters beyond ASCII. `named_unit` finds the names that are missing here.
-#[inline(always)]
-fn unit_of_letters(first: char, second: Option<char>, o: Options) -> Option<TimeUnit>
-    ensures { ForSome result (λ unit. is_named (record o { lowercase = true })
-        (first ∷ option_to_list second) unit ≡ true) }
-{
-    match (first, second) {
-        ('µ', Some('s')) => Some(TimeUnit::MicroSecond),
-        _ if !o.cn_unit => None,
-        ('年', None) => Some(TimeUnit::Year),
-        ('月', None) => Some(TimeUnit::Month),
-        ('周', None) => Some(TimeUnit::Week),
-        ('日' | '天', None) => Some(TimeUnit::Day),
-        ('时', None) => Some(TimeUnit::Hour),
-        ('分', None) => Some(TimeUnit::Minute),
-        ('秒', None) => Some(TimeUnit::Second),
-        ('毫', Some('秒')) => Some(TimeUnit::MilliSecond),
-        ('微', Some('秒')) => Some(TimeUnit::MicroSecond),
-        ('纳', Some('秒')) => Some(TimeUnit::NanoSecond),
-        _ => None,
+    match word {
+        "年" => TimeUnit::Year,
+        "月" => TimeUnit::Month,
+        "周" => TimeUnit::Week,
+        "日" | "天" => TimeUnit::Day,
+        "时" => TimeUnit::Hour,
+        "分" => TimeUnit::Minute,
+        "秒" => TimeUnit::Second,
+        "毫秒" => TimeUnit::MilliSecond,
+        "纳秒" => TimeUnit::NanoSecond,
+        _ => TimeUnit::MicroSecond,
     }
 }
 

@@ -47,14 +47,14 @@ running_any before (t ∷ terms) =
     (or_else_any (unless (fits (sum_of (before ++ t ∷ []))) (Overflow None)) _ (overflow_any (sum_of (before ++ t ∷ [])) None)
     (running_any (before ++ t ∷ []) terms))
 
-later_any : (set : CondUnit) (before later : List Term) → AnyOfText (later_fault set before later)
-later_any set before [] = tt
-later_any set before (t ∷ later) =
-    or_else_any (unless (is_same_operator set t.operator) (Mixed set t.operator)) _
-    (unless_any (is_same_operator set t.operator) (Mixed set t.operator) tt)
+later_any : (op : CondUnit) (before later : List Term) → AnyOfText (later_fault op before later)
+later_any op before [] = tt
+later_any op before (t ∷ later) =
+    or_else_any (unless (is_same_operator op t.operator) (Mixed op t.operator)) _
+    (unless_any (is_same_operator op t.operator) (Mixed op t.operator) tt)
     (or_else_any (term_fault None t) _ (term_any None t)
-    (or_else_any (unless (fits (later_total set (before ++ t ∷ []))) (Overflow None)) _
-    (overflow_any (later_total set (before ++ t ∷ [])) None) (later_any set (before ++ t ∷ []) later)))
+    (or_else_any (unless (fits (later_total op (before ++ t ∷ []))) (Overflow None)) _
+    (overflow_any (later_total op (before ++ t ∷ [])) None) (later_any op (before ++ t ∷ []) later)))
 
 evaluation_any : (terms : List Term) → AnyOfText (evaluation_fault terms)
 evaluation_any [] = tt

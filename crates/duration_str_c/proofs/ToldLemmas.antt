@@ -7,7 +7,7 @@ use Rattle.duration_str.specs.declared.fault.Cause.{Cause}
 use Rattle.duration_str.specs.declared.fault.Cause.TheVariants.{Empty, Syntax, NumberTooLarge, Overflow, Mixed, OutOfRange, NotText}
 use Rattle.duration_str.specs.declared.fault.Expected.{Expected}
 use Rattle.duration_str_c.specs.declared.answer.Answer.{Answer}
-use Rattle.duration_str_c.specs.Told.{bits_of, expected_of, refusal_told, cause_told, IsRefusalTold}
+use Rattle.duration_str_c.specs.Told.{bits_of, expected_of, refusal_answer, cause_told, IsRefusalTold}
 use Rattle.duration_str_c.proofs.CauseLemmas.{IsOfText}
 
 abbrev kinds : Bool → Bool → Bool → Bool → Expected
@@ -34,14 +34,14 @@ kinds_again false false false true = refl
 kinds_again false false false false = refl
 
 mixed_again : (first later : CondUnit) (n : ℕ)
-    → cause_told (refusal_told (Mixed first later) n) ≡ Some (Mixed first later)
+    → cause_told (refusal_answer (Mixed first later) n) ≡ Some (Mixed first later)
 mixed_again Plus Plus n = refl
 mixed_again Plus Star n = refl
 mixed_again Star Plus n = refl
 mixed_again Star Star n = refl
 
 -- The cause of a text is recovered from its answer.
-pub told_again : (cause : Cause) (n : ℕ) → IsOfText cause → cause_told (refusal_told cause n) ≡ Some cause
+pub told_again : (cause : Cause) (n : ℕ) → IsOfText cause → cause_told (refusal_answer cause n) ≡ Some cause
 told_again Empty n h = refl
 told_again (Syntax place e) n h =
     ap (λ (e : Expected). Some (Syntax place e)) (kinds_again e.number e.unit_word e.operator e.text_end)

@@ -5,9 +5,9 @@ use Rattle.duration_str.specs.declared.options.Options.{Options}
 use Rattle.duration_str.specs.declared.fault.Cause.{Cause}
 use Rattle.duration_str.specs.declared.fault.Cause.TheVariants.{NotText}
 use Rattle.duration_str.specs.Reading.{IsRead, IsRefused}
-use Rattle.duration_str_c.specs.Told.{number_of}
+use Rattle.duration_str_c.specs.Told.{cause_number}
 
--- the offsets do not decrease, and lie within the bytes
+-- The offsets do not decrease, and lie within the bytes.
 abbrev pub AreOffsets : ℕ → ℕ → List ℕ → Type 0
 AreOffsets start end bytes = (start ≤ end) × (end ≤ length bytes)
 
@@ -15,13 +15,13 @@ AreOffsets start end bytes = (start ≤ end) × (end ≤ length bytes)
 abbrev pub IsTextTold : Options → List ℕ → ℕ → ℕ → Type 0
 IsTextTold o text nanos cause =
     (IsRead o (chars text) nanos × (cause ≡ 0))
-    ⊎ ((reason : Cause) × IsRefused o (chars text) reason × (nanos ≡ 0) × (cause ≡ number_of reason))
+    ⊎ ((reason : Cause) × IsRefused o (chars text) reason × (nanos ≡ 0) × (cause ≡ cause_number reason))
 
--- what is told of bytes, which may be no text
+-- The value and the cause tell of the bytes, which may be no text.
 abbrev pub AreBytesTold : Options → List ℕ → ℕ → ℕ → Type 0
 AreBytesTold o bytes nanos cause =
     (IsUtf8 bytes → IsTextTold o bytes nanos cause)
-    × (¬ (IsUtf8 bytes) → (nanos ≡ 0) × (cause ≡ number_of (NotText false)))
+    × (¬ (IsUtf8 bytes) → (nanos ≡ 0) × (cause ≡ cause_number (NotText false)))
 
 -- The value and the cause tell of the text between two offsets; or these are refused, with a cause of their own.
 abbrev pub IsPartTold : Options → List ℕ → ℕ → ℕ → ℕ → ℕ → Type 0
@@ -37,4 +37,5 @@ column_length offsets nanos causes = min (length offsets - 1) (min (length nanos
 abbrev pub IsColumnTold : Options → List ℕ → List ℕ → ℕ → List ℕ → List ℕ → Type 0
 IsColumnTold o bytes offsets count nanos causes =
     (k : ℕ) → k < count
-    → IsPartTold o bytes (slice_index offsets k) (slice_index offsets (k + 1)) (slice_index nanos k) (slice_index causes k)
+    → IsPartTold o bytes (slice_index offsets k) (slice_index offsets (k + 1))
+    (slice_index nanos k) (slice_index causes k)

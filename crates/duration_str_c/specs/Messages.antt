@@ -12,8 +12,8 @@ abbrev pub is_not_text : Cause → Bool
 is_not_text (NotText optional) = true
 is_not_text _ = false
 
--- The bytes of the line that says what is wrong. Of bytes that are no text it says so; the library's line for this cause
--- speaks of the value of a configuration file.
+-- The bytes of the line that says what is wrong. Of bytes that are no text it says so; the library's line for this
+-- cause speaks of the value of a configuration file.
 abbrev pub line_told : Cause → List ℕ
 line_told cause = if is_not_text cause then codes "not UTF-8" else encode_utf8_all (line_of cause)
 

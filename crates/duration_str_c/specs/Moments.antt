@@ -10,7 +10,7 @@ use Rattle.duration_str_c.specs.declared.answer.Answer.{Answer}
 use Rattle.duration_str_c.specs.declared.moment.Direction.{Direction}
 use Rattle.duration_str_c.specs.declared.moment.Direction.TheVariants.{After, Before}
 use Rattle.duration_str_c.specs.declared.moment.Moment.{Moment}
-use Rattle.duration_str_c.specs.Told.{value_told, refusal_told, IsRefusalTold}
+use Rattle.duration_str_c.specs.Told.{value_answer, refusal_answer, IsRefusalTold}
 
 -- the nanoseconds from 1970-01-01T00:00:00Z to the moment
 abbrev pub instant_of : Moment → ℤ
@@ -29,6 +29,8 @@ moved Before instant nanos = instant -ℤ pos nanos
 -- unchanged, and the answer has the refusal of the bytes, or says that the instant is out of range.
 abbrev pub IsMoved : (ℕ → ℤ) → Options → List ℕ → Moment → Moment → Answer → Type 0
 IsMoved reached o bytes old new answer =
-    ((nanos : ℕ) × IsRead o (chars bytes) nanos × IsMoment new × (instant_of new ≡ reached nanos) × (answer ≡ value_told nanos))
+    ((nanos : ℕ) × IsRead o (chars bytes) nanos × IsMoment new
+    × (instant_of new ≡ reached nanos) × (answer ≡ value_answer nanos))
     ⊎ ((cause : Cause) × IsRefusalTold o bytes cause answer × (new ≡ old))
-    ⊎ ((nanos : ℕ) × IsRead o (chars bytes) nanos × IsOutOfRange (reached nanos) × (answer ≡ refusal_told OutOfRange 0) × (new ≡ old))
+    ⊎ ((nanos : ℕ) × IsRead o (chars bytes) nanos × IsOutOfRange (reached nanos)
+    × (answer ≡ refusal_answer OutOfRange 0) × (new ≡ old))

@@ -9,53 +9,54 @@ use Rattle.duration_str.specs.declared.operator.CondUnit.TheVariants.{Plus, Star
 use Rattle.duration_str.specs.declared.fault.Cause.{Cause}
 use Rattle.duration_str.specs.declared.fault.Cause.TheVariants.{Empty, Syntax, NumberTooLarge, Overflow, Mixed, OutOfRange, NotText}
 use Rattle.duration_str.specs.declared.fault.Expected.{Expected}
-use Rattle.duration_str.specs.Text.{byte_len}
+use Rattle.duration_str.specs.Text.{byte_len, operator_of}
 use Rattle.duration_str.specs.Tokens.{Token}
 use Rattle.duration_str.specs.Faults.{place_of, found_token}
 use Rattle.duration_str.specs.Reading.{IsRead, IsRefused}
 use Rattle.duration_str_c.specs.declared.answer.Answer.{Answer}
 
 -- whether a flag is set among the bits
-abbrev pub has : ℕ → ℕ → Bool
-has bits flag = not (bit_and bits flag == 0)
+abbrev pub has_flag : ℕ → ℕ → Bool
+has_flag bits flag = not (bit_and bits flag == 0)
 
 -- the options whose bits are set; other bits have no effect
-abbrev pub options_of : ℕ → Options
-options_of bits = record { no_calc = has bits 1; lowercase = has bits 2; cn_unit = has bits 4 }
+abbrev pub options_of_bits : ℕ → Options
+options_of_bits bits = record { no_calc = has_flag bits 1; lowercase = has_flag bits 2; cn_unit = has_flag bits 4 }
 
 -- the number of a cause
-abbrev pub number_of : Cause → ℕ
-number_of Empty = 1
-number_of (Syntax place expected) = 2
-number_of (NumberTooLarge place) = 3
-number_of (Overflow place) = 4
-number_of (Mixed first later) = 5
-number_of OutOfRange = 6
-number_of (NotText optional) = 7
+abbrev pub cause_number : Cause → ℕ
+cause_number Empty = 1
+cause_number (Syntax place expected) = 2
+cause_number (NumberTooLarge place) = 3
+cause_number (Overflow place) = 4
+cause_number (Mixed first later) = 5
+cause_number OutOfRange = 6
+cause_number (NotText optional) = 7
 
 -- the bits of the kinds that could stand at a place
 abbrev pub bits_of : Expected → ℕ
 bits_of e =
-    (if e.number then 1 else 0) + (if e.unit_word then 2 else 0) + (if e.operator then 4 else 0) + (if e.text_end then 8 else 0)
+    (if e.number then 1 else 0) + (if e.unit_word then 2 else 0) + (if e.operator then 4 else 0)
+    + (if e.text_end then 8 else 0)
 
 -- the bits of the kinds that could stand at the place of a syntax fault; 0 for other causes
 abbrev pub expected_bits : Cause → ℕ
 expected_bits (Syntax place expected) = bits_of expected
 expected_bits _ = 0
 
--- the character of an operator
-abbrev pub sign_of : CondUnit → ℕ
-sign_of Plus = 43
-sign_of Star = 42
+-- the character of an operator, by its code
+abbrev pub sign_code : CondUnit → ℕ
+sign_code Plus = 43
+sign_code Star = 42
 
--- the first operator for mixed operators, otherwise 0
+-- the character of the first operator for mixed operators, otherwise 0
 abbrev pub first_sign : Cause → ℕ
-first_sign (Mixed first later) = sign_of first
+first_sign (Mixed first later) = sign_code first
 first_sign _ = 0
 
--- the later operator for mixed operators, otherwise 0
+-- the character of the later operator for mixed operators, otherwise 0
 abbrev pub later_sign : Cause → ℕ
-later_sign (Mixed first later) = sign_of later
+later_sign (Mixed first later) = sign_code later
 later_sign _ = 0
 
 -- the length of a token in bytes; 0 without one
@@ -64,8 +65,8 @@ token_length None = 0
 token_length (Some token) = byte_len token.characters
 
 -- the answer with a value
-abbrev pub value_told : ℕ → Answer
-value_told nanos = record {
+abbrev pub value_answer : ℕ → Answer
+value_answer nanos = record {
   nanos = nanos;
   place = 0;
   found_length = 0;
@@ -77,12 +78,12 @@ value_told nanos = record {
 }
 
 -- the answer with a refusal, and the length of the token at its place
-abbrev pub refusal_told : Cause → ℕ → Answer
-refusal_told cause found_length = record {
+abbrev pub refusal_answer : Cause → ℕ → Answer
+refusal_answer cause found_length = record {
   nanos = 0;
   place = unwrap_or (place_of cause) 0;
   found_length = found_length;
-  cause = number_of cause;
+  cause = cause_number cause;
   expected = expected_bits cause;
   has_place = if is_some (place_of cause) then 1 else 0;
   first_operator = first_sign cause;
@@ -91,15 +92,16 @@ refusal_told cause found_length = record {
 
 -- the kinds that could stand at a place, given their bits
 abbrev pub expected_of : ℕ → Expected
-expected_of bits = record { number = has bits 1; unit_word = has bits 2; operator = has bits 4; text_end = has bits 8 }
+expected_of bits = record {
+  number = has_flag bits 1;
+  unit_word = has_flag bits 2;
+  operator = has_flag bits 4;
+  text_end = has_flag bits 8;
+}
 
 -- the place in an answer, if it has one
 abbrev pub place_told : Answer → Option ℕ
 place_told a = if a.has_place == 0 then None else Some a.place
-
--- the operator of a character, if it is one
-abbrev pub operator_told : ℕ → Option CondUnit
-operator_told sign = if sign == 43 then Some Plus else if sign == 42 then Some Star else None
 
 -- the fault of two mixed operators, if both are operators
 abbrev pub mixed_told : Option CondUnit → Option CondUnit → Option Cause
@@ -114,7 +116,7 @@ cause_told a =
     else if a.cause == 2 then Some (Syntax a.place (expected_of a.expected))
     else if a.cause == 3 then Some (NumberTooLarge (place_told a))
     else if a.cause == 4 then Some (Overflow (place_told a))
-    else if a.cause == 5 then mixed_told (operator_told a.first_operator) (operator_told a.later_operator)
+    else if a.cause == 5 then mixed_told (operator_of a.first_operator) (operator_of a.later_operator)
     else if a.cause == 6 then Some OutOfRange
     else if a.cause == 7 then Some (NotText false)
     else None
@@ -123,11 +125,11 @@ cause_told a =
 -- is a character boundary of the bytes.
 abbrev pub IsRefusalTold : Options → List ℕ → Cause → Answer → Type 0
 IsRefusalTold o bytes cause answer =
-    IsRefused o (chars bytes) cause × (answer ≡ refusal_told cause (token_length (found_token o (chars bytes) cause)))
+    IsRefused o (chars bytes) cause × (answer ≡ refusal_answer cause (token_length (found_token o (chars bytes) cause)))
     × (cause_told answer ≡ Some cause) × ForSome (place_of cause) (IsCharBoundary bytes)
 
 -- The answer has the value of the bytes, or the cause of their refusal.
 abbrev pub IsTold : Options → List ℕ → Answer → Type 0
 IsTold o bytes answer =
-    ((nanos : ℕ) × IsRead o (chars bytes) nanos × (answer ≡ value_told nanos))
+    ((nanos : ℕ) × IsRead o (chars bytes) nanos × (answer ≡ value_answer nanos))
     ⊎ ((cause : Cause) × IsRefusalTold o bytes cause answer)

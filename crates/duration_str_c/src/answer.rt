@@ -3,7 +3,8 @@ ghost use Rattle.std.specs.Prelude.{◌≡◌};
 ghost use Rattle.std.specs.Str.{chars};
 ghost use Rattle.duration_str.specs.Faults.{found_token};
 ghost use Rattle.duration_str.specs.Reading.{IsRefused};
-ghost use Rattle.duration_str_c.specs.Told.{number_of, bits_of, expected_bits, sign_of, first_sign, later_sign, token_length, value_told, refusal_told, expected_of, place_told, operator_told, mixed_told, cause_told, IsRefusalTold};
+ghost use Rattle.duration_str.specs.Text.{operator_of};
+ghost use Rattle.duration_str_c.specs.Told.{cause_number, bits_of, expected_bits, sign_code, first_sign, later_sign, token_length, value_answer, refusal_answer, expected_of, place_told, mixed_told, cause_told, IsRefusalTold};
 
 use duration_str::{Cause, CondUnit, Expected, Fault, Options};
 
@@ -54,7 +55,7 @@ pub struct Answer {
 impl Answer {
     /// The answer with a value.
     pub(crate) fn value(nanos: u64) -> Answer
-        ensures { result ≡ value_told nanos }
+        ensures { result ≡ value_answer nanos }
     {
         Answer {
             nanos,
@@ -70,7 +71,7 @@ impl Answer {
 
     /// The answer with a refusal, and the length of the token at its place.
     pub(crate) fn refusal(cause: Cause, found_length: usize) -> Answer
-        ensures { result ≡ refusal_told cause found_length }
+        ensures { result ≡ refusal_answer cause found_length }
     {
         let place = cause.place();
         let (first_operator, later_operator) = signs_of(cause);
@@ -78,7 +79,7 @@ impl Answer {
             nanos: 0,
             place: place.unwrap_or(0),
             found_length,
-            cause: number_of(cause),
+            cause: cause_number(cause),
             expected: expected_bits(cause),
             has_place: u8::from(place.is_some()),
             first_operator,
@@ -86,8 +87,8 @@ impl Answer {
         }
     }
 
-    /// The cause in this answer, in which the fields that the cause does not use have no effect; `None` if the number is
-    /// no cause's, or an operator that counts is none.
+    /// The cause in this answer, in which the fields that the cause does not use have no effect; `None` if the number
+    /// is no cause's, or an operator that counts is none.
     pub(crate) fn cause(self) -> Option<Cause>
         ensures { result ≡ cause_told self }
     {
@@ -123,8 +124,8 @@ impl Answer {
 
     /// The fault of its two operators, if both are operators.
     fn mixed_fault(self) -> Option<Cause>
-        ensures { result ≡ mixed_told (operator_told self.first_operator)
-            (operator_told self.later_operator) }
+        ensures { result ≡ mixed_told (operator_of self.first_operator)
+            (operator_of self.later_operator) }
     {
         let first = operator_of(self.first_operator)?;
         let later = operator_of(self.later_operator)?;
@@ -152,8 +153,8 @@ fn found_length(fault: &Fault<'_>, options: Options) -> usize
 }
 
 /// The number of a cause.
-pub(crate) fn number_of(cause: Cause) -> u32
-    ensures { result ≡ number_of cause }
+pub(crate) fn cause_number(cause: Cause) -> u32
+    ensures { result ≡ cause_number cause }
 {
     match cause {
         Cause::Empty => EMPTY,
@@ -205,14 +206,14 @@ fn signs_of(cause: Cause) -> (u8, u8)
     ensures later { result.1 ≡ later_sign cause }
 {
     match cause {
-        Cause::Mixed { first, later } => (sign_of(first), sign_of(later)),
+        Cause::Mixed { first, later } => (sign_code(first), sign_code(later)),
         _ => (0, 0),
     }
 }
 
 /// The character of an operator.
-fn sign_of(operator: CondUnit) -> u8
-    ensures { result ≡ sign_of operator }
+fn sign_code(operator: CondUnit) -> u8
+    ensures { result ≡ sign_code operator }
 {
     match operator {
         CondUnit::Plus => b'+',
@@ -222,7 +223,7 @@ fn sign_of(operator: CondUnit) -> u8
 
 /// The operator of a character, if it is one.
 fn operator_of(sign: u8) -> Option<CondUnit>
-    ensures { result ≡ operator_told sign }
+    ensures { result ≡ operator_of sign }
 {
     match sign {
         b'+' => Some(CondUnit::Plus),

@@ -1,11 +1,11 @@
 //! Columns: many texts in one run of bytes, read by one call.
 ghost use Rattle.std.specs.Prelude.{◌≡◌, ◌==◌, take, drop, count_by};
 ghost use Rattle.duration_str.specs.Results.{ParsesText};
-ghost use Rattle.duration_str_c.specs.Told.{options_of};
+ghost use Rattle.duration_str_c.specs.Told.{options_of_bits};
 ghost use Rattle.duration_str_c.specs.Columns.{column_length, IsPartTold, IsColumnTold};
 
-use crate::answer::number_of;
-use crate::{options_of, text_of};
+use crate::answer::cause_number;
+use crate::{options_of_bits, text_of};
 use duration_str::{Cause, Fault, parse, parse_with};
 use std::time::Duration;
 
@@ -26,7 +26,7 @@ pub extern "C" fn duration_str_parse_column(
     nanos: &mut [u64],
     causes: &mut [u32],
 ) -> usize
-    ensures told { IsColumnTold (options_of options) bytes.now offsets.now
+    ensures told { IsColumnTold (options_of_bits options) bytes.now offsets.now
         (column_length offsets.now nanos.old causes.old) nanos.new causes.new }
     ensures read { result ≡ count_by (λ cause. cause == 0)
         (take (column_length offsets.now nanos.old causes.old) causes.new) }
@@ -51,17 +51,17 @@ pub extern "C" fn duration_str_parse_column(
 
 /// The value and the cause of the text between two offsets.
 fn told_between(bytes: &[u8], start: usize, end: usize, options: u32) -> (u64, u32)
-    ensures { IsPartTold (options_of options) bytes.now start end result.0 result.1 }
+    ensures { IsPartTold (options_of_bits options) bytes.now start end result.0 result.1 }
 {
     if start > end || end > bytes.len() {
         return (0, BAD_OFFSETS);
     }
     let Some(text) = text_of(&bytes[start..end]) else {
-        return (0, number_of(Cause::NotText { optional: false }));
+        return (0, cause_number(Cause::NotText { optional: false }));
     };
     match read(text, options) {
         Ok(length) => (length.as_nanos() as u64, 0),
-        Err(fault) => (0, number_of(fault.cause())),
+        Err(fault) => (0, cause_number(fault.cause())),
     }
 }
 
@@ -69,11 +69,11 @@ fn told_between(bytes: &[u8], start: usize, end: usize, options: u32) -> (u64, u
 /// instructions than `parse_with`.
 #[inline(always)]
 fn read(text: &str, options: u32) -> Result<Duration, Fault<'_>>
-    ensures { ParsesText (options_of options) text.now result }
+    ensures { ParsesText (options_of_bits options) text.now result }
 {
     if options == 0 {
         parse(text)
     } else {
-        parse_with(text, options_of(options))
+        parse_with(text, options_of_bits(options))
     }
 }

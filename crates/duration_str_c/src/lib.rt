@@ -12,7 +12,7 @@ ghost use Rattle.duration_str.specs.Reading.{IsRead};
 ghost use Rattle.duration_str.specs.Printing.{IsPrinted};
 ghost use Rattle.duration_str.specs.declared.ext.TheConstants.{MAX_PRINTED_LEN};
 ghost use Rattle.duration_str.specs.declared.fault.Cause.TheVariants.{NotText};
-ghost use Rattle.duration_str_c.specs.Told.{options_of, refusal_told, IsTold};
+ghost use Rattle.duration_str_c.specs.Told.{options_of_bits, refusal_answer, IsTold};
 
 pub mod answer;
 pub mod column;
@@ -30,9 +30,9 @@ const LOWERCASE: u32 = 2;
 const CN_UNIT: u32 = 4;
 
 /// The options whose bits are set. Other bits have no effect.
-pub(crate) fn options_of(bits: u32) -> Options
-    ensures options { result ≡ options_of bits }
-    ensures three_bits { result ≡ options_of (bit_and bits 7) }
+pub(crate) fn options_of_bits(bits: u32) -> Options
+    ensures options { result ≡ options_of_bits bits }
+    ensures three_bits { result ≡ options_of_bits (bit_and bits 7) }
 {
     Options {
         no_calc: bits & NO_CALC != 0,
@@ -85,8 +85,8 @@ pub extern "C" fn duration_str_format(secs: u64, nanos: u32, buffer: &mut [u8; 6
 /// Reads a text under the options whose bits are set. Returns true if it is read.
 #[unsafe(no_mangle)]
 pub extern "C" fn duration_str_parse_with(text: &[u8], options: u32, answer: &mut Answer) -> bool
-    ensures told { IsUtf8 text.now → IsTold (options_of options) text.now answer.new }
-    ensures not_text { ¬ (IsUtf8 text.now) → answer.new ≡ refusal_told (NotText false) 0 }
+    ensures told { IsUtf8 text.now → IsTold (options_of_bits options) text.now answer.new }
+    ensures not_text { ¬ (IsUtf8 text.now) → answer.new ≡ refusal_answer (NotText false) 0 }
     ensures read { result ≡ (answer.new.cause == 0) }
 {
     *answer = told(text, options);
@@ -95,13 +95,13 @@ pub extern "C" fn duration_str_parse_with(text: &[u8], options: u32, answer: &mu
 
 /// The answer for the bytes under the options whose bits are set.
 fn told(bytes: &[u8], options: u32) -> Answer
-    ensures told { IsUtf8 bytes.now → IsTold (options_of options) bytes.now result }
-    ensures not_text { ¬ (IsUtf8 bytes.now) → result ≡ refusal_told (NotText false) 0 }
+    ensures told { IsUtf8 bytes.now → IsTold (options_of_bits options) bytes.now result }
+    ensures not_text { ¬ (IsUtf8 bytes.now) → result ≡ refusal_answer (NotText false) 0 }
 {
     let Some(text) = text_of(bytes) else {
         return Answer::refusal(Cause::NotText { optional: false }, 0);
     };
-    let options = options_of(options);
+    let options = options_of_bits(options);
     match parse_with(text, options) {
         Ok(length) => Answer::value(length.as_nanos() as u64),
         Err(fault) => refused(fault, options),

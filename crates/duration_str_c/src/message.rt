@@ -14,8 +14,8 @@ use duration_str::{Cause, Fault};
 /// Writes the message about a refused text to the start of the buffer, and returns its length in bytes. If it is longer
 /// than the buffer, nothing is written.
 ///
-/// The message is only the line if this text cannot have a fault with this cause, or the cause is that the bytes are not
-/// UTF-8; and it is empty if the answer has no cause.
+/// The message is only the line if this text cannot have a fault with this cause, or the cause is that the bytes are
+/// not UTF-8; and it is empty if the answer has no cause.
 #[unsafe(no_mangle)]
 pub extern "C" fn duration_str_message(text: &[u8], answer: &Answer, buffer: &mut [u8]) -> usize
     ensures whole { (cause : Cause) → cause_told answer.now ≡ Some cause

@@ -1,13 +1,13 @@
 //! Moments, and how the value of a text moves them.
 ghost use Rattle.std.specs.Prelude.{◌≡◌, ◌==◌, false, ◌↔◌, pos, ◌+ℤ◌, ◌-ℤ◌, IsUtf8, IsSome, IfSome, IfNone};
 ghost use Rattle.std.specs.Duration.{as_nanos};
-ghost use Rattle.duration_str.specs.Dates.{IsInRange, IsOutOfRange};
+ghost use Rattle.duration_str.specs.Dates.{IsOutOfRange};
 ghost use Rattle.duration_str.specs.declared.fault.Cause.TheVariants.{OutOfRange, NotText};
-ghost use Rattle.duration_str_c.specs.Told.{options_of, refusal_told};
+ghost use Rattle.duration_str_c.specs.Told.{options_of_bits, refusal_answer};
 ghost use Rattle.duration_str_c.specs.Moments.{instant_of, IsMoment, moved, IsMoved};
 
 use crate::answer::{Answer, refused};
-use crate::{options_of, text_of};
+use crate::{options_of_bits, text_of};
 use duration_str::{Cause, parse_with};
 use jiff::Timestamp;
 use std::time::Duration;
@@ -81,12 +81,12 @@ fn moved(from: Timestamp, length: Duration, direction: Direction) -> Option<Mome
 /// Moves the moment by the value of a text, and returns the answer.
 fn told_of_move(text: &[u8], options: u32, moment: &mut Moment, direction: Direction) -> Answer
     ensures told { IsMoment moment.old → IsUtf8 text.now
-        → IsMoved (moved direction (instant_of moment.old)) (options_of options) text.now
+        → IsMoved (moved direction (instant_of moment.old)) (options_of_bits options) text.now
         moment.old moment.new result }
     ensures not_text { IsMoment moment.old → ¬ (IsUtf8 text.now)
-        → (result ≡ refusal_told (NotText false) 0) × (moment.new ≡ moment.old) }
+        → (result ≡ refusal_answer (NotText false) 0) × (moment.new ≡ moment.old) }
     ensures no_moment { ¬ (IsMoment moment.old)
-        → (result ≡ refusal_told OutOfRange 0) × (moment.new ≡ moment.old) }
+        → (result ≡ refusal_answer OutOfRange 0) × (moment.new ≡ moment.old) }
 {
     let Some(from) = timestamp_of(*moment) else {
         return Answer::refusal(Cause::OutOfRange, 0);
@@ -94,7 +94,7 @@ fn told_of_move(text: &[u8], options: u32, moment: &mut Moment, direction: Direc
     let Some(text) = text_of(text) else {
         return Answer::refusal(Cause::NotText { optional: false }, 0);
     };
-    let options = options_of(options);
+    let options = options_of_bits(options);
     let length = match parse_with(text, options) {
         Ok(length) => length,
         Err(fault) => return refused(fault, options),
@@ -116,12 +116,12 @@ pub extern "C" fn duration_str_after(
     answer: &mut Answer,
 ) -> bool
     ensures told { IsMoment moment.old → IsUtf8 text.now
-        → IsMoved (λ nanos. instant_of moment.old +ℤ pos nanos) (options_of options) text.now
+        → IsMoved (λ nanos. instant_of moment.old +ℤ pos nanos) (options_of_bits options) text.now
         moment.old moment.new answer.new }
     ensures not_text { IsMoment moment.old → ¬ (IsUtf8 text.now)
-        → (answer.new ≡ refusal_told (NotText false) 0) × (moment.new ≡ moment.old) }
+        → (answer.new ≡ refusal_answer (NotText false) 0) × (moment.new ≡ moment.old) }
     ensures no_moment { ¬ (IsMoment moment.old)
-        → (answer.new ≡ refusal_told OutOfRange 0) × (moment.new ≡ moment.old) }
+        → (answer.new ≡ refusal_answer OutOfRange 0) × (moment.new ≡ moment.old) }
     ensures moved { result ≡ (answer.new.cause == 0) }
 {
     *answer = told_of_move(text, options, moment, Direction::After);
@@ -137,12 +137,12 @@ pub extern "C" fn duration_str_before(
     answer: &mut Answer,
 ) -> bool
     ensures told { IsMoment moment.old → IsUtf8 text.now
-        → IsMoved (λ nanos. instant_of moment.old -ℤ pos nanos) (options_of options) text.now
+        → IsMoved (λ nanos. instant_of moment.old -ℤ pos nanos) (options_of_bits options) text.now
         moment.old moment.new answer.new }
     ensures not_text { IsMoment moment.old → ¬ (IsUtf8 text.now)
-        → (answer.new ≡ refusal_told (NotText false) 0) × (moment.new ≡ moment.old) }
+        → (answer.new ≡ refusal_answer (NotText false) 0) × (moment.new ≡ moment.old) }
     ensures no_moment { ¬ (IsMoment moment.old)
-        → (answer.new ≡ refusal_told OutOfRange 0) × (moment.new ≡ moment.old) }
+        → (answer.new ≡ refusal_answer OutOfRange 0) × (moment.new ≡ moment.old) }
     ensures moved { result ≡ (answer.new.cause == 0) }
 {
     *answer = told_of_move(text, options, moment, Direction::Before);

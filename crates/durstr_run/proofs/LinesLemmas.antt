@@ -8,22 +8,22 @@ use Rattle.std.proofs.lemmas.List.Sums.{position_or_len_is, fails_before_first}
 use Rattle.std.proofs.lemmas.List.Splits.{slice_split_none, slice_split_first, length-slice_split}
 use Rattle.memchr.specs.Find.{NoneBefore, Passes, TakesFirst, places}
 use Rattle.memchr.proofs.lemmas.PlaceLemmas.{places_between-first, places_between-none}
-use Rattle.durstr_run.specs.Lines.{lines_of, less_empty_last}
+use Rattle.durstr_run.specs.Lines.{lines_of, without_empty_last}
 
 abbrev is_line_feed : ℕ → Bool
 is_line_feed b = b == 10
 
 -- A part that is not the last one is kept.
-less_empty_last-cons : (part : List ℕ) (parts : List (List ℕ)) → 0 < length parts
-    → less_empty_last (part ∷ parts) ≡ part ∷ less_empty_last parts
-less_empty_last-cons part [] h = absurd (omega arith)
-less_empty_last-cons [] (next ∷ parts) h = refl
-less_empty_last-cons (b ∷ part) (next ∷ parts) h = refl
+without_empty_last-cons : (part : List ℕ) (parts : List (List ℕ)) → 0 < length parts
+    → without_empty_last (part ∷ parts) ≡ part ∷ without_empty_last parts
+without_empty_last-cons part [] h = absurd (omega arith)
+without_empty_last-cons [] (next ∷ parts) h = refl
+without_empty_last-cons (b ∷ part) (next ∷ parts) h = refl
 
 -- A single part is kept if it is not empty.
-less_empty_last-one : (part : List ℕ) → 0 < length part → less_empty_last (part ∷ []) ≡ part ∷ []
-less_empty_last-one [] h = absurd (omega arith)
-less_empty_last-one (b ∷ part) h = refl
+without_empty_last-one : (part : List ℕ) → 0 < length part → without_empty_last (part ∷ []) ≡ part ∷ []
+without_empty_last-one [] h = absurd (omega arith)
+without_empty_last-one (b ∷ part) h = refl
 
 -- The first line ends at the first line feed.
 pub lines_of-Some : (bytes : List ℕ) (i : ℕ) → position is_line_feed bytes ≡ Some i
@@ -38,15 +38,15 @@ lines_of-Some bytes i e =
     slice_split_first is_line_feed bytes 0 (omega (arith, found.0, at)) in
     let known : slice_split is_line_feed bytes ≡ take i bytes ∷ slice_split is_line_feed (drop (i + 1) bytes) =
     rw at at split in
-    ap less_empty_last known
-    ∙ less_empty_last-cons (take i bytes) (slice_split is_line_feed (drop (i + 1) bytes))
+    ap without_empty_last known
+    ∙ without_empty_last-cons (take i bytes) (slice_split is_line_feed (drop (i + 1) bytes))
     (omega (arith, length-slice_split is_line_feed (drop (i + 1) bytes)))
 
 -- Without a line feed, all bytes are one line.
 pub lines_of-None : (bytes : List ℕ) → 0 < length bytes → All (λ b. is_line_feed b ≡ false) bytes
     → lines_of bytes ≡ bytes ∷ lines_of []
 unfolding lines_of
-lines_of-None bytes h e = ap less_empty_last (slice_split_none is_line_feed bytes e) ∙ less_empty_last-one bytes h
+lines_of-None bytes h e = ap without_empty_last (slice_split_none is_line_feed bytes e) ∙ without_empty_last-one bytes h
 
 -- What is known of the places of line feeds where the first one is at this offset, or where there is none.
 abbrev FirstPlace : List ℕ → Option ℕ → Type 0

@@ -13,9 +13,9 @@ status_of (Err faults.TooLong) = 2
 status_of (Err faults.Memory) = 3
 
 -- the line on standard error; empty if there is none
-abbrev pub line_of : Result Bool RunFault → List ℕ
-line_of (Ok accepted) = []
-line_of (Err faults.Read) = codes "durstr: read failed"
-line_of (Err faults.Write) = codes "durstr: write failed"
-line_of (Err faults.TooLong) = codes "durstr: input too long"
-line_of (Err faults.Memory) = codes "durstr: out of memory"
+abbrev pub error_line : Result Bool RunFault → List ℕ
+error_line (Ok accepted) = []
+error_line (Err faults.Read) = codes "durstr: read failed"
+error_line (Err faults.Write) = codes "durstr: write failed"
+error_line (Err faults.TooLong) = codes "durstr: input too long"
+error_line (Err faults.Memory) = codes "durstr: out of memory"

@@ -23,7 +23,8 @@ abbrev pub WritesFront : Option (List ℕ) → Option (List ℕ) → List ℕ �
 WritesFront before after bytes = (n : ℕ) × Appends before after (take n bytes)
 
 -- All was read, and its output was written; the flag says whether all lines are accepted.
-abbrev pub WritesOutput : Options → Bool → Option (List ℕ) → Option (List ℕ) → Option (List ℕ) → Option (List ℕ) → Type 0
+abbrev pub WritesOutput : Options → Bool → Option (List ℕ) → Option (List ℕ) → Option (List ℕ) → Option (List ℕ)
+    → Type 0
 WritesOutput o accepted source rest before after =
     (input out : List ℕ) × ReadsAll source rest input × IsOutput o input out accepted × Appends before after out
 
@@ -33,5 +34,6 @@ abbrev pub Leaves : Options → RunFault → Option (List ℕ) → Option (List 
 Leaves o Read source rest before after = Keeps before after
 Leaves o TooLong source rest before after = Keeps before after × ReadsTooMuch source rest
 Leaves o Write source rest before after =
-    (input out : List ℕ) × (accepted : Bool) × ReadsAll source rest input × IsOutput o input out accepted × WritesFront before after out
+    (input out : List ℕ) × (accepted : Bool) × ReadsAll source rest input
+    × IsOutput o input out accepted × WritesFront before after out
 Leaves o Memory source rest before after = Keeps before after

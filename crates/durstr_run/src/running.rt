@@ -22,6 +22,11 @@ use std::io::{Read, Write};
 /// `Ok(true)`: every line was accepted. `Ok(false)`: some line was not. In both cases everything was written and
 /// flushed. The input may have 1,048,576 bytes. After `Read`, `TooLong` and `Memory` nothing was written, after `Write`
 /// a beginning of the output.
+///
+/// ```text
+/// run(alloc, &mut "3m31".as_bytes(), &mut output, Options::off()) // Ok(true)
+/// // `output` has the line `211000000000 3min 31s`
+/// ```
 pub fn run<A: Allocator, R: Read, W: Write>(
     alloc: A,
     reader: &mut R,

@@ -1,12 +1,17 @@
 //! The words of the command line, and how the program ends.
 ghost use Rattle.std.specs.Prelude.{◌≡◌, ◌≢◌, ◌↔◌, true, Some, IsNone, codes};
-ghost use Rattle.durstr_run.specs.Ending.{status_of, line_of};
+ghost use Rattle.durstr_run.specs.Ending.{status_of, error_line};
 
 use crate::fault::RunFault;
 use duration_str::Options;
 
 /// The options with the field of this name on and the others unchanged; `None` if the word is not `no_calc`,
 /// `lowercase` or `cn_unit`.
+///
+/// ```text
+/// with_word(Options::off(), "no_calc") // Some(Options { no_calc: true, ..Options::off() })
+/// with_word(Options::off(), "nocalc")  // None
+/// ```
 pub fn with_word(options: Options, word: &str) -> Option<Options>
     ensures no_calc { word.now ≡ codes "no_calc"
         → result ≡ Some (record options { no_calc = true }) }
@@ -35,9 +40,14 @@ pub fn with_word(options: Options, word: &str) -> Option<Options>
 }
 
 /// The exit status for this result of `run`, and the line for standard error, which is empty if there is none.
+///
+/// ```text
+/// ending(Ok(false))             // (1, "")
+/// ending(Err(RunFault::Memory)) // (3, "durstr: out of memory")
+/// ```
 pub fn ending(answer: Result<bool, RunFault>) -> (u8, &'static str)
     ensures status { result.0 ≡ status_of answer }
-    ensures line { result.1.now ≡ line_of answer }
+    ensures line { result.1.now ≡ error_line answer }
 {
     match answer {
         Ok(true) => (0, ""),

@@ -8,6 +8,6 @@ pub use Rattle.std.proofs.lemmas.List.{length-take, reverse-reverse, take-map, t
 pub use Rattle.std.proofs.lemmas.List.Sorted.{IsNonDecreasingBy-from_sort_by_key, IsPermutation-sym, IsPermutation-trans, sum_by-IsPermutation}
 pub use Rattle.std.specs.List.Sorted.{IsNonDecreasingBy, IsPermutation}
 pub use Rattle.uses.specs.Common.{Cause, Duration, Expected, Fault, Options, Plus, Star, Syntax}
-pub use Rattle.uses.specs.Line.{IsReadAsBefore, line_of}
+pub use Rattle.uses.specs.Line.{IsReadAsBefore, with_line_feed}
 pub use Rattle.uses.specs.Product.{MultipliesInEitherOrder, nanos_in, term_of_part}
 pub use Rattle.uses.specs.declared.product.Part.{Part}

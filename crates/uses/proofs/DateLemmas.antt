@@ -4,14 +4,14 @@ use Rattle.std.specs.Int.Signed.{clash_ℤ}
 use Rattle.duration_str.proofs.Common.{off, OneAnswer}
 use Rattle.uses.proofs.Common.{Fault}
 use Rattle.duration_str.specs.Dates.{IsInRange, IsOutOfRange, IsDated}
-use Rattle.uses.specs.Dates.{IsMoved}
+use Rattle.uses.specs.Dates.{MovesTo}
 
 apart : (instant : ℤ) → IsInRange instant → IsOutOfRange instant → ⊥
 apart instant within (inl before) = clash_ℤ before within.0
 apart instant within (inr after) = clash_ℤ after within.1
 
 pub dated_is_moved : OneAnswer → {T : Type 0} (shows : ℤ → T → Type 0) (reached : ℕ → ℤ) (bytes : List ℕ) (result : Result T Fault)
-    → IsDated shows reached bytes result → IsMoved shows reached bytes result
+    → IsDated shows reached bytes result → MovesTo shows reached bytes result
 dated_is_moved law shows reached bytes (Ok value) (m, read, within, shown) = record {
   shown = λ n r in_range. rw (law.one_value off (chars bytes) n m r read) shown;
   out_of_range = λ n r out. absurd (apart (reached m) within (rw (law.one_value off (chars bytes) n m r read) at out));

@@ -1,11 +1,11 @@
 -- Lines and their texts are spelled by the same sentences.
 use Rattle.std.proofs.Common.{append-nil, ◌≡◌, ℕ, ◌+◌, List, [], ◌∷◌, IsUtf8, refl, ap, ◌∙◌, inl, inr}
 use Rattle.duration_str.proofs.Common.{cases_Bool, chars-append, width, Spells, IsSentenceOf, goes_on, tokens_from, lexemes_of, OneSentence, BlanksFree}
-use Rattle.uses.proofs.Common.{true≢false, Options, run-not_blank, line_of, IsReadAsBefore}
+use Rattle.uses.proofs.Common.{true≢false, Options, run-not_blank, with_line_feed, IsReadAsBefore}
 use Rattle.std.specs.Str.{chars}
 use Rattle.duration_str.proofs.LawProofs.SumOfTexts.{spells_both}
 
-chars_line : (bytes : List ℕ) → IsUtf8 bytes → chars (line_of bytes) ≡ line_of (chars bytes)
+chars_line : (bytes : List ℕ) → IsUtf8 bytes → chars (with_line_feed bytes) ≡ with_line_feed (chars bytes)
 unfolding chars
 chars_line bytes utf8 = chars-append bytes (10 ∷ []) utf8
 
@@ -19,7 +19,7 @@ read_as_before free old new spells = record {
 
 -- ---- A line feed more
 
-pub line_read : BlanksFree → (bytes : List ℕ) → IsUtf8 bytes → IsReadAsBefore (chars bytes) (chars (line_of bytes))
+pub line_read : BlanksFree → (bytes : List ℕ) → IsUtf8 bytes → IsReadAsBefore (chars bytes) (chars (with_line_feed bytes))
 line_read free bytes utf8 =
     rw (chars_line bytes utf8) (read_as_before free (chars bytes) _
     (λ o lexemes s. rw append-nil at (spells_both lexemes [] (chars bytes) (10 ∷ []) s.1 refl)))
@@ -27,7 +27,7 @@ line_read free bytes utf8 =
 -- ---- A line feed less
 
 -- A line has the tokens of its text.
-line_tokens : (o : Options) (at : ℕ) (text : List ℕ) → tokens_from o at (line_of text) ≡ tokens_from o at text
+line_tokens : (o : Options) (at : ℕ) (text : List ℕ) → tokens_from o at (with_line_feed text) ≡ tokens_from o at text
 line_tokens o at [] = refl
 line_tokens o at (c ∷ []) = elim (cases_Bool (goes_on o c (10 ∷ []))) [
   | inl more ↦ absurd (true≢false (run-not_blank o c 10 more))
@@ -36,11 +36,11 @@ line_tokens o at (c ∷ []) = elim (cases_Bool (goes_on o c (10 ∷ []))) [
 line_tokens o at (c ∷ d ∷ text) = rw (line_tokens o (at + width c) (d ∷ text)) refl
 
 spells_text : OneSentence → (o : Options) (lexemes : List (List ℕ)) (text : List ℕ)
-    → IsSentenceOf o lexemes (line_of text) → Spells lexemes text
+    → IsSentenceOf o lexemes (with_line_feed text) → Spells lexemes text
 spells_text law o lexemes text s =
-    (law.tokens o text lexemes s.0).1 ((law.tokens o (line_of text) lexemes s.0).0 s.1 ∙ ap lexemes_of (line_tokens o 0 text))
+    (law.tokens o text lexemes s.0).1 ((law.tokens o (with_line_feed text) lexemes s.0).0 s.1 ∙ ap lexemes_of (line_tokens o 0 text))
 
 pub text_read : OneSentence → BlanksFree → (bytes : List ℕ) → IsUtf8 bytes
-    → IsReadAsBefore (chars (line_of bytes)) (chars bytes)
+    → IsReadAsBefore (chars (with_line_feed bytes)) (chars bytes)
 text_read law free bytes utf8 =
     rw (chars_line bytes utf8) (read_as_before free _ (chars bytes) (λ o lexemes s. spells_text law o lexemes (chars bytes) s))

@@ -9,7 +9,7 @@ pub use Rattle.duration_str.specs.Text.{byte_len, is_chinese}
 pub use Rattle.duration_str.specs.Tokenizer.{what_of}
 pub use Rattle.duration_str.specs.Tokens.{IsLexeme}
 pub use Rattle.duration_str.specs.Units.{nanos_of, off, unit_lengths}
-pub use Rattle.duration_str.specs.Value.{AllPlus, Term, terms_of, written_terms}
+pub use Rattle.duration_str.specs.Value.{AllPlus, Term, written_terms}
 pub use Rattle.duration_str.specs.declared.fault.Cause.{Cause}
 pub use Rattle.duration_str.specs.declared.fault.Cause.TheVariants.{NotText, OutOfRange, Overflow, Syntax}
 pub use Rattle.duration_str.specs.declared.fault.Expected.{Expected}

@@ -7,11 +7,11 @@ use Rattle.duration_str.specs.Errors.{IsErrorOf}
 
 -- The value is a text that is read as the duration, or refused for a cause whose error this is; or it is no text, and
 -- the error says so.
-abbrev pub IsAnswered : {A : Type 0} → Data → Result Duration (DError A) → Type 0
-IsAnswered (string text) (Ok d) = IsRead off (chars text) (as_nanos d)
-IsAnswered (string text) (Err error) = (cause : Cause) × IsRefused off (chars text) cause × IsErrorOf cause error
-IsAnswered _ (Ok d) = ⊥
-IsAnswered _ (Err error) = IsErrorOf (NotText false) error
+abbrev pub IsConfigured : {A : Type 0} → Data → Result Duration (DError A) → Type 0
+IsConfigured (string text) (Ok d) = IsRead off (chars text) (as_nanos d)
+IsConfigured (string text) (Err error) = (cause : Cause) × IsRefused off (chars text) cause × IsErrorOf cause error
+IsConfigured _ (Ok d) = ⊥
+IsConfigured _ (Err error) = IsErrorOf (NotText false) error
 
 -- The value is a text that overflows.
 pub record Overflows (value : Data) : Type 0 where

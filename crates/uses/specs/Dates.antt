@@ -8,7 +8,10 @@ IsFaultOf bytes cause fault = (fault.text.now ≡ bytes) × (fault.cause ≡ cau
 
 -- If the text is read, and its value reaches an instant in range, the result shows it; if the instant is out of range,
 -- the result says so; if the text is refused, the result is its refusal.
-pub record IsMoved {T : Type 0} (shows : ℤ → T → Type 0) (reached : ℕ → ℤ) (bytes : List ℕ) (result : Result T Fault) : Type 0 where
-  pub shown : (nanos : ℕ) → IsRead off (chars bytes) nanos → IsInRange (reached nanos) → IsOkAnd result (shows (reached nanos))
-  pub out_of_range : (nanos : ℕ) → IsRead off (chars bytes) nanos → IsOutOfRange (reached nanos) → IsErrAnd result (IsFaultOf bytes OutOfRange)
+pub record MovesTo {T : Type 0} (shows : ℤ → T → Type 0) (reached : ℕ → ℤ) (bytes : List ℕ)
+    (result : Result T Fault) : Type 0 where
+  pub shown : (nanos : ℕ) → IsRead off (chars bytes) nanos → IsInRange (reached nanos)
+      → IsOkAnd result (shows (reached nanos))
+  pub out_of_range : (nanos : ℕ) → IsRead off (chars bytes) nanos → IsOutOfRange (reached nanos)
+      → IsErrAnd result (IsFaultOf bytes OutOfRange)
   pub refused : (cause : Cause) → IsRefused off (chars bytes) cause → IsErrAnd result (IsFaultOf bytes cause)

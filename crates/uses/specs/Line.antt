@@ -3,15 +3,17 @@ use Rattle.std.specs.Prelude.{◌≡◌, ◌≢◌, ℕ, List, ◌++◌, ◌⊎�
 use Rattle.uses.specs.Common.{Options, Cause, IsSentenceOf, IsRead, IsRefused}
 
 -- the text and a line feed
-abbrev pub line_of : List ℕ → List ℕ
-line_of text = text ++ codes "\n"
+abbrev pub with_line_feed : List ℕ → List ℕ
+with_line_feed text = text ++ codes "\n"
 
 -- The text is the line without the line feed at its end, or the whole line if it has none.
 abbrev pub IsWithoutLineFeed : List ℕ → List ℕ → Type 0
-IsWithoutLineFeed line text = (line ≡ line_of text) ⊎ ((text ≡ line) × ((front : List ℕ) → line ≢ line_of front))
+IsWithoutLineFeed line text =
+    (line ≡ with_line_feed text) ⊎ ((text ≡ line) × ((front : List ℕ) → line ≢ with_line_feed front))
 
 -- Under every choice of options the new text has the value of the old one, or, if the old one is an expression, is
 -- refused for its cause.
 pub record IsReadAsBefore (old new : List ℕ) : Type 0 where
   pub value : (o : Options) (nanos : ℕ) → IsRead o old nanos → IsRead o new nanos
-  pub cause : (o : Options) (lexemes : List (List ℕ)) (cause : Cause) → IsSentenceOf o lexemes old → IsRefused o old cause → IsRefused o new cause
+  pub cause : (o : Options) (lexemes : List (List ℕ)) (cause : Cause) → IsSentenceOf o lexemes old
+      → IsRefused o old cause → IsRefused o new cause

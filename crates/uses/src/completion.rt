@@ -17,9 +17,9 @@ pub struct Completion {
     pub expected: Expected,
 }
 
-/// What a person may type at the place of a syntax fault; `None` for a text without one. With a blank and a number, a
-/// unit's name or an operator of the expected kinds put there, the text up to it begins an expression, and with nothing
-/// else; and if the end is expected, the text up to the place is an expression already.
+/// What a person may type at the place of a syntax fault; `None` for a text without one. If a blank and a number, a
+/// unit's name or an operator of an expected kind follow the text before the place, they begin an expression; with any
+/// other token they do not. If the end is expected, the text before the place is an expression already.
 ///
 /// ```text
 /// complete("1m 3-5", Options::off()) // after `1m 3`: a unit, an operator or nothing more
@@ -58,8 +58,8 @@ pub fn is_unfinished(text: &str, o: Options) -> bool
     }
 }
 
-/// Whether a number, a word or a sign is of an expected kind, so that an editor may offer it. A word is if it names a
-/// unit under these options.
+/// Whether a number, a word or a sign is of an expected kind, so that an editor may offer it. A word is
+/// only if it names a unit under these options.
 ///
 /// ```text
 /// // after `1m 3`, in `1m 3-5`

@@ -1,7 +1,7 @@
 //! A duration in a configuration, whose refusal is handed on as an error.
 ghost use Rattle.std.specs.Prelude.{IfOk, IsOk};
 ghost use Rattle.serde_json.specs.View.{view};
-ghost use Rattle.uses.specs.Configuration.{IsAnswered, Overflows};
+ghost use Rattle.uses.specs.Configuration.{IsConfigured, Overflows};
 
 use duration_str::laws::one_sentence;
 use duration_str::{DError, deserialize_duration};
@@ -15,7 +15,7 @@ pub fn configured<A: Allocator>(
     value: &Value,
     alloc: A,
 ) -> Result<Result<Duration, DError<A>>, AllocError>
-    ensures answer { IfOk result (IsAnswered (view value.now)) }
+    ensures answer { IfOk result (IsConfigured (view value.now)) }
     ensures overflow { Overflows (view value.now) → IsOk result }
 {
     one_sentence();

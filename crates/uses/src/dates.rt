@@ -1,9 +1,9 @@
-//! When what is kept for some time is deleted, and when what is delayed is due.
+//! When kept files are deleted, and when delayed jobs are due.
 #![tactic(auto, using(crate::proofs::DateLemmas::dated_is_moved))]
 
 ghost use Rattle.std.specs.Prelude.{pos, ◌+ℤ◌, ◌-ℤ◌};
 ghost use Rattle.uses.specs.Common.{IsCivil, IsCivilDay};
-ghost use Rattle.uses.specs.Dates.{IsMoved};
+ghost use Rattle.uses.specs.Dates.{MovesTo};
 
 use duration_str::laws::one_sentence;
 use duration_str::{
@@ -14,7 +14,7 @@ use jiff::civil::{Date, DateTime};
 
 /// The date and time before which files are deleted, if they are kept this long.
 pub fn cut_off(now: Timestamp, kept: &str) -> Result<DateTime, Fault<'_>>
-    ensures { IsMoved IsCivil (λ nanos. now.nanosecond -ℤ pos nanos) kept.now result }
+    ensures { MovesTo IsCivil (λ nanos. now.nanosecond -ℤ pos nanos) kept.now result }
 {
     one_sentence();
     before_naive_date_time(now, kept)
@@ -22,7 +22,7 @@ pub fn cut_off(now: Timestamp, kept: &str) -> Result<DateTime, Fault<'_>>
 
 /// The day of `cut_off`.
 pub fn cut_off_day(now: Timestamp, kept: &str) -> Result<Date, Fault<'_>>
-    ensures { IsMoved IsCivilDay (λ nanos. now.nanosecond -ℤ pos nanos) kept.now result }
+    ensures { MovesTo IsCivilDay (λ nanos. now.nanosecond -ℤ pos nanos) kept.now result }
 {
     one_sentence();
     before_naive_date(now, kept)
@@ -30,7 +30,7 @@ pub fn cut_off_day(now: Timestamp, kept: &str) -> Result<Date, Fault<'_>>
 
 /// The date and time at which a job is due, if it is delayed this long.
 pub fn due(now: Timestamp, delay: &str) -> Result<DateTime, Fault<'_>>
-    ensures { IsMoved IsCivil (λ nanos. now.nanosecond +ℤ pos nanos) delay.now result }
+    ensures { MovesTo IsCivil (λ nanos. now.nanosecond +ℤ pos nanos) delay.now result }
 {
     one_sentence();
     after_naive_date_time(now, delay)
@@ -38,7 +38,7 @@ pub fn due(now: Timestamp, delay: &str) -> Result<DateTime, Fault<'_>>
 
 /// The day of `due`.
 pub fn due_day(now: Timestamp, delay: &str) -> Result<Date, Fault<'_>>
-    ensures { IsMoved IsCivilDay (λ nanos. now.nanosecond +ℤ pos nanos) delay.now result }
+    ensures { MovesTo IsCivilDay (λ nanos. now.nanosecond +ℤ pos nanos) delay.now result }
 {
     one_sentence();
     after_naive_date(now, delay)

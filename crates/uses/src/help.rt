@@ -30,7 +30,7 @@ pub(crate) const CN_UNIT: Options = Options {
     ..OFF
 };
 
-/// After a number of one digit stands no unit.
+/// The fault of a number of one digit and a word that names no unit.
 const NO_UNIT: Cause = Cause::Syntax {
     place: 1,
     expected: Expected {

@@ -1,4 +1,4 @@
-//! Callers of `duration_str`. They rely on its contracts and its laws, and not on how it works.
+//! Callers of `duration_str`. They rely on its public contracts and its laws, and on no private contract.
 #![tactic(auto)]
 
 pub mod cache;

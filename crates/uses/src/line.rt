@@ -3,7 +3,7 @@
 
 ghost use Rattle.uses.specs.Common.{chars};
 ghost use Rattle.duration_str.specs.Buffers.{IsInFront};
-ghost use Rattle.uses.specs.Line.{IsWithoutLineFeed, line_of, IsReadAsBefore};
+ghost use Rattle.uses.specs.Line.{IsWithoutLineFeed, with_line_feed, IsReadAsBefore};
 
 use duration_str::laws::{blanks_free, one_sentence};
 
@@ -32,8 +32,8 @@ pub fn without_line_feed(line: &str) -> &str
 /// write_line("1m 30s", &mut buffer) // Some(7): "1m 30s\n"
 /// ```
 pub fn write_line(text: &str, buffer: &mut [u8]) -> Option<usize>
-    ensures bytes { IsInFront (line_of text.now) result buffer.new }
-    ensures read { IsReadAsBefore (chars text.now) (chars (line_of text.now)) }
+    ensures bytes { IsInFront (with_line_feed text.now) result buffer.new }
+    ensures read { IsReadAsBefore (chars text.now) (chars (with_line_feed text.now)) }
 {
     blanks_free();
     let end = text.len();

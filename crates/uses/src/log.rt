@@ -4,8 +4,8 @@ ghost use Rattle.duration_str.specs.FaultText.{EndsInsideLine, fault_text};
 
 use duration_str::Fault;
 
-/// The message of a fault and one line feed, in the caller's buffer; `None` if the buffer is too short. So an entry ends
-/// where its last line does, whatever the text was.
+/// The message of a fault and one line feed, in the caller's buffer; `None` if the buffer is too short. No message ends
+/// with a line feed, so each entry ends with exactly one.
 ///
 /// ```text
 /// log_entry(&fault, &mut buffer) // Some("overflow error\n")

@@ -1,7 +1,7 @@
 //! Expressions that mean the same under several choices of options.
 #![tactic(auto, using(crate::proofs::PortableLemmas::unaffected_has_same_value, crate::proofs::PortableLemmas::unaffected_has_same_cause))]
 
-ghost use Rattle.std.specs.Prelude.{◌≡◌, ℕ, IsTrue, chars};
+ghost use Rattle.std.specs.Prelude.{◌≡◌, IsTrue, chars};
 ghost use Rattle.uses.specs.Common.{list_all, is_chinese};
 ghost use Rattle.uses.specs.Portable.{is_unaffected, HasSameValue, HasSameCause};
 

@@ -10,8 +10,8 @@ use duration_str::laws::{older_texts, one_sentence};
 use duration_str::{Fault, Options, TimeUnit, Tokens, What, parse_with};
 use std::time::Duration;
 
-/// The duration that a text is read as that was stored before the quarter was a unit. What an older version accepted is
-/// accepted, with the same value, and what its evaluation refused is refused for the same cause.
+/// The duration of a text that was stored before the quarter became a unit. What an older version accepted is accepted,
+/// with the same value, and what its evaluation refused is refused for the same cause.
 ///
 /// ```text
 /// stored_duration("1y 2mon", Options::off()) // 425 days, as before

@@ -9,8 +9,8 @@ use core::time::Duration;
 
 /// The duration that a text means with all options off.
 ///
-/// It returns what `parse_with` returns for `Options::off()`. Terms such as `3m`, `29ms` or `10` (no unit means seconds)
-/// are joined by `+` or by `*`; an operator that is left out is a plus. The value is below 2^64 nanoseconds.
+/// It returns what `parse_with` returns for `Options::off()`. Terms such as `3m`, `29ms` or `10` (no unit means
+/// seconds) are joined by `+` or by `*`; an operator that is left out is a plus. The value is below 2^64 nanoseconds.
 ///
 /// ```
 /// use duration_str::parse;
@@ -60,6 +60,10 @@ pub fn parse_with(input: &str, o: Options) -> Result<Duration, Fault<'_>> {
 ///
 /// There are at most as many looks as characters; reading again what was cut off is no look. All characters of an
 /// accepted text are looked at, and at least those before the place of a syntax fault.
+///
+/// ```text
+/// parse_looked("3m 13s", Options::off()) // (Ok(Duration::from_secs(193)), 6)
+/// ```
 pub fn parse_looked(input: &str, o: Options) -> (Result<Duration, Fault<'_>>, u64) {
     read_text(input, o)
 }

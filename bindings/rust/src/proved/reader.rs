@@ -28,7 +28,7 @@ fn read_later(
     operator: CondUnit,
 ) -> Result<u64, Cause> {
     let mut later = Later {
-        total: nothing_of(operator),
+        total: identity_of(operator),
         fault: None,
     };
     loop {
@@ -175,7 +175,7 @@ fn within(value: Option<u64>) -> Result<u64, Cause> {
 
 /// The neutral value: 0 for sums, one second for products.
 #[inline]
-fn nothing_of(operator: CondUnit) -> u64 {
+fn identity_of(operator: CondUnit) -> u64 {
     match operator {
         CondUnit::Plus => 0,
         CondUnit::Star => TimeUnit::Second.nanos(),

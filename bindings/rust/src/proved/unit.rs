@@ -155,10 +155,11 @@ impl TimeUnit {
     /// assert_eq!(TimeUnit::from_word("Minutes", Options::off()), Some(TimeUnit::Minute));
     /// ```
     pub fn from_word(word: &str, o: Options) -> Option<TimeUnit> {
-        match unit_of_short_name(word, o) {
-            Some(unit) => Some(unit),
-            None => named_unit(word, o),
+        let likely = likely_unit(word, o);
+        if likely.is_named(word, o) {
+            return Some(likely);
         }
+        named_unit(word, o)
     }
 
     /// The value in nanoseconds of a term with this number, a nonempty run of digits.
@@ -236,42 +237,23 @@ fn named_unit(word: &str, o: Options) -> Option<TimeUnit> {
     UNITS.iter().copied().find(|unit| unit.is_named(word, o))
 }
 
-/// The unit that a word names, if it is spelled like one of the short names beyond ASCII. After `None` the caller still
-/// compares the word with every name, so a name that is missing here costs time and changes no answer.
-fn unit_of_short_name(word: &str, o: Options) -> Option<TimeUnit> {
-    let (first, second) = one_or_two_chars(word)?;
-    unit_of_letters(first, second, o)
-}
-
-/// The characters of a text that has one or two.
-#[inline(always)]
-fn one_or_two_chars(text: &str) -> Option<(char, Option<char>)> {
-    let mut letters = text.chars();
-    let first = letters.next()?;
-    let second = letters.next();
-    match letters.next() {
-        None => Some((first, second)),
-        Some(_) => None,
+/// The unit that the word most likely names. No contract says which: the caller tests it, so that a wrong guess costs
+/// time and changes no answer.
+fn likely_unit(word: &str, o: Options) -> TimeUnit {
+    if !o.cn_unit {
+        return TimeUnit::MicroSecond;
     }
-}
-
-/// The unit with this name of one or two letters beyond ASCII. `named_unit` finds the names that are missing here.
-#[inline(always)]
-fn unit_of_letters(first: char, second: Option<char>, o: Options) -> Option<TimeUnit> {
-    match (first, second) {
-        ('µ', Some('s')) => Some(TimeUnit::MicroSecond),
-        _ if !o.cn_unit => None,
-        ('年', None) => Some(TimeUnit::Year),
-        ('月', None) => Some(TimeUnit::Month),
-        ('周', None) => Some(TimeUnit::Week),
-        ('日' | '天', None) => Some(TimeUnit::Day),
-        ('时', None) => Some(TimeUnit::Hour),
-        ('分', None) => Some(TimeUnit::Minute),
-        ('秒', None) => Some(TimeUnit::Second),
-        ('毫', Some('秒')) => Some(TimeUnit::MilliSecond),
-        ('微', Some('秒')) => Some(TimeUnit::MicroSecond),
-        ('纳', Some('秒')) => Some(TimeUnit::NanoSecond),
-        _ => None,
+    match word {
+        "年" => TimeUnit::Year,
+        "月" => TimeUnit::Month,
+        "周" => TimeUnit::Week,
+        "日" | "天" => TimeUnit::Day,
+        "时" => TimeUnit::Hour,
+        "分" => TimeUnit::Minute,
+        "秒" => TimeUnit::Second,
+        "毫秒" => TimeUnit::MilliSecond,
+        "纳秒" => TimeUnit::NanoSecond,
+        _ => TimeUnit::MicroSecond,
     }
 }
 

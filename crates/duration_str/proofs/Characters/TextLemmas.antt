@@ -1,6 +1,6 @@
 -- Characters and bytes: widths, and the character at a place.
-use Rattle.std.proofs.Common.{◌≡◌, ℕ, ◌+◌, ◌<◌, ◌≤◌, true, false, Option, None, Some, ◌&&◌, ◌⊎◌, inl, inr, List, [], ◌∷◌, ◌++◌, length, drop, get_or, IsUtf8, subst, arith, leb, encode_utf8, MatchOption, option_to_list, IsCharBoundary, chars}
-use Rattle.duration_str.proofs.Common.{cases_Bool, and_parts, nat_tests, chars-nil, encode_ascii, scalars-chars, IsUtf8-drop, scalar, scalars, width, byte_len, ahead, StandsAt, drop_more, drop_all, nil_from_length, len_utf8_ascii, len_utf8_bounds, IsUtf8-past_char, IsCharBoundary-past_char, chars_past_char, drop_past_char, len_utf8, scalar_cases}
+use Rattle.std.proofs.Common.{◌≡◌, ℕ, ◌+◌, ◌<◌, ◌≤◌, true, false, ◌&&◌, ◌⊎◌, inl, inr, List, [], ◌∷◌, ◌++◌, length, drop, get_or, IsUtf8, subst, arith, leb, encode_utf8, IsCharBoundary, chars}
+use Rattle.duration_str.proofs.Common.{cases_Bool, and_parts, nat_tests, chars-nil, encode_ascii, scalars-chars, IsUtf8-drop, scalar, scalars, width, byte_len, ahead, StandsAt, drop_more, drop_all, len_utf8_ascii, len_utf8_bounds, IsCharBoundary-past_char, chars_past_char, drop_past_char, len_utf8, scalar_cases}
 
 not_surrogate : (c : ℕ) → (c < 55296) ⊎ ((57344 ≤ c) × (c < 1114112)) → (leb 55296 c && leb c 57343) ≡ false
 not_surrogate c h = grind (arith, nat_tests)
@@ -33,22 +33,6 @@ ascii_stands text place b utf8 boundary inside is small =
       stands_char text (drop (place + 1) text) place b ahead_utf8 begins,
       IsCharBoundary-past_char text (drop (place + 1) text) place b boundary.0 ahead_utf8 begins,
     )
-
--- the characters of a text of which one step of an iterator leaves nothing
-last_chars : (X : Type 0) (rest after : List ℕ) (r : Option ℕ) → IsUtf8 rest
-    → MatchOption r ((length rest ≡ 0) × X) (λ c. rest ≡ encode_utf8 c ++ after) → length after ≡ 0
-    → chars rest ≡ option_to_list r
-last_chars X rest after None utf8 step end = rw (nil_from_length rest step.0) chars-nil
-last_chars X rest after (Some c) utf8 step end =
-    rw (chars_past_char rest after c utf8 step, nil_from_length after end, chars-nil)
-
--- the characters of a text that two steps of an iterator pass
-pub one_or_two_chars : (X : Type 0) (text rest after : List ℕ) (first : ℕ) (second : Option ℕ) → IsUtf8 text
-    → text ≡ encode_utf8 first ++ rest → MatchOption second ((length rest ≡ 0) × X) (λ c. rest ≡ encode_utf8 c ++ after)
-    → length after ≡ 0 → chars text ≡ first ∷ option_to_list second
-one_or_two_chars X text rest after first second utf8 begins step end =
-    let after_first = IsUtf8-past_char text rest first utf8 begins in
-    rw (chars_past_char text rest first utf8 begins, last_chars X rest after second after_first step end)
 
 -- the width of a character is not 0
 pub width_some : (c : ℕ) → 1 ≤ width c

@@ -1,6 +1,6 @@
 -- Words and names, as bytes and as characters, and their ASCII capitals.
-use Rattle.std.proofs.Common.{◌≡◌, ◌+◌, ◌/◌, ◌%◌, Option, ℕ, ◌≤◌, Bool, true, ltb, eqb, not, ◌||◌, Some, List, [], ◌∷◌, ◌++◌, map, IsUtf8, refl, ap, ◌∙◌, arith, inl, inr, find, bytes_eq, chars, le-ltb, eqb-true, Bor}
-use Rattle.duration_str.proofs.Common.{ForSome, list_any, list_all, to_ascii_lowercase, bytes_eq-Decides, encodes-chars, encode_ascii, cases_Bool, cases_lt, and_parts, or_cases, nat_tests, same_from_decides, map-append, list_any-append, encodes, Options, TimeUnit, units, row_of, nanos_of, comparison_form, is_named, unit_of_word, AreEncoded, encodes_same}
+use Rattle.std.proofs.Common.{◌≡◌, ◌+◌, ◌/◌, ◌%◌, ℕ, ◌≤◌, Bool, true, ltb, eqb, not, ◌||◌, Some, List, [], ◌∷◌, ◌++◌, map, IsUtf8, refl, ap, ◌∙◌, arith, inl, inr, find, bytes_eq, chars, le-ltb, eqb-true, Bor}
+use Rattle.duration_str.proofs.Common.{list_any, list_all, to_ascii_lowercase, bytes_eq-Decides, encodes-chars, encode_ascii, cases_Bool, cases_lt, and_parts, or_cases, nat_tests, same_from_decides, map-append, list_any-append, encodes, Options, TimeUnit, units, row_of, nanos_of, comparison_form, is_named, unit_of_word, AreEncoded, encodes_same}
 use Rattle.std.proofs.lemmas.Str.Ascii.{lowercase_ascii}
 use lib.Utf8.{encode, next}
 use Rattle.duration_str.proofs.Characters.EachUnit.{each_unit, all_units}
@@ -123,7 +123,7 @@ same_length : (u v : TimeUnit) → nanos_of u ≡ nanos_of v → u ≡ v
 same_length u v e = let found = rw e at (unit_by_length u) in cc (unit_by_length v)
 
 -- A test that all names pass is passed by a word that is one of them.
-named_passes : (test : List ℕ → Bool) (w : List ℕ) (names : List (List ℕ)) → list_all test names ≡ true
+pub named_passes : (test : List ℕ → Bool) (w : List ℕ) (names : List (List ℕ)) → list_all test names ≡ true
     → list_any (bytes_eq w) names ≡ true → test w ≡ true
 named_passes test w [] all h = cc
 named_passes test w (name ∷ names) all h =
@@ -138,14 +138,6 @@ among_all : (o : Options) (w : List ℕ) (u : TimeUnit) → is_named o w u ≡ t
 among_all o w u h = rw (list_any-append (bytes_eq (comparison_form o w)) (row_of u).names) (grind arith)
 
 module _ (o : Options) where
-  -- A word that names a unit under `lowercase` names it without, too.
-  named_in_any_case : (w : List ℕ) (u : TimeUnit) → is_named (record o { lowercase = true }) w u ≡ true
-      → is_named o w u ≡ true
-  named_in_any_case w u h =
-      let named = among_all (record o { lowercase = true }) w u h in
-      let small = all_units (λ u. list_all is_small (all_names u)) refl u in
-      rw (small_form o w (named_passes is_small w (all_names u) small named)) h
-
   one_unit : (w : List ℕ) (u v : TimeUnit) → is_named o w u ≡ true → is_named o w v ≡ true → u ≡ v
   one_unit w u v h k = elim (or_cases (eqb (nanos_of u) (nanos_of v)) (are_apart u v) (all_apart u v)) [
     | inl same ↦ same_length u v (eqb-true (nanos_of u) (nanos_of v) same)
@@ -170,10 +162,3 @@ module _ (o : Options) where
   pub named_unit : (w : List ℕ) (u : TimeUnit) → is_named o w u ≡ true → unit_of_word o w ≡ Some u
   named_unit w u h =
       found_only w units u h (all_units (λ u. list_any (λ v. eqb (nanos_of v) (nanos_of u)) units) refl u)
-
-  -- the unit that a word names with these letters, under `lowercase` too
-  pub unit_of_letters : (w letters : List ℕ) (r : Option TimeUnit) → w ≡ letters
-      → ForSome r (λ u. is_named (record o { lowercase = true }) letters u ≡ true)
-      → ForSome r (λ u. unit_of_word o w ≡ Some u)
-  unit_of_letters w letters r spelled named u is =
-      rw spelled (named_unit letters u (named_in_any_case letters u (named u is)))

@@ -1,6 +1,6 @@
 -- A token is found by cutting from a character before it.
 use Rattle.std.proofs.Common.{◌≡◌, ℕ, ◌+◌, ◌-◌, ◌<◌, ◌≤◌, ◌==◌, inl, inr, true, false, List, [], ◌∷◌, ◌++◌, map, drop, take, Option, Some, None, IsUtf8, arith, refl, sym, ap, ◌∙◌, take-append-drop, length-take-le, drop-drop, add-zero, add_assoc, Bor, option_map, chars, IsCharBoundary}
-use Rattle.duration_str.proofs.Common.{cases_Bool, nat_tests, chars-append, IsUtf8-take, Options, width, is_blank, byte_len, goes_on, tokens_from, tokens_of, token_at, IsSliceOf, Token, join}
+use Rattle.duration_str.proofs.Common.{cases_Bool, nat_tests, chars-append, IsUtf8-take, Options, width, is_blank, byte_len, goes_on, tokens_from, tokens_of, token_at, IsSliceOf, Token, with_first_character}
 use Rattle.duration_str.proofs.Characters.CharacterLemmas.{run-not_blank}
 use Rattle.duration_str.proofs.Characters.TextLemmas.{width_some}
 use Rattle.duration_str.proofs.OnePass.PlaceLemmas.{byte_count}
@@ -15,7 +15,7 @@ elsewhere place at cs tokens before = let no : (at == place) ≡ false = grind (
 
 module _ (o : Options) where
   without_joined : (at place c : ℕ) (text : List ℕ) → at + width c < place → goes_on o c text ≡ true
-      → token_at place (join at c (tokens_from o (at + width c) text))
+      → token_at place (with_first_character at c (tokens_from o (at + width c) text))
       ≡ token_at place (tokens_from o (at + width c) text)
   without_joined at place c [] before e = cc e
   without_joined at place c (d ∷ more) before e =
@@ -50,7 +50,8 @@ abbrev later_token : ℕ → Token → Token
 later_token by token = record { start = by + token.start; characters = token.characters }
 
 join_later : (by at c : ℕ) (tokens : List Token)
-    → join (by + at) c (map (later_token by) tokens) ≡ map (later_token by) (join at c tokens)
+    → with_first_character (by + at) c (map (later_token by) tokens)
+    ≡ map (later_token by) (with_first_character at c tokens)
 join_later by at c [] = refl
 join_later by at c (token ∷ tokens) = refl
 

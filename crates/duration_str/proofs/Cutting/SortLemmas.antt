@@ -1,6 +1,6 @@
 -- Tokens by their first character.
 use Rattle.std.proofs.Common.{◌≡◌, ℕ, Bool, true, false, inl, inr, List, [], ◌∷◌, length, ◌<◌, Option, Some, None, refl, sym, ◌∙◌, add-zero, arith, IsTrue, if◌then◌else◌}
-use Rattle.duration_str.proofs.Common.{cases_Bool, and_parts, list_all, Options, TimeUnit, CondUnit, Sort, Number, Word, is_blank, is_digit, is_unit_letter, operator_of, number_of, IsNumber, unit_of_word, Terminal, number, word, operator_or_other, terminal_of, EndsRun, are_of_one_run, goes_on, IsLexeme, AreTokens, tokens_from, ahead, StandsAt, Between, Passes, Stops, sign_sort, sort_at, sort_of, is_number, IsSign, Token, join}
+use Rattle.duration_str.proofs.Common.{cases_Bool, and_parts, list_all, Options, TimeUnit, CondUnit, Sort, Number, Word, is_blank, is_digit, is_unit_letter, operator_of, number_of, IsNumber, unit_of_word, Terminal, number, word, operator_or_other, terminal_of, EndsRun, are_of_one_run, goes_on, IsLexeme, AreTokens, tokens_from, ahead, StandsAt, Between, Passes, Stops, sign_sort, sort_at, sort_of, is_number, IsSign, Token, with_first_character}
 use Rattle.duration_str.proofs.Characters.CharacterLemmas.{digit-not_letter, letter-not_digit}
 use Rattle.duration_str.proofs.Cutting.TokenLemmas.{tokens_are}
 use Rattle.duration_str.proofs.Cutting.TerminalLemmas.{digits_are_lexeme, letters_are_lexeme, no_run, lexeme_sort}
@@ -114,8 +114,9 @@ first_token o at c text e = elim (cases_Bool (goes_on o c text)) [
   | inr alone ↦ rw (e, alone) (c ∷ [], _, refl, lexeme_sort o c [] (e, refl))
 ]
   where
-    joined : (ps : List Token) → AreTokens o at (c ∷ text) (join at c ps)
-        → (cs : List ℕ) × (rest : List Token) × (join at c ps ≡ record { start = at; characters = cs } ∷ rest)
+    joined : (ps : List Token) → AreTokens o at (c ∷ text) (with_first_character at c ps)
+        → (cs : List ℕ) × (rest : List Token)
+        × (with_first_character at c ps ≡ record { start = at; characters = cs } ∷ rest)
         × (sort_at o c ≡ sort_of (terminal_of o cs))
     joined [] a = (c ∷ [], [], refl, lexeme_sort o c [] a.1.is_lexeme)
     joined (p ∷ ps) a = (c ∷ p.characters, ps, refl, lexeme_sort o c p.characters a.1.is_lexeme)

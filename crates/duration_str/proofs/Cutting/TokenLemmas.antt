@@ -1,6 +1,6 @@
 -- `tokens_from` gives the tokens of a text, and a text has no others.
 use Rattle.std.proofs.Common.{◌≡◌, ℕ, ◌+◌, Bool, true, false, List, [], ◌∷◌, ◌++◌, if◌then◌else◌, arith, refl, ap, sym, ◌∙◌, add_assoc, add-zero, append-nil}
-use Rattle.duration_str.proofs.Common.{and_parts, and_from, list_all, Options, width, is_blank, IsBlank, byte_len, are_of_one_run, goes_on, IsLexeme, EndsRun, AreTokens, tokens_from, Token, join}
+use Rattle.duration_str.proofs.Common.{and_parts, and_from, list_all, Options, width, is_blank, IsBlank, byte_len, are_of_one_run, goes_on, IsLexeme, EndsRun, AreTokens, tokens_from, Token, with_first_character}
 use Rattle.duration_str.proofs.Characters.CharacterLemmas.{same_run, run-not_blank}
 
 pub blanks_no_token : (o : Options) (at : ℕ) (blanks rest : List ℕ) → IsBlank blanks
@@ -78,7 +78,8 @@ module _ (o : Options) where
 
   in_front : (at c : ℕ) (text : List ℕ) (ps : List Token) (blank goes : Bool) → is_blank c ≡ blank
       → goes_on o c text ≡ goes → AreTokens o (at + width c) text ps → AreTokens o at (c ∷ text)
-      (if blank then ps else if goes then join at c ps else record { start = at; characters = c ∷ [] } ∷ ps)
+      (if blank then ps else if goes then with_first_character at c ps
+      else record { start = at; characters = c ∷ [] } ∷ ps)
   in_front at c text [] true goes e g h = and_from _ _ e h
   in_front at c text (p ∷ ps) true goes e g h = (
     h.0,

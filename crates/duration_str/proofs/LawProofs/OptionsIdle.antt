@@ -1,7 +1,8 @@
 -- `lowercase` changes nothing without ASCII capitals, and `cn_unit` nothing without Chinese characters.
-use Rattle.std.proofs.Common.{◌≡◌, ℕ, ◌+◌, ◌<◌, ◌⊎◌, inl, inr, Bool, true, false, not, ◌||◌, List, [], ◌∷◌, map, IsTrue, if◌then◌else◌, bytes_eq, arith, refl, sym, find}
-use Rattle.duration_str.proofs.Common.{false_from_ne_true, bytes_eq-Decides, and_parts, and_from, not-true, nat_tests, is_ascii_uppercase, to_ascii_lowercase, list_all, list_any, Options, TimeUnit, Cause, width, is_unit_letter, is_chinese, row_of, units, comparison_form, unit_of_word, terminal_of, goes_on, tokens_from, tokens_of, terminals_of, IsRead, IsRefused, OptionsIdle, HasNoCapital, HasNoChinese, or_from, IsIdle}
+use Rattle.std.proofs.Common.{◌≡◌, ℕ, ◌+◌, Bool, true, false, not, ◌||◌, List, [], ◌∷◌, map, IsTrue, if◌then◌else◌, bytes_eq, arith, refl, sym, find}
+use Rattle.duration_str.proofs.Common.{false_from_ne_true, and_parts, and_from, not-true, nat_tests, is_ascii_uppercase, to_ascii_lowercase, list_all, list_any, Options, TimeUnit, Cause, width, is_unit_letter, is_chinese, row_of, units, comparison_form, unit_of_word, terminal_of, goes_on, tokens_from, tokens_of, terminals_of, IsRead, IsRefused, OptionsIdle, HasNoCapital, HasNoChinese, IsIdle}
 use Rattle.duration_str.proofs.Characters.EachUnit.{all_units}
+use Rattle.duration_str.proofs.Characters.UnitLemmas.{named_passes}
 use Rattle.duration_str.proofs.Sentences.SpellingLemmas.{tokens_spell, EachPasses, lexemes_pass}
 use Rattle.duration_str.proofs.Sentences.AnswerLemmas.{read_terminals, terminals_read}
 
@@ -106,12 +107,8 @@ has_chinese name = not (list_all (λ c. not (is_chinese c)) name)
 -- A name with a Chinese character is not a word without them.
 other_names : (w : List ℕ) (names : List (List ℕ)) → HasNoChinese w → IsTrue (list_all has_chinese names)
     → list_any (bytes_eq w) names ≡ false
-other_names w [] h k = refl
-other_names w (name ∷ names) h k =
-    let parts = and_parts (has_chinese name) _ k in
-    let other = false_from_ne_true (bytes_eq w name) (λ e.
-    let same = (bytes_eq-Decides w name).0 e in cc (not-true _ parts.0, rw same at h)) in
-    or_from _ _ other (other_names w names h parts.1)
+other_names w names h k = false_from_ne_true (list_any (bytes_eq w) names) (λ e.
+    cc (not-true _ (named_passes has_chinese w names k e), h))
 
 cn_unit_unit : (o : Options) (w : List ℕ) → HasNoChinese w
     → unit_of_word (record o { cn_unit = true }) w ≡ unit_of_word (record o { cn_unit = false }) w

@@ -1,6 +1,6 @@
 -- Combining the later terms one by one gives their faults in the order of the whole list.
 use Rattle.std.proofs.Common.{◌≡◌, ℕ, ◌+◌, ◌*◌, ◌^◌, ◌<◌, Bool, true, false, inl, inr, List, [], ◌∷◌, ◌++◌, Option, Some, None, Result, Ok, IsTrue, if◌then◌else◌, unwrap_or, refl, ap, ◌∙◌, arith, append_assoc, append-nil, ok_or, lt-ltb, le-ltb}
-use Rattle.duration_str.proofs.Common.{cases_Bool, cases_lt, CondUnit, Plus, Star, Cause, Overflow, Mixed, Term, value_of_term, sum_of, later_total, combination, value_of, fits, or_else, unless, term_fault, later_fault, evaluation_fault, is_same_operator, u64_from, term_value, first_fault, running_fault, fault_or, nothing_of, before_operator, at_once, result_err, checked_combination}
+use Rattle.duration_str.proofs.Common.{cases_Bool, cases_lt, CondUnit, Plus, Star, Cause, Overflow, Mixed, Term, value_of_term, sum_of, later_total, combination, value_of, fits, or_else, unless, term_fault, later_fault, evaluation_fault, is_same_operator, u64_from, checked_term, first_fault, running_fault, fault_or, identity_of, before_operator, at_once, result_err, checked_combination}
 use Rattle.std.proofs.lemmas.List.Sums.{fold-append}
 use Rattle.duration_str.proofs.Sentences.FaultLemmas.{no_fault, is_same_operator-true}
 use Rattle.duration_str.proofs.Sentences.SumLemmas.{AreAdded, sum-append, later_none, running_below, value_is_sum}
@@ -45,7 +45,7 @@ before_operator-fault : (op next : CondUnit) (a : Option Cause) (x : ℕ)
 before_operator-fault op next (Some cause) x = refl
 before_operator-fault op next None x = elim (cases_Bool (is_same_operator op next)) [ inl e ↦ rw e | inr e ↦ rw e ]
 
-ruleset in_order = (
+ruleset fault_order = (
   or_else_assoc,
   or_else-none_right,
   fault_or-or_else,
@@ -71,16 +71,16 @@ later_append op before (x ∷ xs) ys = simp (later_append op (before ++ x ∷ []
 abbrev value_by : CondUnit → List Term → Result ℕ Cause
 value_by op later = fault_or (later_fault op [] later) (Ok (later_total op later))
 
--- The value of a term, or its fault, as `term_value` gives it.
+-- The value of a term, or its fault, as `checked_term` gives it.
 pub term_told : (place : Option ℕ) (t : Term)
-    → term_value place (u64_from t.number) t.length ≡ fault_or (term_fault place t) (Ok (value_of_term t))
+    → checked_term place (u64_from t.number) t.length ≡ fault_or (term_fault place t) (Ok (value_of_term t))
 term_told place t = elim (cases_Bool (fits t.number)) [
   | inl e ↦ rw e (elim (cases_Bool (fits (value_of_term t))) [ inl f ↦ rw f | inr f ↦ rw f ])
   | inr e ↦ rw e
 ]
 
 -- A term's value is below 2^64.
-pub value_below : (place n : Option ℕ) (length value : ℕ) → Ok value ≡ term_value place n length → value < 2 ^ 64
+pub value_below : (place n : Option ℕ) (length value : ℕ) → Ok value ≡ checked_term place n length → value < 2 ^ 64
 value_below place None length value e = absurd cc
 value_below place (Some n) length value e = elim (cases_lt (n * length) (2 ^ 64)) [
   | inl below ↦ let is = rw (lt-ltb _ _ below) at e in let same : value ≡ n * length = cc in omega arith
@@ -95,10 +95,10 @@ together-push Star before t = rw fold-append
 -- One more term is combined if its operator is the same.
 one_more : (op : CondUnit) (before : List Term) (t : Term)
     → checked_combination op (before_operator op (value_by op before) t.operator)
-    (term_value None (u64_from t.number) t.length)
+    (checked_term None (u64_from t.number) t.length)
     ≡ value_by op (before ++ t ∷ [])
 one_more op before t =
-    simp (in_order, term_told None t, later_append op [] before (t ∷ []), together-push op before t)
+    simp (fault_order, term_told None t, later_append op [] before (t ∷ []), together-push op before t)
 
 -- ---- All terms, one by one
 
@@ -107,7 +107,7 @@ one_more op before t =
 abbrev pub answer_with : Bool → ℕ → CondUnit → Result ℕ Cause → List Term → Option Cause → Result ℕ Cause
 answer_with no_calc first op later [] syntax = fault_or syntax (checked_combination op (Ok first) later)
 answer_with no_calc first op later (t ∷ terms) syntax =
-    let term = term_value None (u64_from t.number) t.length in
+    let term = checked_term None (u64_from t.number) t.length in
     let next = checked_combination op (before_operator op later t.operator) term in
     fault_or (at_once no_calc (checked_combination op (Ok first) next))
     (answer_with no_calc first op next terms syntax)
@@ -116,7 +116,7 @@ answer_with no_calc first op later (t ∷ terms) syntax =
 abbrev pub answer_after_first : Bool → ℕ → List Term → Option Cause → Result ℕ Cause
 answer_after_first no_calc first [] syntax = fault_or syntax (Ok first)
 answer_after_first no_calc first (t ∷ terms) syntax =
-    answer_with no_calc first t.operator (Ok (nothing_of t.operator)) (t ∷ terms) syntax
+    answer_with no_calc first t.operator (Ok (identity_of t.operator)) (t ∷ terms) syntax
 
 default_left : (first : ℕ) (op : CondUnit) (before later : List Term) (syntax : Option Cause)
     → answer_with false first op (value_by op before) later syntax
@@ -183,7 +183,7 @@ whole_value f u later =
     rw (checked_combination-fault_right u.operator (value_of_term f) fault, ok_or-fits, fault_or-or_else fault)
     (unless_fault fault (λ e. rw (later_value f u later e)))
 
-nothing_is : (op : CondUnit) → nothing_of op ≡ later_total op []
+nothing_is : (op : CondUnit) → identity_of op ≡ later_total op []
 nothing_is Plus = refl
 nothing_is Star = refl
 
@@ -192,7 +192,7 @@ no_calc_after : (f : Term) (later : List Term) (syntax : Option Cause) → AreAd
     ≡ answer_after_first true (value_of_term f) later syntax
 no_calc_after f [] syntax a h = refl
 no_calc_after f (u ∷ later) syntax a h =
-    let start = ap (λ op. answer_with true (value_of_term f) op (Ok (nothing_of op)) (u ∷ later) syntax) a.2.0
+    let start = ap (λ op. answer_with true (value_of_term f) op (Ok (identity_of op)) (u ∷ later) syntax) a.2.0
     ∙ no_calc_left f [] (u ∷ later) syntax h (a.0, a.1, tt) a.2 in
     rw start (unless_fault (running_fault (f ∷ []) (u ∷ later)) (λ e.
     let below = running_below (f ∷ []) (u ∷ later) h e in

@@ -1,6 +1,6 @@
 -- The terms that are left while a text is read, and the answer that they give.
-use Rattle.std.proofs.Common.{◌≡◌, ℕ, ◌^◌, ◌<◌, Bool, true, false, List, [], ◌∷◌, ◌++◌, length, take, drop, Option, Some, None, Result, Ok, Err, if◌then◌else◌, unwrap_or, IsTrue, refl, sym, ap, subst, ◌∙◌, arith}
-use Rattle.duration_str.proofs.Common.{TimeUnit, NanoSecond, CondUnit, Plus, Star, Cause, Syntax, Expected, Number, Tokens, nanos_of, Terminal, number, word, operator, AllPlus, Term, value_of_term, terms_of, terms_after, unless, value_of, term_value, term_of, without_last_number, complete_terminals, early_fault, late_answer, answer_after, answer_at, kinds_after, last_of, front_of, IsAhead, LooksAhead, TakesNumber, Rest, terminal_at, rest_of, start_left, terminals_in, Read, leaving, unit_read, operator_read, answer_left, first_term, fault_or, nothing_of, before_operator, at_once, checked_combination}
+use Rattle.std.proofs.Common.{◌≡◌, ℕ, ◌^◌, ◌<◌, Bool, true, false, List, [], ◌∷◌, ◌++◌, length, take, drop, Option, Some, None, Result, Ok, Err, if◌then◌else◌, IsTrue, refl, sym, ap, subst, ◌∙◌, arith}
+use Rattle.duration_str.proofs.Common.{TimeUnit, NanoSecond, CondUnit, Plus, Star, Cause, Syntax, Expected, Number, Tokens, nanos_of, Terminal, number, word, operator, AllPlus, Term, value_of_term, terms_of, terms_after, unless, checked_term, term_of, without_last_number, complete_terminals, late_answer, answer_at, kinds_after, last_of, front_of, IsAhead, LooksAhead, TakesNumber, Rest, terminal_at, rest_of, start_left, terminals_in, Read, leaving, unit_read, operator_read, answer_left, first_term, fault_or, identity_of, before_operator, at_once, checked_combination}
 use Rattle.duration_str.specs.Tokenizer.{cut_place}
 use Rattle.duration_str.proofs.Sentences.FaultLemmas.{term_below_no_fault}
 use Rattle.duration_str.proofs.Sentences.FrontLemmas.{begins_allowed, table_front}
@@ -129,10 +129,10 @@ same_operator op (Err cause) = refl
 module _ (no_calc : Bool) (first : ℕ) (op : CondUnit) where
   -- The first of the later terms sets the operator.
   pub operator_set : {s : Tokens} → IsAhead s (Some Number)
-      → with_left no_calc first op (Ok (nothing_of op)) (left_after no_calc op (rest_of s))
+      → with_left no_calc first op (Ok (identity_of op)) (left_after no_calc op (rest_of s))
       ≡ total_of no_calc first (left_after no_calc op (rest_of s))
   operator_set ahead =
-      by_number no_calc (with_left no_calc first op (Ok (nothing_of op))) (total_of no_calc first) op op ahead
+      by_number no_calc (with_left no_calc first op (Ok (identity_of op))) (total_of no_calc first) op op ahead
       (λ n r. refl) (λ cause. refl)
 
   -- Checking an operator when it is read gives the same answer as checking it with its term.
@@ -147,7 +147,7 @@ module _ (no_calc : Bool) (first : ℕ) (op : CondUnit) where
   -- A later term is read up to b and added: `next` is the later terms' value including it.
   pub later_step : {next : Result ℕ Cause} {s a : Tokens} {b : Rest} {n : Option ℕ} {u : TimeUnit}
       (later : Result ℕ Cause) → TakesNumber s a n → leaving b (Ok u) ≡ unit_read no_calc (rest_of a)
-      → next ≡ checked_combination op later (term_value None n (nanos_of u))
+      → next ≡ checked_combination op later (checked_term None n (nanos_of u))
       → with_left no_calc first op later (left_after no_calc op (rest_of s))
       ≡ fault_or (at_once no_calc (checked_combination op (Ok first) next))
       (with_left no_calc first op next (after_unit no_calc (operator_read no_calc b)))
@@ -158,23 +158,16 @@ module _ (no_calc : Bool) (first : ℕ) (op : CondUnit) where
 -- ---- The answer in order: the early fault, the syntax fault, the late fault, and the value
 
 whole_told : (whole : Bool) (cause : Cause) (late : Option Cause) (terminals : List Terminal)
-    → fault_or (unless whole cause) (fault_or late (Ok (unwrap_or (value_of (terms_of terminals)) 0)))
+    → fault_or (unless whole cause) (late_answer late terminals)
     ≡ (if whole then late_answer late terminals else Err cause)
 whole_told false cause late terminals = refl
-whole_told true cause None terminals = refl
-whole_told true cause (Some fault) terminals = refl
-
-early_told : (no_calc : Bool) (place : ℕ) (front rest : List Terminal) (early : Option Cause)
-    → fault_or early (answer_after no_calc place front rest None) ≡ answer_after no_calc place front rest early
-early_told no_calc place front rest None = refl
-early_told no_calc place front rest (Some cause) = refl
+whole_told true cause late terminals = refl
 
 in_order : (no_calc : Bool) (place : ℕ) (front rest : List Terminal)
     → answer_of no_calc (terms_of (complete_terminals front rest))
     (fault_at place (kinds_after no_calc (last_of None front)) rest) ≡ answer_at no_calc place front rest
-in_order no_calc place front [] =
-    rw whole_told (early_told no_calc place front [] (early_fault no_calc front []))
-in_order no_calc place front (terminal ∷ rest) = early_told no_calc place front (terminal ∷ rest) _
+in_order no_calc place front [] = rw whole_told
+in_order no_calc place front (terminal ∷ rest) = refl
 
 -- ---- The answer in terms of what is left
 
@@ -225,7 +218,7 @@ first_unread {m} {cause = cause} no_calc same taken unit =
 -- The first term is read up to b, and has this value or fault.
 pub first_step : {m a : Tokens} {s b : Rest} {n : Option ℕ} {u : TimeUnit} {first : Result ℕ Cause} (no_calc : Bool)
     → rest_of m ≡ s → TakesNumber m a n → leaving b (Ok u) ≡ unit_read no_calc (rest_of a)
-    → first ≡ term_value (Some 0) n (nanos_of u)
+    → first ≡ checked_term (Some 0) n (nanos_of u)
     → answer_left no_calc [] s ≡ by_first no_calc first (after_unit no_calc (operator_read no_calc b))
 first_step {m} {b = b} {u = u} no_calc same taken unit is =
     let t = term_of taken.n u in

@@ -1,5 +1,5 @@
 -- The text of a fault is UTF-8, and its last byte is no line feed.
-use Rattle.std.proofs.Common.{rules, ◌≡◌, ◌≢◌, ℕ, ◌<◌, ◌^◌, true, List, [], ◌∷◌, ◌++◌, Option, Some, None, IsUtf8, decimal, encode_utf8_all, replicate, take, inl, inr, refl, lit<, IfSome, codes}
+use Rattle.std.proofs.Common.{rules, ◌≡◌, ◌≢◌, ℕ, ◌<◌, ◌^◌, ◌==◌, true, false, List, [], ◌∷◌, ◌++◌, Option, Some, None, IsUtf8, decimal, encode_utf8_all, replicate, take, inl, inr, refl, lit<, IfSome, codes}
 use Rattle.duration_str.proofs.Common.{cases_Bool, Plus, Star, Cause, Syntax, Mixed, NotText, IsAscii-decimal, IsUtf8-append, IsUtf8-from_ascii, EndsInsideLine, byte_text, caret_text, has_line_feed, placed_text, fault_text, line_of}
 use Rattle.std.proofs.lemmas.List.Elements.{All-replicate}
 use Rattle.std.proofs.lemmas.Str.Ascii.{IsAscii-from_all}
@@ -36,20 +36,24 @@ last_or-append : (o : Option ℕ) (xs ys : List ℕ) → last_or o (xs ++ ys) �
 last_or-append o [] ys = refl
 last_or-append o (x ∷ xs) ys = last_or-append (Some x) xs ys
 
+-- Another byte is no line feed.
+not_line_feed : (n : ℕ) → (n == 10) ≡ false → Some n ≢ Some 10
+not_line_feed n other e = let same : n ≡ 10 = cc in cc (rw same at other)
+
 -- Whatever stands before a line, its last byte is no line feed.
 pub line_last : (cause : Cause) (o : Option ℕ) → last_or o (encode_utf8_all (line_of cause)) ≢ Some 10
 unfolding lib.Utf8.encode
 line_last (Syntax place expected) o = elim (cases_Bool expected.unit_word) [
-  | inl unit ↦ rw unit (λ e. cc)
+  | inl unit ↦ rw unit (not_line_feed _ refl)
   | inr no_unit ↦ elim (cases_Bool expected.operator) [
-    | inl operator ↦ rw (no_unit, operator) (λ e. cc)
-    | inr no_operator ↦ rw (no_unit, no_operator) (λ e. cc)
+    | inl operator ↦ rw (no_unit, operator) (not_line_feed _ refl)
+    | inr no_operator ↦ rw (no_unit, no_operator) (not_line_feed _ refl)
   ]
 ]
-line_last (Mixed Plus Plus) o = λ e. cc
-line_last (Mixed Star Plus) o = λ e. cc
-line_last (NotText true) o = λ e. cc
-line_last _ o = λ e. cc
+line_last (Mixed Plus Plus) o = not_line_feed _ refl
+line_last (Mixed Star Plus) o = not_line_feed _ refl
+line_last (NotText true) o = not_line_feed _ refl
+line_last _ o = not_line_feed _ refl
 
 placed_ends : (text : List ℕ) (cause : Cause) (place : Option ℕ)
     → EndsInsideLine (placed_text text place (encode_utf8_all (line_of cause)))

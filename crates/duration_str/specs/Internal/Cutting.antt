@@ -44,8 +44,8 @@ pub record TakesDigits (text : List ℕ) (place next value : ℕ) : Type 0 where
   pub run : Passes is_digit text place next
   pub number : value ≡ number_of run.characters % 2 ^ 64
 
--- The characters from `place` to `next` are ASCII letters, `value` is their packed number modulo 2^64, and `has_capital`
--- is whether one of them is a capital.
+-- The characters from `place` to `next` are ASCII letters, `value` is their packed number modulo 2^64, and
+-- `has_capital` is whether one of them is a capital.
 pub record TakesLetters (text : List ℕ) (place next value : ℕ) (has_capital : Bool) : Type 0 where
   pub run : Passes is_ascii_alphabetic text place next
   pub number : value ≡ packed_number run.characters % 2 ^ 64

@@ -9,6 +9,6 @@ abbrev pub u64_from : ℕ → Option ℕ
 u64_from n = if fits n then Some n else None
 
 -- the value of a term, or its fault, given its unit's length and its number, which is `None` from 2^64 on
-abbrev pub term_value : Option ℕ → Option ℕ → ℕ → Result ℕ Cause
-term_value place None length = Err (NumberTooLarge place)
-term_value place (Some n) length = if fits (n * length) then Ok (n * length) else Err (Overflow place)
+abbrev pub checked_term : Option ℕ → Option ℕ → ℕ → Result ℕ Cause
+checked_term place None length = Err (NumberTooLarge place)
+checked_term place (Some n) length = if fits (n * length) then Ok (n * length) else Err (Overflow place)

@@ -32,7 +32,8 @@ with_space (b ∷ bytes) = (b ∷ bytes) ++ 32 ∷ []
 
 -- the bytes followed by one more part, unless its count is 0
 abbrev pub with_part : List ℕ → TimeUnit → ℕ → List ℕ
-with_part bytes u count = if count == 0 then bytes else with_space bytes ++ (decimal count ++ encode_utf8_all (row_of u).printed)
+with_part bytes u count =
+    if count == 0 then bytes else with_space bytes ++ (decimal count ++ encode_utf8_all (row_of u).printed)
 
 -- the bytes followed by the parts for `nanos` nanoseconds in these units
 abbrev pub with_parts : List ℕ → List TimeUnit → ℕ → List ℕ

@@ -14,7 +14,8 @@ use Rattle.duration_str.specs.declared.token.Tokens.{Tokens}
 use Rattle.duration_str.specs.Grammar.{Terminal, number, word, operator, terminal_of}
 use Rattle.duration_str.specs.Tokens.{Token}
 use Rattle.duration_str.specs.Value.{second, combination, is_same_operator}
-use Rattle.duration_str.specs.Internal.Numbers.{u64_from, term_value}
+use Rattle.duration_str.specs.Terms.{fault_or}
+use Rattle.duration_str.specs.Internal.Numbers.{u64_from, checked_term}
 use Rattle.duration_str.specs.Answer.{answer_at, kinds_at_start, kinds_after_number, kinds_after_unit, front_of}
 use Rattle.duration_str.specs.Faults.{place_of}
 use Rattle.duration_str.specs.Tokenizer.{source, options_of, cut_place, tokens_left}
@@ -68,11 +69,6 @@ abbrev pub lacks_number : Rest → Option Cause
 lacks_number (terminal_at at (number n) rest) = None
 lacks_number rest = Some (misplacement kinds_at_start rest)
 
--- the fault if there is one, otherwise the result
-abbrev pub fault_or : {A : Type 0} → Option Cause → Result A Cause → Result A Cause
-fault_or (Some cause) result = Err cause
-fault_or None result = result
-
 -- the unit after a number; seconds if it is left out before an operator or at the end
 abbrev pub unit_read : Bool → Rest → Result (Read TimeUnit) Cause
 unit_read no_calc (terminal_at at (word (Some u)) rest) = leaving rest (Ok u)
@@ -90,8 +86,8 @@ operator_read no_calc rest = Err (misplacement (kinds_after_unit no_calc) rest)
 -- ---- Places
 
 -- The fault has no place, or one at or before byte `at`.
-abbrev pub IsCut : ℕ → Cause → Type 0
-IsCut at cause = ForSome (place_of cause) (λ place. place ≤ at)
+abbrev pub IsPlacedUpTo : ℕ → Cause → Type 0
+IsPlacedUpTo at cause = ForSome (place_of cause) (λ place. place ≤ at)
 
 -- The fault has no place.
 abbrev pub IsPlaceless : Cause → Type 0
@@ -119,9 +115,9 @@ checked_combination op (Ok x) (Err cause) = Err cause
 checked_combination op (Err cause) y = Err cause
 
 -- the neutral value: 0 for sums, one second for products
-abbrev pub nothing_of : CondUnit → ℕ
-nothing_of Plus = 0
-nothing_of Star = second
+abbrev pub identity_of : CondUnit → ℕ
+identity_of Plus = 0
+identity_of Star = second
 
 -- the later terms' value, or their first fault; `Mixed` if the operator `next` differs from `op`
 abbrev pub before_operator : CondUnit → Result ℕ Cause → CondUnit → Result ℕ Cause
@@ -129,7 +125,7 @@ before_operator op later next = result_and later (if is_same_operator op next th
 
 -- the value of a later term, or its fault, which has no place
 abbrev pub later_term : Option ℕ → TimeUnit → Result ℕ Cause
-later_term n unit = term_value None n (nanos_of unit)
+later_term n unit = checked_term None n (nanos_of unit)
 
 -- the fault of a value if it is reported at once, as under `no_calc`
 abbrev pub at_once : Bool → Result ℕ Cause → Option Cause
@@ -144,7 +140,7 @@ Reads f old new result = leaving (rest_of new) result ≡ f (rest_of old)
 -- The source stays the same, and the place of a fault is not beyond the place reached.
 pub record CutsOn {A : Type 0} (old new : Tokens) (result : Result A Cause) : Type 0 where
   pub same_source : source new ≡ source old
-  pub reached : IfErr result (IsCut (cut_place new))
+  pub reached : IfErr result (IsPlacedUpTo (cut_place new))
 
 -- After an operator a number is ahead; without an operator the whole source is cut.
 abbrev pub IsFollowed : Tokens → Option CondUnit → Type 0

@@ -120,7 +120,6 @@ fn ends<R: Read + Drop>(
 
 #[test]
 fn answers_each_line(rt: HostRuntime) {
-    assert!(rt; OUTPUT.len() == 49);
     let rows: [(&[u8], Result<bool, RunFault>, &[u8]); 6] = [
         (INPUT, Ok(false), OUTPUT),
         (b"", Ok(true), b""),

@@ -1,6 +1,6 @@
 use Rattle.std.proofs.Common.{◌+◌, ◌<◌, length, arith, ◌∙◌, ap, sym}
 use Rattle.std.proofs.lemmas.List.{drop-set-lt}
-use Rattle.duration_str_c.specs.Told.{options_of}
+use Rattle.duration_str_c.specs.Told.{options_of_bits}
 use Rattle.duration_str_c.proofs.ColumnLemmas.{told_more, read_more, refused_more}
 use Rattle.duration_str_c.proofs.column.duration_str_parse_column.Goals as goal
 use Rattle.duration_str_c.proofs.column.duration_str_parse_column.Goals.{then-cause-eq0, else-cause-eq0}
@@ -16,7 +16,7 @@ loop-index-preserved c =
     let room_nanos : i < length nanos = omega arith in
     let room_causes : i < length causes = omega arith in
     record {
-      told = told_more (options_of c.args.options) c.args.bytes.now c.args.offsets.now nanos causes i value cause
+      told = told_more (options_of_bits c.args.options) c.args.bytes.now c.args.offsets.now nanos causes i value cause
           room_nanos room_causes before.told c.told_between-value.ensures;
       read = elim c.if-cause-eq0.branch [
         | then-cause-eq0 w ↦

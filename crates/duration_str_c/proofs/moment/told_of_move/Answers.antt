@@ -1,5 +1,5 @@
 use Rattle.std.proofs.Common.{rules, ◌∙◌, refl, inl, inr}
-use Rattle.duration_str_c.specs.Told.{options_of}
+use Rattle.duration_str_c.specs.Told.{options_of_bits}
 use Rattle.duration_str_c.specs.Moments.{IsMoment}
 use Rattle.duration_str_c.proofs.ToldLemmas.{refusal_moves}
 use Rattle.duration_str_c.proofs.moment.told_of_move.Goals as goal
@@ -8,9 +8,9 @@ pub returns-in-Err-clause-told : goal.returns-in-Err-clause-told
 returns-in-Err-clause-told c moment utf8 =
     let fault = c.in-Err.fault in
     let text = c.in-Err.ensures.refused.0 ∙ c.in-Some-text_of.ensures.text.0 in
-    let moved = refusal_moves c.options_of-options.result (options_of c.args.options) fault.text.now c.args.text.now
+    let moved = refusal_moves c.options_of_bits-options.result (options_of_bits c.args.options) fault.text.now c.args.text.now
     fault.cause c.refused.result in
-    inr (inl (fault.cause, moved c.options_of-options.ensures.options text c.refused.ensures, refl))
+    inr (inl (fault.cause, moved c.options_of_bits-options.ensures.options text c.refused.ensures, refl))
 
 pub returns-clause-no_moment : goal.returns-clause-no_moment
 returns-clause-no_moment c none =

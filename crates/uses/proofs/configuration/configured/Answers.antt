@@ -5,19 +5,19 @@ use Rattle.serde_json.specs.Data.{Data, string}
 use Rattle.duration_str.specs.declared.error.DError.{DError}
 use Rattle.duration_str.specs.Configuration.{IsRequired}
 use Rattle.duration_str.specs.Errors.{IsErrorOf, IsOverflow}
-use Rattle.uses.specs.Configuration.{IsAnswered, Overflows}
+use Rattle.uses.specs.Configuration.{IsConfigured, Overflows}
 use Rattle.uses.proofs.configuration.configured.Goals as goal
 
 -- The value is read as this, or refused by this fault.
 abbrev IsGiven : Data → Result Duration Fault → Type 0
 IsGiven value result = IsRequired (λ d. pos (as_nanos d)) value result
 
-given_value : (A : Type 0) (value : Data) (d : Duration) → IsGiven value (Ok d) → IsAnswered {A = A} value (Ok d)
+given_value : (A : Type 0) (value : Data) (d : Duration) → IsGiven value (Ok d) → IsConfigured {A = A} value (Ok d)
 given_value A (string text) d (nanos, read, is) = let same : nanos ≡ as_nanos d = cc in rw same at read
 given_value A _ d h = absurd h
 
 given_fault : {A : Type 0} (value : Data) (f : Fault) (error : DError A) → IsGiven value (Err f)
-    → IsErrorOf f.cause error → IsAnswered value (Err error)
+    → IsErrorOf f.cause error → IsConfigured value (Err error)
 given_fault (string text) f error (bytes, refused) is = (f.cause, refused, is)
 given_fault _ f error (bytes, no_text) is = rw no_text at is
 

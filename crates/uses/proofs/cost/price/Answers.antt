@@ -26,5 +26,5 @@ returns-clause-refused c place expected refused =
     let looked = c.parse_looked-looks.ensures in
     let answered =
     cause_answered c.one_sentence.ensures.answer c.args.o _ _ (Syntax place expected) looked.parsed refused in
-    let front = on_cause _ _ _ c.parse_looked-looks.result.0 answered looked.front place expected refl in
-    rw (c.from.ensures, c.from-2.ensures) (mul-le-mul_right _ front)
+    let reaches = on_cause _ _ _ c.parse_looked-looks.result.0 answered looked.reaches place expected refl in
+    rw (c.from.ensures, c.from-2.ensures) (mul-le-mul_right _ reaches)

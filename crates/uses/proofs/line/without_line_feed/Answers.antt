@@ -1,10 +1,10 @@
 use Rattle.std.proofs.Common.{rules, arith, ◌≡◌, inl, inr, refl}
 use Rattle.std.proofs.lemmas.Str.Pattern.{strip_suffix_char}
-use Rattle.uses.proofs.Common.{line_of}
+use Rattle.uses.proofs.Common.{with_line_feed}
 use Rattle.uses.proofs.LineLemmas.{text_read}
 use Rattle.uses.proofs.line.without_line_feed.Goals as goal
 
-is_line : (c : goal.In-Some) → c.args.line.now ≡ line_of c.in-Some.text.now
+is_line : (c : goal.In-Some) → c.args.line.now ≡ with_line_feed c.in-Some.text.now
 is_line c =
     rw c.in-Some.is at (strip_suffix_char 10 c.args.line.now c.strip_suffix.result c.strip_suffix.ensures.cases (omega arith))
 

@@ -19,7 +19,7 @@ returns-then-place-start-le-MOST_LETTERS c =
       | in-None w ↦ rw (t.none w.in-None.is) tt
     ] in
     takes_word c.requires e.kept (short_word o e.letters
-    (rw e.kept.options at (not-true _ (sym c.ignore_case.ensures ∙ c.if-ignore_case.true)))
+    (rw e.kept.options at (not-true _ (sym c.can_ignore_case.ensures ∙ c.if-can_ignore_case.true)))
     (omega (arith, c.if-place-start-le-MOST_LETTERS.true, c.place.ensures, c.place-start.ensures))
     c.unit_of_packed.ensures)
     stops
