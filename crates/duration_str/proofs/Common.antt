@@ -15,9 +15,9 @@ pub use Rattle.std.specs.Option.{ForSome}
 pub use Rattle.std.specs.Prelude.{⊤}
 pub use Rattle.std.specs.Result.{result_err}
 pub use lib.Utf8.{encode, encodes, scalar, scalar_cases, scalars}
-pub use Rattle.duration_str.specs.declared.fault.Cause.{Cause}
-pub use Rattle.duration_str.specs.declared.fault.Cause.TheVariants.{Empty, Mixed, NotText, NumberTooLarge, Overflow, Syntax}
-pub use Rattle.duration_str.specs.declared.fault.Expected.{Expected}
+pub use Rattle.duration_str.specs.declared.cause.Cause.{Cause}
+pub use Rattle.duration_str.specs.declared.cause.Cause.TheVariants.{Empty, Mixed, NotText, NumberTooLarge, Overflow, Syntax}
+pub use Rattle.duration_str.specs.declared.cause.Expected.{Expected}
 pub use Rattle.duration_str.specs.declared.fault.Fault.{Fault}
 pub use Rattle.duration_str.specs.declared.operator.CondUnit.{CondUnit}
 pub use Rattle.duration_str.specs.declared.operator.CondUnit.TheVariants.{Plus, Star}
@@ -48,7 +48,7 @@ pub use Rattle.duration_str.specs.Internal.Cutting.{Between, Passes, StandsAt, S
 pub use Rattle.duration_str.specs.Internal.Numbers.{checked_term, u64_from}
 pub use Rattle.duration_str.specs.Internal.Packed.{packs_to, unit_of_packed}
 pub use Rattle.duration_str.specs.Internal.PrintedBytes.{greatest_count, max_printed_len, units_below_year, with_part, with_parts, with_space}
-pub use Rattle.duration_str.specs.Internal.Rest.{Read, Rest, answer_left, at_once, before_operator, checked_combination, end_at, first_term, lacks_number, leaving, identity_of, operator_read, rest_from, rest_of, start_left, terminal_at, terminals_in, unit_read}
+pub use Rattle.duration_str.specs.Internal.Rest.{Later, Read, Rest, answer_left, immediate_fault, check_operator, checked_combination, end_at, first_term, number_fault, leaving, identity_of, no_later, with_first, operator_read, rest_from, rest_of, start_left, terminal_at, terminals_in, unit_read}
 pub use Rattle.duration_str.specs.Internal.Sorts.{sign_sort, sort_at, sort_of}
 pub use Rattle.duration_str.specs.Internal.Tokenizer.{IsAhead, IsSign, LooksAhead, TakesNumber, TakesSign, TakesToken, TakesTokenWith, is_number}
 pub use Rattle.duration_str.specs.Internal.UnitTable.{AreEncoded}

@@ -2,7 +2,7 @@
 use Rattle.std.specs.Prelude.{◌≡◌, ℕ, ℤ, pos, List, [], ◌∷◌, Bool, true, false, Option, None, IsSomeAnd, Result, Ok}
 use Rattle.std.specs.Str.{chars}
 use Rattle.serde_json.specs.Data.{Data, null, string}
-use Rattle.duration_str.specs.declared.fault.Cause.TheVariants.{NotText}
+use Rattle.duration_str.specs.declared.cause.Cause.TheVariants.{NotText}
 use Rattle.duration_str.specs.declared.fault.Fault.{Fault}
 use Rattle.duration_str.specs.Units.{off}
 use Rattle.duration_str.specs.Reading.{IsRead, IsRefused}

@@ -4,9 +4,9 @@ use Rattle.std.specs.Duration.{as_nanos}
 use Rattle.std.specs.declared.time.Duration.{Duration}
 use Rattle.std.specs.Str.{chars}
 use Rattle.duration_str.specs.declared.options.Options.{Options}
-use Rattle.duration_str.specs.declared.fault.Cause.{Cause}
-use Rattle.duration_str.specs.declared.fault.Cause.TheVariants.{Syntax}
-use Rattle.duration_str.specs.declared.fault.Expected.{Expected}
+use Rattle.duration_str.specs.declared.cause.Cause.{Cause}
+use Rattle.duration_str.specs.declared.cause.Cause.TheVariants.{Syntax}
+use Rattle.duration_str.specs.declared.cause.Expected.{Expected}
 use Rattle.duration_str.specs.declared.fault.Fault.{Fault}
 use Rattle.duration_str.specs.Reading.{IsRead, IsRefused}
 use Rattle.duration_str.specs.Answer.{answer}

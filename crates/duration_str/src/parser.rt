@@ -6,10 +6,11 @@ ghost use Rattle.duration_str.specs.Answer.{answer};
 ghost use Rattle.duration_str.specs.Results.{IsAnswered, ParsesText, ReachesPlace};
 ghost use Rattle.duration_str.specs.Units.{off};
 
-pub use crate::fault::{Cause, Expected, Fault};
+pub use crate::cause::{Cause, Expected};
+pub use crate::fault::Fault;
 use crate::reader::read;
 use crate::token::Tokens;
-use crate::unit::Options;
+use crate::options::Options;
 use std::time::Duration;
 
 /// The duration that a text means with all options off.

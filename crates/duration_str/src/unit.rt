@@ -10,7 +10,7 @@ ghost use Rattle.duration_str.specs.Internal.UnitTable.{IsRow};
 ghost use Rattle.duration_str.specs.Internal.Numbers.{checked_term};
 ghost use Rattle.duration_str.specs.Terms.{term_of, term_answer};
 
-use crate::fault::Cause;
+use crate::cause::Cause;
 pub use crate::operator::CondUnit;
 pub use crate::options::Options;
 use crate::token::number_of;

@@ -2,8 +2,8 @@
 use Rattle.std.specs.Prelude.{◌≡◌, ℕ, ◌-◌, ◌^◌, ◌<◌, ◌≤◌, Bool, true, false, if◌then◌else◌, List, length, take, min, IsUtf8, codes, encode_utf8_all}
 use Rattle.std.specs.Option.{ForSome}
 use Rattle.std.specs.Str.{IsCharBoundary}
-use Rattle.duration_str.specs.declared.fault.Cause.{Cause}
-use Rattle.duration_str.specs.declared.fault.Cause.TheVariants.{NotText}
+use Rattle.duration_str.specs.declared.cause.Cause.{Cause}
+use Rattle.duration_str.specs.declared.cause.Cause.TheVariants.{NotText}
 use Rattle.duration_str.specs.Faults.{place_of}
 use Rattle.duration_str.specs.FaultText.{line_of}
 

@@ -3,7 +3,7 @@
 //! An answer comes from a caller and can be anything, but every one gives one of these messages.
 ghost use Rattle.std.specs.Prelude.{◌≡◌, ◌≤◌, length, take, Some, None, IfSome, IfNone, IsUtf8, codes};
 ghost use Rattle.duration_str.specs.FaultText.{fault_text};
-ghost use Rattle.duration_str.specs.declared.fault.Cause.{Cause};
+ghost use Rattle.duration_str.specs.declared.cause.Cause.{Cause};
 ghost use Rattle.duration_str_c.specs.Told.{cause_told};
 ghost use Rattle.duration_str_c.specs.Messages.{IsShown, CanFault, line_told};
 

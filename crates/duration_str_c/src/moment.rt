@@ -2,7 +2,7 @@
 ghost use Rattle.std.specs.Prelude.{◌≡◌, ◌==◌, false, ◌↔◌, pos, ◌+ℤ◌, ◌-ℤ◌, IsUtf8, IsSome, IfSome, IfNone};
 ghost use Rattle.std.specs.Duration.{as_nanos};
 ghost use Rattle.duration_str.specs.Dates.{IsOutOfRange};
-ghost use Rattle.duration_str.specs.declared.fault.Cause.TheVariants.{OutOfRange, NotText};
+ghost use Rattle.duration_str.specs.declared.cause.Cause.TheVariants.{OutOfRange, NotText};
 ghost use Rattle.duration_str_c.specs.Told.{options_of_bits, refusal_answer};
 ghost use Rattle.duration_str_c.specs.Moments.{instant_of, IsMoment, moved, IsMoved};
 

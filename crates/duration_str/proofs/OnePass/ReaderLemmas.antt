@@ -1,6 +1,6 @@
 -- The reader's steps: what comes next, by the sort ahead, and what is left after it.
 use Rattle.std.proofs.Common.{◌≡◌, ℕ, Bool, true, false, length, Option, Some, None, Result, Ok, Err, IsTrue, refl, sym, ap, ◌∙◌, if◌then◌else◌}
-use Rattle.duration_str.proofs.Common.{TimeUnit, CondUnit, Plus, Cause, Syntax, Sort, Tokens, Terminal, number, word, operator, other, terminal_of, kinds_at_start, sort_of, source, options_of, tokens_left, LooksAhead, is_number, TakesToken, TakesSign, Rest, terminal_at, end_at, rest_from, rest_of, lacks_number, fault_or, Read, leaving, operator_read}
+use Rattle.duration_str.proofs.Common.{TimeUnit, CondUnit, Plus, Cause, Syntax, Sort, Tokens, Terminal, number, word, operator, other, terminal_of, kinds_at_start, sort_of, source, options_of, tokens_left, LooksAhead, is_number, TakesToken, TakesSign, Rest, terminal_at, end_at, rest_from, rest_of, number_fault, fault_or, Read, leaving, operator_read}
 use Rattle.duration_str.specs.Tokenizer.{cut_place}
 use Rattle.duration_str.proofs.Cutting.TokenizerLemmas.{none_left, first_left}
 use Rattle.duration_str.specs.declared.token.Sort.TheVariants as sorts
@@ -36,7 +36,7 @@ starts {s} {m} {sort = sort} look is =
 
 -- A number follows, or its absence is a fault at the place.
 pub number_comes : {s m : Tokens} {sort : Option Sort} → LooksAhead s m sort
-    → lacks_number (rest_of s) ≡ (if is_number sort then None else Some (Syntax (cut_place m) kinds_at_start))
+    → number_fault (rest_of s) ≡ (if is_number sort then None else Some (Syntax (cut_place m) kinds_at_start))
 number_comes {sort = None} look = rw (at_end look).0
 number_comes {sort = Some sorts.Number} look = rw (starts look refl).2
 number_comes {sort = Some sorts.Word} look = rw (starts look refl).2
@@ -62,7 +62,7 @@ after_token {s} {t} taken =
 
 pub operator_taken : {s m : Tokens} {ahead : Option Sort} {op : CondUnit} (t : Tokens) → LooksAhead s m ahead
     → ahead ≡ Some (sorts.Operator op) → TakesSign m t
-    → operator_read false (rest_of s) ≡ leaving (rest_of t) (fault_or (lacks_number (rest_of t)) (Ok (Some op)))
+    → operator_read false (rest_of s) ≡ leaving (rest_of t) (fault_or (number_fault (rest_of t)) (Ok (Some op)))
 operator_taken {m = m} {op = op} t look is takes =
     let taken = takes (sorts.Operator op) tt (rw is at look.ahead) in
     rw (← same_rest look, after_token taken.token, operator_terminal taken.terminal op taken.has)

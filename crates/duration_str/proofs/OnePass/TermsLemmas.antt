@@ -1,6 +1,6 @@
 -- The terms that are left while a text is read, and the answer that they give.
 use Rattle.std.proofs.Common.{◌≡◌, ℕ, ◌^◌, ◌<◌, Bool, true, false, List, [], ◌∷◌, ◌++◌, length, take, drop, Option, Some, None, Result, Ok, Err, if◌then◌else◌, IsTrue, refl, sym, ap, subst, ◌∙◌, arith}
-use Rattle.duration_str.proofs.Common.{TimeUnit, NanoSecond, CondUnit, Plus, Star, Cause, Syntax, Expected, Number, Tokens, nanos_of, Terminal, number, word, operator, AllPlus, Term, value_of_term, terms_of, terms_after, unless, checked_term, term_of, without_last_number, complete_terminals, late_answer, answer_at, kinds_after, last_of, front_of, IsAhead, LooksAhead, TakesNumber, Rest, terminal_at, rest_of, start_left, terminals_in, Read, leaving, unit_read, operator_read, answer_left, first_term, fault_or, identity_of, before_operator, at_once, checked_combination}
+use Rattle.duration_str.proofs.Common.{TimeUnit, NanoSecond, CondUnit, Plus, Star, Cause, Syntax, Expected, Number, Tokens, nanos_of, Terminal, number, word, operator, AllPlus, Term, value_of_term, terms_of, terms_after, unless, checked_term, term_of, without_last_number, complete_terminals, late_answer, answer_at, kinds_after, last_of, front_of, IsAhead, LooksAhead, TakesNumber, Rest, terminal_at, rest_of, start_left, terminals_in, Read, leaving, unit_read, operator_read, answer_left, first_term, fault_or, identity_of, check_operator, immediate_fault, checked_combination, Later, no_later, with_first}
 use Rattle.duration_str.specs.Tokenizer.{cut_place}
 use Rattle.duration_str.proofs.Sentences.FaultLemmas.{term_below_no_fault}
 use Rattle.duration_str.proofs.Sentences.FrontLemmas.{begins_allowed, table_front}
@@ -86,9 +86,10 @@ number_taken {s} {a} no_calc op taken r is =
 
 -- ---- Steps of the answer
 
--- the answer, given the first value, the later terms so far, and what is left
-abbrev pub with_left : Bool → ℕ → CondUnit → Result ℕ Cause → Ended → Result ℕ Cause
-with_left no_calc first op later left = answer_with no_calc first op later left.terms left.fault
+-- the answer, given the later terms so far and what is left
+abbrev pub with_left : Bool → Later → Ended → Result ℕ Cause
+with_left no_calc later left =
+    answer_with no_calc later.first later.operator later.value left.terms left.fault
 
 -- the answer, given the first value and what is left after it
 abbrev pub total_of : Bool → ℕ → Ended → Result ℕ Cause
@@ -121,39 +122,39 @@ fewer {next = next} no_calc op taken unit read ahead =
     omega (arith, here, after, by_number no_calc count count op next ahead (λ n r. refl) (λ cause. refl))
 
 -- The same operator is not a fault.
-same_operator : (op : CondUnit) (later : Result ℕ Cause) → before_operator op later op ≡ later
+same_operator : (op : CondUnit) (later : Result ℕ Cause) → check_operator op later op ≡ later
 same_operator Plus (Ok total) = refl
 same_operator Star (Ok total) = refl
 same_operator op (Err cause) = refl
 
-module _ (no_calc : Bool) (first : ℕ) (op : CondUnit) where
-  -- The first of the later terms sets the operator.
-  pub operator_set : {s : Tokens} → IsAhead s (Some Number)
-      → with_left no_calc first op (Ok (identity_of op)) (left_after no_calc op (rest_of s))
-      ≡ total_of no_calc first (left_after no_calc op (rest_of s))
-  operator_set ahead =
-      by_number no_calc (with_left no_calc first op (Ok (identity_of op))) (total_of no_calc first) op op ahead
-      (λ n r. refl) (λ cause. refl)
+-- The first of the later terms sets the operator.
+pub operator_set : (no_calc : Bool) (first : ℕ) (op : CondUnit) {s : Tokens} → IsAhead s (Some Number)
+    → with_left no_calc (no_later first op) (left_after no_calc op (rest_of s))
+    ≡ total_of no_calc first (left_after no_calc op (rest_of s))
+operator_set no_calc first op ahead =
+    by_number no_calc (with_left no_calc (no_later first op)) (total_of no_calc first) op op ahead
+    (λ n r. refl) (λ cause. refl)
 
-  -- Checking an operator when it is read gives the same answer as checking it with its term.
-  pub operator_next : {s : Tokens} (next : CondUnit) (later : Result ℕ Cause) → IsAhead s (Some Number)
-      → with_left no_calc first op (before_operator op later next) (left_after no_calc op (rest_of s))
-      ≡ with_left no_calc first op later (left_after no_calc next (rest_of s))
-  operator_next next later ahead =
-      by_number no_calc (with_left no_calc first op (before_operator op later next))
-      (with_left no_calc first op later) op next ahead
-      (λ n r. rw (same_operator op (before_operator op later next))) (λ cause. refl)
+-- Checking an operator when it is read gives the same answer as checking it with its term.
+pub operator_next : (no_calc : Bool) (later : Later) {s : Tokens} (next : CondUnit) → IsAhead s (Some Number)
+    → with_left no_calc (record later { value = check_operator later.operator later.value next })
+    (left_after no_calc later.operator (rest_of s))
+    ≡ with_left no_calc later (left_after no_calc next (rest_of s))
+operator_next no_calc later next ahead =
+    let checked = check_operator later.operator later.value next in
+    by_number no_calc (with_left no_calc (record later { value = checked })) (with_left no_calc later)
+    later.operator next ahead (λ n r. rw (same_operator later.operator checked)) (λ cause. refl)
 
-  -- A later term is read up to b and added: `next` is the later terms' value including it.
-  pub later_step : {next : Result ℕ Cause} {s a : Tokens} {b : Rest} {n : Option ℕ} {u : TimeUnit}
-      (later : Result ℕ Cause) → TakesNumber s a n → leaving b (Ok u) ≡ unit_read no_calc (rest_of a)
-      → next ≡ checked_combination op later (checked_term None n (nanos_of u))
-      → with_left no_calc first op later (left_after no_calc op (rest_of s))
-      ≡ fault_or (at_once no_calc (checked_combination op (Ok first) next))
-      (with_left no_calc first op next (after_unit no_calc (operator_read no_calc b)))
-  later_step later taken unit is =
-      ap (with_left no_calc first op later) (number_taken no_calc op taken _ unit)
-      ∙ rw (same_operator op later, is, taken.is_value)
+-- A later term is read up to b and added.
+pub later_step : (no_calc : Bool) (later : Later) {s a : Tokens} {b : Rest} {n : Option ℕ} {u : TimeUnit} {next : Later}
+    → TakesNumber s a n → leaving b (Ok u) ≡ unit_read no_calc (rest_of a)
+    → next ≡ record later { value = checked_combination later.operator later.value (checked_term None n (nanos_of u)) }
+    → with_left no_calc later (left_after no_calc later.operator (rest_of s))
+    ≡ fault_or (immediate_fault no_calc (with_first next))
+    (with_left no_calc next (after_unit no_calc (operator_read no_calc b)))
+later_step no_calc later taken unit is =
+    ap (with_left no_calc later) (number_taken no_calc later.operator taken _ unit)
+    ∙ rw (same_operator later.operator later.value, is, taken.is_value)
 
 -- ---- The answer in order: the early fault, the syntax fault, the late fault, and the value
 

@@ -7,9 +7,9 @@ use Rattle.duration_str.specs.declared.unit.TimeUnit.{TimeUnit}
 use Rattle.duration_str.specs.declared.unit.TimeUnit.TheVariants.{Second, NanoSecond}
 use Rattle.duration_str.specs.declared.operator.CondUnit.{CondUnit}
 use Rattle.duration_str.specs.declared.operator.CondUnit.TheVariants.{Plus, Star}
-use Rattle.duration_str.specs.declared.fault.Cause.{Cause}
-use Rattle.duration_str.specs.declared.fault.Cause.TheVariants.{Syntax, Overflow, Mixed}
-use Rattle.duration_str.specs.declared.fault.Expected.{Expected}
+use Rattle.duration_str.specs.declared.cause.Cause.{Cause}
+use Rattle.duration_str.specs.declared.cause.Cause.TheVariants.{Syntax, Overflow, Mixed}
+use Rattle.duration_str.specs.declared.cause.Expected.{Expected}
 use Rattle.duration_str.specs.declared.token.Tokens.{Tokens}
 use Rattle.duration_str.specs.Grammar.{Terminal, number, word, operator, terminal_of}
 use Rattle.duration_str.specs.Tokens.{Token}
@@ -65,9 +65,9 @@ leaving rest (Ok item) = Ok (record { item = item; rest = rest })
 leaving rest (Err cause) = Err cause
 
 -- the fault if the rest does not start with a number, as it must at the start of a text and after an operator
-abbrev pub lacks_number : Rest → Option Cause
-lacks_number (terminal_at at (number n) rest) = None
-lacks_number rest = Some (misplacement kinds_at_start rest)
+abbrev pub number_fault : Rest → Option Cause
+number_fault (terminal_at at (number n) rest) = None
+number_fault rest = Some (misplacement kinds_at_start rest)
 
 -- the unit after a number; seconds if it is left out before an operator or at the end
 abbrev pub unit_read : Bool → Rest → Result (Read TimeUnit) Cause
@@ -79,7 +79,7 @@ unit_read no_calc rest = Err (misplacement (kinds_after_number no_calc) rest)
 -- the operator after a unit, which a number must follow; plus if it is left out, `None` at the end
 abbrev pub operator_read : Bool → Rest → Result (Read (Option CondUnit)) Cause
 operator_read no_calc (terminal_at at (number n) rest) = leaving (terminal_at at (number n) rest) (Ok (Some Plus))
-operator_read false (terminal_at at (operator op) rest) = leaving rest (fault_or (lacks_number rest) (Ok (Some op)))
+operator_read false (terminal_at at (operator op) rest) = leaving rest (fault_or (number_fault rest) (Ok (Some op)))
 operator_read no_calc (end_at at) = leaving (end_at at) (Ok None)
 operator_read no_calc rest = Err (misplacement (kinds_after_unit no_calc) rest)
 
@@ -120,16 +120,30 @@ identity_of Plus = 0
 identity_of Star = second
 
 -- the later terms' value, or their first fault; `Mixed` if the operator `next` differs from `op`
-abbrev pub before_operator : CondUnit → Result ℕ Cause → CondUnit → Result ℕ Cause
-before_operator op later next = result_and later (if is_same_operator op next then later else Err (Mixed op next))
+abbrev pub check_operator : CondUnit → Result ℕ Cause → CondUnit → Result ℕ Cause
+check_operator op later next = result_and later (if is_same_operator op next then later else Err (Mixed op next))
 
 -- the value of a later term, or its fault, which has no place
 abbrev pub later_term : Option ℕ → TimeUnit → Result ℕ Cause
 later_term n unit = checked_term None n (nanos_of unit)
 
--- the fault of a value if it is reported at once, as under `no_calc`
-abbrev pub at_once : Bool → Result ℕ Cause → Option Cause
-at_once no_calc value = if no_calc then result_err value else None
+-- the first term's value, the operator after it, and the value of the later terms so far, or their first fault
+pub record Later : Type 0 where
+  pub first : ℕ
+  pub operator : CondUnit
+  pub value : Result ℕ Cause
+
+-- no later terms yet
+abbrev pub no_later : ℕ → CondUnit → Later
+no_later first op = record { first = first; operator = op; value = Ok (identity_of op) }
+
+-- the value of all terms, or the first fault
+abbrev pub with_first : Later → Result ℕ Cause
+with_first later = checked_combination later.operator (Ok later.first) later.value
+
+-- the fault of a value that is reported immediately, as under `no_calc`
+abbrev pub immediate_fault : Bool → Result ℕ Cause → Option Cause
+immediate_fault no_calc value = if no_calc then result_err value else None
 
 -- ---- Steps of the reader
 

@@ -1,6 +1,6 @@
 use Rattle.std.proofs.Common.{rules}
 use Rattle.duration_str.proofs.Common.{chars_from_encodes, chars-IsAscii}
-use Rattle.duration_str.proofs.fault.chars_before.Goals as goal
+use Rattle.duration_str.proofs.message.chars_before.Goals as goal
 
 pub returns-then-is_ascii : goal.returns-then-is_ascii
 returns-then-is_ascii c = search (rules, chars-IsAscii)

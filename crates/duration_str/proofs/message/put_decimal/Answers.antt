@@ -1,6 +1,6 @@
 use Rattle.std.proofs.Common.{arith}
 use Rattle.duration_str.proofs.Common.{length-decimal-le}
-use Rattle.duration_str.proofs.fault.put_decimal.Goals as goal
+use Rattle.duration_str.proofs.message.put_decimal.Goals as goal
 
 pub put_number-end-requires : goal.put_number-end-requires
 put_number-end-requires c =

@@ -1,7 +1,7 @@
 use Rattle.std.proofs.Common.{rules, arith}
 use Rattle.std.proofs.Output.{has_written_append, has_written_of_eq}
 use Rattle.duration_str.proofs.Printer.SpaceLemmas.{run_longer, run_last}
-use Rattle.duration_str.proofs.fault.SpacesDisplay.fmt.Goals as goal
+use Rattle.duration_str.proofs.message.SpacesDisplay.fmt.Goals as goal
 
 pub loop-left-preserved : goal.loop-left-preserved
 loop-left-preserved g c = record {

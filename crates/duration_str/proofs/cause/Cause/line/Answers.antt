@@ -1,5 +1,5 @@
 use Rattle.std.proofs.Common.{refl}
-use Rattle.duration_str.proofs.fault.Cause.line.Goals as goal
+use Rattle.duration_str.proofs.cause.Cause.line.Goals as goal
 
 pub returns-then-expected : goal.returns-then-expected
 unfolding lib.Utf8.encode

@@ -1,6 +1,6 @@
 use Rattle.std.proofs.Common.{arith}
 use Rattle.duration_str.proofs.Common.{length-decimal-le}
-use Rattle.duration_str.proofs.fault.decimal_len.Goals as goal
+use Rattle.duration_str.proofs.message.decimal_len.Goals as goal
 
 pub put_number-requires : goal.put_number-requires
 put_number-requires c =

@@ -1,6 +1,6 @@
 use Rattle.std.proofs.Common.{◌-◌, ◌≤◌, replicate}
 use Rattle.std.specs.Fmt.{HasWritten, IsPlainFormatter}
-use Rattle.duration_str.proofs.fault.SpacesDisplay.fmt.Given as goal
+use Rattle.duration_str.proofs.message.SpacesDisplay.fmt.Given as goal
 
 -- everything that is not left was written
 abbrev pub invariant-loop-left : goal.invariant-loop-left

@@ -1,6 +1,6 @@
 use Rattle.std.proofs.Common.{◌∙◌}
 use Rattle.duration_str.proofs.Printer.SpaceLemmas.{run_boundary, run_taken}
-use Rattle.duration_str.proofs.fault.short_run.Goals as goal
+use Rattle.duration_str.proofs.message.short_run.Goals as goal
 
 pub range-requires-clause-end_boundary : goal.range-requires-clause-end_boundary
 range-requires-clause-end_boundary c = run_boundary c.args.count c.requires
