@@ -233,9 +233,8 @@ pub trait HumanFormat {
     /// refused.
     fn human_format<A: Allocator>(&self, alloc: A) -> Result<String<A>, AllocError>
         requires { pos 0 ≤ℤ nanos self.now }
-        ensures text { IfOk result (λ text.
-            IsPrinted (unsigned_abs (nanos self.now)) (chars (string_bytes text))) }
-        ensures short { IfOk result (λ text. length (string_bytes text) ≤ MAX_PRINTED_LEN) };
+        ensures { IfOk result (λ text.
+            IsPrinted (unsigned_abs (nanos self.now)) (chars (string_bytes text))) };
 }
 
 impl HumanFormat for Duration {

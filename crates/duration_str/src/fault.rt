@@ -3,7 +3,7 @@ ghost use Rattle.std.specs.Prelude.{◌≡◌};
 ghost use Rattle.std.specs.Option.{ForSome};
 ghost use Rattle.std.specs.Str.{IsCharBoundary, chars};
 ghost use Rattle.duration_str.specs.Faults.{IsSliceOf, found_token, place_of, token_at};
-ghost use Rattle.duration_str.specs.Tokenizer.{tokens_left, source};
+ghost use Rattle.duration_str.specs.Iteration.{tokens_left, source};
 
 use crate::cause::Cause;
 use crate::options::Options;

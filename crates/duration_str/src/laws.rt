@@ -1,5 +1,5 @@
 //! Laws about the definitions: each function does nothing, and its contract is a law.
-ghost use Rattle.duration_str.specs.Laws.{OneSentence, OneCut, OneAnswer, IsAnswer, PlaceAndKinds, NoCalcAgrees, OptionsIdle, BlanksFree, SumOfTexts, Reorder, TwoFactors, GreatestBreakdown, EqualTexts, ReadsBack, OlderTexts};
+ghost use Rattle.duration_str.specs.Laws.{OneSentence, OneCut, OneReading, AnswerIsReading, PlaceAndKinds, NoCalcAgrees, OptionsIdle, BlanksFree, SumOfTexts, Reorder, TwoFactors, GreatestBreakdown, EqualTexts, ReadsBack, OlderTexts};
 
 /// At most one sentence spells a text, and its lexemes are those of the text's tokens; a text is read as one value or
 /// refused for one cause, not both, and the computed answer says which. So `3m31s` is spelled by `3`, `m`, `31`, `s`
@@ -7,8 +7,8 @@ ghost use Rattle.duration_str.specs.Laws.{OneSentence, OneCut, OneAnswer, IsAnsw
 pub fn one_sentence()
     ensures sentence { OneSentence }
     ensures tokens { OneCut }
-    ensures answer { OneAnswer }
-    ensures computed { IsAnswer }
+    ensures answer { OneReading }
+    ensures computed { AnswerIsReading }
 {}
 
 /// The last terminal determines what can follow the beginning of a sentence, and the longest beginning reaches as far

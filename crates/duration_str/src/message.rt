@@ -30,7 +30,6 @@ impl Cause {
     pub fn write_line(self, buffer: &mut [u8]) -> Option<usize>
         ensures bytes { IsWritten (encode_utf8_all (line_of self)) buffer.old result buffer.new }
         ensures utf8 { IfSome result (λ end. IsUtf8 (take end buffer.new)) }
-        ensures one_line { IfSome result (λ end. EndsInsideLine (take end buffer.new)) }
     {
         put(buffer, 0, self.line().as_bytes())
     }
@@ -155,12 +154,10 @@ pub(crate) enum Layout {
 impl fmt::Display for Fault<'_> {
     ghost output = { λ fault. Some (fault_text fault.text.now fault.cause) };
 
-    #[tactic(auto, using(crate::proofs::Printer::MessageLemmas::text_ends))]
     fn fmt<W: fmt::Write>(&self, f: &mut fmt::Formatter<W>) -> fmt::Result
         ensures writes { DisplaysOnOk W.write_str_gives f.old result
             (Some (fault_text self.now.text.now self.now.cause)) f.new }
         ensures styled { DisplaysStyledOnOk W.write_str_gives f.old result None f.new }
-        ensures last_line { EndsInsideLine (fault_text self.now.text.now self.now.cause) }
     {
         let text = self.text;
         let line = self.cause.line();

@@ -4,9 +4,9 @@ ghost use Rattle.std.specs.Option.{ForSome, ForNone};
 ghost use Rattle.std.specs.Char.{is_ascii_alphabetic};
 ghost use Rattle.std.specs.Str.{chars};
 ghost use Rattle.std.specs.Iterator.{item_count};
-ghost use Rattle.duration_str.specs.Text.{is_blank, is_digit, is_unit_letter, is_chinese, IsNumber, number_of};
+ghost use Rattle.duration_str.specs.Text.{ahead, is_blank, is_digit, is_unit_letter, is_chinese, IsNumber, number_of};
 ghost use Rattle.duration_str.specs.Tokens.{tokens_of};
-ghost use Rattle.duration_str.specs.Internal.Cutting.{ahead, StandsAt, Passes, Stops, TakesDigits, TakesLetters};
+ghost use Rattle.duration_str.specs.Internal.Positions.{StandsAt, Passes, Stops, TakesDigits, TakesLetters};
 ghost use Rattle.duration_str.specs.Internal.Numbers.{u64_from};
 ghost use Rattle.duration_str.specs.Internal.Sorts.{sort_at};
 ghost use Rattle.duration_str.specs.Units.{unit_of_word};
@@ -78,7 +78,7 @@ pub(crate) struct Number<'a> {
 }
 
 impl<'a> Number<'a> {
-    ghost use Rattle.duration_str.specs.Internal.Tokenizer.{u64_of};
+    ghost use Rattle.duration_str.specs.Internal.Steps.{u64_of};
 
     /// The number; `None` from 2^64 on.
     #[inline(always)]
@@ -134,8 +134,8 @@ pub struct Tokens<'a> {
 
 impl<'a> Tokens<'a> {
     ghost use Rattle.duration_str.specs.Grammar.{word};
-    ghost use Rattle.duration_str.specs.Tokenizer.{source, options_of, cut_place, looks_of, tokens_left, what_of, KeepsInput};
-    ghost use Rattle.duration_str.specs.Internal.Tokenizer.{IsAhead, LooksAhead, LooksForNumber, u64_of, TakesNumber, TakesToken, TakesTokenWith, TakesSign};
+    ghost use Rattle.duration_str.specs.Iteration.{source, options_of, cut_place, tokens_left, what_of, KeepsInput};
+    ghost use Rattle.duration_str.specs.Internal.Steps.{IsAhead, LooksAhead, LooksForNumber, u64_of, TakesNumber, TakesToken, TakesTokenWith, TakesSign};
 
     /// The tokens of a text, cut under these options.
     ///
@@ -170,7 +170,6 @@ impl<'a> Tokens<'a> {
     /// ```
     #[inline(always)]
     pub fn looked(&self) -> u64
-        ensures count { result ≡ looks_of self.now }
         ensures most { result ≤ length (chars (source self.now)) }
         ensures least { length (chars (take (cut_place self.now) (source self.now))) ≤ result }
     {
@@ -386,7 +385,7 @@ impl<'a> Tokens<'a> {
 }
 
 impl<'a> Iterator for Tokens<'a> {
-    ghost use Rattle.duration_str.specs.Tokenizer.{tokens_left, YieldsNextToken};
+    ghost use Rattle.duration_str.specs.Iteration.{tokens_left, YieldsNextToken};
 
     type Item = Token<'a>;
 

@@ -14,8 +14,8 @@ is_not_text _ = false
 
 -- The bytes of the line that says what is wrong. Of bytes that are no text it says so; the library's line for this
 -- cause speaks of the value of a configuration file.
-abbrev pub line_told : Cause → List ℕ
-line_told cause = if is_not_text cause then codes "not UTF-8" else encode_utf8_all (line_of cause)
+abbrev pub answer_line : Cause → List ℕ
+answer_line cause = if is_not_text cause then codes "not UTF-8" else encode_utf8_all (line_of cause)
 
 -- The length is that of the bytes, or the greatest possible one. If the bytes fit, they are at the start of the buffer,
 -- and otherwise it is unchanged.

@@ -4,7 +4,7 @@ use Rattle.duration_str.proofs.Common.{cases_Bool, and_parts, list_all, Options,
 use Rattle.duration_str.proofs.Characters.CharacterLemmas.{digit-not_letter, letter-not_digit}
 use Rattle.duration_str.proofs.Cutting.TokenLemmas.{tokens_are}
 use Rattle.duration_str.proofs.Cutting.TerminalLemmas.{digits_are_lexeme, letters_are_lexeme, no_run, lexeme_sort}
-use Rattle.duration_str.proofs.Cutting.CuttingLemmas.{TakesWord}
+use Rattle.duration_str.proofs.Cutting.PositionLemmas.{TakesWord}
 
 -- The characters from `place` to `next` are a token, as long as possible, that stands for this terminal.
 pub record StandsToken (o : Options) (text : List ℕ) (place next : ℕ) (terminal : Terminal) : Type 0 where

@@ -72,9 +72,9 @@ abbrev value_by : CondUnit → List Term → Result ℕ Cause
 value_by op later = fault_or (later_fault op [] later) (Ok (later_total op later))
 
 -- The value of a term, or its fault, as `checked_term` gives it.
-pub term_told : (place : Option ℕ) (t : Term)
+pub checked_term_is : (place : Option ℕ) (t : Term)
     → checked_term place (u64_from t.number) t.length ≡ fault_or (term_fault place t) (Ok (value_of_term t))
-term_told place t = elim (cases_Bool (fits t.number)) [
+checked_term_is place t = elim (cases_Bool (fits t.number)) [
   | inl e ↦ rw e (elim (cases_Bool (fits (value_of_term t))) [ inl f ↦ rw f | inr f ↦ rw f ])
   | inr e ↦ rw e
 ]
@@ -98,7 +98,7 @@ one_more : (op : CondUnit) (before : List Term) (t : Term)
     (checked_term None (u64_from t.number) t.length)
     ≡ value_by op (before ++ t ∷ [])
 one_more op before t =
-    simp (fault_order, term_told None t, later_append op [] before (t ∷ []), together-push op before t)
+    simp (fault_order, checked_term_is None t, later_append op [] before (t ∷ []), together-push op before t)
 
 -- ---- All terms, one by one
 
@@ -126,12 +126,12 @@ default_left first op before (t ∷ later) syntax =
     rw (one_more op before t, default_left first op (before ++ t ∷ []) later syntax, append_assoc before)
 
 -- the overflow of the later terms' sum, and that of the sum with the first term, are one fault
-sum_told : (first sum : ℕ) (own : Option Cause)
+one_overflow : (first sum : ℕ) (own : Option Cause)
     → or_else own (or_else (unless (fits (first + sum)) (Overflow None)) None)
     ≡ result_err (checked_combination Plus (Ok first)
     (fault_or (or_else own (or_else (unless (fits sum) (Overflow None)) None)) (Ok sum)))
-sum_told first sum (Some cause) = refl
-sum_told first sum None = elim (cases_lt sum (2 ^ 64)) [
+one_overflow first sum (Some cause) = refl
+one_overflow first sum None = elim (cases_lt sum (2 ^ 64)) [
   | inl below ↦ rw (lt-ltb sum _ below) (elim (cases_Bool (fits (first + sum))) [ inl e ↦ rw e | inr e ↦ rw e ])
   | inr above ↦ rw (le-ltb sum _ above, le-ltb (first + sum) (2 ^ 64) (omega arith))
 ]
@@ -144,7 +144,7 @@ checked_sum : (f : Term) (before : List Term) (t : Term) → t.operator ≡ Plus
 checked_sum f before t plus a h =
     let same = (is_same_operator-true Plus t.operator).1 plus in
     rw (later_append Plus [] before (t ∷ []), later_none [] before a.2 (omega arith), same)
-    (sum_told (value_of_term f) (sum_of (before ++ t ∷ [])) (term_fault None t))
+    (one_overflow (value_of_term f) (sum_of (before ++ t ∷ [])) (term_fault None t))
 
 -- Results after a fault are equal if they are without it.
 unless_fault : {x y : Result ℕ Cause} (fault : Option Cause) → (fault ≡ None → x ≡ y)

@@ -1,8 +1,8 @@
 -- The reader's steps: what comes next, by the sort ahead, and what is left after it.
 use Rattle.std.proofs.Common.{◌≡◌, ℕ, Bool, true, false, length, Option, Some, None, Result, Ok, Err, IsTrue, refl, sym, ap, ◌∙◌, if◌then◌else◌}
-use Rattle.duration_str.proofs.Common.{TimeUnit, CondUnit, Plus, Cause, Syntax, Sort, Tokens, Terminal, number, word, operator, other, terminal_of, kinds_at_start, sort_of, source, options_of, tokens_left, LooksAhead, is_number, TakesToken, TakesSign, Rest, terminal_at, end_at, rest_from, rest_of, number_fault, fault_or, Read, leaving, operator_read}
-use Rattle.duration_str.specs.Tokenizer.{cut_place}
-use Rattle.duration_str.proofs.Cutting.TokenizerLemmas.{none_left, first_left}
+use Rattle.duration_str.proofs.Common.{TimeUnit, CondUnit, Plus, Cause, Syntax, Sort, Tokens, Terminal, number, word, operator, other, terminal_of, kinds_at_start, sort_of, source, options_of, tokens_left, LooksAhead, is_number, TakesToken, TakesSign, Rest, terminal_at, end_at, rest_from, rest_of, number_fault, fault_or, ReadItem, leaving, operator_read}
+use Rattle.duration_str.specs.Iteration.{cut_place}
+use Rattle.duration_str.proofs.Cutting.StepLemmas.{none_left, first_left}
 use Rattle.duration_str.specs.declared.token.Sort.TheVariants as sorts
 
 pub same_rest : {s m : Tokens} {sort : Option Sort} → LooksAhead s m sort → rest_of m ≡ rest_of s
@@ -68,7 +68,7 @@ operator_taken {m = m} {op = op} t look is takes =
     rw (← same_rest look, after_token taken.token, operator_terminal taken.terminal op taken.has)
 
 -- the operator that was read
-abbrev operator_of : Result (Read (Option CondUnit)) Cause → Option CondUnit
+abbrev operator_of : Result (ReadItem (Option CondUnit)) Cause → Option CondUnit
 operator_of (Ok r) = r.item
 operator_of (Err cause) = None
 

@@ -3,7 +3,7 @@ use Rattle.std.specs.Prelude.{ℕ, Bool, ◌&&◌, ◌==◌, nat_le, List, Optio
 use Rattle.std.specs.List.{list_any, list_all, find}
 use Rattle.duration_str.specs.declared.unit.TimeUnit.{TimeUnit}
 use Rattle.duration_str.specs.Units.{units, row_of}
-use Rattle.duration_str.specs.Internal.Cutting.{packed_number}
+use Rattle.duration_str.specs.Internal.Positions.{packed_number}
 
 -- whether a name is all lower-case ASCII letters and packs to n
 abbrev pub packs_to : ℕ → List ℕ → Bool

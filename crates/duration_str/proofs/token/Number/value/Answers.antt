@@ -1,5 +1,5 @@
 use Rattle.duration_str.proofs.Common.{IsUtf8-had}
-use Rattle.duration_str.proofs.Cutting.CuttingLemmas.{short_number}
+use Rattle.duration_str.proofs.Cutting.PositionLemmas.{short_number}
 use Rattle.duration_str.proofs.token.Number.value.Goals as goal
 
 pub returns-then-self-le-MOST_DIGITS : goal.returns-then-self-le-MOST_DIGITS

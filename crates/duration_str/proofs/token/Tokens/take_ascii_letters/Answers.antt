@@ -1,8 +1,8 @@
 use Rattle.std.proofs.Common.{◌∙◌, refl, sym, arith}
 use Rattle.duration_str.proofs.Common.{options_of}
 use Rattle.duration_str.proofs.Characters.CharacterLemmas.{ascii_letter}
-use Rattle.duration_str.proofs.Cutting.CuttingLemmas.{letters_none, letters_head}
-use Rattle.duration_str.proofs.Cutting.TokenizerLemmas.{keeps_on, fewer_ahead, letter_ahead}
+use Rattle.duration_str.proofs.Cutting.PositionLemmas.{letters_none, letters_head}
+use Rattle.duration_str.proofs.Cutting.StepLemmas.{keeps_on, fewer_ahead, letter_ahead}
 use Rattle.duration_str.proofs.token.Tokens.take_ascii_letters.Goals as goal
 
 pub loop-self-init : goal.loop-self-init

@@ -1,10 +1,10 @@
 use Rattle.std.proofs.Common.{◌∙◌, inr}
-use Rattle.duration_str_c.specs.Told.{options_of_bits}
-use Rattle.duration_str_c.proofs.ToldLemmas.{refusal_moves}
-use Rattle.duration_str_c.proofs.told.Goals as goal
+use Rattle.duration_str_c.specs.Answers.{options_of_bits}
+use Rattle.duration_str_c.proofs.AnswerLemmas.{refusal_moves}
+use Rattle.duration_str_c.proofs.answer_to.Goals as goal
 
-pub returns-in-Err-clause-told : goal.returns-in-Err-clause-told
-returns-in-Err-clause-told c utf8 =
+pub returns-in-Err-clause-answers : goal.returns-in-Err-clause-answers
+returns-in-Err-clause-answers c utf8 =
     let fault = c.in-Err.fault in
     let moved = refusal_moves c.options_of_bits-options.result (options_of_bits c.args.options) fault.text.now
     c.args.bytes.now fault.cause c.refused.result in

@@ -7,9 +7,9 @@ use Rattle.duration_str.specs.declared.token.Number.{Number}
 use Rattle.duration_str.specs.declared.token.Tokens.{Tokens}
 use Rattle.duration_str.specs.Text.{is_blank, number_of}
 use Rattle.duration_str.specs.Grammar.{Terminal, number, terminal_of}
-use Rattle.duration_str.specs.Tokenizer.{source, options_of, cut_place, tokens_left, KeepsInput}
+use Rattle.duration_str.specs.Iteration.{source, options_of, cut_place, tokens_left, KeepsInput}
 use Rattle.duration_str.specs.Internal.Numbers.{u64_from}
-use Rattle.duration_str.specs.Internal.Cutting.{Between}
+use Rattle.duration_str.specs.Internal.Positions.{Between}
 use Rattle.duration_str.specs.Internal.Sorts.{sort_at, sort_of}
 
 -- The character ahead starts a token of this sort.

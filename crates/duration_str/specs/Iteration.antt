@@ -1,4 +1,4 @@
--- What callers see of `Tokens`.
+-- What callers see of the iterator `Tokens`: the text, how far it is cut, and the tokens that are left.
 use Rattle.std.specs.Prelude.{◌≡◌, ℕ, ◌+◌, List, length, Option, IfSome, IfNone, slice_range}
 use Rattle.std.specs.Str.{chars}
 use Rattle.std.specs.Iterator.{YieldsFirstBy}
@@ -7,9 +7,9 @@ use Rattle.duration_str.specs.declared.token.What.{What}
 use Rattle.duration_str.specs.declared.token.What.TheVariants as whats
 use Rattle.duration_str.specs.declared.token.Token.{Token as RustToken}
 use Rattle.duration_str.specs.declared.token.Tokens.{Tokens}
+use Rattle.duration_str.specs.Text.{ahead}
 use Rattle.duration_str.specs.Grammar.{Terminal, number, word, operator, other, terminal_of}
 use Rattle.duration_str.specs.Tokens.{Token, tokens_from}
-use Rattle.duration_str.specs.Internal.Cutting.{ahead}
 
 -- what the token of a terminal is
 abbrev pub what_of : Terminal → What
@@ -29,10 +29,6 @@ options_of s = s.options
 -- the byte up to which it is cut
 abbrev pub cut_place : Tokens → ℕ
 cut_place s = s.eye.place
-
--- how many times a character was looked at
-abbrev pub looks_of : Tokens → ℕ
-looks_of s = s.eye.looks
 
 -- the tokens that are left
 abbrev pub tokens_left : Tokens → List Token

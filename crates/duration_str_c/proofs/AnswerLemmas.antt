@@ -7,7 +7,7 @@ use Rattle.duration_str.specs.declared.cause.Cause.{Cause}
 use Rattle.duration_str.specs.declared.cause.Cause.TheVariants.{Empty, Syntax, NumberTooLarge, Overflow, Mixed, OutOfRange, NotText}
 use Rattle.duration_str.specs.declared.cause.Expected.{Expected}
 use Rattle.duration_str_c.specs.declared.answer.Answer.{Answer}
-use Rattle.duration_str_c.specs.Told.{bits_of, expected_of, refusal_answer, cause_told, IsRefusalTold}
+use Rattle.duration_str_c.specs.Answers.{bits_of, expected_of, refusal_answer, answer_cause, IsRefusalAnswer}
 use Rattle.duration_str_c.proofs.CauseLemmas.{IsOfText}
 
 abbrev kinds : Bool → Bool → Bool → Bool → Expected
@@ -34,28 +34,28 @@ kinds_again false false false true = refl
 kinds_again false false false false = refl
 
 mixed_again : (first later : CondUnit) (n : ℕ)
-    → cause_told (refusal_answer (Mixed first later) n) ≡ Some (Mixed first later)
+    → answer_cause (refusal_answer (Mixed first later) n) ≡ Some (Mixed first later)
 mixed_again Plus Plus n = refl
 mixed_again Plus Star n = refl
 mixed_again Star Plus n = refl
 mixed_again Star Star n = refl
 
 -- The cause of a text is recovered from its answer.
-pub told_again : (cause : Cause) (n : ℕ) → IsOfText cause → cause_told (refusal_answer cause n) ≡ Some cause
-told_again Empty n h = refl
-told_again (Syntax place e) n h =
+pub cause_again : (cause : Cause) (n : ℕ) → IsOfText cause → answer_cause (refusal_answer cause n) ≡ Some cause
+cause_again Empty n h = refl
+cause_again (Syntax place e) n h =
     ap (λ (e : Expected). Some (Syntax place e)) (kinds_again e.number e.unit_word e.operator e.text_end)
-told_again (NumberTooLarge None) n h = refl
-told_again (NumberTooLarge (Some place)) n h = refl
-told_again (Overflow None) n h = refl
-told_again (Overflow (Some place)) n h = refl
-told_again (Mixed first later) n h = mixed_again first later n
-told_again OutOfRange n h = refl
-told_again (NotText optional) n h = absurd h
+cause_again (NumberTooLarge None) n h = refl
+cause_again (NumberTooLarge (Some place)) n h = refl
+cause_again (Overflow None) n h = refl
+cause_again (Overflow (Some place)) n h = refl
+cause_again (Mixed first later) n h = mixed_again first later n
+cause_again OutOfRange n h = refl
+cause_again (NotText optional) n h = absurd h
 
 -- An answer that refuses bytes also refuses equal bytes under equal options.
 pub refusal_moves : (o p : Options) (bytes same : List ℕ) (cause : Cause) (answer : Answer) → o ≡ p → bytes ≡ same
-    → IsRefusalTold o bytes cause answer → IsRefusalTold p same cause answer
-refusal_moves o p bytes same cause answer e f told =
-    subst (λ (b : List ℕ). IsRefusalTold p b cause answer) f
-    (subst (λ (q : Options). IsRefusalTold q bytes cause answer) e told)
+    → IsRefusalAnswer o bytes cause answer → IsRefusalAnswer p same cause answer
+refusal_moves o p bytes same cause answer e f answers =
+    subst (λ (b : List ℕ). IsRefusalAnswer p b cause answer) f
+    (subst (λ (q : Options). IsRefusalAnswer q bytes cause answer) e answers)

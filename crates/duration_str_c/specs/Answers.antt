@@ -100,36 +100,36 @@ expected_of bits = record {
 }
 
 -- the place in an answer, if it has one
-abbrev pub place_told : Answer → Option ℕ
-place_told a = if a.has_place == 0 then None else Some a.place
+abbrev pub answer_place : Answer → Option ℕ
+answer_place a = if a.has_place == 0 then None else Some a.place
 
 -- the fault of two mixed operators, if both are operators
-abbrev pub mixed_told : Option CondUnit → Option CondUnit → Option Cause
-mixed_told (Some first) (Some later) = Some (Mixed first later)
-mixed_told _ _ = None
+abbrev pub mixed_cause : Option CondUnit → Option CondUnit → Option Cause
+mixed_cause (Some first) (Some later) = Some (Mixed first later)
+mixed_cause _ _ = None
 
 -- The cause in any answer, also in one that a caller made. Its number decides which other fields count, and those that
 -- the cause does not use have no effect. `None` if the number is no cause's, or an operator that counts is none.
-abbrev pub cause_told : Answer → Option Cause
-cause_told a =
+abbrev pub answer_cause : Answer → Option Cause
+answer_cause a =
     if a.cause == 1 then Some Empty
     else if a.cause == 2 then Some (Syntax a.place (expected_of a.expected))
-    else if a.cause == 3 then Some (NumberTooLarge (place_told a))
-    else if a.cause == 4 then Some (Overflow (place_told a))
-    else if a.cause == 5 then mixed_told (operator_of a.first_operator) (operator_of a.later_operator)
+    else if a.cause == 3 then Some (NumberTooLarge (answer_place a))
+    else if a.cause == 4 then Some (Overflow (answer_place a))
+    else if a.cause == 5 then mixed_cause (operator_of a.first_operator) (operator_of a.later_operator)
     else if a.cause == 6 then Some OutOfRange
     else if a.cause == 7 then Some (NotText false)
     else None
 
 -- The answer says that the bytes are refused for this cause. The cause can be recovered from the answer, and its place
 -- is a character boundary of the bytes.
-abbrev pub IsRefusalTold : Options → List ℕ → Cause → Answer → Type 0
-IsRefusalTold o bytes cause answer =
+abbrev pub IsRefusalAnswer : Options → List ℕ → Cause → Answer → Type 0
+IsRefusalAnswer o bytes cause answer =
     IsRefused o (chars bytes) cause × (answer ≡ refusal_answer cause (token_length (found_token o (chars bytes) cause)))
-    × (cause_told answer ≡ Some cause) × ForSome (place_of cause) (IsCharBoundary bytes)
+    × (answer_cause answer ≡ Some cause) × ForSome (place_of cause) (IsCharBoundary bytes)
 
 -- The answer has the value of the bytes, or the cause of their refusal.
-abbrev pub IsTold : Options → List ℕ → Answer → Type 0
-IsTold o bytes answer =
+abbrev pub IsAnswerTo : Options → List ℕ → Answer → Type 0
+IsAnswerTo o bytes answer =
     ((nanos : ℕ) × IsRead o (chars bytes) nanos × (answer ≡ value_answer nanos))
-    ⊎ ((cause : Cause) × IsRefusalTold o bytes cause answer)
+    ⊎ ((cause : Cause) × IsRefusalAnswer o bytes cause answer)

@@ -1,13 +1,8 @@
--- How a text is cut: what is ahead of a byte, and what is between two bytes.
-use Rattle.std.specs.Prelude.{◌≡◌, ℕ, ◌+◌, ◌*◌, ◌%◌, ◌^◌, Bool, false, List, [], ◌∷◌, ◌++◌, drop, IsTrue, ⊤}
+-- Positions in a text: the character at a byte, and the characters between two bytes.
+use Rattle.std.specs.Prelude.{◌≡◌, ℕ, ◌+◌, ◌*◌, ◌%◌, ◌^◌, Bool, false, List, [], ◌∷◌, ◌++◌, IsTrue, ⊤}
 use Rattle.std.specs.List.{list_any, list_all}
 use Rattle.std.specs.Char.{is_ascii_alphabetic, is_ascii_uppercase}
-use Rattle.std.specs.Str.{chars}
-use Rattle.duration_str.specs.Text.{width, byte_len, is_digit, number_of}
-
--- the characters from byte `place` on
-abbrev pub ahead : List ℕ → ℕ → List ℕ
-ahead text place = chars (drop place text)
+use Rattle.duration_str.specs.Text.{ahead, width, byte_len, is_digit, number_of}
 
 -- The character c is at byte `place`, and `next` is the byte after it.
 pub record StandsAt (text : List ℕ) (place next c : ℕ) : Type 0 where
