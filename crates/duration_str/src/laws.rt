@@ -7,7 +7,7 @@ ghost use Rattle.duration_str.specs.Laws.{OneSentence, OneCut, OneReading, Answe
 pub fn one_sentence()
     ensures sentence { OneSentence }
     ensures tokens { OneCut }
-    ensures answer { OneReading }
+    ensures reading { OneReading }
     ensures computed { AnswerIsReading }
 {}
 

@@ -9,9 +9,9 @@ ghost use Rattle.duration_str.specs.Units.{off};
 
 pub use crate::cause::{Cause, Expected};
 pub use crate::fault::Fault;
+use crate::options::Options;
 use crate::reader::read;
 use crate::token::Tokens;
-use crate::options::Options;
 use std::time::Duration;
 
 /// The duration that a text means with all options off.

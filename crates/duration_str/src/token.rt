@@ -14,9 +14,9 @@ ghost use Rattle.duration_str.specs.declared.token.Sort.{Sort};
 ghost use Rattle.duration_str.specs.declared.token.Sort.TheVariants.{Number as a_number, Word as a_word};
 
 use crate::eye::Eye;
-use crate::packed::unit_of_packed;
 use crate::operator::CondUnit;
 use crate::options::Options;
+use crate::packed::unit_of_packed;
 use crate::unit::TimeUnit;
 
 /// What a token is: a number, a word with the unit that it names, an operator, or another character.

@@ -8,8 +8,8 @@ returns-clause-sentence c = one_sentence_holds
 pub returns-clause-tokens : goal.returns-clause-tokens
 returns-clause-tokens c = one_cut_holds
 
-pub returns-clause-answer : goal.returns-clause-answer
-returns-clause-answer c = one_reading_holds
+pub returns-clause-reading : goal.returns-clause-reading
+returns-clause-reading c = one_reading_holds
 
 pub returns-clause-computed : goal.returns-clause-computed
 returns-clause-computed c = answer_is_reading_holds

@@ -5,7 +5,7 @@ use Rattle.uses.proofs.cache.share_entry.Goals as goal
 
 pub returns-clause-same : goal.returns-clause-same
 returns-clause-same c m n read other_read =
-    let law = c.one_sentence.ensures.answer in
+    let law = c.one_sentence.ensures.reading in
     let m_is : m ≡ as_nanos c.in_ok-length.length = law.one_value off _ _ _ read c.in_ok-length.ensures.read in
     let n_is : n ≡ as_nanos c.in_ok-other_length.other_length = law.one_value off _ _ _ other_read c.in_ok-other_length.ensures.read in
     let fits : FitsDuration (as_nanos c.in_ok-length.length) = omega (arith, c.in_ok-length.ensures.fits) in

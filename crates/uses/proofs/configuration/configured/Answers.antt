@@ -35,5 +35,5 @@ returns-in_ok-to_derror-in-Err-clause-answer g c =
 
 pub returns-in_err-to_derror-in-Err-clause-overflow : goal.returns-in_err-to_derror-in-Err-clause-overflow
 returns-in_err-to_derror-in-Err-clause-overflow g c overflows =
-    let is_overflow = overflow_given c.one_sentence.ensures.answer _ c.in-Err.fault overflows c.in-Err.ensures in
+    let is_overflow = overflow_given c.one_sentence.ensures.reading _ c.in-Err.fault overflows c.in-Err.ensures in
     absurd (true≢false (sym (c.in_err-to_derror-in-Err.ensures.overflow is_overflow)))
