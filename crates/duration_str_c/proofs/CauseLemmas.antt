@@ -44,7 +44,8 @@ running_any : (before terms : List Term) → AnyOfText (running_fault before ter
 running_any before [] = tt
 running_any before (t ∷ terms) =
     or_else_any (term_fault (place_after before) t) _ (term_any (place_after before) t)
-    (or_else_any (unless (fits (sum_of (before ++ t ∷ []))) (Overflow None)) _ (overflow_any (sum_of (before ++ t ∷ [])) None)
+    (or_else_any (unless (fits (sum_of (before ++ t ∷ []))) (Overflow None)) _
+    (overflow_any (sum_of (before ++ t ∷ [])) None)
     (running_any (before ++ t ∷ []) terms))
 
 later_any : (op : CondUnit) (before later : List Term) → AnyOfText (later_fault op before later)

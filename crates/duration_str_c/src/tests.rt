@@ -321,7 +321,10 @@ fn column_answers(bytes: &[u8], offsets: &[usize]) -> (usize, [u64; 5], [u32; 5]
 fn tells_of_each_text_of_a_column(rt: HostRuntime) {
     let values = [60_000_000_000, 0, 0, 0, 2];
     let causes = [READ, EMPTY, SYNTAX, NOT_TEXT, READ];
-    assert_eq!(rt; column_answers(COLUMN, &COLUMN_OFFSETS), (2, values, causes));
+    assert_eq!(rt;
+        column_answers(COLUMN, &COLUMN_OFFSETS),
+        (2, values, causes)
+    );
 }
 
 #[test]

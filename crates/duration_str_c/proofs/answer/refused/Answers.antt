@@ -11,5 +11,10 @@ returns c =
     let text = chars c.args.fault.text.now in
     let cause = c.args.fault.cause in
     let len = token_length (found_token c.args.options text cause) in
-    let answers : c.refusal.result ≡ refusal_answer cause len = search rules in
-    (c.requires, answers, ap answer_cause answers ∙ cause_again cause len (of_text c.args.options text cause c.requires), c.args.fault.placed)
+    let answers : c.refusal.result ≡ refusal_answer cause len = search rules in (
+      c.requires,
+      answers,
+      ap answer_cause answers ∙ cause_again cause len
+          (of_text c.args.options text cause c.requires),
+      c.args.fault.placed,
+    )

@@ -16,7 +16,8 @@ loop-index-preserved c =
     let room_nanos : i < length nanos = omega arith in
     let room_causes : i < length causes = omega arith in
     record {
-      answers = answers_more (options_of_bits c.args.options) c.args.bytes.now c.args.offsets.now nanos causes i value cause
+      answers = answers_more (options_of_bits c.args.options) c.args.bytes.now c.args.offsets.now nanos causes i value
+          cause
           room_nanos room_causes before.answers c.answer_between-value.ensures;
       read = elim c.if-cause-eq0.branch [
         | then-cause-eq0 w ↦

@@ -8,7 +8,8 @@ pub returns-in-Err-clause-answers : goal.returns-in-Err-clause-answers
 returns-in-Err-clause-answers c moment utf8 =
     let fault = c.in-Err.fault in
     let text = c.in-Err.ensures.refused.0 ∙ c.in-Some-text_of.ensures.text.0 in
-    let moved = refusal_moves c.options_of_bits-options.result (options_of_bits c.args.options) fault.text.now c.args.text.now
+    let moved = refusal_moves c.options_of_bits-options.result
+    (options_of_bits c.args.options) fault.text.now c.args.text.now
     fault.cause c.refused.result in
     inr (inl (fault.cause, moved c.options_of_bits-options.ensures.options text c.refused.ensures, refl))
 

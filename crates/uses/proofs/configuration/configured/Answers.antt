@@ -31,7 +31,8 @@ returns-in-Ok-clause-answer g c = given_value g.row.A.Denot _ c.in-Ok.length c.i
 
 pub returns-in_ok-to_derror-in-Err-clause-answer : goal.returns-in_ok-to_derror-in-Err-clause-answer
 returns-in_ok-to_derror-in-Err-clause-answer g c =
-    given_fault _ c.in-Err.fault c.in_ok-to_derror-in-Err.field-0 c.in-Err.ensures c.in_ok-to_derror-in-Err.ensures.error
+    given_fault _ c.in-Err.fault c.in_ok-to_derror-in-Err.field-0 c.in-Err.ensures
+    c.in_ok-to_derror-in-Err.ensures.error
 
 pub returns-in_err-to_derror-in-Err-clause-overflow : goal.returns-in_err-to_derror-in-Err-clause-overflow
 returns-in_err-to_derror-in-Err-clause-overflow g c overflows =

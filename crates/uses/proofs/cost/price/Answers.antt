@@ -10,7 +10,8 @@ on_value P (Ok d) accepted x = x
 on_value P (Err f) accepted x = absurd accepted
 
 on_cause : (bytes : List ℕ) (cause : Cause) (looks : ℕ) (result : Result Duration Fault)
-    → IsErrAnd result (λ f. f.cause ≡ cause) → IfErr result (λ f. ReachesPlace bytes f.cause looks) → ReachesPlace bytes cause looks
+    → IsErrAnd result (λ f. f.cause ≡ cause) → IfErr result (λ f. ReachesPlace bytes f.cause looks)
+    → ReachesPlace bytes cause looks
 on_cause bytes cause looks (Ok d) refused reaches = absurd refused
 on_cause bytes cause looks (Err f) refused reaches = rw refused at reaches
 
