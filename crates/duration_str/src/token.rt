@@ -1,5 +1,6 @@
 //! The tokens of a text: numbers, words, operators, and other single characters.
-ghost use Rattle.std.specs.Prelude.{◌≡◌, ◌+◌, ◌%◌, ◌^◌, ◌≤◌, [], ◌&&◌, ◌||◌, ◌==◌, not, length, take, is_some, Option, IsSome, if◌then◌else◌, false, Some, IsUtf8};
+ghost use Rattle.std.specs.Prelude.{◌≡◌, ◌+◌, ◌%◌, ◌^◌, ◌≤◌, ◌<◌, [], ◌&&◌, ◌||◌, ◌==◌, not, length, take, is_some, Option, IsSome, IsTrue, if◌then◌else◌, false, Some, IsUtf8};
+ghost use Rattle.std.specs.List.{list_all};
 ghost use Rattle.std.specs.Option.{ForSome, ForNone};
 ghost use Rattle.std.specs.Char.{is_ascii_alphabetic};
 ghost use Rattle.std.specs.Str.{chars};
@@ -7,9 +8,9 @@ ghost use Rattle.std.specs.Iterator.{item_count};
 ghost use Rattle.duration_str.specs.Text.{ahead, is_blank, is_digit, is_unit_letter, is_chinese, IsNumber, number_of};
 ghost use Rattle.duration_str.specs.Tokens.{tokens_of};
 ghost use Rattle.duration_str.specs.Internal.Positions.{StandsAt, Passes, Stops, TakesDigits, TakesLetters};
-ghost use Rattle.duration_str.specs.Internal.Numbers.{u64_from};
 ghost use Rattle.duration_str.specs.Internal.Sorts.{sort_at};
 ghost use Rattle.duration_str.specs.Units.{unit_of_word};
+ghost use Rattle.duration_str.specs.Value.{fits};
 ghost use Rattle.duration_str.specs.declared.token.Sort.{Sort};
 ghost use Rattle.duration_str.specs.declared.token.Sort.TheVariants.{Number as a_number, Word as a_word};
 
@@ -86,11 +87,12 @@ impl<'a> Number<'a> {
         ensures { result ≡ u64_of self.entry }
     {
         if self.digits.len() <= MOST_DIGITS {
+            return Some(self.low);
+        }
+        if fits(self.digits, self.low) {
             Some(self.low)
         } else {
-            // Without `?` the compiler would test the answer of the short path too, as in `take_word`.
-            let number = number_of(self.digits)?;
-            Some(number)
+            None
         }
     }
 }
@@ -481,16 +483,25 @@ fn is_blank(c: char) -> bool
     c <= ' ' && matches!(c, ' ' | '\t' | '\r' | '\n')
 }
 
-/// The number that digits write; `None` from 2^64 on.
+/// Whether more than 19 digits write a number below 2^64; `low` is that number modulo 2^64. Before the last 19 digits
+/// such a number has zeros alone, or zeros and a `1`; then it is from 10^19 on, and below 2^64 if `low` is too.
 #[cold]
 #[inline(never)]
-pub(crate) fn number_of(digits: &[u8]) -> Option<u64>
-    requires utf8 { IsUtf8 digits.now }
-    requires number { IsNumber (chars digits.now) }
-    ensures { result ≡ u64_from (number_of (chars digits.now)) }
+fn fits(digits: &[u8], low: u64) -> bool
+    requires long { 19 < length digits.now }
+    requires digits { IsTrue (list_all is_digit digits.now) }
+    requires same { low ≡ number_of digits.now % 2 ^ 64 }
+    ensures { result ≡ fits (number_of digits.now) }
 {
-    match str::from_utf8(digits) {
-        Ok(text) => text.parse::<u64>().ok(),
-        Err(_) => None,
-    }
+    let at = digits.len() - MOST_DIGITS - 1;
+    let first = digits[at];
+    are_zeros(&digits[..at])
+        && (first == b'0' || first == b'1' && low >= 10_000_000_000_000_000_000)
+}
+
+/// Whether all digits are zero.
+fn are_zeros(digits: &[u8]) -> bool
+    ensures { result ≡ list_all (λ digit. digit == 48) digits.now }
+{
+    digits.iter().all(|digit| *digit == b'0')
 }

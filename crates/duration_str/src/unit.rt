@@ -13,7 +13,6 @@ ghost use Rattle.duration_str.specs.Terms.{term_of, term_answer};
 use crate::cause::Cause;
 pub use crate::operator::CondUnit;
 pub use crate::options::Options;
-use crate::token::number_of;
 use std::fmt;
 
 /// A unit of time.
@@ -199,7 +198,7 @@ impl TimeUnit {
         requires { IsNumber (chars number.now) }
         ensures { result ≡ term_answer None (term_of (number_of (chars number.now)) self) }
     {
-        self.times(number_of(number.as_bytes()), None)
+        self.times(number.parse::<u64>().ok(), None)
     }
 
     /// The value of a term in nanoseconds. `number` is `None` if it exceeds `u64`; `place` goes into the error.

@@ -65,11 +65,12 @@ impl<'a> Number<'a> {
     #[inline(always)]
     pub(crate) fn value(self) -> Option<u64> {
         if self.digits.len() <= MOST_DIGITS {
+            return Some(self.low);
+        }
+        if fits(self.digits, self.low) {
             Some(self.low)
         } else {
-            // Without `?` the compiler would test the answer of the short path too, as in `take_word`.
-            let number = number_of(self.digits)?;
-            Some(number)
+            None
         }
     }
 }
@@ -378,12 +379,18 @@ fn is_blank(c: char) -> bool {
     c <= ' ' && matches!(c, ' ' | '\t' | '\r' | '\n')
 }
 
-/// The number that digits write; `None` from 2^64 on.
+/// Whether more than 19 digits write a number below 2^64; `low` is that number modulo 2^64. Before the last 19 digits
+/// such a number has zeros alone, or zeros and a `1`; then it is from 10^19 on, and below 2^64 if `low` is too.
 #[cold]
 #[inline(never)]
-pub(crate) fn number_of(digits: &[u8]) -> Option<u64> {
-    match str::from_utf8(digits) {
-        Ok(text) => text.parse::<u64>().ok(),
-        Err(_) => None,
-    }
+fn fits(digits: &[u8], low: u64) -> bool {
+    let at = digits.len() - MOST_DIGITS - 1;
+    let first = digits[at];
+    are_zeros(&digits[..at])
+        && (first == b'0' || first == b'1' && low >= 10_000_000_000_000_000_000)
+}
+
+/// Whether all digits are zero.
+fn are_zeros(digits: &[u8]) -> bool {
+    digits.iter().all(|digit| *digit == b'0')
 }

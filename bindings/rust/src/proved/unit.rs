@@ -4,7 +4,6 @@
 use super::fault::Cause;
 pub use super::operator::CondUnit;
 pub use super::options::Options;
-use super::token::number_of;
 use core::fmt;
 
 /// A unit of time.
@@ -173,7 +172,7 @@ impl TimeUnit {
     /// assert_eq!(duration_str::TimeUnit::Hour.value("2"), Ok(7_200_000_000_000));
     /// ```
     pub fn value(self, number: &str) -> Result<u64, Cause> {
-        self.times(number_of(number.as_bytes()), None)
+        self.times(number.parse::<u64>().ok(), None)
     }
 
     /// The value of a term in nanoseconds. `number` is `None` if it exceeds `u64`; `place` goes into the error.

@@ -1,11 +1,11 @@
 -- The steps of cutting, in terms of a text, the byte up to which it is cut, and the looks.
-use Rattle.std.proofs.Common.{◌≡◌, ℕ, ◌+◌, ◌-◌, ◌*◌, ◌%◌, ◌<◌, ◌≤◌, ◌^◌, Bool, true, false, List, [], ◌∷◌, ◌++◌, length, take, drop, Option, Some, None, IsUtf8, refl, ap, sym, ◌∙◌, arith, nat_lt, ◌&&◌, ◌||◌, is_some, IsSome, IfSome, slice_range, if◌then◌else◌, IsCharBoundary, chars, take-append-drop, drop-drop, add-zero, length-append, append_assoc, length-drop, lt-ltb}
+use Rattle.std.proofs.Common.{◌≡◌, ℕ, ◌+◌, ◌-◌, ◌*◌, ◌%◌, ◌<◌, ◌≤◌, ◌^◌, Bool, true, false, List, [], ◌∷◌, ◌++◌, length, take, drop, Option, Some, None, IsUtf8, refl, ap, sym, ◌∙◌, arith, nat_lt, ◌&&◌, ◌||◌, is_some, IsSome, IfSome, slice_range, if◌then◌else◌, IsCharBoundary, chars, take-append-drop, drop-drop, add-zero, length-append, append_assoc, length-drop}
 use Rattle.duration_str.proofs.Common.{is_ascii_alphabetic, is_ascii_uppercase, and_from, list_any-append, list_all-append, ForSome, encodes-chars, chars-append, IsUtf8-take, IsUtf8-drop, Options, TimeUnit, tokens_from, IsLexeme, EndsRun, byte_len, is_blank, is_digit, is_unit_letter, number_after, number_of, IsNumber, unit_of_word, u64_from, unit_of_packed, ahead, StandsAt, Between, Passes, TakesDigits, TakesLetters, packed_number_after, length-le-encodes, append_cancel_right}
 use Rattle.std.proofs.Math.Bool.{or-false}
 pub use Rattle.duration_str.proofs.Cutting.TokenLemmas.{blanks_no_token, tokens_step}
 use Rattle.duration_str.proofs.Characters.CharacterLemmas.{all_weaker, letter_of_ascii, capital_below}
 use Rattle.duration_str.proofs.Characters.TextLemmas.{width_some, byte_len-append}
-use Rattle.duration_str.proofs.Characters.NumberLemmas.{decimal_digits}
+use Rattle.duration_str.proofs.Characters.NumberLemmas.{decimal_digits, whole_number}
 use Rattle.std.proofs.lemmas.Str.Parse.{digits_value_short}
 use Rattle.duration_str.proofs.Characters.PackedLemmas.{exact, unit_by_number}
 
@@ -149,8 +149,7 @@ short_number digits low utf8 number same short =
     let cs = chars digits in
     let few : length cs ≤ 19 = omega (arith, chars_short digits utf8, short) in
     let less = digits_value_short decimal_digits cs 19 number.1 few in
-    let whole : low ≡ number_of cs = omega arith in
-    rw (lt-ltb (number_of cs) (2 ^ 64) (omega arith), whole)
+    whole_number (number_of cs) low same (omega arith)
 
 -- The characters from `place` to `next` are unit letters, and `unit` is the unit that they name.
 pub record TakesWord (o : Options) (text : List ℕ) (place next : ℕ) (unit : Option TimeUnit) : Type 0 where
