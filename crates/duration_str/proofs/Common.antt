@@ -1,4 +1,5 @@
 -- The definitions and the names of std that most proofs cite, passed on from one place. Declares nothing.
+pub use Rattle.std.proofs.Common.{Bool, Bor, Err, IfOk, IfSome, IsCharBoundary, IsNone, IsSome, IsTrue, IsUtf8, List, None, Ok, OkIff, Option, Result, Some, [], add-zero, add_assoc, ap, append-nil, append_assoc, ap₂, arith, bytes_eq, chars, codes, decimal, div-add-mod', div-le_self, drop, drop-cons, drop-drop, drop_at, encode_utf8, encode_utf8_all, eq-eqb, eqb, eqb-true, false, find, flat_map, get_or, if◌then◌else◌, inl, inr, is_some, le-div_iff_mul-le, le-ltb, le_antisymm, le_of_suc-le-suc, leb, leb-true, length, length-append, length-drop, length-take-le, lit<, lt-ltb, ltb, ltb-true, map, mul-div_cancel, mul-pos, mul_comm, nat_le, nat_lt, ne_eqb, not, ok_or, option_map, pow-suc, refl, replicate, rules, slice_range, subst, suc, suc-le-suc, sym, take, take-append-drop, take_at, true, true≢false, unwrap_or, zero, zero-le, ℕ, ◌%◌, ◌&&◌, ◌*◌, ◌++◌, ◌+◌, ◌-◌, ◌/◌, ◌<◌, ◌==◌, ◌^◌, ◌||◌, ◌↔◌, ◌∙◌, ◌∷◌, ◌≡◌, ◌≢◌, ◌≤◌, ◌⊎◌}
 pub use Rattle.std.proofs.Math.Nat.{mod-le, pow-le-pow_right, pow-succ'}
 pub use Rattle.std.proofs.lemmas.Bool.{and_from, and_parts, cases_Bool, cases_lt, cond-true, false_from_ne_true, not-true, not_from_false, not_from_true, or_cases, or_from, or_parts, or_right}
 pub use Rattle.std.proofs.lemmas.Bool.Decides.{nat_tests, same_from_decides}

@@ -1,6 +1,5 @@
 -- Packed names and their slots.
-use Rattle.std.proofs.Common.{◌≡◌, ℕ, zero, suc, ◌+◌, ◌*◌, ◌/◌, ◌%◌, ◌^◌, ◌<◌, ◌≤◌, Bool, true, false, leb, eqb, ◌&&◌, List, [], ◌∷◌, map, length, get_or, Option, Some, None, refl, sym, ◌∙◌, arith, inl, inr, lit<, add-zero, eq-eqb, eqb-true, if◌then◌else◌, find, bytes_eq}
-use Rattle.duration_str.proofs.Common.{pow-succ', cases_Bool, and_parts, and_from, false_from_ne_true, nat_tests, bytes_eq-Decides, same_from_decides, list_all, list_any, to_ascii_lowercase, is_ascii_alphabetic, is_ascii_uppercase, Options, TimeUnit, SPREAD, units, row_of, comparison_form, is_named, unit_of_word, packed_number_after, packed_number, packs_to, pow-le-pow_right, or_parts, length-reverse, reverse-reverse}
+use Rattle.duration_str.proofs.Common.{◌≡◌, ℕ, zero, suc, ◌+◌, ◌*◌, ◌/◌, ◌%◌, ◌^◌, ◌<◌, ◌≤◌, Bool, true, false, leb, eqb, ◌&&◌, List, [], ◌∷◌, map, length, get_or, Option, Some, None, refl, sym, ◌∙◌, arith, inl, inr, lit<, add-zero, eq-eqb, eqb-true, if◌then◌else◌, find, bytes_eq, pow-succ', cases_Bool, and_parts, and_from, false_from_ne_true, nat_tests, bytes_eq-Decides, same_from_decides, list_all, list_any, to_ascii_lowercase, is_ascii_alphabetic, is_ascii_uppercase, Options, TimeUnit, SPREAD, units, row_of, comparison_form, is_named, unit_of_word, packed_number_after, packed_number, packs_to, pow-le-pow_right, or_parts, length-reverse, reverse-reverse}
 use Rattle.std.proofs.Math.Bool.{and-false, or-false}
 use mathlib.Core.List.{reverse_aux, reverse}
 use Rattle.duration_str.specs.Internal.Packed.{unit_of_packed}

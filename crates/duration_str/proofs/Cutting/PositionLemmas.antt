@@ -1,6 +1,5 @@
 -- The steps of cutting, in terms of a text, the byte up to which it is cut, and the looks.
-use Rattle.std.proofs.Common.{◌≡◌, ℕ, ◌+◌, ◌-◌, ◌*◌, ◌%◌, ◌<◌, ◌≤◌, ◌^◌, Bool, true, false, List, [], ◌∷◌, ◌++◌, length, take, drop, Option, Some, None, IsUtf8, refl, ap, sym, ◌∙◌, arith, nat_lt, ◌&&◌, ◌||◌, is_some, IsSome, IfSome, slice_range, if◌then◌else◌, IsCharBoundary, chars, take-append-drop, drop-drop, add-zero, length-append, append_assoc, length-drop}
-use Rattle.duration_str.proofs.Common.{is_ascii_alphabetic, is_ascii_uppercase, and_from, list_any-append, list_all-append, ForSome, encodes-chars, chars-append, IsUtf8-take, IsUtf8-drop, Options, TimeUnit, tokens_from, IsLexeme, EndsRun, byte_len, is_blank, is_digit, is_unit_letter, number_after, number_of, IsNumber, unit_of_word, u64_from, unit_of_packed, ahead, StandsAt, Between, Passes, TakesDigits, TakesLetters, packed_number_after, length-le-encodes, append_cancel_right}
+use Rattle.duration_str.proofs.Common.{◌≡◌, ℕ, ◌+◌, ◌-◌, ◌*◌, ◌%◌, ◌<◌, ◌≤◌, ◌^◌, Bool, true, false, List, [], ◌∷◌, ◌++◌, length, take, drop, Option, Some, None, IsUtf8, refl, ap, sym, ◌∙◌, arith, nat_lt, ◌&&◌, ◌||◌, is_some, IsSome, IfSome, slice_range, if◌then◌else◌, IsCharBoundary, chars, take-append-drop, drop-drop, add-zero, length-append, append_assoc, length-drop, is_ascii_alphabetic, is_ascii_uppercase, and_from, list_any-append, list_all-append, ForSome, encodes-chars, chars-append, IsUtf8-take, IsUtf8-drop, Options, TimeUnit, tokens_from, IsLexeme, EndsRun, byte_len, is_blank, is_digit, is_unit_letter, number_after, number_of, IsNumber, unit_of_word, u64_from, unit_of_packed, ahead, StandsAt, Between, Passes, TakesDigits, TakesLetters, packed_number_after, length-le-encodes, append_cancel_right}
 use Rattle.std.proofs.Math.Bool.{or-false}
 pub use Rattle.duration_str.proofs.Cutting.TokenLemmas.{blanks_no_token, tokens_step}
 use Rattle.duration_str.proofs.Characters.CharacterLemmas.{all_weaker, letter_of_ascii, capital_below}

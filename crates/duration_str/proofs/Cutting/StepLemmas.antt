@@ -1,6 +1,5 @@
 -- The steps of `Tokens`: what is ahead, and the next token.
-use Rattle.std.proofs.Common.{Bool, ◌≡◌, ℕ, ◌-◌, ◌<◌, ◌%◌, ◌^◌, ◌≤◌, drop, length-drop, arith, true, List, [], ◌∷◌, length, Option, Some, None, IsUtf8, refl, ap, ◌∙◌, slice_range, IsCharBoundary, chars, length-take-le}
-use Rattle.duration_str.proofs.Common.{ForSome, IsUtf8-had, TimeUnit, CondUnit, Sort, Number, Word, Operator, Other, Tokens, Terminal, word, operator, other, operator_or_other, terminal_of, is_blank, is_digit, is_unit_letter, operator_of, number_of, IsNumber, unit_of_word, tokens_from, ahead, StandsAt, Passes, Stops, TakesDigits, TakesLetters, sort_of, u64_from, source, options_of, tokens_left, what_of, KeepsInput, YieldsNextToken, IsAhead, LooksAhead, IsSign, TakesToken, TakesTokenWith, TakesNumber, Token, cut_place}
+use Rattle.duration_str.proofs.Common.{Bool, ◌≡◌, ℕ, ◌-◌, ◌<◌, ◌%◌, ◌^◌, ◌≤◌, drop, length-drop, arith, true, List, [], ◌∷◌, length, Option, Some, None, IsUtf8, refl, ap, ◌∙◌, slice_range, IsCharBoundary, chars, length-take-le, ForSome, IsUtf8-had, TimeUnit, CondUnit, Sort, Number, Word, Operator, Other, Tokens, Terminal, word, operator, other, operator_or_other, terminal_of, is_blank, is_digit, is_unit_letter, operator_of, number_of, IsNumber, unit_of_word, tokens_from, ahead, StandsAt, Passes, Stops, TakesDigits, TakesLetters, sort_of, u64_from, source, options_of, tokens_left, what_of, KeepsInput, YieldsNextToken, IsAhead, LooksAhead, IsSign, TakesToken, TakesTokenWith, TakesNumber, Token, cut_place}
 use Rattle.duration_str.specs.declared.token.Token.{Token as RustToken}
 use Rattle.duration_str.proofs.Cutting.PositionLemmas.{TakesWord, chars_between, long_word, blanks_passed, token_taken, place_at_end}
 use Rattle.duration_str.proofs.Cutting.SortLemmas.{StandsToken, number_stands, word_stands, sign_stands, digit_of_sort, letter_of_sort, sign_of_sort, first_token}

@@ -1,6 +1,5 @@
 -- Combining the later terms one by one gives their faults in the order of the whole list.
-use Rattle.std.proofs.Common.{◌≡◌, ℕ, ◌+◌, ◌*◌, ◌^◌, ◌<◌, Bool, true, false, inl, inr, List, [], ◌∷◌, ◌++◌, Option, Some, None, Result, Ok, IsTrue, if◌then◌else◌, unwrap_or, refl, ap, ◌∙◌, arith, append_assoc, append-nil, ok_or, lt-ltb, le-ltb}
-use Rattle.duration_str.proofs.Common.{cases_Bool, cases_lt, CondUnit, Plus, Star, Cause, Overflow, Mixed, Term, value_of_term, sum_of, later_total, combination, value_of, fits, or_else, unless, term_fault, later_fault, evaluation_fault, is_same_operator, u64_from, checked_term, first_fault, running_fault, fault_or, identity_of, check_operator, immediate_fault, result_err, checked_combination}
+use Rattle.duration_str.proofs.Common.{◌≡◌, ℕ, ◌+◌, ◌*◌, ◌^◌, ◌<◌, Bool, true, false, inl, inr, List, [], ◌∷◌, ◌++◌, Option, Some, None, Result, Ok, IsTrue, if◌then◌else◌, unwrap_or, refl, ap, ◌∙◌, arith, append_assoc, append-nil, ok_or, lt-ltb, le-ltb, cases_Bool, cases_lt, CondUnit, Plus, Star, Cause, Overflow, Mixed, Term, value_of_term, sum_of, later_total, combination, value_of, fits, or_else, unless, term_fault, later_fault, evaluation_fault, is_same_operator, u64_from, checked_term, first_fault, running_fault, fault_or, identity_of, check_operator, immediate_fault, result_err, checked_combination}
 use Rattle.std.proofs.lemmas.List.Sums.{fold-append}
 use Rattle.duration_str.proofs.Sentences.FaultLemmas.{no_fault, is_same_operator-true}
 use Rattle.duration_str.proofs.Sentences.SumLemmas.{AreAdded, sum-append, later_none, running_below, value_is_sum}

@@ -1,6 +1,5 @@
 -- The reader's steps: what comes next, by the sort ahead, and what is left after it.
-use Rattle.std.proofs.Common.{◌≡◌, ℕ, Bool, true, false, length, Option, Some, None, Result, Ok, Err, IsTrue, refl, sym, ap, ◌∙◌, if◌then◌else◌}
-use Rattle.duration_str.proofs.Common.{TimeUnit, CondUnit, Plus, Cause, Syntax, Sort, Tokens, Terminal, number, word, operator, other, terminal_of, kinds_at_start, sort_of, source, options_of, tokens_left, LooksAhead, is_number, TakesToken, TakesSign, Rest, terminal_at, end_at, rest_from, rest_of, number_fault, fault_or, ReadItem, leaving, operator_read}
+use Rattle.duration_str.proofs.Common.{◌≡◌, ℕ, Bool, true, false, length, Option, Some, None, Result, Ok, Err, IsTrue, refl, sym, ap, ◌∙◌, if◌then◌else◌, TimeUnit, CondUnit, Plus, Cause, Syntax, Sort, Tokens, Terminal, number, word, operator, other, terminal_of, kinds_at_start, sort_of, source, options_of, tokens_left, LooksAhead, is_number, TakesToken, TakesSign, Rest, terminal_at, end_at, rest_from, rest_of, number_fault, fault_or, ReadItem, leaving, operator_read}
 use Rattle.duration_str.specs.Iteration.{cut_place}
 use Rattle.duration_str.proofs.Cutting.StepLemmas.{none_left, first_left}
 use Rattle.duration_str.specs.declared.token.Sort.TheVariants as sorts

@@ -1,6 +1,5 @@
 -- The result of a call, in terms of the sentences of the text.
-use Rattle.std.proofs.Common.{ℕ, List, Result, Ok, Err, IfOk, ◌^◌, ◌<◌, refl, chars}
-use Rattle.duration_str.proofs.Common.{as_nanos, Options, Fault, answer, ReturnsAnswer, ParsesText}
+use Rattle.duration_str.proofs.Common.{ℕ, List, Result, Ok, Err, IfOk, ◌^◌, ◌<◌, refl, chars, as_nanos, Options, Fault, answer, ReturnsAnswer, ParsesText}
 use Rattle.std.specs.declared.time.Duration.{Duration}
 use Rattle.duration_str.proofs.Sentences.AnswerLemmas.{answer_is_reading_holds}
 

@@ -1,5 +1,4 @@
-use Rattle.std.proofs.Common.{rules}
-use Rattle.duration_str.proofs.Common.{chars_from_encodes, chars-IsAscii}
+use Rattle.duration_str.proofs.Common.{rules, chars_from_encodes, chars-IsAscii}
 use Rattle.duration_str.proofs.message.chars_before.Goals as goal
 
 pub returns-then-is_ascii : goal.returns-then-is_ascii

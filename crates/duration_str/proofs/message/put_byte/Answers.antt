@@ -1,5 +1,4 @@
-use Rattle.std.proofs.Common.{arith, IsUtf8}
-use Rattle.duration_str.proofs.Common.{byte_text}
+use Rattle.duration_str.proofs.Common.{arith, IsUtf8, byte_text}
 use Rattle.std.proofs.lemmas.Grind.{common_steps}
 use Rattle.duration_str.proofs.Printer.MessageLemmas.{front_has, byte_text_utf8}
 use Rattle.duration_str.proofs.message.put_byte.Goals as goal

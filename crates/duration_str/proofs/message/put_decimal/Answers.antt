@@ -1,5 +1,4 @@
-use Rattle.std.proofs.Common.{arith}
-use Rattle.duration_str.proofs.Common.{length-decimal-le}
+use Rattle.duration_str.proofs.Common.{arith, length-decimal-le}
 use Rattle.duration_str.proofs.message.put_decimal.Goals as goal
 
 pub put_number-end-requires : goal.put_number-end-requires

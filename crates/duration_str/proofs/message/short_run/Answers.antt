@@ -1,4 +1,4 @@
-use Rattle.std.proofs.Common.{◌∙◌}
+use Rattle.duration_str.proofs.Common.{◌∙◌}
 use Rattle.duration_str.proofs.Printer.SpaceLemmas.{run_boundary, run_taken}
 use Rattle.duration_str.proofs.message.short_run.Goals as goal
 

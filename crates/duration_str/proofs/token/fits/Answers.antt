@@ -1,4 +1,4 @@
-use Rattle.std.proofs.Common.{ne_eqb}
+use Rattle.duration_str.proofs.Common.{ne_eqb}
 use Rattle.duration_str.proofs.Characters.NumberLemmas.{long_number}
 use Rattle.duration_str.proofs.token.fits.Goals as goal
 

@@ -1,4 +1,4 @@
-use Rattle.std.proofs.Common.{refl}
+use Rattle.duration_str.proofs.Common.{refl}
 use Rattle.duration_str.proofs.cause.Cause.line.Goals as goal
 
 pub returns-then-expected : goal.returns-then-expected

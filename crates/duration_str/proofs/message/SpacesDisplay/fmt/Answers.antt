@@ -1,4 +1,4 @@
-use Rattle.std.proofs.Common.{rules, arith}
+use Rattle.duration_str.proofs.Common.{rules, arith}
 use Rattle.std.proofs.Output.{has_written_append, has_written_of_eq}
 use Rattle.duration_str.proofs.Printer.SpaceLemmas.{run_longer, run_last}
 use Rattle.duration_str.proofs.message.SpacesDisplay.fmt.Goals as goal

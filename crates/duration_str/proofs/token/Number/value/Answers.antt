@@ -1,5 +1,4 @@
-use Rattle.std.proofs.Common.{◌≡◌, chars, refl, sym, ltb-true}
-use Rattle.duration_str.proofs.Common.{IsUtf8-had}
+use Rattle.duration_str.proofs.Common.{◌≡◌, chars, refl, sym, ltb-true, IsUtf8-had}
 use Rattle.duration_str.proofs.Characters.NumberLemmas.{bytes_of_digits, whole_number}
 use Rattle.duration_str.proofs.Cutting.PositionLemmas.{short_number}
 use Rattle.duration_str.specs.declared.token.Number.{Number}

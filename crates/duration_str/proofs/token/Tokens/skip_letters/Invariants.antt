@@ -1,5 +1,4 @@
-use Rattle.std.proofs.Common.{length}
-use Rattle.duration_str.proofs.Common.{is_unit_letter, ahead, Passes, source, options_of, KeepsInput, cut_place}
+use Rattle.duration_str.proofs.Common.{length, is_unit_letter, ahead, Passes, source, options_of, KeepsInput, cut_place}
 use Rattle.duration_str.proofs.token.Tokens.skip_letters.Given as goal
 
 abbrev pub invariant-loop-self : goal.invariant-loop-self

@@ -1,5 +1,4 @@
-use Rattle.std.proofs.Common.{◌∙◌, refl, sym, arith}
-use Rattle.duration_str.proofs.Common.{options_of}
+use Rattle.duration_str.proofs.Common.{◌∙◌, refl, sym, arith, options_of}
 use Rattle.duration_str.proofs.Characters.CharacterLemmas.{ascii_letter}
 use Rattle.duration_str.proofs.Cutting.PositionLemmas.{letters_none, letters_head}
 use Rattle.duration_str.proofs.Cutting.StepLemmas.{keeps_on, fewer_ahead, letter_ahead}

@@ -1,5 +1,4 @@
-use Rattle.std.proofs.Common.{◌∙◌, sym, arith}
-use Rattle.duration_str.proofs.Common.{not-true, is_unit_letter, ahead, Stops, source, options_of, cut_place}
+use Rattle.duration_str.proofs.Common.{◌∙◌, sym, arith, not-true, is_unit_letter, ahead, Stops, source, options_of, cut_place}
 use Rattle.duration_str.proofs.Characters.CharacterLemmas.{no_letter_of_ascii}
 use Rattle.duration_str.proofs.Cutting.PositionLemmas.{short_word}
 use Rattle.duration_str.proofs.Cutting.StepLemmas.{takes_word, takes_long_word}

@@ -1,4 +1,4 @@
-use Rattle.std.proofs.Common.{◌∙◌, ap, sym, arith, length}
+use Rattle.duration_str.proofs.Common.{◌∙◌, ap, sym, arith, length}
 use Rattle.duration_str.specs.declared.token.Token.{Token}
 use Rattle.duration_str.proofs.Cutting.StepLemmas.{none_left, takes_terminal}
 use Rattle.duration_str.proofs.token.TokensIterator.next.Goals as goal
