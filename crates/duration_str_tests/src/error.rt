@@ -5,22 +5,23 @@ use duration_str::{
     DError, Fault, after_naive_date, deserialize_duration, deserialize_option_duration, parse,
 };
 use jiff::Timestamp;
-use refusing::Refusing;
+use linked_list_allocator::LocalHeap;
 use serde_json::{Value, json};
 use std::alloc::{AllocError, Global};
 use std::test::Fail;
 use std::time::Duration;
 
-/// Whether the fault becomes `ParseError` with this line by one request for memory, and is refused without one.
+/// Whether the fault becomes `ParseError` with this line in a heap that has room for the line alone, and is refused once
+/// that is full.
 fn holds(alloc: Global, fault: Fault<'_>, line: &str) -> Result<bool, AllocError> {
-    let memory = Refusing::new(alloc, 1);
-    let error = fault.to_derror(&memory)?;
+    let heap = LocalHeap::new(alloc, line.len())?;
+    let error = fault.to_derror(&heap)?;
+    let is_refused = fault.to_derror(&heap).is_err();
     let printed = error.to_string(alloc)?;
     let is_held = match error {
         DError::ParseError(text) => text.as_str() == line,
         DError::OverflowError => false,
     };
-    let is_refused = fault.to_derror(&Refusing::new(alloc, 0)).is_err();
     Ok(is_held && is_refused && printed.as_str() == line)
 }
 
@@ -96,13 +97,13 @@ fn becomes_an_error(rt: HostRuntime) -> Result<(), Fail> {
 }
 
 #[test]
-fn takes_no_memory_for_an_overflow(rt: HostRuntime) {
+fn takes_no_memory_for_an_overflow(rt: HostRuntime) -> Result<(), Fail> {
+    let heap = LocalHeap::new(rt.alloc(), 16)?;
+    let _whole = Box::new(&heap, 0u8)?;
     for text in ["580y*2", "10000000000000000y"] {
-        let memory = Refusing::new(rt.alloc(), 1);
-        let error = refusal(&rt, text, OFF).to_derror(&memory);
+        let error = refusal(&rt, text, OFF).to_derror(&heap);
         assert!(rt; matches!(error, Ok(DError::OverflowError)), "{text}");
-        // The one request is still granted, so none was made.
-        assert!(rt; String::from_str(&memory, text).is_ok(), "{text}");
-        assert!(rt; String::from_str(&memory, text).is_err(), "{text}");
+        assert!(rt; String::from_str(&heap, text).is_err(), "{text}");
     }
+    Ok(())
 }

@@ -1,6 +1,7 @@
 // Printed texts.
 use duration_str::{HumanFormat, MAX_PRINTED_LEN, write_human};
-use refusing::Refusing;
+use jiff::SignedDuration;
+use linked_list_allocator::LocalHeap;
 use std::alloc::{AllocError, Allocator, Global};
 use std::test::Fail;
 use std::time::Duration;
@@ -179,12 +180,19 @@ fn leaves_nothing_of_an_earlier_text(rt: HostRuntime) {
     assert_eq!(rt; first_misprinted(&rows), None);
 }
 
+/// Whether the value is printed as this text in a heap that has room for the text alone, and is refused once that is full.
+fn fits<T: HumanFormat>(alloc: Global, value: &T, text: &str) -> Result<bool, AllocError> {
+    let heap = LocalHeap::new(alloc, text.len())?;
+    let Some(printed) = formatted(value, &heap)? else {
+        return Ok(false);
+    };
+    Ok(printed.as_str() == text && formatted(value, &heap).is_err())
+}
+
 #[test]
-fn asks_for_memory_once(rt: HostRuntime) -> Result<(), Fail> {
-    let length = Duration::new(193, 29_000_000);
-    assert!(rt; formatted(&length, &Refusing::new(rt.alloc(), 0)).is_err());
-    let memory = Refusing::new(rt.alloc(), 1);
-    let copied = formatted(&length, &memory)?.expect(&rt, "a printable duration");
-    assert_eq!(rt; copied.as_str(), "3min 13s 29ms");
+fn requests_memory_for_the_text_alone(rt: HostRuntime) -> Result<(), Fail> {
+    let text = "3min 13s 29ms";
+    assert!(rt; fits(rt.alloc(), &Duration::new(193, 29_000_000), text)?);
+    assert!(rt; fits(rt.alloc(), &SignedDuration::from_millis(193_029), text)?);
     Ok(())
 }

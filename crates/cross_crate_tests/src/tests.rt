@@ -1,16 +1,18 @@
-// Long texts, look-alikes, calls that have no allocator, and a run whose allocator refuses.
+// Long texts, look-alikes, calls that have no allocator, and a run in a heap that is too small.
 use arrayvec::ArrayString;
 use duration_str::{
-    Cause, Expected, Fault, Options, after_naive_date, deserialize_duration, parse, parse_with,
-    write_human,
+    Cause, Expected, Fault, Options, after_naive_date, after_naive_date_time, before_naive_date,
+    before_naive_date_time, deserialize_duration, deserialize_duration_chrono,
+    deserialize_duration_time, deserialize_option_duration, deserialize_option_duration_chrono,
+    deserialize_option_duration_time, parse, parse_with, write_human,
 };
 use duration_str_tests::vectors::{
     AFTER_NUMBER, AFTER_UNIT, CN_UNIT, NUMBER, OFF, OPERATORS, START, TOO_LARGE, UNITS, syntax,
 };
 use durstr_run::{RunFault, run};
-use jiff::Timestamp;
 use jiff::civil::Date;
-use refusing::Refusing;
+use jiff::{SignedDuration, Timestamp};
+use linked_list_allocator::LocalHeap;
 use serde_json::{Value, json};
 use std::alloc::{AllocError, Global};
 use std::fmt::Write;
@@ -139,9 +141,10 @@ fn takes_look_alikes_for_what_they_are(rt: HostRuntime) {
     }
 }
 
-/// Reads, prints, prints a fault, and computes dates and configured durations. It takes no allocator, so these calls
-/// have nothing to allocate from.
-fn answer_without_memory(rt: &impl Abort, config: &Value, day: Date) {
+// The functions below take no allocator, so the calls that they make have nothing to allocate from.
+
+/// Reads, prints, and prints a fault.
+fn read_and_print_without_memory(rt: &impl Abort) {
     let d = Duration::new(193, 29_000_000);
     assert_eq!(rt; parse("3m 13s 29ms"), Ok(d));
     assert_eq!(rt; write_human(&d, &mut [0; 64]), "3min 13s 29ms");
@@ -149,15 +152,42 @@ fn answer_without_memory(rt: &impl Abort, config: &Value, day: Date) {
     let fault = refusal(rt, "3ms-2ms", OFF);
     assert!(rt; write!(shown, "{fault}").is_ok());
     assert_eq!(rt; shown.as_str(), "3ms-2ms\n   ^\nexpected ['+', '*']");
-    assert_eq!(rt; after_naive_date(Timestamp::UNIX_EPOCH, "180d"), Ok(day));
-    let configured = deserialize_duration::<Duration>(config);
-    assert_eq!(rt; configured, Ok(Duration::from_secs(90)));
+}
+
+/// Moves the first midnight of 1970 by 180 days, to these days.
+fn move_without_memory(rt: &impl Abort, before: Date, after: Date) {
+    let start = Timestamp::UNIX_EPOCH;
+    assert_eq!(rt; after_naive_date(start, "180d"), Ok(after));
+    assert_eq!(rt; before_naive_date(start, "180d"), Ok(before));
+    assert_eq!(rt;
+        after_naive_date_time(start, "180d"),
+        Ok(after.at(0, 0, 0, 0))
+    );
+    assert_eq!(rt;
+        before_naive_date_time(start, "180d"),
+        Ok(before.at(0, 0, 0, 0))
+    );
+}
+
+/// Reads a value of 90 seconds by each function for configurations.
+fn configure_without_memory(rt: &impl Abort, config: &Value) {
+    let (plain, signed) = (Duration::from_secs(90), SignedDuration::from_secs(90));
+    assert_eq!(rt; deserialize_duration::<Duration>(config), Ok(plain));
+    assert_eq!(rt; deserialize_duration_chrono(config), Ok(signed));
+    assert_eq!(rt; deserialize_duration_time(config), Ok(signed));
+    assert_eq!(rt; deserialize_option_duration(config), Ok(Some(plain)));
+    assert_eq!(rt;
+        deserialize_option_duration_chrono(config),
+        Ok(Some(signed))
+    );
+    assert_eq!(rt; deserialize_option_duration_time(config), Ok(Some(signed)));
 }
 
 #[test]
 fn answers_without_memory(rt: HostRuntime) -> Result<(), Fail> {
-    let config = json!(in rt.alloc(); "1min+30")?;
-    answer_without_memory(&rt, &config, Date::new(1970, 6, 30)?);
+    read_and_print_without_memory(&rt);
+    move_without_memory(&rt, Date::new(1969, 7, 5)?, Date::new(1970, 6, 30)?);
+    configure_without_memory(&rt, &json!(in rt.alloc(); "1min+30")?);
     Ok(())
 }
 
@@ -188,20 +218,31 @@ fn runs_over_long_lines(rt: HostRuntime) -> Result<(), Fail> {
     Ok(())
 }
 
+/// Runs in a heap of so many bytes, of which the first block of 16 is held, and writes into a fixed buffer. Whether the
+/// memory was enough: if it was, the buffer is full of the output, else it is as before.
+fn runs_in(rt: &impl Abort, alloc: Global, size: usize) -> Result<bool, AllocError> {
+    let heap = LocalHeap::new(alloc, size)?;
+    let _first = Box::new(&heap, 0u8)?;
+    let mut input: &[u8] = b"3m31\n\n580y*2";
+    let mut held = [0; 49];
+    let mut room: &mut [u8] = &mut held;
+    let answer = run(&heap, &mut input, &mut room, OFF);
+    let wanted: &[u8; 49] = b"211000000000 3min 31s\nEmpty input\noverflow error\n";
+    let is_wanted = match answer {
+        Ok(all_accepted) => !all_accepted && held == *wanted,
+        Err(fault) => fault == RunFault::Memory && held == [0; 49],
+    };
+    assert!(rt; is_wanted, "{size}");
+    Ok(answer.is_ok())
+}
+
+/// The run makes five requests: for the input of 12 bytes, and for an output of 12, 24, 48 and 96. Each needs a block that
+/// begins after those that are still held, so it is refused where fewer than 1, 2, 4, 7 and 13 blocks are left.
 #[test]
-fn runs_until_a_request_is_refused(rt: HostRuntime) {
-    let wanted: &[u8] = b"211000000000 3min 31s\nEmpty input\noverflow error\n";
-    for granted in 0..100u64 {
-        let memory = Refusing::new(rt.alloc(), granted);
-        let mut input: &[u8] = b"3m31\n\n580y*2";
-        let mut written = Vec::new(rt.alloc());
-        let answer = run(&memory, &mut input, &mut written, OFF);
-        if answer == Ok(false) {
-            assert!(rt; granted >= 2 && written.as_slice() == wanted, "{granted}");
-            return;
-        }
-        let is_refused = answer == Err(RunFault::Memory) && written.is_empty();
-        assert!(rt; is_refused, "at {granted}");
+fn fails_wherever_a_request_is_refused(rt: HostRuntime) -> Result<(), Fail> {
+    for left in 0..20usize {
+        let size = 16 * (1 + left);
+        assert_eq!(rt; runs_in(&rt, rt.alloc(), size)?, left >= 13, "{left}");
     }
-    assert!(rt; false, "always refused");
+    Ok(())
 }

@@ -1,0 +1,110 @@
+#!/usr/bin/env python3
+"""The texts and durations with which compare and the fuzzer try the library, generated from a seed.
+
+texts.py FOLDER COUNT [SEED]  writes for the fuzzer so many texts into the file FOLDER/texts, each after its length in two
+                              bytes; a file in FOLDER/seeds for each of the first 500; and libFuzzer's FOLDER/dictionary
+"""
+import pathlib
+import random
+import sys
+
+sys.dont_write_bytecode = True
+from reference_parser import LIMIT, SECOND, UNITS  # noqa: E402
+
+
+class Texts:
+    """Generated texts: terms with operators and blanks, of which most are then spoilt at a place or two."""
+
+    BLANKS = ("", "", "", " ", " ", "  ", "\t", "\r", " \r\t ", "\n")
+    STRAYS = ("-", "x", ".", "μ", "µ", "é", "ß", "K", "分", "中", "𝟙", "١", "\u00a0", "\0", "_", "/", "(", ":", "\n", "\x0b")
+    BROKEN = (b"\xff", b"\xc2", b"\xb5", b"\xe5\x88", b"\xc0\x80", b"\xed\xa0\x80", b"\xf4\x90\x80\x80", b"\xf0\x9f")
+    NAMES = [name for unit in UNITS for name in (unit.names + " " + unit.chinese).split()]
+    SHORT = [name for name in NAMES if len(name) < 3]
+
+    def __init__(self, seed):
+        self.random = random.Random(seed)
+        self.choice = self.random.choice
+
+    def number(self):
+        draw = self.random.random()
+        if draw < 0.65:
+            return str(self.random.randrange(10 ** self.random.randint(1, 4)))
+        if draw < 0.7:
+            return str(self.random.randrange(10 ** self.random.randint(4, 22)))
+        if draw < 0.82:
+            return self.choice(("0", "1"))
+        if draw < 0.84:
+            return "0" * self.random.randint(1, 25) + str(self.random.randrange(100))
+        about = LIMIT // self.choice((1, 2, 3, 65_536)) // self.choice((1, self.choice(UNITS).length))
+        return str(max(0, about + self.random.randint(-2, 2)))
+
+    def unit(self):
+        draw = self.random.random()
+        if draw < 0.15:
+            return ""
+        name = self.choice(self.SHORT if draw < 0.7 else self.NAMES)
+        if draw > 0.9:
+            name = "".join(self.choice((letter, letter.upper() if letter.isascii() else letter)) for letter in name)
+        return name
+
+    def pieces(self):
+        signs = self.choice((("+",), ("*",), ("", "+"), ("",), ("", "+", "*")))
+        pieces = []
+        for _ in range(self.choice((1, 1, 2, 2, 2, 3, 3, 4))):
+            pieces += [self.number(), self.choice(self.BLANKS), self.unit(), self.choice(self.BLANKS)]
+            pieces += [self.choice(signs), self.choice(self.BLANKS)]
+        if self.random.random() < 0.9:
+            pieces[-2] = ""
+        return pieces
+
+    def spoil(self, pieces):
+        at = self.random.randrange(len(pieces))
+        match self.random.randrange(6):
+            case 0:
+                del pieces[at]
+            case 1:
+                pieces.insert(at, self.choice(pieces))
+            case 2:
+                pieces[at] = self.choice(self.STRAYS)
+            case 3:
+                pieces.insert(at, self.choice(self.STRAYS))
+            case 4:
+                pieces.insert(at, self.choice(("+", "*", "", self.unit(), self.number())))
+            case 5:
+                pieces[at] = pieces[at][: self.random.randrange(len(pieces[at]) + 1)]
+
+    def text(self):
+        pieces = self.pieces()
+        for _ in range(self.choice((0, 0, 1, 1, 2))):
+            if pieces:
+                self.spoil(pieces)
+        text = "".join(pieces).encode()
+        if self.random.random() < 0.02:
+            at = self.random.randint(0, len(text))
+            text = text[:at] + self.choice(self.BROKEN) + text[at:]
+        return text
+
+    def duration(self):
+        secs = self.random.randrange(2 ** self.random.randint(1, 64))
+        return secs, self.choice((0, 1, 999_999_999, self.random.randrange(SECOND)))
+
+
+def write_for_fuzzer(folder, texts):
+    (folder / "seeds").mkdir(parents=True, exist_ok=True)
+    (folder / "texts").write_bytes(b"".join(len(text).to_bytes(2, "little") + text for text in texts))
+    for number, text in enumerate(texts[:500]):
+        (folder / "seeds" / str(number)).write_bytes(text)
+    words = [*Texts.NAMES, *"+* ", str(LIMIT - 1), str(LIMIT)]
+    escaped = ("".join(f"\\x{byte:02x}" for byte in word.encode()) for word in words)
+    (folder / "dictionary").write_text("".join(f'"{word}"\n' for word in escaped))
+
+
+def main(words):
+    if len(words) not in (2, 3):
+        sys.exit(__doc__)
+    texts = Texts(*words[2:] or "0")
+    write_for_fuzzer(pathlib.Path(words[0]), [texts.text() for _ in range(int(words[1]))])
+
+
+if __name__ == "__main__":
+    main(sys.argv[1:])
