@@ -40,14 +40,14 @@ pub use Rattle.duration_str.specs.Printing.{IsBefore, IsGreatestBreakdown, IsPri
 pub use Rattle.duration_str.specs.Reading.{IsRead, IsRefused, IsRefusedAt, complete_terminals, complete_terms, early, early_fault, first_fault, late, late_fault, place_after, running_fault, syntax_fault, without_last_number}
 pub use Rattle.duration_str.specs.Results.{ParsesText}
 pub use Rattle.duration_str.specs.Terms.{fault_or, term_of}
-pub use Rattle.duration_str.specs.Text.{ahead, IsBlank, IsNumber, byte_len, is_blank, is_chinese, is_digit, is_unit_letter, number_after, number_of, operator_of, width}
+pub use Rattle.duration_str.specs.Text.{ahead, IsBlank, IsNumber, byte_len, chinese_letters, is_blank, is_chinese, is_digit, is_unit_letter, number_after, number_of, operator_of, width}
 pub use Rattle.duration_str.specs.Iteration.{KeepsInput, YieldsNextToken, tokens_left, options_of, cut_place, source, what_of}
 pub use Rattle.duration_str.specs.Tokens.{AreTokens, EndsRun, IsLexeme, Token, are_of_one_run, goes_on, with_first_character, lexemes_of, tokens_from, tokens_of}
 pub use Rattle.duration_str.specs.Units.{UnitRow, comparison_form, is_named, nanos_of, off, row_of, unit_lengths, unit_of_word, units}
 pub use Rattle.duration_str.specs.Value.{AllPlus, Evaluates, Term, combination, evaluation_fault, fits, is_same_operator, later_fault, later_total, or_else, second, sum_of, term_fault, terms_after, terms_by, terms_of, unless, value_of, value_of_term}
-pub use Rattle.duration_str.specs.Internal.Positions.{Between, Passes, StandsAt, Stops, TakesDigits, TakesLetters, packed_number, packed_number_after}
+pub use Rattle.duration_str.specs.Internal.Positions.{Between, Passes, StandsAt, Stops, TakesDigits, TakesLetters, letter_number, number_in, packed_number, packed_number_after, wide_number}
 pub use Rattle.duration_str.specs.Internal.Numbers.{checked_term, u64_from}
-pub use Rattle.duration_str.specs.Internal.Packed.{packs_to, unit_of_packed}
+pub use Rattle.duration_str.specs.Internal.Packed.{all_names, packs_to, unit_of_packed}
 pub use Rattle.duration_str.specs.Internal.PrintedBytes.{greatest_count, max_printed_len, units_below_year, with_part, with_parts, with_space}
 pub use Rattle.duration_str.specs.Internal.Rest.{Later, ReadItem, Rest, ReturnsAnswer, answer_left, immediate_fault, check_operator, checked_combination, end_at, first_term, number_fault, leaving, identity_of, no_later, with_first, operator_read, rest_from, rest_of, start_left, terminal_at, terminals_in, unit_read}
 pub use Rattle.duration_str.specs.Internal.Sorts.{sign_sort, sort_at, sort_of}

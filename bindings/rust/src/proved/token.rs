@@ -75,19 +75,11 @@ impl<'a> Number<'a> {
     }
 }
 
-/// ASCII letters: their packed number modulo 2^64, and whether one of them is a capital.
+/// Unit letters: their packed number modulo 2^64, and whether one of them is a capital.
 #[derive(Clone, Copy)]
 struct Letters {
     packed: u64,
     has_capital: bool,
-}
-
-impl Letters {
-    /// Whether the packed number, which ignores case, is enough to find the unit.
-    #[inline(always)]
-    fn can_ignore_case(self, lowercase: bool) -> bool {
-        !(lowercase && self.has_capital)
-    }
 }
 
 /// The tokens of a text, in order. Each character is looked at once, when it is reached.
@@ -186,25 +178,24 @@ impl<'a> Tokens<'a> {
         }
     }
 
-    /// Moves past the ASCII letters at the start of the word ahead, and returns them packed. The word's first character
-    /// is a unit letter, so testing it for ASCII is enough.
+    /// Moves past the letters of the word ahead, and returns them packed. Its first character is a unit letter, and
+    /// stands before the loop, which takes fewer instructions.
     #[inline(always)]
-    fn take_ascii_letters(&mut self) -> Letters {
-        let mut packed = 0u64;
-        let mut has_capital = false;
-        if let Some(first) = self.head
-            && first.is_ascii()
-        {
-            packed = u64::from(first as u32 % 32);
-            has_capital = first < 'a';
-            self.advance();
-            while let Some(c) = self.head
-                && c.is_ascii_alphabetic()
-            {
-                packed = ((packed as u128 * 32 + (c as u32 % 32) as u128) % MODULUS) as u64;
-                has_capital |= c < 'a';
-                self.advance();
+    fn take_letters(&mut self) -> Letters {
+        let Some(first) = self.head else {
+            unreachable!();
+        };
+        let mut packed = first_number(first, self.options);
+        let mut has_capital = first < 'a';
+        self.advance();
+        while let Some(c) = self.head {
+            let number = letter_number(c, self.options);
+            if number == 0 {
+                break;
             }
+            packed = ((packed as u128 * 40 + number as u128) % MODULUS) as u64;
+            has_capital |= c < 'a';
+            self.advance();
         }
         Letters {
             packed,
@@ -212,43 +203,18 @@ impl<'a> Tokens<'a> {
         }
     }
 
-    /// Moves past the unit letters.
-    #[inline(always)]
-    fn skip_letters(&mut self) {
-        while let Some(c) = self.head
-            && is_unit_letter(c, self.options)
-        {
-            self.advance();
-        }
-    }
-
     /// Takes the word ahead, and returns the unit that it names.
     #[inline(always)]
     pub(crate) fn take_word(&mut self) -> Option<TimeUnit> {
         let start = self.eye.place();
-        let letters = self.take_ascii_letters();
-        // Whether the word certainly ends here: the end or an ASCII character follows.
-        let ended = match self.head {
-            Some(c) => c.is_ascii(),
-            None => true,
-        };
-        if ended
-            && letters.can_ignore_case(self.options.lowercase)
-            && self.eye.place() - start <= MOST_LETTERS
-        {
-            unit_of_packed(letters.packed)
-        } else {
-            self.skip_letters();
-            // Each flag by itself: with the address of `self.options`, the compiler would keep all of `self` in memory.
-            let Options {
-                no_calc,
-                lowercase,
-                cn_unit,
-            } = self.options;
-            // Without `?` the compiler would join this path with the usual one, and test the usual answer again.
-            let unit = unit_by_name(self.eye.since(start), no_calc, lowercase, cn_unit)?;
-            Some(unit)
+        let letters = self.take_letters();
+        if self.options.lowercase && letters.has_capital {
+            return None;
         }
+        if self.eye.place() - start > MOST_BYTES {
+            return None;
+        }
+        unit_of_packed(letters.packed)
     }
 
     /// Takes the token ahead, which is of this sort.
@@ -319,8 +285,8 @@ const MODULUS: u128 = 1 << 64;
 /// The most digits whose number is certainly below 2^64.
 const MOST_DIGITS: usize = 19;
 
-/// The most letters whose packed number fits into a `u64`.
-const MOST_LETTERS: usize = 12;
+/// The most bytes of a name. The packed number of as many letters fits into a `u64`.
+const MOST_BYTES: usize = 12;
 
 /// The sort of a token that starts with this character.
 #[inline(always)]
@@ -337,46 +303,63 @@ fn sort_at(first: char, o: Options) -> Sort {
     }
 }
 
-/// The unit that a word names. For words with many letters, with letters beyond ASCII or directly before a character
-/// beyond ASCII, and for words with a capital under `lowercase`.
-#[cold]
-#[inline(never)]
-fn unit_by_name(word: &str, no_calc: bool, lowercase: bool, cn_unit: bool) -> Option<TimeUnit> {
-    TimeUnit::from_word(
-        word,
-        Options {
-            no_calc,
-            lowercase,
-            cn_unit,
-        },
-    )
-}
-
 /// Whether a character is a unit letter under these options.
 #[inline]
 fn is_unit_letter(c: char, o: Options) -> bool {
-    c.is_ascii_alphabetic() || !c.is_ascii() && is_wide_letter(c, o.cn_unit)
+    letter_number(c, o) != 0
 }
 
-/// Whether a character beyond ASCII is a unit letter: `µ`, and those that the option `cn_unit` adds.
+/// The number of a unit letter under these options, ignoring case; 0 of any other character.
+#[inline(always)]
+fn letter_number(c: char, o: Options) -> u64 {
+    if c.is_ascii_alphabetic() {
+        return u64::from(c as u32 % 32);
+    }
+    if c.is_ascii() {
+        return 0;
+    }
+    wide_number(c, o.cn_unit)
+}
+
+/// The number of a unit letter, ignoring case.
+#[inline(always)]
+fn first_number(c: char, o: Options) -> u64 {
+    if c.is_ascii() {
+        return u64::from(c as u32 % 32);
+    }
+    wide_number(c, o.cn_unit)
+}
+
+/// The number of a unit letter beyond ASCII: `µ`, and those that the option `cn_unit` adds; 0 of any other character.
 #[cold]
 #[inline(never)]
-fn is_wide_letter(c: char, cn_unit: bool) -> bool {
-    c == 'µ' || cn_unit && is_chinese(c)
-}
-
-/// Whether a character is one that the option `cn_unit` adds to the unit letters.
-fn is_chinese(c: char) -> bool {
-    matches!(
-        c,
-        '年' | '月' | '周' | '日' | '天' | '时' | '分' | '秒' | '毫' | '微' | '纳'
-    )
+fn wide_number(c: char, cn_unit: bool) -> u64 {
+    if c == 'µ' {
+        return 27;
+    }
+    if !cn_unit {
+        return 0;
+    }
+    match c {
+        '年' => 28,
+        '月' => 29,
+        '周' => 30,
+        '日' => 31,
+        '天' => 32,
+        '时' => 33,
+        '分' => 34,
+        '秒' => 35,
+        '毫' => 36,
+        '微' => 37,
+        '纳' => 38,
+        _ => 0,
+    }
 }
 
 /// Space, tab, carriage return, line feed.
 #[inline]
 fn is_blank(c: char) -> bool {
-    c <= ' ' && matches!(c, ' ' | '\t' | '\r' | '\n')
+    c <= ' ' && (c == ' ' || matches!(c as u8, b'\t' | b'\r' | b'\n'))
 }
 
 /// Whether more than 19 digits write a number below 2^64; `low` is that number modulo 2^64. Before the last 19 digits

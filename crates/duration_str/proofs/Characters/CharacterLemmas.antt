@@ -1,5 +1,5 @@
 -- The classes of characters exclude one another, and a run is of one class.
-use Rattle.duration_str.proofs.Common.{◌≡◌, ℕ, ◌≤◌, Bool, true, false, ◌&&◌, ◌||◌, inl, inr, List, [], ◌∷◌, Some, IsTrue, arith, refl, nat_lt, cases_Bool, false_from_ne_true, or_cases, and_parts, and_from, list_all, nat_tests, is_ascii_alphabetic, is_ascii_uppercase, Options, CondUnit, is_blank, is_digit, is_unit_letter, operator_of, are_of_one_run, is_ascii}
+use Rattle.duration_str.proofs.Common.{◌≡◌, ℕ, ◌≤◌, Bool, true, false, ◌&&◌, ◌||◌, inl, inr, List, [], ◌∷◌, Some, IsTrue, arith, refl, nat_lt, false_from_ne_true, or_cases, and_parts, and_from, list_all, nat_tests, is_ascii_uppercase, Options, CondUnit, is_blank, is_digit, is_unit_letter, operator_of, are_of_one_run}
 
 -- Characters that pass a test also pass a weaker one.
 pub all_weaker : (p q : ℕ → Bool) (cs : List ℕ) → ((c : ℕ) → p c ≡ true → q c ≡ true) → IsTrue (list_all p cs)
@@ -27,20 +27,8 @@ pub letter-not_digit : (o : Options) (c : ℕ) → is_unit_letter o c ≡ true �
 letter-not_digit o c e = false_from_ne_true _ (λ t. cc (digit-not_letter o c t))
 
 -- the letters before `a` are the capitals
-pub capital_below : (c : ℕ) → is_ascii_alphabetic c ≡ true → nat_lt c 97 ≡ is_ascii_uppercase c
-capital_below c e = grind (arith, nat_tests)
-
-pub letter_of_ascii : (o : Options) (c : ℕ) → is_ascii_alphabetic c ≡ true → is_unit_letter o c ≡ true
-letter_of_ascii o c e = rw e refl
-
--- an ASCII character that is not a letter is not a unit letter
-pub no_letter_of_ascii : (o : Options) (c : ℕ) → is_ascii c ≡ true → is_ascii_alphabetic c ≡ false
-    → is_unit_letter o c ≡ false
-no_letter_of_ascii o c small e = grind (arith, nat_tests)
-
-pub ascii_letter : (o : Options) (c : ℕ) → is_unit_letter o c ≡ true → is_ascii c ≡ true → is_ascii_alphabetic c ≡ true
-ascii_letter o c letter small =
-    elim (cases_Bool (is_ascii_alphabetic c)) [ inl e ↦ e | inr e ↦ cc (no_letter_of_ascii o c small e) ]
+pub capital_below : (o : Options) (c : ℕ) → is_unit_letter o c ≡ true → nat_lt c 97 ≡ is_ascii_uppercase c
+capital_below o c e = grind (arith, nat_tests)
 
 -- The tests a, b, c are for digits and p, q, r for unit letters, at three characters of which the first two are of one
 -- run.

@@ -1,12 +1,12 @@
 -- The steps of cutting, in terms of a text, the byte up to which it is cut, and the looks.
-use Rattle.duration_str.proofs.Common.{◌≡◌, ℕ, ◌+◌, ◌-◌, ◌*◌, ◌%◌, ◌<◌, ◌≤◌, ◌^◌, Bool, true, false, List, [], ◌∷◌, ◌++◌, length, take, drop, Option, Some, None, IsUtf8, refl, ap, sym, ◌∙◌, arith, nat_lt, ◌&&◌, ◌||◌, is_some, IsSome, IfSome, slice_range, if◌then◌else◌, IsCharBoundary, chars, take-append-drop, drop-drop, add-zero, length-append, append_assoc, length-drop, is_ascii_alphabetic, is_ascii_uppercase, and_from, list_any-append, list_all-append, ForSome, encodes-chars, chars-append, IsUtf8-take, IsUtf8-drop, Options, TimeUnit, tokens_from, IsLexeme, EndsRun, byte_len, is_blank, is_digit, is_unit_letter, number_after, number_of, IsNumber, unit_of_word, u64_from, unit_of_packed, ahead, StandsAt, Between, Passes, TakesDigits, TakesLetters, packed_number_after, length-le-encodes, append_cancel_right}
+use Rattle.duration_str.proofs.Common.{◌≡◌, ℕ, ◌+◌, ◌-◌, ◌*◌, ◌%◌, ◌<◌, ◌≤◌, ◌^◌, Bool, true, false, List, [], ◌∷◌, ◌++◌, length, take, drop, Option, Some, None, IsUtf8, refl, ap, sym, ◌∙◌, arith, nat_lt, ◌&&◌, ◌||◌, is_some, IsSome, IfSome, slice_range, if◌then◌else◌, IsCharBoundary, chars, take-append-drop, drop-drop, add-zero, length-append, append_assoc, length-drop, is_ascii_uppercase, and_from, list_any-append, list_all-append, ForSome, encodes-chars, chars-append, IsUtf8-take, IsUtf8-drop, Options, TimeUnit, tokens_from, IsLexeme, EndsRun, byte_len, is_blank, is_digit, is_unit_letter, number_after, number_of, IsNumber, unit_of_word, u64_from, unit_of_packed, ahead, StandsAt, Between, Passes, TakesDigits, TakesLetters, letter_number, packed_number_after, length-le-encodes, append_cancel_right}
 use Rattle.std.proofs.Math.Bool.{or-false}
 pub use Rattle.duration_str.proofs.Cutting.TokenLemmas.{blanks_no_token, tokens_step}
-use Rattle.duration_str.proofs.Characters.CharacterLemmas.{all_weaker, letter_of_ascii, capital_below}
+use Rattle.duration_str.proofs.Characters.CharacterLemmas.{capital_below}
 use Rattle.duration_str.proofs.Characters.TextLemmas.{width_some, byte_len-append}
 use Rattle.duration_str.proofs.Characters.NumberLemmas.{decimal_digits, whole_number}
 use Rattle.std.proofs.lemmas.Str.Parse.{digits_value_short}
-use Rattle.duration_str.proofs.Characters.PackedLemmas.{exact, unit_by_number}
+use Rattle.duration_str.proofs.Characters.PackedLemmas.{exact, no_capital_name, no_long_name, unit_by_number}
 
 -- ---- how many times a character was looked at
 
@@ -68,15 +68,6 @@ passes_on {test} passed more = record {
   all = list_all-append test passed.characters more.characters ∙ and_from _ _ passed.all more.all;
 }
 
--- characters that pass a test also pass a weaker one
-abbrev passes_weaker : {test : ℕ → Bool} {text : List ℕ} {place next : ℕ} (weaker : ℕ → Bool)
-    → ((c : ℕ) → test c ≡ true → weaker c ≡ true) → Passes test text place next → Passes weaker text place next
-passes_weaker {test} weaker follows passed = record {
-  characters = passed.characters;
-  between = passed.between;
-  all = all_weaker test weaker passed.characters follows passed.all;
-}
-
 -- the head of what is left passes the test, and joins the run
 abbrev pub passes_head : {test : ℕ → Bool} {text : List ℕ} {place at next c : ℕ} → Passes test text place at
     → StandsAt text at next c → test c ≡ true → Passes test text place next
@@ -93,9 +84,9 @@ number_after-push n [] c = refl
 number_after-push n (d ∷ cs) c = number_after-push (n * 10 + (d - 48)) cs c
 
 packed_after-push : (n : ℕ) (cs : List ℕ) (c : ℕ)
-    → packed_number_after n (cs ++ c ∷ []) ≡ packed_number_after n cs * 32 + c % 32
+    → packed_number_after n (cs ++ c ∷ []) ≡ packed_number_after n cs * 40 + letter_number c
 packed_after-push n [] c = refl
-packed_after-push n (d ∷ cs) c = packed_after-push (n * 32 + d % 32) cs c
+packed_after-push n (d ∷ cs) c = packed_after-push (n * 40 + letter_number d) cs c
 
 pub digits_none : {text : List ℕ} {place : ℕ} → TakesDigits text place place 0
 digits_none = record { run = passes_none; number = refl }
@@ -108,18 +99,18 @@ digits_head {c = c} taken stands e more = record {
   number = omega (arith, more, taken.number, number_after-push 0 taken.run.characters c);
 }
 
-pub letters_none : {text : List ℕ} {place : ℕ} → TakesLetters text place place 0 false
+pub letters_none : {o : Options} {text : List ℕ} {place : ℕ} → TakesLetters o text place place 0 false
 letters_none = record { run = passes_none; number = refl; capital = refl }
 
-pub letters_head : {text : List ℕ} {place at next c value value' : ℕ} {capital capital' : Bool}
-    → TakesLetters text place at value capital → StandsAt text at next c → is_ascii_alphabetic c ≡ true
-    → value' ≡ (value * 32 + c % 32) % 2 ^ 64 → capital' ≡ (capital || nat_lt c 97)
-    → TakesLetters text place next value' capital'
-letters_head {c = c} taken stands e more or = record {
+pub letters_head : {o : Options} {text : List ℕ} {place at next c value value' : ℕ} {capital capital' : Bool}
+    → TakesLetters o text place at value capital → StandsAt text at next c → is_unit_letter o c ≡ true
+    → value' ≡ (value * 40 + letter_number c) % 2 ^ 64 → capital' ≡ (capital || nat_lt c 97)
+    → TakesLetters o text place next value' capital'
+letters_head {o} {c = c} taken stands e more or = record {
   run = passes_head taken.run stands e;
   number = omega (arith, more, taken.number, packed_after-push 0 taken.run.characters c);
   capital = rw (list_any-append is_ascii_uppercase taken.run.characters, or-false (is_ascii_uppercase c))
-      (rw (← taken.capital, ← capital_below c e) or);
+      (rw (← taken.capital, ← capital_below o c e) or);
 }
 
 -- ---- the characters between two places
@@ -155,27 +146,34 @@ pub record TakesWord (o : Options) (text : List ℕ) (place next : ℕ) (unit : 
   pub run : Passes (is_unit_letter o) text place next
   pub named : unit ≡ unit_of_word o run.characters
 
--- a word of at most 12 ASCII letters, without capitals under `lowercase`, identified by its packed number
-pub short_word : {text : List ℕ} {place next value : ℕ} {capital : Bool} {unit : Option TimeUnit} (o : Options)
-    → TakesLetters text place next value capital → (o.lowercase && capital) ≡ false → next - place ≤ 12
+-- a word of at most 12 bytes, without capitals under `lowercase`, identified by its packed number
+pub short_word : {o : Options} {text : List ℕ} {place next value : ℕ} {capital : Bool} {unit : Option TimeUnit}
+    → TakesLetters o text place next value capital → (o.lowercase && capital) ≡ false → next - place ≤ 12
     → unit ≡ unit_of_packed value → TakesWord o text place next unit
-short_word {value = value} o taken folded short found =
+short_word {o} {value = value} taken folded short found =
     let cs = taken.run.characters in
     let few : length cs ≤ 12 = omega (arith, length-le-byte_len cs, taken.run.between.bytes, short) in
     record {
-      run = passes_weaker (is_unit_letter o) (letter_of_ascii o) taken.run;
+      run = taken.run;
       named =
           rw (found, exact cs value few taken.number, unit_by_number o cs (rw taken.capital at folded) taken.run.all);
     }
 
--- a word by its slice: ASCII letters, then any unit letters
-pub long_word : {o : Options} {text slice : List ℕ} {place at next value : ℕ} {capital : Bool} {unit : Option TimeUnit}
-    → TakesLetters text place at value capital → Passes (is_unit_letter o) text at next
-    → slice ≡ slice_range text place next → IsUtf8 slice → unit ≡ unit_of_word o (chars slice)
-    → TakesWord o text place next unit
-long_word {o} taken passed is utf8 found =
-    let run = passes_on (passes_weaker (is_unit_letter o) (letter_of_ascii o) taken.run) passed in
-    record { run = run; named = rw (found, chars_between run.between is utf8) }
+module _ {o : Options} {text : List ℕ} {place next value : ℕ} {capital : Bool}
+    (taken : TakesLetters o text place next value capital) where
+  -- under `lowercase` a word with a capital names no unit
+  pub capital_word : o.lowercase ≡ true → capital ≡ true → TakesWord o text place next None
+  capital_word on is = record {
+    run = taken.run;
+    named = no_capital_name o taken.run.characters on (sym taken.capital ∙ is);
+  }
+
+  -- a word of more than 12 bytes names no unit
+  pub long_word : 12 < next - place → TakesWord o text place next None
+  long_word long = record {
+    run = taken.run;
+    named = no_long_name o taken.run.characters (omega (arith, taken.run.between.bytes));
+  }
 
 -- ---- the first token that is left
 

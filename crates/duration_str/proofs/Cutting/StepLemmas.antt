@@ -1,7 +1,7 @@
 -- The steps of `Tokens`: what is ahead, and the next token.
-use Rattle.duration_str.proofs.Common.{Bool, ◌≡◌, ℕ, ◌-◌, ◌<◌, ◌%◌, ◌^◌, ◌≤◌, drop, length-drop, arith, true, List, [], ◌∷◌, length, Option, Some, None, IsUtf8, refl, ap, ◌∙◌, slice_range, IsCharBoundary, chars, length-take-le, ForSome, IsUtf8-had, TimeUnit, CondUnit, Sort, Number, Word, Operator, Other, Tokens, Terminal, word, operator, other, operator_or_other, terminal_of, is_blank, is_digit, is_unit_letter, operator_of, number_of, IsNumber, unit_of_word, tokens_from, ahead, StandsAt, Passes, Stops, TakesDigits, TakesLetters, sort_of, u64_from, source, options_of, tokens_left, what_of, KeepsInput, YieldsNextToken, IsAhead, LooksAhead, IsSign, TakesToken, TakesTokenWith, TakesNumber, Token, cut_place}
+use Rattle.duration_str.proofs.Common.{◌≡◌, ℕ, ◌-◌, ◌<◌, ◌%◌, ◌^◌, ◌≤◌, drop, length-drop, arith, true, List, [], ◌∷◌, length, Option, Some, None, IsUtf8, refl, ap, ◌∙◌, slice_range, IsCharBoundary, chars, length-take-le, ForSome, IsUtf8-had, TimeUnit, CondUnit, Sort, Number, Word, Operator, Other, Tokens, Terminal, word, operator, other, operator_or_other, terminal_of, is_blank, is_digit, is_unit_letter, operator_of, number_of, IsNumber, tokens_from, ahead, StandsAt, Passes, Stops, TakesDigits, sort_of, u64_from, source, options_of, tokens_left, what_of, KeepsInput, YieldsNextToken, IsAhead, LooksAhead, IsSign, TakesToken, TakesTokenWith, TakesNumber, Token, cut_place}
 use Rattle.duration_str.specs.declared.token.Token.{Token as RustToken}
-use Rattle.duration_str.proofs.Cutting.PositionLemmas.{TakesWord, chars_between, long_word, blanks_passed, token_taken, place_at_end}
+use Rattle.duration_str.proofs.Cutting.PositionLemmas.{TakesWord, chars_between, blanks_passed, token_taken, place_at_end}
 use Rattle.duration_str.proofs.Cutting.SortLemmas.{StandsToken, number_stands, word_stands, sign_stands, digit_of_sort, letter_of_sort, sign_of_sort, first_token}
 use Rattle.duration_str.proofs.Cutting.TerminalLemmas.{sign_sorts}
 use Rattle.duration_str.specs.declared.token.What.TheVariants as whats
@@ -91,19 +91,6 @@ pub takes_word : {s t : Tokens} {unit : Option TimeUnit} → IsAhead s (Some Wor
 takes_word {s} h kept taken stops =
     let letter = letter_of_sort (options_of s) h.character h.is_sort in
     takes_token kept (word_stands (options_of s) taken (simp kept.text at stops) (s.some h.character h.is_head) letter)
-
--- a word by its slice: ASCII letters from s to m, then any unit letters up to t
-pub takes_long_word : {s m t : Tokens} {value start : ℕ} {capital : Bool} {slice : List ℕ} {unit : Option TimeUnit}
-    → IsAhead s (Some Word) → KeepsInput s m → TakesLetters (source s) (cut_place s) (cut_place m) value capital
-    → KeepsInput m t → Passes (is_unit_letter (options_of m)) (source m) (cut_place m) (cut_place t)
-    → Stops (is_unit_letter (options_of m)) (ahead (source t) (cut_place t)) → start ≡ cut_place s
-    → slice ≡ slice_range (source t) start (cut_place t) → IsUtf8 slice
-    → unit ≡ unit_of_word (options_of t) (chars slice) → TakesToken s t (word unit)
-takes_long_word {s} {m} {t} h kept letters later passed stops there is utf8 found =
-    let all = keeps_on kept later in
-    let word = long_word letters (rw (kept.options, kept.text) at passed) (same_slice all there is) utf8
-    (rw all.options at found) in
-    takes_word h all word (simp kept.options at stops)
 
 -- taking the single character ahead
 pub takes_sign : {s t : Tokens} (sort : Sort) → IsSign sort → IsAhead s (Some sort) → KeepsInput s t
