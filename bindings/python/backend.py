@@ -62,7 +62,7 @@ def _built():
     if not (CHECKOUT / "tools" / "if-changed").is_file():
         return None
     words = ["make", "--silent", "--directory", CHECKOUT, "library"]
-    if not shutil.which("make") or subprocess.run(words).returncode != 0:
+    if not shutil.which("make") or subprocess.run(words, env={**os.environ, "MAKEFLAGS": ""}).returncode:
         raise SystemExit(HELP)
     return CHECKOUT / "out" / "x86_64" / LIBRARY
 
