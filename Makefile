@@ -17,6 +17,7 @@
 SHELL := bash
 .SHELLFLAGS := -euo pipefail -c
 .ONESHELL:
+.NOTPARALLEL:
 .PHONY: all program library check quick install uninstall release page clean help installable FORCE
 unexport MAKEFLAGS
 MAKEFLAGS += --no-builtin-rules --no-print-directory
@@ -53,7 +54,7 @@ out/durstr: FORCE
 	@tools/if-changed rt $@ $(call sources,duration_str durstr_run durstr) -- \
 	    $(call by_rt,durstr,durstr,run --cpu x86-64)
 
-# It is asked for before the proof; for the module with 32-bit addresses that goes down to what it is made of.
+# It has to be there before a proof begins. What the module with 32-bit addresses is made of takes its linker over.
 out/x86_64/%: linker = cc
 out/aarch64/%: linker = aarch64-linux-gnu-gcc
 out/wasm32/%: linker = wasm-opt
@@ -140,8 +141,8 @@ install: installable all
 	put out/$(target)/libduration_str.so $(libdir)/libduration_str.so.$(version)
 	ln -sf libduration_str.so.$(version) "$$DESTDIR$(libdir)/libduration_str.so.$(major)"
 	ln -sf libduration_str.so.$(major) "$$DESTDIR$(libdir)/libduration_str.so"
-	sed 's|@PREFIX@|$(prefix)|; s|@VERSION@|$(version)|; s|@INCLUDEDIR@|$(call in_pc,$(includedir))|' \
-	    $(crate)/duration_str.pc.in | sed 's|@LIBDIR@|$(call in_pc,$(libdir))|' |
+	sed -e 's|@PREFIX@|$(prefix)|; s|@VERSION@|$(version)|; s|@LIBDIR@|$(call in_pc,$(libdir))|' \
+	    -e 's|@INCLUDEDIR@|$(call in_pc,$(includedir))|' $(crate)/duration_str.pc.in |
 	    put /dev/stdin $(libdir)/pkgconfig/duration_str.pc
 	$(call page,duration_str.3.in) | put /dev/stdin $(mandir)/man3/duration_str.3
 	for call in $(calls); do echo '.so man3/duration_str.3' | put /dev/stdin "$(mandir)/man3/$$call.3"; done
