@@ -2,8 +2,10 @@
 //! The tokens of a text: numbers, words, operators, and other single characters.
 
 use super::eye::Eye;
+use super::operator::CondUnit;
+use super::options::Options;
 use super::packed::unit_of_packed;
-use super::unit::{CondUnit, Options, TimeUnit};
+use super::unit::TimeUnit;
 
 /// What a token is: a number, a word with the unit that it names, an operator, or another character.
 ///

@@ -1,7 +1,7 @@
 // Made by tools/erase of crates/duration_str/src/unit.rt.
 //! The units of time and their names, with the options and operators that are used with them.
 
-use super::fault::Cause;
+use super::cause::Cause;
 pub use super::operator::CondUnit;
 pub use super::options::Options;
 use core::fmt;
