@@ -1,12 +1,14 @@
 //! Times of this library and of humantime, and single calls of humantime for a program that counts instructions.
 //! `calls.rs` has those of this library. The Rust crate is measured, unless the archive is named.
 //!
-//! - `bench times`: nanoseconds a call over 1,000 expressions, a line `WHAT OURS THEIRS` for reading and for printing.
+//! - `bench expressions`: the 1,000 expressions of `texts.rs`, a line each.
+//! - `bench times`: nanoseconds a call over them, a line with WHAT, OURS and THEIRS for reading and for printing. In all
+//!   these lines a tab stands between the words.
 //! - `bench archive-times`: the same of the archive through C, beside the crate.
-//! - `bench option-times`: nanoseconds a call over 1,000 expressions through `parse_with`, a line `OPTIONS NANOS` for each
+//! - `bench option-times`: nanoseconds a call over them through `parse_with`, a line with OPTIONS and NANOS for each
 //!   choice of options, the bits of `duration_str.h`.
-//! - `bench refused-times NAME..`: nanoseconds for a refused text and its message, a line `NAME OURS THEIRS` for each
-//!   of these names of `texts.rs`. A text that humantime reads has `-` for THEIRS.
+//! - `bench refused-times NAME..`: nanoseconds for a refused text and its message, a line with NAME, OURS and THEIRS for
+//!   each of these names of `texts.rs`. A text that humantime reads has `-` for THEIRS.
 //! - `bench calls WHAT COUNT`: so many calls of humantime on `3m 13s 29ms`. WHAT is `read`, `print` (into a buffer) or
 //!   `print-string`.
 //! - `bench text BYTES COUNT`: humantime reads a text of so many bytes so many times.
@@ -33,9 +35,6 @@ fn their_printing(length: Duration) -> [u8; 64] {
     buffer
 }
 
-/// A thousand expressions of one to five terms, the longest unit first, with all the names that both libraries read.
-const EXPRESSIONS: &str = include_str!("../expressions.txt");
-
 /// Nanoseconds a call: of each side the least of the rounds, which take turns, since the machine's speed may change.
 fn nanos_a_call<const SIDES: usize>(calls: usize, sides: [&dyn Fn(); SIDES]) -> [f64; SIDES] {
     const ROUNDS: usize = 25;
@@ -55,7 +54,7 @@ fn nanos_a_call<const SIDES: usize>(calls: usize, sides: [&dyn Fn(); SIDES]) -> 
 
 /// The expressions, and their values.
 fn expressions() -> (Vec<&'static str>, Vec<Duration>) {
-    EXPRESSIONS.lines().map(|text| (text, their_reading(text))).unzip()
+    texts::expressions().leak().iter().map(|text| (text.as_str(), their_reading(text))).unzip()
 }
 
 /// Calls this for each element.
@@ -73,7 +72,7 @@ fn times() {
     ];
     for (what, ours, theirs) in sides {
         let [ours, theirs] = nanos_a_call(texts.len(), [ours, theirs]);
-        println!("{what} {ours:.1} {theirs:.1}");
+        println!("{what}\t{ours:.1}\t{theirs:.1}");
     }
 }
 
@@ -85,19 +84,19 @@ fn archive_times() {
     ];
     for (what, archive, ours) in sides {
         let [archive, ours] = nanos_a_call(texts.len(), [archive, ours]);
-        println!("{what} {archive:.1} {ours:.1}");
+        println!("{what}\t{archive:.1}\t{ours:.1}");
     }
 }
 
 fn option_times() {
-    let texts: Vec<&str> = EXPRESSIONS.lines().collect();
+    let texts = texts::expressions();
     let sides: [_; 8] = std::array::from_fn(|options| {
         let texts = &texts;
         move || texts.iter().for_each(|text| { black_box(Crate::reading_with(black_box(text), black_box(options as u32))); })
     });
     let nanos = nanos_a_call(texts.len(), sides.each_ref().map(|side| side as &dyn Fn()));
     for (options, nanos) in nanos.iter().enumerate() {
-        println!("{options} {nanos:.1}");
+        println!("{options}\t{nanos:.1}");
     }
 }
 
@@ -133,11 +132,11 @@ fn refused_times(names: &[&str]) {
                     black_box(&buffer);
                 };
                 let [ours, theirs] = nanos_a_call(CALLS, [&ours, &theirs]);
-                println!("{name} {ours:.1} {theirs:.1}");
+                println!("{name}\t{ours:.1}\t{theirs:.1}");
             }
             None => {
                 let [ours] = nanos_a_call(CALLS, [&ours]);
-                println!("{name} {ours:.1} -");
+                println!("{name}\t{ours:.1}\t-");
             }
         }
     }
@@ -175,13 +174,14 @@ fn seconds(bytes: usize) {
     let start = Instant::now();
     black_box(their_reading(black_box(&text)));
     let theirs = start.elapsed().as_secs_f64();
-    println!("{bytes} {ours:.4} {theirs:.4}");
+    println!("{bytes}\t{ours:.4}\t{theirs:.4}");
 }
 
 fn main() {
     let words: Vec<String> = std::env::args().skip(1).collect();
     let words: Vec<&str> = words.iter().map(String::as_str).collect();
     match words.as_slice() {
+        ["expressions"] => println!("{}", texts::expressions().join("\n")),
         ["times"] => times(),
         ["archive-times"] => archive_times(),
         ["calls", what, count] => calls(what, count.parse().expect("a count")),
