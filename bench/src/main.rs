@@ -5,10 +5,6 @@
 //! - `bench times`: nanoseconds a call over them, a line with WHAT, OURS and THEIRS for reading and for printing. In all
 //!   these lines a tab stands between the words.
 //! - `bench archive-times`: the same of the archive through C, beside the crate.
-//! - `bench option-times`: nanoseconds a call over them through `parse_with`, a line with OPTIONS and NANOS for each
-//!   choice of options, the bits of `duration_str.h`.
-//! - `bench refused-times NAME..`: nanoseconds for a refused text and its message, a line with NAME, OURS and THEIRS for
-//!   each of these names of `texts.rs`. A text that humantime reads has `-` for THEIRS.
 //! - `bench calls WHAT COUNT`: so many calls of humantime on `3m 13s 29ms`. WHAT is `read`, `print` (into a buffer) or
 //!   `print-string`.
 //! - `bench text BYTES COUNT`: humantime reads a text of so many bytes so many times.
@@ -88,18 +84,6 @@ fn archive_times() {
     }
 }
 
-fn option_times() {
-    let texts = texts::expressions();
-    let sides: [_; 8] = std::array::from_fn(|options| {
-        let texts = &texts;
-        move || texts.iter().for_each(|text| { black_box(Crate::reading_with(black_box(text), black_box(options as u32))); })
-    });
-    let nanos = nanos_a_call(texts.len(), sides.each_ref().map(|side| side as &dyn Fn()));
-    for (options, nanos) in nanos.iter().enumerate() {
-        println!("{options}\t{nanos:.1}");
-    }
-}
-
 /// What humantime has as a message for the text goes into the buffer; its length. `None` where the text is read.
 fn their_refusing(text: &str, buffer: &mut [u8; ROOM]) -> Option<usize> {
     let fault = humantime::parse_duration(text).err()?;
@@ -108,43 +92,12 @@ fn their_refusing(text: &str, buffer: &mut [u8; ROOM]) -> Option<usize> {
     Some(ROOM - room.len())
 }
 
-/// The text of this name, where humantime refuses it.
-fn refused_by_them(name: &str) -> Option<String> {
-    let text = refused(name);
-    their_refusing(&text, &mut [0; ROOM])?;
-    Some(text)
-}
-
-fn refused_times(names: &[&str]) {
-    const CALLS: usize = 100;
-    for name in names {
-        let text = refused(name);
-        let ours = || {
-            let mut buffer = [0; ROOM];
-            repeat(CALLS as u64, || { black_box(Crate::refusing(black_box(&text), &mut buffer)); });
-            black_box(&buffer);
-        };
-        match refused_by_them(name) {
-            Some(text) => {
-                let theirs = || {
-                    let mut buffer = [0; ROOM];
-                    repeat(CALLS as u64, || { black_box(their_refusing(black_box(&text), &mut buffer)); });
-                    black_box(&buffer);
-                };
-                let [ours, theirs] = nanos_a_call(CALLS, [&ours, &theirs]);
-                println!("{name}\t{ours:.1}\t{theirs:.1}");
-            }
-            None => {
-                let [ours] = nanos_a_call(CALLS, [&ours]);
-                println!("{name}\t{ours:.1}\t-");
-            }
-        }
-    }
-}
-
 fn refuse(name: &str, count: u64) {
-    let Some(text) = refused_by_them(name) else { return println!("-") };
+    let text = refused(name);
     let mut buffer = [0; ROOM];
+    if their_refusing(&text, &mut buffer).is_none() {
+        return println!("-");
+    }
     repeat(count, || { black_box(their_refusing(black_box(&text), &mut buffer)); });
     black_box(&buffer);
 }
@@ -185,8 +138,6 @@ fn main() {
         ["times"] => times(),
         ["archive-times"] => archive_times(),
         ["calls", what, count] => calls(what, count.parse().expect("a count")),
-        ["option-times"] => option_times(),
-        ["refused-times", names @ ..] => refused_times(names),
         ["text", bytes, count] => text(bytes.parse().expect("a length"), count.parse().expect("a count")),
         ["refuse", name, count] => refuse(name, count.parse().expect("a count")),
         ["seconds", bytes] => seconds(bytes.parse().expect("a length")),
