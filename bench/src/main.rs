@@ -10,7 +10,6 @@
 //! - `bench text BYTES COUNT`: humantime reads a text of so many bytes so many times.
 //! - `bench refuse NAME COUNT`: humantime refuses a text so many times, and its message is written into a buffer. Where
 //!   it doesn't refuse the text, `-` is printed.
-//! - `bench seconds BYTES`: the seconds in which a text of so many bytes is read, ours and theirs.
 mod ours;
 mod texts;
 
@@ -119,17 +118,6 @@ fn text(bytes: usize, count: u64) {
     repeat(count, || { black_box(their_reading(black_box(&text))); });
 }
 
-fn seconds(bytes: usize) {
-    let text = long_text(bytes);
-    let start = Instant::now();
-    black_box(Crate::reading(black_box(&text)));
-    let ours = start.elapsed().as_secs_f64();
-    let start = Instant::now();
-    black_box(their_reading(black_box(&text)));
-    let theirs = start.elapsed().as_secs_f64();
-    println!("{bytes}\t{ours:.4}\t{theirs:.4}");
-}
-
 fn main() {
     let words: Vec<String> = std::env::args().skip(1).collect();
     let words: Vec<&str> = words.iter().map(String::as_str).collect();
@@ -140,7 +128,6 @@ fn main() {
         ["calls", what, count] => calls(what, count.parse().expect("a count")),
         ["text", bytes, count] => text(bytes.parse().expect("a length"), count.parse().expect("a count")),
         ["refuse", name, count] => refuse(name, count.parse().expect("a count")),
-        ["seconds", bytes] => seconds(bytes.parse().expect("a length")),
         _ => panic!("see the first lines of src/main.rs"),
     }
 }
