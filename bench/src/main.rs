@@ -5,29 +5,45 @@
 //! - `bench times`: nanoseconds a call over them, a line with WHAT, OURS and THEIRS for reading and for printing. In all
 //!   these lines a tab stands between the words.
 //! - `bench archive-times`: the same of the archive through C, beside the crate.
-//! - `bench calls WHAT COUNT`: so many calls of humantime on `3m 13s 29ms`. WHAT is `read`, `print` (into a buffer) or
-//!   `print-string`.
-//! - `bench text BYTES COUNT`: humantime reads a text of so many bytes so many times.
-//! - `bench refuse NAME COUNT`: humantime refuses a text so many times, and its message is written into a buffer. Where
-//!   it doesn't refuse the text, `-` is printed.
+//! - `bench calls WORDS COUNT`: humantime's calls, by the words of `calls.rs` after SIDE.
 mod ours;
 mod texts;
 
-use duration_str::HumanFormat;
-use ours::{Archive, Crate, Library, ROOM};
+use ours::{Archive, Crate, Library, ROOM, calls};
 use std::hint::black_box;
 use std::io::Write;
 use std::time::{Duration, Instant};
-use texts::{EXPRESSION, long_text, refused, repeat};
 
-fn their_reading(text: &str) -> Duration {
-    humantime::parse_duration(text).expect("a text that humantime reads")
-}
+struct Humantime;
 
-fn their_printing(length: Duration) -> [u8; 64] {
-    let mut buffer = [0; 64];
-    write!(&mut buffer[..], "{}", humantime::format_duration(length)).expect("a text of at most 64 bytes");
-    buffer
+impl Library for Humantime {
+    type Value = Duration;
+
+    fn reading(text: &str) -> Duration {
+        humantime::parse_duration(text).expect("a text that humantime reads")
+    }
+
+    /// It has no options.
+    fn reading_with(text: &str, _: u32) -> Duration {
+        Humantime::reading(text)
+    }
+
+    fn printing(length: Duration) -> [u8; 64] {
+        let mut buffer = [0; 64];
+        write!(&mut buffer[..], "{}", humantime::format_duration(length)).expect("a text of at most 64 bytes");
+        buffer
+    }
+
+    fn printing_string(length: Duration) -> String {
+        humantime::format_duration(length).to_string()
+    }
+
+    fn refusing(text: &str, buffer: &mut [u8; ROOM]) -> usize {
+        let fault = humantime::parse_duration(text).expect_err("a text that humantime refuses");
+        let mut room = &mut buffer[..];
+        write!(room, "{fault}").expect("a message that fits");
+        ROOM - room.len()
+    }
 }
 
 /// Nanoseconds a call: of each side the least of the rounds, which take turns, since the machine's speed may change.
@@ -49,7 +65,7 @@ fn nanos_a_call<const SIDES: usize>(calls: usize, sides: [&dyn Fn(); SIDES]) -> 
 
 /// The expressions, and their values.
 fn expressions() -> (Vec<&'static str>, Vec<Duration>) {
-    texts::expressions().leak().iter().map(|text| (text.as_str(), their_reading(text))).unzip()
+    texts::expressions().leak().iter().map(|text| (text.as_str(), Humantime::reading(text))).unzip()
 }
 
 /// Calls this for each element.
@@ -57,65 +73,18 @@ fn all<T: Copy, R>(of: &[T], call: impl Fn(T) -> R) {
     of.iter().for_each(|each| { black_box(call(black_box(*each))); });
 }
 
-fn times() {
+/// A line for reading and for each way to print: what it is, and the nanoseconds a call of each side.
+fn times<Ours: Library, Theirs: Library>(prints_strings: bool) {
     let (texts, lengths) = expressions();
-    let string = |length: Duration| humantime::format_duration(length).to_string();
     let sides: [(&str, &dyn Fn(), &dyn Fn()); 3] = [
-        ("read", &|| all(&texts, Crate::reading), &|| all(&texts, their_reading)),
-        ("print", &|| all(&lengths, Crate::printing), &|| all(&lengths, their_printing)),
-        ("print-string", &|| all(&lengths, |length| length.human_format()), &|| all(&lengths, string)),
+        ("read", &|| all(&texts, Ours::reading), &|| all(&texts, Theirs::reading)),
+        ("print", &|| all(&lengths, Ours::printing), &|| all(&lengths, Theirs::printing)),
+        ("print-string", &|| all(&lengths, Ours::printing_string), &|| all(&lengths, Theirs::printing_string)),
     ];
-    for (what, ours, theirs) in sides {
-        let [ours, theirs] = nanos_a_call(texts.len(), [ours, theirs]);
+    for (what, ours, theirs) in &sides[..2 + usize::from(prints_strings)] {
+        let [ours, theirs] = nanos_a_call(texts.len(), [*ours, *theirs]);
         println!("{what}\t{ours:.1}\t{theirs:.1}");
     }
-}
-
-fn archive_times() {
-    let (texts, lengths) = expressions();
-    let sides: [(&str, &dyn Fn(), &dyn Fn()); 2] = [
-        ("read", &|| all(&texts, Archive::reading), &|| all(&texts, Crate::reading)),
-        ("print", &|| all(&lengths, Archive::printing), &|| all(&lengths, Crate::printing)),
-    ];
-    for (what, archive, ours) in sides {
-        let [archive, ours] = nanos_a_call(texts.len(), [archive, ours]);
-        println!("{what}\t{archive:.1}\t{ours:.1}");
-    }
-}
-
-/// What humantime has as a message for the text goes into the buffer; its length. `None` where the text is read.
-fn their_refusing(text: &str, buffer: &mut [u8; ROOM]) -> Option<usize> {
-    let fault = humantime::parse_duration(text).err()?;
-    let mut room = &mut buffer[..];
-    write!(room, "{fault}").expect("a message that fits");
-    Some(ROOM - room.len())
-}
-
-fn refuse(name: &str, count: u64) {
-    let text = refused(name);
-    let mut buffer = [0; ROOM];
-    if their_refusing(&text, &mut buffer).is_none() {
-        return println!("-");
-    }
-    repeat(count, || { black_box(their_refusing(black_box(&text), &mut buffer)); });
-    black_box(&buffer);
-}
-
-fn calls(what: &str, count: u64) {
-    let length = Duration::new(193, 29_000_000);
-    match what {
-        "read" => repeat(count, || { black_box(their_reading(black_box(EXPRESSION))); }),
-        "print" => repeat(count, || { black_box(their_printing(black_box(length))); }),
-        "print-string" => repeat(count, || {
-            black_box(humantime::format_duration(black_box(length)).to_string());
-        }),
-        _ => panic!("no call: {what}"),
-    }
-}
-
-fn text(bytes: usize, count: u64) {
-    let text = long_text(bytes);
-    repeat(count, || { black_box(their_reading(black_box(&text))); });
 }
 
 fn main() {
@@ -123,11 +92,9 @@ fn main() {
     let words: Vec<&str> = words.iter().map(String::as_str).collect();
     match words.as_slice() {
         ["expressions"] => println!("{}", texts::expressions().join("\n")),
-        ["times"] => times(),
-        ["archive-times"] => archive_times(),
-        ["calls", what, count] => calls(what, count.parse().expect("a count")),
-        ["text", bytes, count] => text(bytes.parse().expect("a length"), count.parse().expect("a count")),
-        ["refuse", name, count] => refuse(name, count.parse().expect("a count")),
+        ["times"] => times::<Crate, Humantime>(true),
+        ["archive-times"] => times::<Archive, Crate>(false),
+        ["calls", words @ .., count] => calls::<Humantime>(words, count.parse().expect("a count")),
         _ => panic!("see the first lines of src/main.rs"),
     }
 }
