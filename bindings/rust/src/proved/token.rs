@@ -16,7 +16,7 @@ use super::unit::TimeUnit;
 /// assert_eq!(tokens.next().unwrap().what, What::Number);
 /// assert_eq!(tokens.next().unwrap().what, What::Word(Some(TimeUnit::Hour)));
 /// ```
-#[derive(Clone, Copy, Debug, PartialEq, Eq)]
+#[derive(Clone, Copy, Debug, PartialEq, Eq, Hash)]
 pub enum What {
     /// Digits.
     Number,
@@ -36,7 +36,7 @@ pub enum What {
 /// let plus = Token { start: 2, text: "+", what: What::Operator(CondUnit::Plus) };
 /// assert_eq!(Tokens::new("1s+2m", Options::off()).nth(2), Some(plus));
 /// ```
-#[derive(Clone, Copy, Debug, PartialEq, Eq)]
+#[derive(Clone, Copy, Debug, PartialEq, Eq, Hash)]
 pub struct Token<'a> {
     /// The byte of the source at which it starts.
     pub start: usize,
