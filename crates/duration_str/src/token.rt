@@ -451,12 +451,19 @@ fn wide_number(c: char, cn_unit: bool) -> u64
     }
 }
 
+/// Whether each character up to the space is a blank. A table takes fewer instructions than comparisons.
+static BLANKS: [bool; 33] = [
+    false, false, false, false, false, false, false, false, false, true, true, false, false, true,
+    false, false, false, false, false, false, false, false, false, false, false, false, false,
+    false, false, false, false, false, true,
+];
+
 /// Space, tab, carriage return, line feed.
 #[inline]
 fn is_blank(c: char) -> bool
     ensures { result ≡ is_blank c }
 {
-    c <= ' ' && (c == ' ' || matches!(c as u8, b'\t' | b'\r' | b'\n'))
+    c <= ' ' && BLANKS[c as usize]
 }
 
 /// Whether more than 19 digits write a number below 2^64; `low` is that number modulo 2^64. Before the last 19 digits
