@@ -1,8 +1,8 @@
 """Packs the package and the shared library into a wheel, by PEP 517 and PEP 660, without downloading anything. The same
 files give the same bytes; the setting `platform` is the wheel's tag for the platform, if it isn't this machine's.
 
-The library is taken from the file that DURATION_STR_LIB names, from where pkg-config says that it is installed, or from the
-checkout in which this folder lies, where tools/library proves and builds it, in this order.
+The library is taken from the file that DURATION_STR_LIB names; else from the checkout in which this folder lies, where
+make proves and builds it; or, outside a checkout, from where pkg-config says that it is installed.
 """
 
 import base64
@@ -42,9 +42,9 @@ LIBRARY = "libduration_str.so"
 #: Its name in the package, by which Python doesn't take it for a module
 PACKED = f"{LIBRARY}.0"
 HELP = """there is no shared library duration_str to pack. Do one of these:
-- run ./install at the top of the repository, and see that pkg-config finds duration_str.pc;
 - set DURATION_STR_LIB to the library's file, such as /usr/local/lib/libduration_str.so;
-- build within a checkout of the repository, with the Rattle toolchain's command rt on the path."""
+- in a checkout of the repository, put the Rattle toolchain's command rt on the path;
+- outside one, see that pkg-config finds duration_str.pc, which `make install` in a checkout installs."""
 
 
 def _installed():
@@ -59,19 +59,18 @@ def _installed():
 
 def _built():
     """The library's file in the checkout, which is proved and built where it has to be; None outside a checkout."""
-    tool = CHECKOUT / "tools" / "library"
-    if not tool.is_file():
+    if not (CHECKOUT / "tools" / "if-changed").is_file():
         return None
-    ran = subprocess.run([tool], stdout=subprocess.PIPE, text=True)
-    if ran.returncode != 0:
+    words = ["make", "--silent", "--directory", CHECKOUT, "library"]
+    if not shutil.which("make") or subprocess.run(words, env={**os.environ, "MAKEFLAGS": ""}).returncode:
         raise SystemExit(HELP)
-    return pathlib.Path(ran.stdout.strip(), LIBRARY)
+    return CHECKOUT / "out" / "x86_64" / LIBRARY
 
 
 def _library():
     """The bytes of the shared library."""
     named = os.environ.get("DURATION_STR_LIB")
-    file = pathlib.Path(named) if named else _installed() or _built()
+    file = pathlib.Path(named) if named else _built() or _installed()
     if file is None:
         raise SystemExit(HELP)
     try:

@@ -1,4 +1,5 @@
 -- The definitions and the names of std that most proofs cite, passed on from one place. Declares nothing.
+pub use Rattle.std.proofs.Common.{Bool, Bor, Err, IfOk, IfSome, IsCharBoundary, IsNone, IsSome, IsTrue, IsUtf8, List, None, Ok, OkIff, Option, Result, Some, [], add-zero, add_assoc, ap, append-nil, append_assoc, ap₂, arith, bytes_eq, chars, codes, decimal, div-add-mod', div-le_self, drop, drop-cons, drop-drop, drop_at, encode_utf8, encode_utf8_all, eq-eqb, eqb, eqb-true, false, find, flat_map, get_or, if◌then◌else◌, inl, inr, is_some, le-div_iff_mul-le, le-ltb, le_antisymm, le_of_suc-le-suc, leb, leb-true, length, length-append, length-drop, length-take-le, lit<, lt-ltb, ltb, ltb-true, map, mul-div_cancel, mul-pos, mul_comm, nat_le, nat_lt, ne_eqb, not, ok_or, option_map, pow-suc, refl, replicate, rules, slice_range, subst, suc, suc-le-suc, sym, take, take-append-drop, take_at, true, true≢false, unwrap_or, zero, zero-le, ℕ, ◌%◌, ◌&&◌, ◌*◌, ◌++◌, ◌+◌, ◌-◌, ◌/◌, ◌<◌, ◌==◌, ◌^◌, ◌||◌, ◌↔◌, ◌∙◌, ◌∷◌, ◌≡◌, ◌≢◌, ◌≤◌, ◌⊎◌}
 pub use Rattle.std.proofs.Math.Nat.{mod-le, pow-le-pow_right, pow-succ'}
 pub use Rattle.std.proofs.lemmas.Bool.{and_from, and_parts, cases_Bool, cases_lt, cond-true, false_from_ne_true, not-true, not_from_false, not_from_true, or_cases, or_from, or_parts, or_right}
 pub use Rattle.std.proofs.lemmas.Bool.Decides.{nat_tests, same_from_decides}
@@ -15,14 +16,15 @@ pub use Rattle.std.specs.Option.{ForSome}
 pub use Rattle.std.specs.Prelude.{⊤}
 pub use Rattle.std.specs.Result.{result_err}
 pub use lib.Utf8.{encode, encodes, scalar, scalar_cases, scalars}
-pub use Rattle.duration_str.specs.declared.fault.Cause.{Cause}
-pub use Rattle.duration_str.specs.declared.fault.Cause.TheVariants.{Empty, Mixed, NotText, NumberTooLarge, Overflow, Syntax}
-pub use Rattle.duration_str.specs.declared.fault.Expected.{Expected}
+pub use Rattle.duration_str.specs.declared.cause.Cause.{Cause}
+pub use Rattle.duration_str.specs.declared.cause.Cause.TheVariants.{Empty, Mixed, NotText, NumberTooLarge, Overflow, Syntax}
+pub use Rattle.duration_str.specs.declared.cause.Expected.{Expected}
 pub use Rattle.duration_str.specs.declared.fault.Fault.{Fault}
 pub use Rattle.duration_str.specs.declared.operator.CondUnit.{CondUnit}
 pub use Rattle.duration_str.specs.declared.operator.CondUnit.TheVariants.{Plus, Star}
 pub use Rattle.duration_str.specs.declared.options.Options.{Options}
 pub use Rattle.duration_str.specs.declared.packed.TheConstants.{SLOTS, SPREAD}
+pub use Rattle.duration_str.specs.declared.token.TheConstants.{BLANKS}
 pub use Rattle.duration_str.specs.declared.token.Sort.{Sort}
 pub use Rattle.duration_str.specs.declared.token.Sort.TheVariants.{Number, Operator, Other, Word}
 pub use Rattle.duration_str.specs.declared.token.Tokens.{Tokens}
@@ -32,23 +34,23 @@ pub use Rattle.duration_str.specs.Answer.{allows, answer, answer_at, front_after
 pub use Rattle.duration_str.specs.FaultText.{EndsInsideLine, byte_text, caret_text, fault_text, has_line_feed, line_of, placed_text}
 pub use Rattle.duration_str.specs.Faults.{IsMissingAtEnd, IsSliceOf, found_token, token_at}
 pub use Rattle.duration_str.specs.Grammar.{BeginsWith, IsSentence, IsSentenceOf, Spells, Terminal, number, operator, operator_or_other, other, sign_terminal, terminal_by, terminal_of, word}
-pub use Rattle.duration_str.specs.Laws.{BlanksFree, EqualTexts, GreatestBreakdown, HasNoCapital, HasNoChinese, HasNoOperator, HasNoStar, IsAnswer, IsIdle, NoCalcAgrees, OlderTexts, OneAnswer, OneCut, OneSentence, OptionsIdle, PlaceAndKinds, ReadsBack, Reorder, SumOfTexts, TwoFactors, is_operator, times_in}
+pub use Rattle.duration_str.specs.Laws.{BlanksFree, EqualTexts, GreatestBreakdown, HasNoCapital, HasNoChinese, HasNoOperator, HasNoStar, AnswerIsReading, IsIdle, NoCalcAgrees, OlderTexts, OneReading, OneCut, OneSentence, OptionsIdle, PlaceAndKinds, ReadsBack, Reorder, SumOfTexts, TwoFactors, is_operator, times_in}
 pub use Rattle.duration_str.specs.Older.{WasRead, WasRefused, WasSentenceOf, older_nanos_of, older_row_of, older_terminals, older_terms, older_unit_of_word, older_units, sentence_fault, was_named}
 pub use Rattle.duration_str.specs.Place.{BeginsSentence, CanFollow, IsFront, start_after, terminals_of}
 pub use Rattle.duration_str.specs.Printing.{IsBefore, IsGreatestBreakdown, IsPrinted, counts_of, printed_counts, printed_parts, spaced_parts, weighted_sum}
 pub use Rattle.duration_str.specs.Reading.{IsRead, IsRefused, IsRefusedAt, complete_terminals, complete_terms, early, early_fault, first_fault, late, late_fault, place_after, running_fault, syntax_fault, without_last_number}
-pub use Rattle.duration_str.specs.Results.{IsAnswered, ParsesText}
+pub use Rattle.duration_str.specs.Results.{ParsesText}
 pub use Rattle.duration_str.specs.Terms.{fault_or, term_of}
-pub use Rattle.duration_str.specs.Text.{IsBlank, IsNumber, byte_len, is_blank, is_chinese, is_digit, is_unit_letter, number_after, number_of, operator_of, width}
-pub use Rattle.duration_str.specs.Tokenizer.{KeepsInput, YieldsNextToken, tokens_left, options_of, cut_place, source, what_of}
+pub use Rattle.duration_str.specs.Text.{ahead, IsBlank, IsNumber, byte_len, chinese_letters, is_blank, is_chinese, is_digit, is_unit_letter, number_after, number_of, operator_of, width}
+pub use Rattle.duration_str.specs.Iteration.{KeepsInput, YieldsNextToken, tokens_left, options_of, cut_place, source, what_of}
 pub use Rattle.duration_str.specs.Tokens.{AreTokens, EndsRun, IsLexeme, Token, are_of_one_run, goes_on, with_first_character, lexemes_of, tokens_from, tokens_of}
 pub use Rattle.duration_str.specs.Units.{UnitRow, comparison_form, is_named, nanos_of, off, row_of, unit_lengths, unit_of_word, units}
 pub use Rattle.duration_str.specs.Value.{AllPlus, Evaluates, Term, combination, evaluation_fault, fits, is_same_operator, later_fault, later_total, or_else, second, sum_of, term_fault, terms_after, terms_by, terms_of, unless, value_of, value_of_term}
-pub use Rattle.duration_str.specs.Internal.Cutting.{Between, Passes, StandsAt, Stops, TakesDigits, TakesLetters, ahead, packed_number, packed_number_after}
+pub use Rattle.duration_str.specs.Internal.Positions.{Between, Passes, StandsAt, Stops, TakesDigits, TakesLetters, letter_number, number_in, packed_number, packed_number_after, wide_number}
 pub use Rattle.duration_str.specs.Internal.Numbers.{checked_term, u64_from}
-pub use Rattle.duration_str.specs.Internal.Packed.{packs_to, unit_of_packed}
+pub use Rattle.duration_str.specs.Internal.Packed.{all_names, packs_to, unit_of_packed}
 pub use Rattle.duration_str.specs.Internal.PrintedBytes.{greatest_count, max_printed_len, units_below_year, with_part, with_parts, with_space}
-pub use Rattle.duration_str.specs.Internal.Rest.{Read, Rest, answer_left, at_once, before_operator, checked_combination, end_at, first_term, lacks_number, leaving, identity_of, operator_read, rest_from, rest_of, start_left, terminal_at, terminals_in, unit_read}
+pub use Rattle.duration_str.specs.Internal.Rest.{Later, ReadItem, Rest, ReturnsAnswer, answer_left, immediate_fault, check_operator, checked_combination, end_at, first_term, number_fault, leaving, identity_of, no_later, with_first, operator_read, rest_from, rest_of, start_left, terminal_at, terminals_in, unit_read}
 pub use Rattle.duration_str.specs.Internal.Sorts.{sign_sort, sort_at, sort_of}
-pub use Rattle.duration_str.specs.Internal.Tokenizer.{IsAhead, IsSign, LooksAhead, TakesNumber, TakesSign, TakesToken, TakesTokenWith, is_number}
+pub use Rattle.duration_str.specs.Internal.Steps.{IsAhead, IsSign, LooksAhead, TakesNumber, TakesSign, TakesToken, TakesTokenWith, is_number}
 pub use Rattle.duration_str.specs.Internal.UnitTable.{AreEncoded}

@@ -1,7 +1,7 @@
 -- How a text is cut into tokens.
-pub mod CuttingLemmas
+pub mod PositionLemmas
 pub mod TokenLemmas
 pub mod TerminalLemmas
 pub mod SortLemmas
-pub mod TokenizerLemmas
+pub mod StepLemmas
 pub mod FoundLemmas

@@ -1,6 +1,5 @@
 -- Worked examples, computed: what texts are read as, why others are refused, and what durations print as.
-use Rattle.std.proofs.Common.{◌≡◌, ℕ, Bool, true, false, List, [], ◌∷◌, ◌++◌, Some, None, Ok, Err, refl, length, flat_map, map, encode_utf8_all, codes}
-use Rattle.duration_str.proofs.Common.{Options, TimeUnit, Quarter, Plus, Star, Empty, Syntax, NumberTooLarge, Overflow, Mixed, Expected, off, row_of, units, unit_of_word, unit_lengths, older_units, older_unit_of_word, printed_counts, counts_of, max_printed_len, answer, fault_text}
+use Rattle.duration_str.proofs.Common.{◌≡◌, ℕ, Bool, true, false, List, [], ◌∷◌, ◌++◌, Some, None, Ok, Err, refl, length, flat_map, map, encode_utf8_all, codes, Options, TimeUnit, Quarter, Plus, Star, Empty, Syntax, NumberTooLarge, Overflow, Mixed, Expected, off, row_of, units, unit_of_word, unit_lengths, older_units, older_unit_of_word, printed_counts, counts_of, max_printed_len, answer, fault_text}
 use Rattle.duration_str.proofs.Characters.EachUnit.{Each}
 use Rattle.std.specs.Fmt.{digits}
 use Rattle.std.specs.Str.{chars}

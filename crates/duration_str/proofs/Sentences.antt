@@ -4,5 +4,5 @@ pub mod SpellingLemmas
 pub mod FaultLemmas
 pub mod SumLemmas
 pub mod AnswerLemmas
-pub mod AnsweredLemmas
+pub mod ParsingLemmas
 pub mod SumReadings

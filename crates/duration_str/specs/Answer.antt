@@ -1,9 +1,9 @@
 -- The answer to a text, computed by the table of what may follow.
 use Rattle.std.specs.Prelude.{ℕ, suc, Bool, true, false, ◌&&◌, not, List, [], ◌∷◌, Option, Some, None, is_some, Result, Ok, Err, take, drop, if◌then◌else◌, unwrap_or}
 use Rattle.duration_str.specs.declared.options.Options.{Options}
-use Rattle.duration_str.specs.declared.fault.Cause.{Cause}
-use Rattle.duration_str.specs.declared.fault.Cause.TheVariants.{Empty, Syntax}
-use Rattle.duration_str.specs.declared.fault.Expected.{Expected}
+use Rattle.duration_str.specs.declared.cause.Cause.{Cause}
+use Rattle.duration_str.specs.declared.cause.Cause.TheVariants.{Empty, Syntax}
+use Rattle.duration_str.specs.declared.cause.Expected.{Expected}
 use Rattle.duration_str.specs.Text.{byte_len}
 use Rattle.duration_str.specs.Grammar.{Terminal, number, word, operator, other}
 use Rattle.duration_str.specs.Tokens.{tokens_of}

@@ -2,38 +2,38 @@
 use Rattle.std.specs.Prelude.{◌≡◌, ℕ, ℤ, pos, List, [], ◌∷◌, Bool, true, false, Option, None, IsSomeAnd, Result, Ok}
 use Rattle.std.specs.Str.{chars}
 use Rattle.serde_json.specs.Data.{Data, null, string}
-use Rattle.duration_str.specs.declared.fault.Cause.TheVariants.{NotText}
+use Rattle.duration_str.specs.declared.cause.Cause.TheVariants.{NotText}
 use Rattle.duration_str.specs.declared.fault.Fault.{Fault}
 use Rattle.duration_str.specs.Units.{off}
 use Rattle.duration_str.specs.Reading.{IsRead, IsRefused}
-use Rattle.duration_str.specs.Results.{Answers}
+use Rattle.duration_str.specs.Results.{IsValueOrFault}
 
 -- With all options off, the bytes are read as a value that the result shows, or refused for its cause.
-abbrev pub AnswersBy : {T : Type 0} → (T → ℕ → Type 0) → List ℕ → Result T Fault → Type 0
-AnswersBy shows bytes result =
-    Answers (λ v. (nanos : ℕ) × IsRead off (chars bytes) nanos × shows v nanos)
+abbrev pub ParsesBy : {T : Type 0} → (T → ℕ → Type 0) → List ℕ → Result T Fault → Type 0
+ParsesBy shows bytes result =
+    IsValueOrFault (λ v. (nanos : ℕ) × IsRead off (chars bytes) nanos × shows v nanos)
     (IsRefused off (chars bytes)) bytes result
 
 -- The bytes are read as the value in `Ok`, in nanoseconds, or refused.
-abbrev pub IsReadAs : {T : Type 0} → (T → ℤ) → List ℕ → Result T Fault → Type 0
-IsReadAs nanos_of bytes result = AnswersBy (λ v nanos. nanos_of v ≡ pos nanos) bytes result
+abbrev pub ParsesAs : {T : Type 0} → (T → ℤ) → List ℕ → Result T Fault → Type 0
+ParsesAs nanos_of bytes result = ParsesBy (λ v nanos. nanos_of v ≡ pos nanos) bytes result
 
 -- The bytes are read as the value in `Ok (Some ..)`, in nanoseconds, or refused.
-abbrev pub IsReadAsSome : {T : Type 0} → (T → ℤ) → List ℕ → Result (Option T) Fault → Type 0
-IsReadAsSome nanos_of bytes result = AnswersBy (λ o nanos. IsSomeAnd o (λ v. nanos_of v ≡ pos nanos)) bytes result
+abbrev pub ParsesAsSome : {T : Type 0} → (T → ℤ) → List ℕ → Result (Option T) Fault → Type 0
+ParsesAsSome nanos_of bytes result = ParsesBy (λ o nanos. IsSomeAnd o (λ v. nanos_of v ≡ pos nanos)) bytes result
 
 -- The value is refused because it is not a text.
 abbrev pub IsNotText : {T : Type 0} → Bool → Result T Fault → Type 0
-IsNotText optional result = Answers (λ v. ⊥) (λ cause. cause ≡ NotText optional) [] result
+IsNotText optional result = IsValueOrFault (λ v. ⊥) (λ cause. cause ≡ NotText optional) [] result
 
 -- A required value: a text is read, and anything else is refused.
 abbrev pub IsRequired : {T : Type 0} → (T → ℤ) → Data → Result T Fault → Type 0
-IsRequired nanos_of (string text) result = IsReadAs nanos_of text result
+IsRequired nanos_of (string text) result = ParsesAs nanos_of text result
 IsRequired nanos_of _ result = IsNotText false result
 
 -- An optional value: null and the empty text are `None`, any other text is read, and anything else is refused.
 abbrev pub IsOptional : {T : Type 0} → (T → ℤ) → Data → Result (Option T) Fault → Type 0
 IsOptional nanos_of null result = result ≡ Ok None
 IsOptional nanos_of (string []) result = result ≡ Ok None
-IsOptional nanos_of (string (b ∷ text)) result = IsReadAsSome nanos_of (b ∷ text) result
+IsOptional nanos_of (string (b ∷ text)) result = ParsesAsSome nanos_of (b ∷ text) result
 IsOptional nanos_of _ result = IsNotText true result

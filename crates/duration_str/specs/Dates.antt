@@ -3,12 +3,12 @@ use Rattle.std.specs.Prelude.{◌≡◌, ℕ, ◌<◌, ℤ, pos, ◌+ℤ◌, ◌
 use Rattle.std.specs.Str.{chars}
 use Rattle.jiff.specs.Types.{Date, DateTime}
 use Rattle.jiff.specs.Words.{epoch_day, time_nanos}
-use Rattle.duration_str.specs.declared.fault.Cause.{Cause}
-use Rattle.duration_str.specs.declared.fault.Cause.TheVariants.{OutOfRange}
+use Rattle.duration_str.specs.declared.cause.Cause.{Cause}
+use Rattle.duration_str.specs.declared.cause.Cause.TheVariants.{OutOfRange}
 use Rattle.duration_str.specs.declared.fault.Fault.{Fault}
 use Rattle.duration_str.specs.Units.{off}
 use Rattle.duration_str.specs.Reading.{IsRead, IsRefused}
-use Rattle.duration_str.specs.Results.{Answers}
+use Rattle.duration_str.specs.Results.{IsValueOrFault}
 
 -- the length of a day in nanoseconds
 abbrev pub day_nanos : ℕ
@@ -53,5 +53,5 @@ IsDateFault reached bytes cause =
 -- fault of this text.
 abbrev pub IsDated : {T : Type 0} → (ℤ → T → Type 0) → (ℕ → ℤ) → List ℕ → Result T Fault → Type 0
 IsDated shows reached bytes result =
-    Answers (λ v. (nanos : ℕ) × IsRead off (chars bytes) nanos × IsInRange (reached nanos) × shows (reached nanos) v)
+    IsValueOrFault (λ v. (nanos : ℕ) × IsRead off (chars bytes) nanos × IsInRange (reached nanos) × shows (reached nanos) v)
     (IsDateFault reached bytes) bytes result

@@ -1,7 +1,7 @@
 -- The error made from a fault.
 use Rattle.std.specs.Prelude.{◌≡◌, ℕ, List, encode_utf8_all, string_bytes, ⊤}
-use Rattle.duration_str.specs.declared.fault.Cause.{Cause}
-use Rattle.duration_str.specs.declared.fault.Cause.TheVariants.{Overflow}
+use Rattle.duration_str.specs.declared.cause.Cause.{Cause}
+use Rattle.duration_str.specs.declared.cause.Cause.TheVariants.{Overflow}
 use Rattle.duration_str.specs.declared.error.DError.{DError}
 use Rattle.duration_str.specs.declared.error.DError.TheVariants.{ParseError, OverflowError}
 use Rattle.duration_str.specs.FaultText.{line_of}

@@ -6,9 +6,9 @@ use Rattle.std.specs.Str.{chars}
 use Rattle.duration_str.specs.declared.options.Options.{Options}
 use Rattle.duration_str.specs.Tokens.{Token, tokens_of}
 use Rattle.duration_str.specs.Reading.{IsRefused}
-use Rattle.duration_str.specs.declared.fault.Expected.{Expected}
-use Rattle.duration_str.specs.declared.fault.Cause.{Cause}
-use Rattle.duration_str.specs.declared.fault.Cause.TheVariants.{Empty, Syntax, NumberTooLarge, Overflow, Mixed, OutOfRange, NotText}
+use Rattle.duration_str.specs.declared.cause.Expected.{Expected}
+use Rattle.duration_str.specs.declared.cause.Cause.{Cause}
+use Rattle.duration_str.specs.declared.cause.Cause.TheVariants.{Empty, Syntax, NumberTooLarge, Overflow, Mixed, OutOfRange, NotText}
 
 -- the byte offset of a fault, if it has a place
 abbrev pub place_of : Cause → Option ℕ

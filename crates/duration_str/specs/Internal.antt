@@ -1,9 +1,9 @@
 -- The private contracts of the code: what each step of cutting, reading or printing does.
 pub mod Numbers
 pub mod UnitTable
-pub mod Cutting
+pub mod Positions
 pub mod Sorts
-pub mod Tokenizer
+pub mod Steps
 pub mod Packed
 pub mod Rest
 pub mod PrintedBytes

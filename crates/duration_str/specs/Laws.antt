@@ -8,9 +8,9 @@ use Rattle.duration_str.specs.declared.operator.CondUnit.{CondUnit}
 use Rattle.duration_str.specs.declared.operator.CondUnit.TheVariants.{Star}
 use Rattle.duration_str.specs.declared.unit.TimeUnit.{TimeUnit}
 use Rattle.duration_str.specs.declared.unit.TimeUnit.TheVariants.{Year}
-use Rattle.duration_str.specs.declared.fault.Cause.{Cause}
-use Rattle.duration_str.specs.declared.fault.Cause.TheVariants.{Overflow}
-use Rattle.duration_str.specs.declared.fault.Expected.{Expected}
+use Rattle.duration_str.specs.declared.cause.Cause.{Cause}
+use Rattle.duration_str.specs.declared.cause.Cause.TheVariants.{Overflow}
+use Rattle.duration_str.specs.declared.cause.Expected.{Expected}
 use Rattle.duration_str.specs.Text.{operator_of, is_chinese}
 use Rattle.duration_str.specs.Units.{UnitRow, row_of, unit_lengths, nanos_of}
 use Rattle.duration_str.specs.Grammar.{Terminal, operator, IsSentence, IsSentenceOf, Spells, terminal_of}
@@ -57,7 +57,7 @@ pub record OneCut : Type 0 where
   pub only : (o : Options) (text : List ℕ) (tokens : List Token) → AreTokens o 0 text tokens → tokens ≡ tokens_of o text
 
 -- A text is read as one value or refused for one cause, not both.
-pub record OneAnswer : Type 0 where
+pub record OneReading : Type 0 where
   pub some : (o : Options) (text : List ℕ)
       → ((nanos : ℕ) × IsRead o text nanos) ⊎ ((cause : Cause) × IsRefused o text cause)
   pub one_value : (o : Options) (text : List ℕ) (m n : ℕ) → IsRead o text m → IsRead o text n → m ≡ n
@@ -66,7 +66,7 @@ pub record OneAnswer : Type 0 where
       → IsRead o text nanos → IsRefused o text cause → ⊥
 
 -- The computed answer is the value of the text, or the cause of its refusal.
-pub record IsAnswer : Type 0 where
+pub record AnswerIsReading : Type 0 where
   pub read : (o : Options) (text : List ℕ) (nanos : ℕ) → (answer o text ≡ Ok nanos ↔ IsRead o text nanos)
   pub refused : (o : Options) (text : List ℕ) (cause : Cause) → (answer o text ≡ Err cause ↔ IsRefused o text cause)
 

@@ -4,29 +4,23 @@ use Rattle.std.specs.Duration.{as_nanos}
 use Rattle.std.specs.declared.time.Duration.{Duration}
 use Rattle.std.specs.Str.{chars}
 use Rattle.duration_str.specs.declared.options.Options.{Options}
-use Rattle.duration_str.specs.declared.fault.Cause.{Cause}
-use Rattle.duration_str.specs.declared.fault.Cause.TheVariants.{Syntax}
-use Rattle.duration_str.specs.declared.fault.Expected.{Expected}
+use Rattle.duration_str.specs.declared.cause.Cause.{Cause}
+use Rattle.duration_str.specs.declared.cause.Cause.TheVariants.{Syntax}
+use Rattle.duration_str.specs.declared.cause.Expected.{Expected}
 use Rattle.duration_str.specs.declared.fault.Fault.{Fault}
 use Rattle.duration_str.specs.Reading.{IsRead, IsRefused}
-use Rattle.duration_str.specs.Answer.{answer}
 
 -- The result is a value for which `reads` holds, or a fault of exactly these bytes, with a cause for which `refuses`
 -- holds.
-abbrev pub Answers : {T : Type 0} → (T → Type 0) → (Cause → Type 0) → List ℕ → Result T Fault → Type 0
-Answers reads refuses bytes (Ok value) = reads value
-Answers reads refuses bytes (Err fault) = (fault.text.now ≡ bytes) × refuses fault.cause
-
--- The result is the computed answer `a`: its value, or its cause.
-abbrev pub IsAnswered : {T : Type 0} → (T → ℕ) → Result ℕ Cause → List ℕ → Result T Fault → Type 0
-IsAnswered nanos_of a bytes result = Answers (λ v. a ≡ Ok (nanos_of v)) (λ cause. a ≡ Err cause) bytes result
+abbrev pub IsValueOrFault : {T : Type 0} → (T → Type 0) → (Cause → Type 0) → List ℕ → Result T Fault → Type 0
+IsValueOrFault reads refuses bytes (Ok value) = reads value
+IsValueOrFault reads refuses bytes (Err fault) = (fault.text.now ≡ bytes) × refuses fault.cause
 
 -- Under these options the bytes are read as the value in `Ok`, or refused for the cause in `Err`.
 pub record ParsesText (o : Options) (bytes : List ℕ) (result : Result Duration Fault) : Type 0 where
   pub read : IfOk result (λ d. IsRead o (chars bytes) (as_nanos d))
   pub accepts : (nanos : ℕ) → IsRead o (chars bytes) nanos → IsOk result
   pub refused : IfErr result (λ f. (f.text.now ≡ bytes) × IsRefused o (chars bytes) f.cause)
-  pub answer : IsAnswered as_nanos (answer o (chars bytes)) bytes result
   pub fits : IfOk result (λ d. as_nanos d < 2 ^ 64)
 
 -- There are at least as many looks as characters before the place of a syntax fault.

@@ -1,7 +1,8 @@
 -- Texts as lists of character codes, the classes of characters, and the numbers that digits write.
-use Rattle.std.specs.Prelude.{ℕ, ◌+◌, ◌*◌, ◌-◌, ◌<◌, Bool, ◌&&◌, ◌||◌, List, [], ◌∷◌, nat_le, ◌==◌, IsTrue, Option, Some, None, length, if◌then◌else◌}
+use Rattle.std.specs.Prelude.{ℕ, ◌+◌, ◌*◌, ◌-◌, ◌<◌, Bool, ◌&&◌, ◌||◌, List, [], ◌∷◌, nat_le, ◌==◌, IsTrue, Option, Some, None, length, drop, if◌then◌else◌}
 use Rattle.std.specs.Char.{is_ascii_digit, is_ascii_alphabetic, len_utf8}
 use Rattle.std.specs.List.{list_any, list_all}
+use Rattle.std.specs.Str.{chars}
 use lib.Chars.{codes}
 use Rattle.duration_str.specs.declared.options.Options.{Options}
 use Rattle.duration_str.specs.declared.operator.CondUnit.{CondUnit}
@@ -56,3 +57,7 @@ width c = if nat_le 0xD800 c && nat_le c 0xDFFF then 4 else len_utf8 c
 abbrev pub byte_len : List ℕ → ℕ
 byte_len [] = 0
 byte_len (c ∷ text) = width c + byte_len text
+
+-- the characters of these bytes from byte `place` on
+abbrev pub ahead : List ℕ → ℕ → List ℕ
+ahead text place = chars (drop place text)

@@ -6,10 +6,11 @@ ghost use Rattle.serde_json.specs.Data.{Data, null, string};
 ghost use Rattle.serde_json.specs.Find.{as_str};
 ghost use Rattle.serde_json.specs.View.{view};
 ghost use Rattle.duration_str.specs.Configuration.{IsRequired, IsOptional};
-ghost use Rattle.duration_str.specs.declared.fault.Cause.TheVariants.{NotText};
+ghost use Rattle.duration_str.specs.declared.cause.Cause.TheVariants.{NotText};
 ghost use Rattle.duration_str.specs.declared.fault.Fault.{Fault as PlainFault};
 
-use crate::fault::{Cause, Fault};
+use crate::cause::Cause;
+use crate::fault::Fault;
 use crate::parser::parse;
 use crate::signed::parse_chrono;
 use jiff::SignedDuration;

@@ -2,9 +2,10 @@
 ghost use Rattle.std.specs.Prelude.{◌≡◌, ◌↔◌, pos, ◌+ℤ◌, ◌-ℤ◌, IsSome, IfSome, IfNone, IsErrAnd, Ok};
 ghost use Rattle.std.specs.Duration.{as_nanos};
 ghost use Rattle.duration_str.specs.Dates.{IsCivil, IsCivilDay, IsDated, IsInRange};
-ghost use Rattle.duration_str.specs.declared.fault.Cause.TheVariants.{OutOfRange};
+ghost use Rattle.duration_str.specs.declared.cause.Cause.TheVariants.{OutOfRange};
 
-use crate::fault::{Cause, Fault};
+use crate::cause::Cause;
+use crate::fault::Fault;
 use crate::parser::parse;
 use jiff::Timestamp;
 use jiff::civil::{Date, DateTime};

@@ -2,7 +2,8 @@
 ghost use Rattle.std.specs.Prelude.{IfOk, IsOk};
 ghost use Rattle.duration_str.specs.Errors.{IsErrorOf, IsOverflow};
 
-use crate::fault::{Cause, Fault};
+use crate::cause::Cause;
+use crate::fault::Fault;
 use std::alloc::{AllocError, Allocator, Global};
 use thiserror::Error;
 

@@ -1,7 +1,8 @@
 //! The only access to the text while it is cut: one character after the other, and every look is counted.
 ghost use Rattle.std.specs.Prelude.{◌≡◌, ◌+◌, ◌<◌, ◌≤◌, ◌^◌, [], is_some, IsSome, IfSome, IfNone, if◌then◌else◌, slice_range, IsUtf8, length};
 ghost use Rattle.std.specs.Str.{IsCharBoundary};
-ghost use Rattle.duration_str.specs.Internal.Cutting.{ahead, StandsAt};
+ghost use Rattle.duration_str.specs.Internal.Positions.{StandsAt};
+ghost use Rattle.duration_str.specs.Text.{ahead};
 
 /// A text, and the place up to which it is cut.
 #[derive(Drop)]

@@ -1,6 +1,7 @@
 //! Duration expressions such as `3m + 13s + 29ms`, read and printed.
 #![tactic(auto)]
 
+mod cause;
 mod config;
 mod dates;
 pub mod error;
@@ -8,6 +9,7 @@ pub mod ext;
 mod eye;
 mod fault;
 pub mod laws;
+mod message;
 mod operator;
 mod options;
 mod packed;

@@ -1,4 +1,4 @@
-//! Units by the packed numbers of their ASCII names: five bits for each letter, ignoring case.
+//! Units by the packed numbers of their names, whose letters are digits to the base 40, ignoring case.
 ghost use Rattle.std.specs.Prelude.{◌≡◌};
 ghost use Rattle.duration_str.specs.Internal.Packed.{unit_of_packed};
 
@@ -10,82 +10,146 @@ pub(crate) fn unit_of_packed(packed: u64) -> Option<TimeUnit>
     ensures { result ≡ unit_of_packed packed }
 {
     // Computed in 128 bits, which the compiler turns into one multiplication of 64 bits.
-    let slot = (packed as u128 * SPREAD as u128 >> 58) % 64;
+    let slot = (packed as u128 * SPREAD as u128 >> 57) % 128;
     let (name, unit) = SLOTS[slot as usize];
     if name == packed { Some(unit) } else { None }
 }
 
-/// A multiplier that gives each packed name a slot of its own: bits 58 to 63 of the product. `tools/packed-slots` finds
+/// A multiplier that gives each packed name a slot of its own: bits 57 to 63 of the product. `tools/packed-slots` finds
 /// one, and writes the table below.
-const SPREAD: u64 = 8_353_693_844_369_934_821;
+const SPREAD: u64 = 439_394_506_952_439_165;
 
 /// Marks an empty slot. No name packs to 2, and the slot of 2 is taken, so it is never found.
 const NO_NAME: (u64, TimeUnit) = (2, TimeUnit::Year);
 
 /// The packed names, each in its slot.
-static SLOTS: [(u64, TimeUnit); 64] = [
+static SLOTS: [(u64, TimeUnit); 128] = [
     NO_NAME,
     NO_NAME,
+    (1_958_616_564, TimeUnit::Second), // second
+    (138_754_824_102_616_564, TimeUnit::MilliSecond), // millisecond
     NO_NAME,
+    (1555, TimeUnit::NanoSecond), // 纳秒
+    (338, TimeUnit::Hour), // hr
     NO_NAME,
-    NO_NAME,
-    (274, TimeUnit::Hour), // hr
-    NO_NAME,
-    (13_806, TimeUnit::Month), // mon
-    NO_NAME,
-    NO_NAME,
-    (13_614, TimeUnit::Minute), // min
-    (132_915, TimeUnit::Day), // days
-    NO_NAME,
-    NO_NAME,
-    (606_717_220_435, TimeUnit::Quarter), // quarters
-    NO_NAME,
-    (24_286_579, TimeUnit::Week), // weeks
-    (14_957_291_896_946_116, TimeUnit::MicroSecond), // microsecond
-    NO_NAME,
-    (758_955, TimeUnit::Week), // week
-    (25, TimeUnit::Year), // y
-    (452_415_763, TimeUnit::Month), // months
-    (14_966_974_900_714_948, TimeUnit::MilliSecond), // millisecond
-    NO_NAME,
-    NO_NAME,
-    (445_603, TimeUnit::MilliSecond), // msec
-    (23, TimeUnit::Week), // w
-    (14_137_992, TimeUnit::Month), // month
-    (278_194, TimeUnit::Hour), // hour
-    NO_NAME,
-    (467, TimeUnit::NanoSecond), // ns
-    (15_813_712_199_268_499, TimeUnit::NanoSecond), // nanoseconds
-    (446_125_701, TimeUnit::Minute), // minute
-    (707_747, TimeUnit::MicroSecond), // usec
-    (478_371, TimeUnit::NanoSecond), // nsec
-    (19_619, TimeUnit::Second), // sec
-    (478_633_340_702_275_731, TimeUnit::MicroSecond), // microseconds
-    NO_NAME,
-    (19, TimeUnit::Second), // s
-    (8, TimeUnit::Hour), // h
-    (642_891_204, TimeUnit::Second), // second
-    (494_178_506_227_140, TimeUnit::NanoSecond), // nanosecond
-    (23_191_469_508, TimeUnit::MicroSecond), // usecond
-    (14_276_022_451, TimeUnit::Minute), // minutes
-    (17, TimeUnit::Quarter), // q
-    (4153, TimeUnit::Day), // day
-    NO_NAME,
-    (18_959_913_138, TimeUnit::Quarter), // quarter
-    NO_NAME,
-    NO_NAME,
-    (824_370, TimeUnit::Year), // year
+    (1_480_211, TimeUnit::Week), // week
+    (21_414, TimeUnit::Month), // mon
+    (138_696_849_318_616_564, TimeUnit::MicroSecond), // microsecond
+    (1515, TimeUnit::MicroSecond), // 微秒
     (4, TimeUnit::Day), // d
-    (478_943_196_822_878_355, TimeUnit::MilliSecond), // milliseconds
-    (26_379_859, TimeUnit::Year), // years
+    NO_NAME,
+    NO_NAME,
+    NO_NAME,
+    NO_NAME,
+    (1475, TimeUnit::MilliSecond), // 毫秒
+    NO_NAME,
+    (71_786_144_218, TimeUnit::Quarter), // quarter
+    NO_NAME,
+    NO_NAME,
+    (1099, TimeUnit::MicroSecond), // µs
+    (78_344_662_579, TimeUnit::Second), // seconds
+    (8, TimeUnit::Hour), // h
+    NO_NAME,
+    (258_619, TimeUnit::Day), // days
+    NO_NAME,
+    NO_NAME,
+    (59_208_459, TimeUnit::Week), // weeks
+    NO_NAME,
+    NO_NAME,
+    NO_NAME,
+    (1_758_603, TimeUnit::MicroSecond), // µsec
+    NO_NAME,
+    NO_NAME,
+    NO_NAME,
     NO_NAME,
     NO_NAME,
     (13, TimeUnit::Minute), // m
-    (8_902_227, TimeUnit::Hour), // hours
-    NO_NAME,
-    (691, TimeUnit::MicroSecond), // us
     NO_NAME,
     NO_NAME,
-    (20_572_518_547, TimeUnit::Second), // seconds
-    (435, TimeUnit::MilliSecond), // ms
+    (926_603, TimeUnit::NanoSecond), // nsec
+    (1_608_058, TimeUnit::Year), // year
+    NO_NAME,
+    (21_174, TimeUnit::Minute), // min
+    NO_NAME,
+    NO_NAME,
+    NO_NAME,
+    NO_NAME,
+    NO_NAME,
+    (17, TimeUnit::Quarter), // q
+    NO_NAME,
+    NO_NAME,
+    NO_NAME,
+    (1_355_170_405, TimeUnit::Minute), // minute
+    NO_NAME,
+    (19, TimeUnit::Second), // s
+    NO_NAME,
+    (859, TimeUnit::MicroSecond), // us
+    NO_NAME,
+    (2_871_445_768_739, TimeUnit::Quarter), // quarters
+    NO_NAME,
+    NO_NAME,
+    NO_NAME,
+    NO_NAME,
+    NO_NAME,
+    (1_374_603, TimeUnit::MicroSecond), // usec
+    NO_NAME,
+    NO_NAME,
+    (23, TimeUnit::Week), // w
+    NO_NAME,
+    NO_NAME,
+    NO_NAME,
+    NO_NAME,
+    NO_NAME,
+    (25, TimeUnit::Year), // y
+    NO_NAME,
+    NO_NAME,
+    NO_NAME,
+    (5_550_192_964_104_662_579, TimeUnit::MilliSecond), // milliseconds
+    NO_NAME,
+    NO_NAME,
+    (1_370_528_339, TimeUnit::Month), // months
+    NO_NAME,
+    (28, TimeUnit::Year), // 年
+    (21_474_339, TimeUnit::Hour), // hours
+    NO_NAME,
+    (29, TimeUnit::Month), // 月
+    (5_547_873_972_744_662_579, TimeUnit::MicroSecond), // microseconds
+    NO_NAME,
+    (30, TimeUnit::Week), // 周
+    NO_NAME,
+    (34_263_208, TimeUnit::Month), // month
+    (31, TimeUnit::Day), // 日
+    NO_NAME,
+    (536_858, TimeUnit::Hour), // hour
+    (32, TimeUnit::Day), // 天
+    (87_974_616_564, TimeUnit::MicroSecond), // usecond
+    NO_NAME,
+    (33, TimeUnit::Hour), // 时
+    (579, TimeUnit::NanoSecond), // ns
+    NO_NAME,
+    (34, TimeUnit::Minute), // 分
+    NO_NAME,
+    NO_NAME,
+    (35, TimeUnit::Second), // 秒
+    (539, TimeUnit::MilliSecond), // ms
+    NO_NAME,
+    NO_NAME,
+    NO_NAME,
+    (147_157_070_344_662_579, TimeUnit::NanoSecond), // nanoseconds
+    (862_603, TimeUnit::MilliSecond), // msec
+    NO_NAME,
+    NO_NAME,
+    NO_NAME,
+    (54_206_816_219, TimeUnit::Minute), // minutes
+    NO_NAME,
+    (64_322_339, TimeUnit::Year), // years
+    (3_678_926_758_616_564, TimeUnit::NanoSecond), // nanosecond
+    NO_NAME,
+    (30_603, TimeUnit::Second), // sec
+    NO_NAME,
+    NO_NAME,
+    NO_NAME,
+    NO_NAME,
+    (112_550_616_564, TimeUnit::MicroSecond), // µsecond
+    (6465, TimeUnit::Day), // day
 ];

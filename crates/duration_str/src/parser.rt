@@ -3,13 +3,15 @@ ghost use Rattle.std.specs.Prelude.{◌≡◌, ◌^◌, ◌<◌, ◌≤◌, leng
 ghost use Rattle.std.specs.Duration.{as_nanos};
 ghost use Rattle.std.specs.Str.{chars};
 ghost use Rattle.duration_str.specs.Answer.{answer};
-ghost use Rattle.duration_str.specs.Results.{IsAnswered, ParsesText, ReachesPlace};
+ghost use Rattle.duration_str.specs.Results.{ParsesText, ReachesPlace};
+ghost use Rattle.duration_str.specs.Internal.Rest.{ReturnsAnswer};
 ghost use Rattle.duration_str.specs.Units.{off};
 
-pub use crate::fault::{Cause, Expected, Fault};
+pub use crate::cause::{Cause, Expected};
+pub use crate::fault::Fault;
+use crate::options::Options;
 use crate::reader::read;
 use crate::token::Tokens;
-use crate::unit::Options;
 use std::time::Duration;
 
 /// The duration that a text means with all options off.
@@ -87,7 +89,7 @@ pub fn parse_looked(input: &str, o: Options) -> (Result<Duration, Fault<'_>>, u6
 /// The computed answer, and the looks.
 #[inline(always)]
 fn read_text(input: &str, o: Options) -> (Result<Duration, Fault<'_>>, u64)
-    ensures answer { IsAnswered as_nanos (answer o (chars input.now)) input.now result.0 }
+    ensures answer { ReturnsAnswer (answer o (chars input.now)) input.now result.0 }
     ensures fits { IfOk result.0 (λ d. as_nanos d < 2 ^ 64) }
     ensures once { result.1 ≤ length (chars input.now) }
     ensures whole { OnOk result.0 (result.1 ≡ length (chars input.now)) }

@@ -1,11 +1,8 @@
 //! Texts as signed durations, and signed durations printed.
-ghost use Rattle.std.specs.Prelude.{◌≡◌, ℕ, IsOk, pos, ◌^◌, ◌<◌};
+ghost use Rattle.std.specs.Prelude.{◌≡◌, pos, ◌^◌, ◌<◌};
 ghost use Rattle.std.specs.Duration.{as_nanos};
-ghost use Rattle.std.specs.Str.{chars};
 ghost use Rattle.jiff.specs.Words.{signed_nanos};
-ghost use Rattle.duration_str.specs.Configuration.{IsReadAs};
-ghost use Rattle.duration_str.specs.Reading.{IsRead};
-ghost use Rattle.duration_str.specs.Units.{off};
+ghost use Rattle.duration_str.specs.Configuration.{ParsesAs};
 
 use crate::ext::HumanFormat;
 use crate::fault::Fault;
@@ -41,8 +38,7 @@ fn to_signed(length: Duration) -> SignedDuration
 /// parse_chrono("1h+30s") // Ok(SignedDuration::from_secs(3_630))
 /// ```
 pub fn parse_chrono(input: &str) -> Result<SignedDuration, Fault<'_>>
-    ensures answer { IsReadAs signed_nanos input.now result }
-    ensures accepts { (nanos : ℕ) → IsRead off (chars input.now) nanos → IsOk result }
+    ensures { ParsesAs signed_nanos input.now result }
 {
     let length = parse(input)?;
     Ok(to_signed(length))
@@ -54,8 +50,7 @@ pub fn parse_chrono(input: &str) -> Result<SignedDuration, Fault<'_>>
 /// parse_time("1h+30s") // Ok(SignedDuration::from_secs(3_630))
 /// ```
 pub fn parse_time(input: &str) -> Result<SignedDuration, Fault<'_>>
-    ensures answer { IsReadAs signed_nanos input.now result }
-    ensures accepts { (nanos : ℕ) → IsRead off (chars input.now) nanos → IsOk result }
+    ensures { ParsesAs signed_nanos input.now result }
 {
     parse_chrono(input)
 }

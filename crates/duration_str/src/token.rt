@@ -1,21 +1,22 @@
 //! The tokens of a text: numbers, words, operators, and other single characters.
-ghost use Rattle.std.specs.Prelude.{◌≡◌, ◌+◌, ◌%◌, ◌^◌, ◌≤◌, [], ◌&&◌, ◌||◌, ◌==◌, not, length, take, is_some, Option, IsSome, if◌then◌else◌, false, Some, IsUtf8};
+ghost use Rattle.std.specs.Prelude.{◌≡◌, ◌+◌, ◌%◌, ◌^◌, ◌≤◌, ◌<◌, [], ◌&&◌, ◌||◌, ◌==◌, true, length, take, is_some, Option, IsSome, IsTrue, if◌then◌else◌, false, Some, IsUtf8};
+ghost use Rattle.std.specs.List.{list_all};
 ghost use Rattle.std.specs.Option.{ForSome, ForNone};
-ghost use Rattle.std.specs.Char.{is_ascii_alphabetic};
 ghost use Rattle.std.specs.Str.{chars};
 ghost use Rattle.std.specs.Iterator.{item_count};
-ghost use Rattle.duration_str.specs.Text.{is_blank, is_digit, is_unit_letter, is_chinese, IsNumber, number_of};
+ghost use Rattle.duration_str.specs.Text.{ahead, is_blank, is_digit, is_unit_letter, is_chinese, IsNumber, number_of};
 ghost use Rattle.duration_str.specs.Tokens.{tokens_of};
-ghost use Rattle.duration_str.specs.Internal.Cutting.{ahead, StandsAt, Passes, Stops, TakesDigits, TakesLetters};
-ghost use Rattle.duration_str.specs.Internal.Numbers.{u64_from};
+ghost use Rattle.duration_str.specs.Internal.Positions.{letter_number, StandsAt, Passes, Stops, TakesDigits, TakesLetters, wide_number};
 ghost use Rattle.duration_str.specs.Internal.Sorts.{sort_at};
-ghost use Rattle.duration_str.specs.Units.{unit_of_word};
+ghost use Rattle.duration_str.specs.Value.{fits};
 ghost use Rattle.duration_str.specs.declared.token.Sort.{Sort};
 ghost use Rattle.duration_str.specs.declared.token.Sort.TheVariants.{Number as a_number, Word as a_word};
 
 use crate::eye::Eye;
+use crate::operator::CondUnit;
+use crate::options::Options;
 use crate::packed::unit_of_packed;
-use crate::unit::{CondUnit, Options, TimeUnit};
+use crate::unit::TimeUnit;
 
 /// What a token is: a number, a word with the unit that it names, an operator, or another character.
 ///
@@ -26,7 +27,7 @@ use crate::unit::{CondUnit, Options, TimeUnit};
 /// assert_eq!(tokens.next().unwrap().what, What::Number);
 /// assert_eq!(tokens.next().unwrap().what, What::Word(Some(TimeUnit::Hour)));
 /// ```
-#[derive(Clone, Copy, Debug, PartialEq, Eq)]
+#[derive(Clone, Copy, Debug, PartialEq, Eq, Hash)]
 pub enum What {
     /// Digits.
     Number,
@@ -46,7 +47,7 @@ pub enum What {
 /// let plus = Token { start: 2, text: "+", what: What::Operator(CondUnit::Plus) };
 /// assert_eq!(Tokens::new("1s+2m", Options::off()).nth(2), Some(plus));
 /// ```
-#[derive(Clone, Copy, Debug, PartialEq, Eq)]
+#[derive(Clone, Copy, Debug, PartialEq, Eq, Hash)]
 pub struct Token<'a> {
     /// The byte of the source at which it starts.
     pub start: usize,
@@ -76,7 +77,7 @@ pub(crate) struct Number<'a> {
 }
 
 impl<'a> Number<'a> {
-    ghost use Rattle.duration_str.specs.Internal.Tokenizer.{u64_of};
+    ghost use Rattle.duration_str.specs.Internal.Steps.{u64_of};
 
     /// The number; `None` from 2^64 on.
     #[inline(always)]
@@ -84,30 +85,21 @@ impl<'a> Number<'a> {
         ensures { result ≡ u64_of self.entry }
     {
         if self.digits.len() <= MOST_DIGITS {
+            return Some(self.low);
+        }
+        if fits(self.digits, self.low) {
             Some(self.low)
         } else {
-            // Without `?` the compiler would test the answer of the short path too, as in `take_word`.
-            let number = number_of(self.digits)?;
-            Some(number)
+            None
         }
     }
 }
 
-/// ASCII letters: their packed number modulo 2^64, and whether one of them is a capital.
+/// Unit letters: their packed number modulo 2^64, and whether one of them is a capital.
 #[derive(Clone, Copy)]
 struct Letters {
     packed: u64,
     has_capital: bool,
-}
-
-impl Letters {
-    /// Whether the packed number, which ignores case, is enough to find the unit.
-    #[inline(always)]
-    fn can_ignore_case(self, lowercase: bool) -> bool
-        ensures { result ≡ not (lowercase && self.has_capital) }
-    {
-        !(lowercase && self.has_capital)
-    }
 }
 
 /// The tokens of a text, in order. Each character is looked at once, when it is reached.
@@ -132,8 +124,8 @@ pub struct Tokens<'a> {
 
 impl<'a> Tokens<'a> {
     ghost use Rattle.duration_str.specs.Grammar.{word};
-    ghost use Rattle.duration_str.specs.Tokenizer.{source, options_of, cut_place, looks_of, tokens_left, what_of, KeepsInput};
-    ghost use Rattle.duration_str.specs.Internal.Tokenizer.{IsAhead, LooksAhead, LooksForNumber, u64_of, TakesNumber, TakesToken, TakesTokenWith, TakesSign};
+    ghost use Rattle.duration_str.specs.Iteration.{source, options_of, cut_place, tokens_left, what_of, KeepsInput};
+    ghost use Rattle.duration_str.specs.Internal.Steps.{IsAhead, LooksAhead, LooksForNumber, u64_of, TakesNumber, TakesToken, TakesTokenWith, TakesSign};
 
     /// The tokens of a text, cut under these options.
     ///
@@ -168,7 +160,6 @@ impl<'a> Tokens<'a> {
     /// ```
     #[inline(always)]
     pub fn looked(&self) -> u64
-        ensures count { result ≡ looks_of self.now }
         ensures most { result ≤ length (chars (source self.now)) }
         ensures least { length (chars (take (cut_place self.now) (source self.now))) ≤ result }
     {
@@ -244,51 +235,36 @@ impl<'a> Tokens<'a> {
         }
     }
 
-    /// Moves past the ASCII letters at the start of the word ahead, and returns them packed. The word's first character
-    /// is a unit letter, so testing it for ASCII is enough.
+    /// Moves past the letters of the word ahead, and returns them packed. Its first character is a unit letter, and
+    /// stands before the loop, which takes fewer instructions.
     #[inline(always)]
-    fn take_ascii_letters(&mut self) -> Letters
+    fn take_letters(&mut self) -> Letters
         requires { IsAhead self.old (Some a_word) }
         ensures kept { KeepsInput self.old self.new }
-        ensures letters { TakesLetters (source self.old) (cut_place self.old) (cut_place self.new)
+        ensures letters { TakesLetters (options_of self.old)
+            (source self.old) (cut_place self.old) (cut_place self.new)
             result.packed result.has_capital }
-        ensures stops { ForSome self.new.head (λ c. is_ascii_alphabetic c ≡ false) }
+        ensures stops { Stops (is_unit_letter (options_of self.old))
+            (ahead (source self.new) (cut_place self.new)) }
     {
-        let mut packed = 0u64;
-        let mut has_capital = false;
-        if let Some(first) = self.head
-            && first.is_ascii()
-        {
-            packed = u64::from(first as u32 % 32);
-            has_capital = first < 'a';
-            self.advance();
-            while let Some(c) = self.head
-                && c.is_ascii_alphabetic()
-            {
-                packed = ((packed as u128 * 32 + (c as u32 % 32) as u128) % MODULUS) as u64;
-                has_capital |= c < 'a';
-                self.advance();
+        let Some(first) = self.head else {
+            unreachable!();
+        };
+        let mut packed = first_number(first, self.options);
+        let mut has_capital = first < 'a';
+        self.advance();
+        while let Some(c) = self.head {
+            let number = letter_number(c, self.options);
+            if number == 0 {
+                break;
             }
+            packed = ((packed as u128 * 40 + number as u128) % MODULUS) as u64;
+            has_capital |= c < 'a';
+            self.advance();
         }
         Letters {
             packed,
             has_capital,
-        }
-    }
-
-    /// Moves past the unit letters.
-    #[inline(always)]
-    fn skip_letters(&mut self)
-        ensures kept { KeepsInput self.old self.new }
-        ensures letters { Passes (is_unit_letter (options_of self.old))
-            (source self.old) (cut_place self.old) (cut_place self.new) }
-        ensures stops { Stops (is_unit_letter (options_of self.old))
-            (ahead (source self.new) (cut_place self.new)) }
-    {
-        while let Some(c) = self.head
-            && is_unit_letter(c, self.options)
-        {
-            self.advance();
         }
     }
 
@@ -299,29 +275,14 @@ impl<'a> Tokens<'a> {
         ensures { TakesToken self.old self.new (word result) }
     {
         let start = self.eye.place();
-        let letters = self.take_ascii_letters();
-        // Whether the word certainly ends here: the end or an ASCII character follows.
-        let ended = match self.head {
-            Some(c) => c.is_ascii(),
-            None => true,
-        };
-        if ended
-            && letters.can_ignore_case(self.options.lowercase)
-            && self.eye.place() - start <= MOST_LETTERS
-        {
-            unit_of_packed(letters.packed)
-        } else {
-            self.skip_letters();
-            // Each flag by itself: with the address of `self.options`, the compiler would keep all of `self` in memory.
-            let Options {
-                no_calc,
-                lowercase,
-                cn_unit,
-            } = self.options;
-            // Without `?` the compiler would join this path with the usual one, and test the usual answer again.
-            let unit = unit_by_name(self.eye.since(start), no_calc, lowercase, cn_unit)?;
-            Some(unit)
+        let letters = self.take_letters();
+        if self.options.lowercase && letters.has_capital {
+            return None;
         }
+        if self.eye.place() - start > MOST_BYTES {
+            return None;
+        }
+        unit_of_packed(letters.packed)
     }
 
     /// Takes the token ahead, which is of this sort.
@@ -369,7 +330,8 @@ impl<'a> Tokens<'a> {
         }
     }
 
-    /// What `sort_ahead` returns. After a number a word is most likely, so letters are tested first.
+    /// What `sort_ahead` returns. After a number a word is most likely, so letters are tested first: `3m 13s 29ms` takes 5 %
+    /// fewer instructions.
     #[inline(always)]
     pub(crate) fn sort_after_number(&mut self) -> Option<Sort>
         ensures { LooksAhead self.old self.new result }
@@ -384,7 +346,7 @@ impl<'a> Tokens<'a> {
 }
 
 impl<'a> Iterator for Tokens<'a> {
-    ghost use Rattle.duration_str.specs.Tokenizer.{tokens_left, YieldsNextToken};
+    ghost use Rattle.duration_str.specs.Iteration.{tokens_left, YieldsNextToken};
 
     type Item = Token<'a>;
 
@@ -407,8 +369,8 @@ const MODULUS: u128 = 1 << 64;
 /// The most digits whose number is certainly below 2^64.
 const MOST_DIGITS: usize = 19;
 
-/// The most letters whose packed number fits into a `u64`.
-const MOST_LETTERS: usize = 12;
+/// The most bytes of a name. The packed number of as many letters fits into a `u64`.
+const MOST_BYTES: usize = 12;
 
 /// The sort of a token that starts with this character.
 #[inline(always)]
@@ -427,69 +389,102 @@ fn sort_at(first: char, o: Options) -> Sort
     }
 }
 
-/// The unit that a word names. For words with many letters, with letters beyond ASCII or directly before a character
-/// beyond ASCII, and for words with a capital under `lowercase`.
-#[cold]
-#[inline(never)]
-fn unit_by_name(word: &str, no_calc: bool, lowercase: bool, cn_unit: bool) -> Option<TimeUnit>
-    ensures { result ≡ unit_of_word
-        (record { no_calc = no_calc; lowercase = lowercase; cn_unit = cn_unit }) (chars word.now) }
-{
-    TimeUnit::from_word(
-        word,
-        Options {
-            no_calc,
-            lowercase,
-            cn_unit,
-        },
-    )
-}
-
 /// Whether a character is a unit letter under these options.
 #[inline]
 fn is_unit_letter(c: char, o: Options) -> bool
     ensures { result ≡ is_unit_letter o c }
 {
-    c.is_ascii_alphabetic() || !c.is_ascii() && is_wide_letter(c, o.cn_unit)
+    letter_number(c, o) != 0
 }
 
-/// Whether a character beyond ASCII is a unit letter: `µ`, and those that the option `cn_unit` adds.
+/// The number of a unit letter under these options, ignoring case; 0 of any other character.
+#[inline(always)]
+fn letter_number(c: char, o: Options) -> u64
+    ensures { result ≡ (if is_unit_letter o c then letter_number c else 0) }
+{
+    if c.is_ascii_alphabetic() {
+        return u64::from(c as u32 % 32);
+    }
+    if c.is_ascii() {
+        return 0;
+    }
+    wide_number(c, o.cn_unit)
+}
+
+/// The number of a unit letter, ignoring case.
+#[inline(always)]
+fn first_number(c: char, o: Options) -> u64
+    requires { is_unit_letter o c ≡ true }
+    ensures { result ≡ letter_number c }
+{
+    if c.is_ascii() {
+        return u64::from(c as u32 % 32);
+    }
+    wide_number(c, o.cn_unit)
+}
+
+/// The number of a unit letter beyond ASCII: `µ`, and those that the option `cn_unit` adds; 0 of any other character.
 #[cold]
 #[inline(never)]
-fn is_wide_letter(c: char, cn_unit: bool) -> bool
-    ensures { result ≡ (c == 0xB5 || (cn_unit && is_chinese c)) }
+fn wide_number(c: char, cn_unit: bool) -> u64
+    ensures { result ≡ (if c == 0xB5 || (cn_unit && is_chinese c) then wide_number c else 0) }
 {
-    c == 'µ' || cn_unit && is_chinese(c)
+    if c == 'µ' {
+        return 27;
+    }
+    if !cn_unit {
+        return 0;
+    }
+    match c {
+        '年' => 28,
+        '月' => 29,
+        '周' => 30,
+        '日' => 31,
+        '天' => 32,
+        '时' => 33,
+        '分' => 34,
+        '秒' => 35,
+        '毫' => 36,
+        '微' => 37,
+        '纳' => 38,
+        _ => 0,
+    }
 }
 
-/// Whether a character is one that the option `cn_unit` adds to the unit letters.
-fn is_chinese(c: char) -> bool
-    ensures { result ≡ is_chinese c }
-{
-    matches!(
-        c,
-        '年' | '月' | '周' | '日' | '天' | '时' | '分' | '秒' | '毫' | '微' | '纳'
-    )
-}
+/// Whether each character up to the space is a blank. A table takes fewer instructions than comparisons.
+static BLANKS: [bool; 33] = [
+    false, false, false, false, false, false, false, false, false, true, true, false, false, true,
+    false, false, false, false, false, false, false, false, false, false, false, false, false,
+    false, false, false, false, false, true,
+];
 
 /// Space, tab, carriage return, line feed.
 #[inline]
 fn is_blank(c: char) -> bool
     ensures { result ≡ is_blank c }
 {
-    c <= ' ' && matches!(c, ' ' | '\t' | '\r' | '\n')
+    c <= ' ' && BLANKS[c as usize]
 }
 
-/// The number that digits write; `None` from 2^64 on.
+/// Whether more than 19 digits write a number below 2^64; `low` is that number modulo 2^64. Before the last 19 digits
+/// such a number has zeros alone, or zeros and a `1`; then it is from 10^19 on, and below 2^64 if `low` is too.
 #[cold]
 #[inline(never)]
-pub(crate) fn number_of(digits: &[u8]) -> Option<u64>
-    requires utf8 { IsUtf8 digits.now }
-    requires number { IsNumber (chars digits.now) }
-    ensures { result ≡ u64_from (number_of (chars digits.now)) }
+fn fits(digits: &[u8], low: u64) -> bool
+    requires long { 19 < length digits.now }
+    requires digits { IsTrue (list_all is_digit digits.now) }
+    requires same { low ≡ number_of digits.now % 2 ^ 64 }
+    ensures { result ≡ fits (number_of digits.now) }
 {
-    match str::from_utf8(digits) {
-        Ok(text) => text.parse::<u64>().ok(),
-        Err(_) => None,
-    }
+    let at = digits.len() - MOST_DIGITS - 1;
+    let first = digits[at];
+    are_zeros(&digits[..at])
+        && (first == b'0' || first == b'1' && low >= 10_000_000_000_000_000_000)
+}
+
+/// Whether all digits are zero.
+fn are_zeros(digits: &[u8]) -> bool
+    ensures { result ≡ list_all (λ digit. digit == 48) digits.now }
+{
+    digits.iter().all(|digit| *digit == b'0')
 }

@@ -10,10 +10,9 @@ ghost use Rattle.duration_str.specs.Internal.UnitTable.{IsRow};
 ghost use Rattle.duration_str.specs.Internal.Numbers.{checked_term};
 ghost use Rattle.duration_str.specs.Terms.{term_of, term_answer};
 
-use crate::fault::Cause;
+use crate::cause::Cause;
 pub use crate::operator::CondUnit;
 pub use crate::options::Options;
-use crate::token::number_of;
 use std::fmt;
 
 /// A unit of time.
@@ -24,7 +23,7 @@ use std::fmt;
 /// assert_eq!(TimeUnit::default(), TimeUnit::Second);
 /// assert_eq!(TimeUnit::Minute.to_string(), "min");
 /// ```
-#[derive(Clone, Copy, Debug, PartialEq, Eq)]
+#[derive(Clone, Copy, Debug, PartialEq, Eq, Hash)]
 pub enum TimeUnit {
     /// 365 days.
     Year,
@@ -178,11 +177,7 @@ impl TimeUnit {
         ensures only { (unit : TimeUnit) → is_named o (chars word.now) unit ≡ true
             → unit_of_word o (chars word.now) ≡ Some unit }
     {
-        let likely = likely_unit(word, o);
-        if likely.is_named(word, o) {
-            return Some(likely);
-        }
-        named_unit(word, o)
+        UNITS.iter().copied().find(|unit| unit.is_named(word, o))
     }
 
     /// The value in nanoseconds of a term with this number, a nonempty run of digits.
@@ -199,7 +194,7 @@ impl TimeUnit {
         requires { IsNumber (chars number.now) }
         ensures { result ≡ term_answer None (term_of (number_of (chars number.now)) self) }
     {
-        self.times(number_of(number.as_bytes()), None)
+        self.times(number.parse::<u64>().ok(), None)
     }
 
     /// The value of a term in nanoseconds. `number` is `None` if it exceeds `u64`; `place` goes into the error.
@@ -263,34 +258,6 @@ static UNITS: [TimeUnit; 11] = [
     TimeUnit::MicroSecond,
     TimeUnit::NanoSecond,
 ];
-
-/// The first unit with the word among its names.
-#[inline(never)]
-fn named_unit(word: &str, o: Options) -> Option<TimeUnit>
-    ensures { result ≡ unit_of_word o (chars word.now) }
-{
-    UNITS.iter().copied().find(|unit| unit.is_named(word, o))
-}
-
-/// The unit that the word most likely names. No contract says which: the caller tests it, so that a wrong guess costs
-/// time and changes no answer.
-fn likely_unit(word: &str, o: Options) -> TimeUnit {
-    if !o.cn_unit {
-        return TimeUnit::MicroSecond;
-    }
-    match word {
-        "年" => TimeUnit::Year,
-        "月" => TimeUnit::Month,
-        "周" => TimeUnit::Week,
-        "日" | "天" => TimeUnit::Day,
-        "时" => TimeUnit::Hour,
-        "分" => TimeUnit::Minute,
-        "秒" => TimeUnit::Second,
-        "毫秒" => TimeUnit::MilliSecond,
-        "纳秒" => TimeUnit::NanoSecond,
-        _ => TimeUnit::MicroSecond,
-    }
-}
 
 /// Whether a word is one of these names.
 fn is_any(names: &[&str], word: &str, o: Options) -> bool

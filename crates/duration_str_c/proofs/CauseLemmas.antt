@@ -3,8 +3,8 @@ use Rattle.std.proofs.Common.{ℕ, Bool, true, false, List, [], ◌∷◌, ◌++
 use Rattle.std.specs.Prelude.{⊤}
 use Rattle.duration_str.specs.declared.options.Options.{Options}
 use Rattle.duration_str.specs.declared.operator.CondUnit.{CondUnit}
-use Rattle.duration_str.specs.declared.fault.Cause.{Cause}
-use Rattle.duration_str.specs.declared.fault.Cause.TheVariants.{NumberTooLarge, Overflow, Mixed, OutOfRange, NotText}
+use Rattle.duration_str.specs.declared.cause.Cause.{Cause}
+use Rattle.duration_str.specs.declared.cause.Cause.TheVariants.{NumberTooLarge, Overflow, Mixed, OutOfRange, NotText}
 use Rattle.duration_str.specs.Grammar.{Terminal}
 use Rattle.duration_str.specs.Value.{Term, value_of_term, combination, is_same_operator, later_total, sum_of, fits, or_else, unless, term_fault, later_fault, evaluation_fault, terms_of}
 use Rattle.duration_str.specs.Reading.{place_after, first_fault, running_fault, early_fault, late_fault, complete_terms, IsRefused, IsRefusedAt, early, syntax_fault, late}
@@ -44,7 +44,8 @@ running_any : (before terms : List Term) → AnyOfText (running_fault before ter
 running_any before [] = tt
 running_any before (t ∷ terms) =
     or_else_any (term_fault (place_after before) t) _ (term_any (place_after before) t)
-    (or_else_any (unless (fits (sum_of (before ++ t ∷ []))) (Overflow None)) _ (overflow_any (sum_of (before ++ t ∷ [])) None)
+    (or_else_any (unless (fits (sum_of (before ++ t ∷ []))) (Overflow None)) _
+    (overflow_any (sum_of (before ++ t ∷ [])) None)
     (running_any (before ++ t ∷ []) terms))
 
 later_any : (op : CondUnit) (before later : List Term) → AnyOfText (later_fault op before later)

@@ -5,17 +5,17 @@ use Rattle.std.proofs.lemmas.List.Sums.{count_by_more_yes, count_by_more_no}
 use Rattle.std.proofs.Math.Dec.{eqb-suc-zero}
 use Rattle.std.specs.Prelude.{slice_index}
 use Rattle.duration_str.specs.declared.options.Options.{Options}
-use Rattle.duration_str_c.specs.Columns.{IsPartTold, IsColumnTold}
+use Rattle.duration_str_c.specs.Columns.{AnswersPart, AnswersColumn}
 
-pub told_more : (o : Options) (bytes offsets nanos causes : List ℕ) (i value cause : ℕ)
+pub answers_more : (o : Options) (bytes offsets nanos causes : List ℕ) (i value cause : ℕ)
     → i < length nanos → i < length causes
-    → IsColumnTold o bytes offsets i nanos causes
-    → IsPartTold o bytes (slice_index offsets i) (slice_index offsets (i + 1)) value cause
-    → IsColumnTold o bytes offsets (i + 1) (set nanos i value) (set causes i cause)
-told_more o bytes offsets nanos causes i value cause room_nanos room_causes told here =
+    → AnswersColumn o bytes offsets i nanos causes
+    → AnswersPart o bytes (slice_index offsets i) (slice_index offsets (i + 1)) value cause
+    → AnswersColumn o bytes offsets (i + 1) (set nanos i value) (set causes i cause)
+answers_more o bytes offsets nanos causes i value cause room_nanos room_causes answers here =
     below_more _ _
     (λ k h. let other : k ≢ i = omega arith in
-    rw (get_or-set_other nanos i k value 0 other, get_or-set_other causes i k cause 0 other) (told k h))
+    rw (get_or-set_other nanos i k value 0 other, get_or-set_other causes i k cause 0 other) (answers k h))
     (rw (get_or-set_same nanos i value 0 room_nanos, get_or-set_same causes i cause 0 room_causes) here)
 
 abbrev reads : ℕ → Bool

@@ -1,4 +1,4 @@
 -- The lemmas of this crate.
 pub mod CauseLemmas
-pub mod ToldLemmas
+pub mod AnswerLemmas
 pub mod ColumnLemmas

@@ -1,4 +1,4 @@
-pub mod Told
+pub mod Answers
 pub mod Messages
 pub mod Moments
 pub mod Columns

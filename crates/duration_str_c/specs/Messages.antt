@@ -2,8 +2,8 @@
 use Rattle.std.specs.Prelude.{◌≡◌, ℕ, ◌-◌, ◌^◌, ◌<◌, ◌≤◌, Bool, true, false, if◌then◌else◌, List, length, take, min, IsUtf8, codes, encode_utf8_all}
 use Rattle.std.specs.Option.{ForSome}
 use Rattle.std.specs.Str.{IsCharBoundary}
-use Rattle.duration_str.specs.declared.fault.Cause.{Cause}
-use Rattle.duration_str.specs.declared.fault.Cause.TheVariants.{NotText}
+use Rattle.duration_str.specs.declared.cause.Cause.{Cause}
+use Rattle.duration_str.specs.declared.cause.Cause.TheVariants.{NotText}
 use Rattle.duration_str.specs.Faults.{place_of}
 use Rattle.duration_str.specs.FaultText.{line_of}
 
@@ -14,8 +14,8 @@ is_not_text _ = false
 
 -- The bytes of the line that says what is wrong. Of bytes that are no text it says so; the library's line for this
 -- cause speaks of the value of a configuration file.
-abbrev pub line_told : Cause → List ℕ
-line_told cause = if is_not_text cause then codes "not UTF-8" else encode_utf8_all (line_of cause)
+abbrev pub answer_line : Cause → List ℕ
+answer_line cause = if is_not_text cause then codes "not UTF-8" else encode_utf8_all (line_of cause)
 
 -- The length is that of the bytes, or the greatest possible one. If the bytes fit, they are at the start of the buffer,
 -- and otherwise it is unchanged.

@@ -2,15 +2,15 @@
 use Rattle.std.specs.Prelude.{◌≡◌, ℕ, ◌<◌, ℤ, pos, ◌+ℤ◌, ◌-ℤ◌, ◌*ℤ◌, List, ◌⊎◌}
 use Rattle.std.specs.Str.{chars}
 use Rattle.duration_str.specs.declared.options.Options.{Options}
-use Rattle.duration_str.specs.declared.fault.Cause.{Cause}
-use Rattle.duration_str.specs.declared.fault.Cause.TheVariants.{OutOfRange}
+use Rattle.duration_str.specs.declared.cause.Cause.{Cause}
+use Rattle.duration_str.specs.declared.cause.Cause.TheVariants.{OutOfRange}
 use Rattle.duration_str.specs.Reading.{IsRead}
 use Rattle.duration_str.specs.Dates.{IsInRange, IsOutOfRange}
 use Rattle.duration_str_c.specs.declared.answer.Answer.{Answer}
 use Rattle.duration_str_c.specs.declared.moment.Direction.{Direction}
 use Rattle.duration_str_c.specs.declared.moment.Direction.TheVariants.{After, Before}
 use Rattle.duration_str_c.specs.declared.moment.Moment.{Moment}
-use Rattle.duration_str_c.specs.Told.{value_answer, refusal_answer, IsRefusalTold}
+use Rattle.duration_str_c.specs.Answers.{value_answer, refusal_answer, IsRefusalAnswer}
 
 -- the nanoseconds from 1970-01-01T00:00:00Z to the moment
 abbrev pub instant_of : Moment → ℤ
@@ -31,6 +31,6 @@ abbrev pub IsMoved : (ℕ → ℤ) → Options → List ℕ → Moment → Momen
 IsMoved reached o bytes old new answer =
     ((nanos : ℕ) × IsRead o (chars bytes) nanos × IsMoment new
     × (instant_of new ≡ reached nanos) × (answer ≡ value_answer nanos))
-    ⊎ ((cause : Cause) × IsRefusalTold o bytes cause answer × (new ≡ old))
+    ⊎ ((cause : Cause) × IsRefusalAnswer o bytes cause answer × (new ≡ old))
     ⊎ ((nanos : ℕ) × IsRead o (chars bytes) nanos × IsOutOfRange (reached nanos)
     × (answer ≡ refusal_answer OutOfRange 0) × (new ≡ old))

@@ -4,7 +4,7 @@ ghost use Rattle.std.specs.Str.{chars};
 ghost use Rattle.duration_str.specs.Faults.{found_token};
 ghost use Rattle.duration_str.specs.Reading.{IsRefused};
 ghost use Rattle.duration_str.specs.Text.{operator_of};
-ghost use Rattle.duration_str_c.specs.Told.{cause_number, bits_of, expected_bits, sign_code, first_sign, later_sign, token_length, value_answer, refusal_answer, expected_of, place_told, mixed_told, cause_told, IsRefusalTold};
+ghost use Rattle.duration_str_c.specs.Answers.{cause_number, bits_of, expected_bits, sign_code, first_sign, later_sign, token_length, value_answer, refusal_answer, expected_of, answer_place, mixed_cause, answer_cause, IsRefusalAnswer};
 
 use duration_str::{Cause, CondUnit, Expected, Fault, Options};
 
@@ -90,7 +90,7 @@ impl Answer {
     /// The cause in this answer, in which the fields that the cause does not use have no effect; `None` if the number
     /// is no cause's, or an operator that counts is none.
     pub(crate) fn cause(self) -> Option<Cause>
-        ensures { result ≡ cause_told self }
+        ensures { result ≡ answer_cause self }
     {
         match self.cause {
             EMPTY => Some(Cause::Empty),
@@ -99,10 +99,10 @@ impl Answer {
                 expected: expected_of(self.expected),
             }),
             NUMBER_TOO_LARGE => Some(Cause::NumberTooLarge {
-                place: self.told_place(),
+                place: self.place(),
             }),
             OVERFLOW => Some(Cause::Overflow {
-                place: self.told_place(),
+                place: self.place(),
             }),
             MIXED => self.mixed_fault(),
             OUT_OF_RANGE => Some(Cause::OutOfRange),
@@ -112,8 +112,8 @@ impl Answer {
     }
 
     /// The place in this answer, if it has one.
-    fn told_place(self) -> Option<usize>
-        ensures { result ≡ place_told self }
+    fn place(self) -> Option<usize>
+        ensures { result ≡ answer_place self }
     {
         if self.has_place == 0 {
             None
@@ -124,7 +124,7 @@ impl Answer {
 
     /// The fault of its two operators, if both are operators.
     fn mixed_fault(self) -> Option<Cause>
-        ensures { result ≡ mixed_told (operator_of self.first_operator)
+        ensures { result ≡ mixed_cause (operator_of self.first_operator)
             (operator_of self.later_operator) }
     {
         let first = operator_of(self.first_operator)?;
@@ -136,7 +136,7 @@ impl Answer {
 /// The answer with the fault for which a text is refused under these options.
 pub(crate) fn refused(fault: Fault<'_>, options: Options) -> Answer
     requires { IsRefused options (chars fault.text.now) fault.cause }
-    ensures { IsRefusalTold options fault.entry.text.now fault.entry.cause result }
+    ensures { IsRefusalAnswer options fault.entry.text.now fault.entry.cause result }
 {
     Answer::refusal(fault.cause(), found_length(&fault, options))
 }

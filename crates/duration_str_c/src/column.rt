@@ -1,8 +1,8 @@
 //! Columns: many texts in one run of bytes, read by one call.
 ghost use Rattle.std.specs.Prelude.{◌≡◌, ◌==◌, take, drop, count_by};
 ghost use Rattle.duration_str.specs.Results.{ParsesText};
-ghost use Rattle.duration_str_c.specs.Told.{options_of_bits};
-ghost use Rattle.duration_str_c.specs.Columns.{column_length, IsPartTold, IsColumnTold};
+ghost use Rattle.duration_str_c.specs.Answers.{options_of_bits};
+ghost use Rattle.duration_str_c.specs.Columns.{column_length, AnswersPart, AnswersColumn};
 
 use crate::answer::cause_number;
 use crate::{options_of_bits, text_of};
@@ -26,7 +26,7 @@ pub extern "C" fn duration_str_parse_column(
     nanos: &mut [u64],
     causes: &mut [u32],
 ) -> usize
-    ensures told { IsColumnTold (options_of_bits options) bytes.now offsets.now
+    ensures answers { AnswersColumn (options_of_bits options) bytes.now offsets.now
         (column_length offsets.now nanos.old causes.old) nanos.new causes.new }
     ensures read { result ≡ count_by (λ cause. cause == 0)
         (take (column_length offsets.now nanos.old causes.old) causes.new) }
@@ -39,7 +39,7 @@ pub extern "C" fn duration_str_parse_column(
     let count = texts.min(nanos.len().min(causes.len()));
     let mut read = 0;
     for index in 0..count {
-        let (value, cause) = told_between(bytes, offsets[index], offsets[index + 1], options);
+        let (value, cause) = answer_between(bytes, offsets[index], offsets[index + 1], options);
         nanos[index] = value;
         causes[index] = cause;
         if cause == 0 {
@@ -50,8 +50,8 @@ pub extern "C" fn duration_str_parse_column(
 }
 
 /// The value and the cause of the text between two offsets.
-fn told_between(bytes: &[u8], start: usize, end: usize, options: u32) -> (u64, u32)
-    ensures { IsPartTold (options_of_bits options) bytes.now start end result.0 result.1 }
+fn answer_between(bytes: &[u8], start: usize, end: usize, options: u32) -> (u64, u32)
+    ensures { AnswersPart (options_of_bits options) bytes.now start end result.0 result.1 }
 {
     if start > end || end > bytes.len() {
         return (0, BAD_OFFSETS);

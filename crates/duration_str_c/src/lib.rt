@@ -11,8 +11,8 @@ ghost use Rattle.duration_str.specs.Units.{off};
 ghost use Rattle.duration_str.specs.Reading.{IsRead};
 ghost use Rattle.duration_str.specs.Printing.{IsPrinted};
 ghost use Rattle.duration_str.specs.declared.ext.TheConstants.{MAX_PRINTED_LEN};
-ghost use Rattle.duration_str.specs.declared.fault.Cause.TheVariants.{NotText};
-ghost use Rattle.duration_str_c.specs.Told.{options_of_bits, refusal_answer, IsTold};
+ghost use Rattle.duration_str.specs.declared.cause.Cause.TheVariants.{NotText};
+ghost use Rattle.duration_str_c.specs.Answers.{options_of_bits, refusal_answer, IsAnswerTo};
 
 pub mod answer;
 pub mod column;
@@ -85,17 +85,17 @@ pub extern "C" fn duration_str_format(secs: u64, nanos: u32, buffer: &mut [u8; 6
 /// Reads a text under the options whose bits are set. Returns true if it is read.
 #[unsafe(no_mangle)]
 pub extern "C" fn duration_str_parse_with(text: &[u8], options: u32, answer: &mut Answer) -> bool
-    ensures told { IsUtf8 text.now → IsTold (options_of_bits options) text.now answer.new }
+    ensures answers { IsUtf8 text.now → IsAnswerTo (options_of_bits options) text.now answer.new }
     ensures not_text { ¬ (IsUtf8 text.now) → answer.new ≡ refusal_answer (NotText false) 0 }
     ensures read { result ≡ (answer.new.cause == 0) }
 {
-    *answer = told(text, options);
+    *answer = answer_to(text, options);
     answer.cause == 0
 }
 
 /// The answer for the bytes under the options whose bits are set.
-fn told(bytes: &[u8], options: u32) -> Answer
-    ensures told { IsUtf8 bytes.now → IsTold (options_of_bits options) bytes.now result }
+fn answer_to(bytes: &[u8], options: u32) -> Answer
+    ensures answers { IsUtf8 bytes.now → IsAnswerTo (options_of_bits options) bytes.now result }
     ensures not_text { ¬ (IsUtf8 bytes.now) → result ≡ refusal_answer (NotText false) 0 }
 {
     let Some(text) = text_of(bytes) else {

@@ -3,9 +3,9 @@
 //! An answer comes from a caller and can be anything, but every one gives one of these messages.
 ghost use Rattle.std.specs.Prelude.{◌≡◌, ◌≤◌, length, take, Some, None, IfSome, IfNone, IsUtf8, codes};
 ghost use Rattle.duration_str.specs.FaultText.{fault_text};
-ghost use Rattle.duration_str.specs.declared.fault.Cause.{Cause};
-ghost use Rattle.duration_str_c.specs.Told.{cause_told};
-ghost use Rattle.duration_str_c.specs.Messages.{IsShown, CanFault, line_told};
+ghost use Rattle.duration_str.specs.declared.cause.Cause.{Cause};
+ghost use Rattle.duration_str_c.specs.Answers.{answer_cause};
+ghost use Rattle.duration_str_c.specs.Messages.{IsShown, CanFault, answer_line};
 
 use crate::answer::Answer;
 use crate::text_of;
@@ -18,13 +18,13 @@ use duration_str::{Cause, Fault};
 /// not UTF-8; and it is empty if the answer has no cause.
 #[unsafe(no_mangle)]
 pub extern "C" fn duration_str_message(text: &[u8], answer: &Answer, buffer: &mut [u8]) -> usize
-    ensures whole { (cause : Cause) → cause_told answer.now ≡ Some cause
+    ensures whole { (cause : Cause) → answer_cause answer.now ≡ Some cause
         → CanFault text.now cause
         → IsShown (fault_text text.now cause) buffer.old result buffer.new }
-    ensures line { (cause : Cause) → cause_told answer.now ≡ Some cause
+    ensures line { (cause : Cause) → answer_cause answer.now ≡ Some cause
         → ¬ (CanFault text.now cause)
-        → IsShown (line_told cause) buffer.old result buffer.new }
-    ensures nothing { cause_told answer.now ≡ None → (result ≡ 0) × (buffer.new ≡ buffer.old) }
+        → IsShown (answer_line cause) buffer.old result buffer.new }
+    ensures nothing { answer_cause answer.now ≡ None → (result ≡ 0) × (buffer.new ≡ buffer.old) }
     ensures utf8 { result ≤ length buffer.new → IsUtf8 (take result buffer.new) }
 {
     let answer = *answer;
@@ -40,9 +40,9 @@ pub extern "C" fn duration_str_message(text: &[u8], answer: &Answer, buffer: &mu
 /// Writes the line that says what is wrong, in the same way as `duration_str_message` writes the message.
 #[unsafe(no_mangle)]
 pub extern "C" fn duration_str_line(answer: &Answer, buffer: &mut [u8]) -> usize
-    ensures line { (cause : Cause) → cause_told answer.now ≡ Some cause
-        → IsShown (line_told cause) buffer.old result buffer.new }
-    ensures nothing { cause_told answer.now ≡ None → (result ≡ 0) × (buffer.new ≡ buffer.old) }
+    ensures line { (cause : Cause) → answer_cause answer.now ≡ Some cause
+        → IsShown (answer_line cause) buffer.old result buffer.new }
+    ensures nothing { answer_cause answer.now ≡ None → (result ≡ 0) × (buffer.new ≡ buffer.old) }
     ensures utf8 { result ≤ length buffer.new → IsUtf8 (take result buffer.new) }
 {
     let answer = *answer;
@@ -66,7 +66,7 @@ fn show_message(fault: &Fault<'_>, buffer: &mut [u8]) -> usize
 
 /// Writes the line of the cause if there is room, and returns its length in bytes.
 fn show_line(cause: Cause, buffer: &mut [u8]) -> usize
-    ensures shown { IsShown (line_told cause) buffer.old result buffer.new }
+    ensures shown { IsShown (answer_line cause) buffer.old result buffer.new }
     ensures utf8 { result ≤ length buffer.new → IsUtf8 (take result buffer.new) }
 {
     match cause {

@@ -2,8 +2,8 @@
 ghost use Rattle.std.specs.Prelude.{◌≡◌, ◌==◌, false, ◌↔◌, pos, ◌+ℤ◌, ◌-ℤ◌, IsUtf8, IsSome, IfSome, IfNone};
 ghost use Rattle.std.specs.Duration.{as_nanos};
 ghost use Rattle.duration_str.specs.Dates.{IsOutOfRange};
-ghost use Rattle.duration_str.specs.declared.fault.Cause.TheVariants.{OutOfRange, NotText};
-ghost use Rattle.duration_str_c.specs.Told.{options_of_bits, refusal_answer};
+ghost use Rattle.duration_str.specs.declared.cause.Cause.TheVariants.{OutOfRange, NotText};
+ghost use Rattle.duration_str_c.specs.Answers.{options_of_bits, refusal_answer};
 ghost use Rattle.duration_str_c.specs.Moments.{instant_of, IsMoment, moved, IsMoved};
 
 use crate::answer::{Answer, refused};
@@ -79,8 +79,8 @@ fn moved(from: Timestamp, length: Duration, direction: Direction) -> Option<Mome
 }
 
 /// Moves the moment by the value of a text, and returns the answer.
-fn told_of_move(text: &[u8], options: u32, moment: &mut Moment, direction: Direction) -> Answer
-    ensures told { IsMoment moment.old → IsUtf8 text.now
+fn answer_to_move(text: &[u8], options: u32, moment: &mut Moment, direction: Direction) -> Answer
+    ensures answers { IsMoment moment.old → IsUtf8 text.now
         → IsMoved (moved direction (instant_of moment.old)) (options_of_bits options) text.now
         moment.old moment.new result }
     ensures not_text { IsMoment moment.old → ¬ (IsUtf8 text.now)
@@ -115,7 +115,7 @@ pub extern "C" fn duration_str_after(
     moment: &mut Moment,
     answer: &mut Answer,
 ) -> bool
-    ensures told { IsMoment moment.old → IsUtf8 text.now
+    ensures answers { IsMoment moment.old → IsUtf8 text.now
         → IsMoved (λ nanos. instant_of moment.old +ℤ pos nanos) (options_of_bits options) text.now
         moment.old moment.new answer.new }
     ensures not_text { IsMoment moment.old → ¬ (IsUtf8 text.now)
@@ -124,7 +124,7 @@ pub extern "C" fn duration_str_after(
         → (answer.new ≡ refusal_answer OutOfRange 0) × (moment.new ≡ moment.old) }
     ensures moved { result ≡ (answer.new.cause == 0) }
 {
-    *answer = told_of_move(text, options, moment, Direction::After);
+    *answer = answer_to_move(text, options, moment, Direction::After);
     answer.cause == 0
 }
 
@@ -136,7 +136,7 @@ pub extern "C" fn duration_str_before(
     moment: &mut Moment,
     answer: &mut Answer,
 ) -> bool
-    ensures told { IsMoment moment.old → IsUtf8 text.now
+    ensures answers { IsMoment moment.old → IsUtf8 text.now
         → IsMoved (λ nanos. instant_of moment.old -ℤ pos nanos) (options_of_bits options) text.now
         moment.old moment.new answer.new }
     ensures not_text { IsMoment moment.old → ¬ (IsUtf8 text.now)
@@ -145,6 +145,6 @@ pub extern "C" fn duration_str_before(
         → (answer.new ≡ refusal_answer OutOfRange 0) × (moment.new ≡ moment.old) }
     ensures moved { result ≡ (answer.new.cause == 0) }
 {
-    *answer = told_of_move(text, options, moment, Direction::Before);
+    *answer = answer_to_move(text, options, moment, Direction::Before);
     answer.cause == 0
 }

@@ -59,7 +59,7 @@ fn cause_and_place(answer: Answer) -> (u32, u8, usize, usize, u32) {
 
 #[test]
 fn tells_a_value_or_a_refusal(rt: HostRuntime) {
-    for (text, options, told) in [
+    for (text, options, answers) in [
         ("1m", 0, (READ, 0, 0, 0, 0)),
         ("", 0, (1, 0, 0, 0, 0)),
         ("1m 30x", 0, (SYNTAX, 1, 5, 1, 2 + 4 + 8)),
@@ -74,7 +74,7 @@ fn tells_a_value_or_a_refusal(rt: HostRuntime) {
     ] {
         assert_eq!(rt;
             cause_and_place(answer_to(text.as_bytes(), options)),
-            told,
+            answers,
             "{text}"
         );
     }
@@ -310,7 +310,7 @@ const COLUMN: &[u8] = b"1m1s-\xff2ns";
 const COLUMN_OFFSETS: [usize; 6] = [0, 2, 2, 5, 6, 9];
 
 /// What a column is read as, in arrays in which each element must be overwritten: how many are read, values and causes.
-fn column_told(bytes: &[u8], offsets: &[usize]) -> (usize, [u64; 5], [u32; 5]) {
+fn column_answers(bytes: &[u8], offsets: &[usize]) -> (usize, [u64; 5], [u32; 5]) {
     let mut nanos = [77; 5];
     let mut causes = [77; 5];
     let read = duration_str_parse_column(bytes, offsets, 0, &mut nanos, &mut causes);
@@ -321,12 +321,15 @@ fn column_told(bytes: &[u8], offsets: &[usize]) -> (usize, [u64; 5], [u32; 5]) {
 fn tells_of_each_text_of_a_column(rt: HostRuntime) {
     let values = [60_000_000_000, 0, 0, 0, 2];
     let causes = [READ, EMPTY, SYNTAX, NOT_TEXT, READ];
-    assert_eq!(rt; column_told(COLUMN, &COLUMN_OFFSETS), (2, values, causes));
+    assert_eq!(rt;
+        column_answers(COLUMN, &COLUMN_OFFSETS),
+        (2, values, causes)
+    );
 }
 
 #[test]
 fn refuses_texts_whose_offsets_are_bad(rt: HostRuntime) {
-    for (offsets, read, told) in [
+    for (offsets, read, answers) in [
         (
             [0, 2, 1, 2, 2, 2],
             1,
@@ -343,14 +346,14 @@ fn refuses_texts_whose_offsets_are_bad(rt: HostRuntime) {
             [BAD_OFFSETS, READ, BAD_OFFSETS, BAD_OFFSETS, BAD_OFFSETS],
         ),
     ] {
-        let (count, _, causes) = column_told(COLUMN, &offsets);
-        assert_eq!(rt; (count, causes), (read, told), "{offsets:?}");
+        let (count, _, causes) = column_answers(COLUMN, &offsets);
+        assert_eq!(rt; (count, causes), (read, answers), "{offsets:?}");
     }
 }
 
 #[test]
 fn reads_as_many_texts_as_there_is_room_for(rt: HostRuntime) {
-    for (offsets, room, other_room, told) in [
+    for (offsets, room, other_room, answers) in [
         (6, 3, 5, 3),
         (6, 5, 2, 2),
         (5, 5, 5, 4),
@@ -368,8 +371,8 @@ fn reads_as_many_texts_as_there_is_room_for(rt: HostRuntime) {
             &mut causes[..other_room],
         );
         for index in 0..5 {
-            assert_eq!(rt; causes[index] != 77, index < told, "{offsets} {index}");
-            assert_eq!(rt; nanos[index] != 77, index < told, "{offsets} {index}");
+            assert_eq!(rt; causes[index] != 77, index < answers, "{offsets} {index}");
+            assert_eq!(rt; nanos[index] != 77, index < answers, "{offsets} {index}");
         }
     }
 }

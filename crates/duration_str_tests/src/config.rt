@@ -3,7 +3,7 @@ ghost use Rattle.std.specs.Option.{ForSome};
 ghost use Rattle.std.specs.Str.{IsCharBoundary};
 ghost use Rattle.duration_str.specs.Faults.{place_of};
 
-use crate::vectors::{AFTER_NUMBER, START, syntax};
+use crate::vectors::{AFTER_NUMBER, OFF, START, syntax};
 use duration_str::{
     Cause, Fault, deserialize_duration, deserialize_duration_chrono, deserialize_duration_time,
     deserialize_option_duration, deserialize_option_duration_chrono,
@@ -118,6 +118,17 @@ fn hands_on_the_fault_of_a_text(rt: HostRuntime) -> Result<(), Fail> {
     assert!(rt; is_refused_text(alloc, "0mxyz", syntax(1, AFTER_NUMBER))?);
     assert!(rt; is_refused_text(alloc, " ", syntax(1, START))?);
     assert!(rt; is_refused_text(alloc, "580y*2", Cause::Overflow { place: None })?);
+    Ok(())
+}
+
+#[test]
+fn finds_the_token_in_a_value(rt: HostRuntime) -> Result<(), Fail> {
+    let value = json!(in rt.alloc(); "0mxyz")?;
+    let found = match deserialize_duration::<Duration>(&value) {
+        Ok(_) => None,
+        Err(fault) => fault.found(OFF),
+    };
+    assert_eq!(rt; found, Some("mxyz"));
     Ok(())
 }
 

@@ -49,6 +49,7 @@ fn holds_the_line(rt: HostRuntime) -> Result<(), Fail> {
         ("", "Empty input"),
         ("1m+", "expected number"),
         ("18446744073709551616", TOO_LARGE),
+        ("1s + 18446744073709551616", TOO_LARGE),
         ("1m 2s*3", "not support '+' with '*' calculate"),
     ];
     assert_eq!(rt; first_unheld(rt.alloc(), &rows)?, None);

@@ -3,14 +3,14 @@ use crate::refusal::refusal;
 use crate::vectors::{
     AFTER_NUMBER, CN_UNIT, LOWERCASE, NO_CALC, NUMBER, OFF, OPERATORS, TOO_LARGE, UNITS, syntax,
 };
-use duration_str::{Options, parse_with};
+use duration_str::{Options, parse, parse_with};
 use std::alloc::{AllocError, Global};
 use std::test::Fail;
 
 const OVERFLOW: &str = "overflow error";
 
 /// Texts that are refused under these options, each with what is printed below it: the caret and the line.
-const POINTED: [(&str, Options, &str, &str); 24] = [
+const POINTED: [(&str, Options, &str, &str); 25] = [
     ("   ", OFF, "   ^", NUMBER),
     ("1m+", OFF, "   ^", NUMBER),
     ("+1m", OFF, "^", NUMBER),
@@ -41,17 +41,25 @@ const POINTED: [(&str, Options, &str, &str); 24] = [
     ),
     (" 1分+   31秒 + 2毫秒+  3纳秒  ", OFF, "  ^", UNITS),
     ("3ms-2ms", OFF, "   ^", OPERATORS),
+    ("1m\u{b}2", OFF, "  ^", OPERATORS),
     ("580y 580y x", OFF, "          ^", OPERATORS),
     ("1µs 分", OFF, "    ^", OPERATORS),
     ("10000000000000000y+60", OFF, "^", OVERFLOW),
     ("99999999999999999999y-", OFF, "^", TOO_LARGE),
 ];
 
-/// Whether the text is refused under these options, and the fault prints this.
+/// Whether the text is refused under these options, by `parse` too where they are off, and the fault prints this.
 fn prints(alloc: Global, text: &str, o: Options, wanted: &str) -> Result<bool, AllocError> {
-    match parse_with(text, o) {
+    let answer = if o == OFF {
+        parse(text)
+    } else {
+        parse_with(text, o)
+    };
+    match answer {
         Ok(_) => Ok(false),
-        Err(fault) => Ok(fault.to_string(alloc)?.as_str() == wanted),
+        Err(fault) => Ok(
+            parse_with(text, o) == Err(fault) && fault.to_string(alloc)?.as_str() == wanted,
+        ),
     }
 }
 

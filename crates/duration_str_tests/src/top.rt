@@ -6,7 +6,7 @@ ghost use Rattle.duration_str.specs.Faults.{place_of};
 use crate::vectors::{AFTER_NUMBER, VALUES, syntax};
 use duration_str::{
     Cause, Fault, HumanFormat, after_naive_date, after_naive_date_time, before_naive_date,
-    before_naive_date_time, parse_chrono, parse_time,
+    before_naive_date_time, parse, parse_chrono, parse_time, write_human,
 };
 use jiff::civil::{Date, DateTime};
 use jiff::tz::Offset;
@@ -19,10 +19,15 @@ use std::time::Duration;
 type Day = (i16, i8, i8);
 
 /// Texts, and the printed texts of the durations that they are read as.
-const PRINTED: [(&str, &str); 7] = [
+const PRINTED: [(&str, &str); 12] = [
     ("0s", "0s"),
+    ("3m + 13s + 29ms", "3min 13s 29ms"),
+    ("1d2h3min4s", "1d 2h 3min 4s"),
     ("1y 12d 3s", "1y 1w 5d 3s"),
     ("751d 1mon 3week 5d 2ns", "2y 2mon 2w 3d 2ns"),
+    ("364d", "4q"),
+    ("35d", "1mon 5d"),
+    ("377d 3s", "1y 1w 5d 3s"),
     ("7h  0s", "7h"),
     ("    7h    ", "7h"),
     ("    7h  1s  ", "7h 1s"),
@@ -52,15 +57,19 @@ fn first_misread<'a>(rows: &[(&'a str, u64)]) -> Option<&'a str> {
     None
 }
 
-/// Whether the text is read as a duration that prints as `printed`.
+/// Whether the text is read as durations, signed and not, that print as `printed`.
 fn prints(alloc: Global, text: &str, printed: &str) -> Result<bool, AllocError> {
-    let Ok(length) = parse_chrono(text) else {
+    let (Ok(length), Ok(unsigned)) = (parse_chrono(text), parse(text)) else {
         return Ok(false);
     };
     if !length.is_printable() || parse_time(text) != Ok(length) {
         return Ok(false);
     }
-    Ok(length.human_format(alloc)?.as_str() == printed)
+    Ok(
+        length.human_format(alloc)?.as_str() == printed
+            && unsigned.human_format(alloc)?.as_str() == printed
+            && write_human(&unsigned, &mut [0; 64]) == printed,
+    )
 }
 
 /// Whether the moment and the value of the text after it make this date and time.

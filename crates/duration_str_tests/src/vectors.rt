@@ -1,6 +1,6 @@
 //! What tests share: options, what can stand at a place, the lines that say it, and texts with their values.
 ghost use Rattle.std.specs.Prelude.{◌≡◌};
-ghost use Rattle.duration_str.specs.declared.fault.Cause.TheVariants.{Syntax};
+ghost use Rattle.duration_str.specs.declared.cause.Cause.TheVariants.{Syntax};
 
 use duration_str::{Cause, Expected, Options};
 

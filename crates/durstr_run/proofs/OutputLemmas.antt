@@ -32,7 +32,8 @@ Continues-line o input left line rest written longer so_far accepted before cut 
     ∙ sym (append_assoc written (text ++ (10 ∷ [])) tail)
     ∙ ap (λ t. t ++ tail) (sym grown) in
     subst (λ out. IsOutput o input out ((so_far && accepted) && others)) joined
-    (subst (λ all. IsOutput o input (written ++ (text ++ (10 ∷ tail))) all) (sym (and_assoc so_far accepted others)) whole)
+    (subst (λ all. IsOutput o input (written ++ (text ++ (10 ∷ tail))) all)
+    (sym (and_assoc so_far accepted others)) whole)
 
 -- The output for no bytes is empty.
 IsOutput-nil : (o : Options) (bytes : List ℕ) → length bytes ≡ 0 → IsOutput o bytes [] true

@@ -8,7 +8,8 @@ use Rattle.uses.specs.Cache.{canonical_text, IsKey, IsCanonical}
 pub printed_is_key : GreatestBreakdown → EqualTexts → (nanos : ℕ) (key : List ℕ) → FitsDuration nanos
     → IsPrinted nanos key → IsKey nanos key
 printed_is_key greatest equal nanos key fits printed = record {
-  one = (equal _ _ key (canonical_text nanos) fits fits printed (counts_of unit_lengths nanos, greatest nanos, refl)).1 refl;
+  one = (equal _ _ key (canonical_text nanos) fits fits printed
+      (counts_of unit_lengths nanos, greatest nanos, refl)).1 refl;
   greatest = greatest nanos;
 }
 

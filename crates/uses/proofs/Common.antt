@@ -1,6 +1,6 @@
 -- The names that most proofs cite and the library does not pass on, passed on from one place. Declares nothing.
 pub use Rattle.duration_str.proofs.Characters.CharacterLemmas.{run-not_blank}
-pub use Rattle.duration_str.specs.Tokenizer.{token_of}
+pub use Rattle.duration_str.specs.Iteration.{token_of}
 pub use Rattle.duration_str.specs.Tokens.{Token}
 pub use Rattle.duration_str.specs.declared.operator.CondUnit.{CondUnit}
 pub use Rattle.std.proofs.lemmas.Bool.{true≢false}

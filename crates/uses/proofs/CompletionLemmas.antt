@@ -32,7 +32,8 @@ record IsEnding (o : Options) (front : List Terminal) : Type 0 where
 
 module _ (one : OneSentence) (cut : OneCut) (law : PlaceAndKinds) (o : Options) where
   -- Nothing ends a sentence after a number or a word, and zero after an operator.
-  ending_after : (front : List Terminal) (t : Terminal) (expected : Expected) → BeginsSentence o.no_calc (front ++ t ∷ [])
+  ending_after : (front : List Terminal) (t : Terminal) (expected : Expected) → BeginsSentence o.no_calc
+      (front ++ t ∷ [])
       → IsTrue (allows expected t) → IsEnding o (front ++ t ∷ [])
   ending_after front (operator op) expected b a = record {
     lexemes = (48 ∷ []) ∷ [];
@@ -41,9 +42,21 @@ module _ (one : OneSentence) (cut : OneCut) (law : PlaceAndKinds) (o : Options) 
     sentence = zero_ends law o.no_calc front op b;
   }
   ending_after front (number n) expected b a =
-      record { lexemes = []; text = []; spells = refl; sentence = rw append-nil (ends law o.no_calc front (number n) b refl) }
+      record {
+        lexemes = [];
+        text = [];
+        spells = refl;
+        sentence = rw append-nil
+            (ends law o.no_calc front (number n) b refl);
+      }
   ending_after front (word u) expected b a =
-      record { lexemes = []; text = []; spells = refl; sentence = rw append-nil (ends law o.no_calc front (word u) b refl) }
+      record {
+        lexemes = [];
+        text = [];
+        spells = refl;
+        sentence = rw append-nil
+            (ends law o.no_calc front (word u) b refl);
+      }
   ending_after front other expected b a = cc a
 
   -- What the table allows can be typed.
@@ -61,7 +74,8 @@ module _ (one : OneSentence) (cut : OneCut) (law : PlaceAndKinds) (o : Options) 
 
   -- What can be typed goes on with the beginning of a sentence.
   typed_begins : (kept w : List ℕ) (tokens : List Token) → AreTokens o 0 kept tokens → IsLexeme o w
-      → BeginsExpression o (kept ++ (codes " " ++ w)) → BeginsSentence o.no_calc (stand_for o tokens ++ terminal_of o w ∷ [])
+      → BeginsExpression o (kept ++ (codes " " ++ w)) → BeginsSentence o.no_calc
+      (stand_for o tokens ++ terminal_of o w ∷ [])
   typed_begins kept w tokens are h (more, (lexemes, (sentence, spells))) =
       let cut_at_blanks = typed_lexemes o kept w more tokens are h in
       let same : lexemes ≡ lexemes_of tokens ++ w ∷ cut_at_blanks.0 =

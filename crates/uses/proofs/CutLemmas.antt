@@ -3,7 +3,7 @@ use Rattle.std.proofs.Common.{◌≡◌, ℕ, zero, suc, ◌+◌, List, [], ◌�
 use Rattle.duration_str.proofs.Common.{false_from_ne_true, map-append, byte_len, IsLexeme, EndsRun, AreTokens, tokens_from, tokens_of, lexemes_of, start_after}
 use Rattle.uses.proofs.Common.{Options, Token, run-not_blank}
 use Rattle.duration_str.proofs.Characters.TextLemmas.{byte_len-append}
-use Rattle.duration_str.proofs.Cutting.CuttingLemmas.{blanks_no_token}
+use Rattle.duration_str.proofs.Cutting.PositionLemmas.{blanks_no_token}
 use Rattle.duration_str.proofs.Cutting.TokenLemmas.{tokens_step}
 
 -- The text up to the token after the first n, and the rest. The text starts at byte `at` and ends at byte `end`.

@@ -1,7 +1,7 @@
 -- What a text moves a moment to, from the contract of the calls for dates.
 use Rattle.std.proofs.Common.{ℕ, ℤ, List, inl, inr, Result, Ok, Err, chars}
 use Rattle.std.specs.Int.Signed.{clash_ℤ}
-use Rattle.duration_str.proofs.Common.{off, OneAnswer}
+use Rattle.duration_str.proofs.Common.{off, OneReading}
 use Rattle.uses.proofs.Common.{Fault}
 use Rattle.duration_str.specs.Dates.{IsInRange, IsOutOfRange, IsDated}
 use Rattle.uses.specs.Dates.{MovesTo}
@@ -10,7 +10,8 @@ apart : (instant : ℤ) → IsInRange instant → IsOutOfRange instant → ⊥
 apart instant within (inl before) = clash_ℤ before within.0
 apart instant within (inr after) = clash_ℤ after within.1
 
-pub dated_is_moved : OneAnswer → {T : Type 0} (shows : ℤ → T → Type 0) (reached : ℕ → ℤ) (bytes : List ℕ) (result : Result T Fault)
+pub dated_is_moved : OneReading → {T : Type 0} (shows : ℤ → T → Type 0) (reached : ℕ → ℤ) (bytes : List ℕ)
+    (result : Result T Fault)
     → IsDated shows reached bytes result → MovesTo shows reached bytes result
 dated_is_moved law shows reached bytes (Ok value) (m, read, within, shown) = record {
   shown = λ n r in_range. rw (law.one_value off (chars bytes) n m r read) shown;
@@ -23,7 +24,8 @@ dated_is_moved law shows reached bytes (Err f) (text, inl refused) = record {
   refused = λ cause r. (text, law.one_cause off (chars bytes) f.cause cause refused r);
 }
 dated_is_moved law shows reached bytes (Err f) (text, inr (m, read, out_there, is)) = record {
-  shown = λ n r in_range. absurd (apart (reached m) (rw (law.one_value off (chars bytes) n m r read) at in_range) out_there);
+  shown = λ n r in_range. absurd (apart (reached m) (rw (law.one_value off (chars bytes) n m r read) at in_range)
+      out_there);
   out_of_range = λ n r out. (text, is);
   refused = λ cause r. absurd (law.not_both off (chars bytes) m cause read r);
 }

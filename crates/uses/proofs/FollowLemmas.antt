@@ -3,7 +3,8 @@ use Rattle.std.proofs.Common.{◌≡◌, ◌≤◌, Bool, inl, inr, ◌↔◌, L
 use Rattle.duration_str.proofs.Common.{cases_Bool, Terminal, number, operator, IsSentence, BeginsSentence, kinds_after, allows, last_of, front_after, front_of, PlaceAndKinds}
 use Rattle.uses.proofs.Common.{take_all, CondUnit}
 
-last_of_pushed : (last : Option Terminal) (front : List Terminal) (t : Terminal) → last_of last (front ++ t ∷ []) ≡ Some t
+last_of_pushed : (last : Option Terminal) (front : List Terminal) (t : Terminal) → last_of last (front ++ t ∷ [])
+    ≡ Some t
 last_of_pushed last [] t = refl
 last_of_pushed last (s ∷ front) t = last_of_pushed (Some s) front t
 
@@ -11,13 +12,19 @@ module _ (law : PlaceAndKinds) (no_calc : Bool) where
   -- Terminals begin a sentence exactly if the table's front is all of them.
   begins_whole : (ts : List Terminal) → (BeginsSentence no_calc ts ↔ length ts ≤ front_of no_calc ts)
   begins_whole ts = (
-    λ b. let same = (law.only no_calc ts ts [] (record { parts = sym (append-nil ts); begins = b; longest = λ n l h. l })).0 in
+    λ b. let same = (law.only no_calc ts ts [] (record {
+      parts = sym
+          (append-nil ts);
+      begins = b;
+      longest = λ n l h. l;
+    })).0 in
         omega (arith, ap length same, length-take (front_of no_calc ts) ts),
     λ l. rw (take_all (front_of no_calc ts) ts l) at (law.front no_calc ts).begins,
   )
 
   -- The table finds one more terminal exactly if it allows it after the last.
-  pushed : (last : Option Terminal) (front : List Terminal) (t : Terminal) → length front ≤ front_after no_calc last front
+  pushed : (last : Option Terminal) (front : List Terminal) (t : Terminal)
+      → length front ≤ front_after no_calc last front
       → (IsTrue (allows (kinds_after no_calc (last_of last front)) t)
       ↔ length (front ++ t ∷ []) ≤ front_after no_calc last (front ++ t ∷ []))
   pushed last [] t h = elim (cases_Bool (allows (kinds_after no_calc last) t)) [
@@ -47,5 +54,6 @@ module _ (law : PlaceAndKinds) (no_calc : Bool) where
   pub zero_ends : (front : List Terminal) (op : CondUnit) → BeginsSentence no_calc (front ++ operator op ∷ [])
       → IsSentence no_calc ((front ++ operator op ∷ []) ++ number 0 ∷ [])
   zero_ends front op b =
-      let more = (follows (front ++ operator op ∷ []) (number 0) b).0 (rw (last_of_pushed None front (operator op)) refl) in
+      let more = (follows (front ++ operator op ∷ []) (number 0) b).0
+      (rw (last_of_pushed None front (operator op)) refl) in
       ends (front ++ operator op ∷ []) (number 0) more refl

@@ -11,7 +11,8 @@ chars_line bytes utf8 = chars-append bytes (10 ∷ []) utf8
 
 -- A text that the same sentences spell is read as before.
 read_as_before : BlanksFree → (old new : List ℕ)
-    → ((o : Options) (lexemes : List (List ℕ)) → IsSentenceOf o lexemes old → Spells lexemes new) → IsReadAsBefore old new
+    → ((o : Options) (lexemes : List (List ℕ)) → IsSentenceOf o lexemes old → Spells lexemes new)
+    → IsReadAsBefore old new
 read_as_before free old new spells = record {
   value = λ o nanos read. free.value o old new read.lexemes nanos read.spells (spells o read.lexemes read.spells) read;
   cause = λ o lexemes cause s refused. free.cause o old new lexemes cause s (spells o lexemes s) refused;
@@ -19,7 +20,8 @@ read_as_before free old new spells = record {
 
 -- ---- A line feed more
 
-pub line_read : BlanksFree → (bytes : List ℕ) → IsUtf8 bytes → IsReadAsBefore (chars bytes) (chars (with_line_feed bytes))
+pub line_read : BlanksFree → (bytes : List ℕ) → IsUtf8 bytes → IsReadAsBefore (chars bytes)
+    (chars (with_line_feed bytes))
 line_read free bytes utf8 =
     rw (chars_line bytes utf8) (read_as_before free (chars bytes) _
     (λ o lexemes s. rw append-nil at (spells_both lexemes [] (chars bytes) (10 ∷ []) s.1 refl)))
@@ -38,9 +40,11 @@ line_tokens o at (c ∷ d ∷ text) = rw (line_tokens o (at + width c) (d ∷ te
 spells_text : OneSentence → (o : Options) (lexemes : List (List ℕ)) (text : List ℕ)
     → IsSentenceOf o lexemes (with_line_feed text) → Spells lexemes text
 spells_text law o lexemes text s =
-    (law.tokens o text lexemes s.0).1 ((law.tokens o (with_line_feed text) lexemes s.0).0 s.1 ∙ ap lexemes_of (line_tokens o 0 text))
+    (law.tokens o text lexemes s.0).1 ((law.tokens o (with_line_feed text) lexemes s.0).0 s.1 ∙ ap lexemes_of
+    (line_tokens o 0 text))
 
 pub text_read : OneSentence → BlanksFree → (bytes : List ℕ) → IsUtf8 bytes
     → IsReadAsBefore (chars (with_line_feed bytes)) (chars bytes)
 text_read law free bytes utf8 =
-    rw (chars_line bytes utf8) (read_as_before free _ (chars bytes) (λ o lexemes s. spells_text law o lexemes (chars bytes) s))
+    rw (chars_line bytes utf8) (read_as_before free _ (chars bytes)
+    (λ o lexemes s. spells_text law o lexemes (chars bytes) s))

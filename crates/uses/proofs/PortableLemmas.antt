@@ -25,7 +25,8 @@ module _ (o p : Options) (text : List ℕ) (h : IsTrue (list_all (is_unaffected 
   no_capital differ = all_weaker (is_unaffected o p) (λ c. not (is_ascii_uppercase c)) text (λ c u. grind arith) h
 
   no_chinese : beq o.cn_unit p.cn_unit ≡ false → HasNoChinese text
-  no_chinese differ = all_weaker (is_unaffected o p) (λ c. not (is_chinese c)) text (λ c u. last_passes _ _ _ u differ) h
+  no_chinese differ = all_weaker (is_unaffected o p) (λ c. not (is_chinese c)) text
+      (λ c u. last_passes _ _ _ u differ) h
 
   -- `lowercase` and then `cn_unit` are changed, each where it has to be.
   others_changed : (P : Options → Type 0)

@@ -31,7 +31,14 @@ in_order : TwoFactors → (o : Options) (text : List ℕ) (a b : Part) (nanos : 
 in_order law o text a b nanos m =
     let read = law.product o text m.lexemes (term_of_part Plus a) (term_of_part Star b) nanos m.spells m.terms refl in (
       λ r. let h = read.0 r in record { length = h.1; other_length = h.3; product = h.4; is = h.5 },
-      λ p. read.1 (number_below _ a.unit p.length, p.length, number_below _ b.unit p.other_length, p.other_length, p.product, p.is),
+      λ p. read.1 (
+        number_below _ a.unit p.length,
+        p.length,
+        number_below _ b.unit p.other_length,
+        p.other_length,
+        p.product,
+        p.is,
+      ),
     )
 
 -- The text is read exactly as the product.

@@ -1,10 +1,10 @@
 -- Results of reading, given what the text is read as or refused for.
 use Rattle.std.proofs.Common.{◌≡◌, ℕ, List, Result, Ok, Err, IsOkAnd, IsErrAnd, map, ap, sym, ◌∙◌, chars}
-use Rattle.duration_str.proofs.Common.{as_nanos, IsRead, IsRefused, ParsesText, terminal_of, IsSentenceOf, tokens_of, lexemes_of, older_terminals, WasSentenceOf, OneAnswer, OneSentence, OlderTexts}
+use Rattle.duration_str.proofs.Common.{as_nanos, IsRead, IsRefused, ParsesText, terminal_of, IsSentenceOf, tokens_of, lexemes_of, older_terminals, WasSentenceOf, OneReading, OneSentence, OlderTexts}
 use Rattle.uses.proofs.Common.{Duration, Options, Cause, Fault, Token}
 use Rattle.uses.specs.Stored.{unit_of_first}
 
-module _ (law : OneAnswer) (o : Options) (bytes : List ℕ) where
+module _ (law : OneReading) (o : Options) (bytes : List ℕ) where
   -- A text that is read as a value is answered by it.
   pub value_answered : (result : Result Duration Fault) (nanos : ℕ) → ParsesText o bytes result
       → IsRead o (chars bytes) nanos → IsOkAnd result (λ d. as_nanos d ≡ nanos)

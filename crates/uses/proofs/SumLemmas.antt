@@ -20,4 +20,5 @@ pub permuted_read : Reorder → (o : Options) (xs ys : List Part) (a b : List �
     → Adds o xs a → Adds o ys b → IsRead o a nanos → IsRead o b nanos
 permuted_read law o xs ys a b nanos p s t =
     law o a b s.lexemes t.lexemes nanos s.spells t.spells s.plus t.plus
-    (λ n. rw (s.terms, t.terms, times_in_parts n xs, times_in_parts n ys) (sym (sum_by-IsPermutation (is_times n) xs ys p)))
+    (λ n. rw (s.terms, t.terms, times_in_parts n xs, times_in_parts n ys)
+    (sym (sum_by-IsPermutation (is_times n) xs ys p)))

@@ -4,8 +4,10 @@ use Rattle.duration_str.proofs.Common.{Terminal, CanFollow, IsRefusedAt, early, 
 use Rattle.duration_str.proofs.OnePass.PlaceLemmas.{early_stands, late_stands}
 use Rattle.uses.proofs.Common.{Cause, Syntax, Expected}
 
--- A syntax fault stands after the front, and its kinds are those that can follow. The faults of the evaluation are none.
-pub refused_at : (no_calc : Bool) (at : ℕ) (front rest : List Terminal) (cause : Cause) (place : ℕ) (expected : Expected)
+-- A syntax fault stands after the front, and its kinds are those that can follow. The faults of the evaluation are
+-- none.
+pub refused_at : (no_calc : Bool) (at : ℕ) (front rest : List Terminal) (cause : Cause) (place : ℕ)
+    (expected : Expected)
     → IsRefusedAt no_calc at front rest cause → cause ≡ Syntax place expected
     → (place ≡ at) × CanFollow no_calc front expected
 refused_at no_calc at front rest cause place expected (early h) e =

@@ -6,13 +6,13 @@ pub use Rattle.duration_str.specs.Laws.{HasNoStar, is_operator}
 pub use Rattle.duration_str.specs.Printing.{IsGreatestBreakdown, IsPrinted, counts_of, printed_counts}
 pub use Rattle.duration_str.specs.Reading.{IsRead, IsRefused}
 pub use Rattle.duration_str.specs.Text.{byte_len, is_chinese}
-pub use Rattle.duration_str.specs.Tokenizer.{what_of}
+pub use Rattle.duration_str.specs.Iteration.{what_of}
 pub use Rattle.duration_str.specs.Tokens.{IsLexeme}
 pub use Rattle.duration_str.specs.Units.{nanos_of, off, unit_lengths}
 pub use Rattle.duration_str.specs.Value.{AllPlus, Term, written_terms}
-pub use Rattle.duration_str.specs.declared.fault.Cause.{Cause}
-pub use Rattle.duration_str.specs.declared.fault.Cause.TheVariants.{NotText, OutOfRange, Overflow, Syntax}
-pub use Rattle.duration_str.specs.declared.fault.Expected.{Expected}
+pub use Rattle.duration_str.specs.declared.cause.Cause.{Cause}
+pub use Rattle.duration_str.specs.declared.cause.Cause.TheVariants.{NotText, OutOfRange, Overflow, Syntax}
+pub use Rattle.duration_str.specs.declared.cause.Expected.{Expected}
 pub use Rattle.duration_str.specs.declared.fault.Fault.{Fault}
 pub use Rattle.duration_str.specs.declared.operator.CondUnit.TheVariants.{Plus, Star}
 pub use Rattle.duration_str.specs.declared.options.Options.{Options}

@@ -14,6 +14,7 @@ pub mod product;
 pub mod signed;
 pub mod stored;
 pub mod sum;
+pub mod unit;
 
 pub use cache::{canonical, key, read_back, share_entry};
 pub use completion::{Completion, complete, is_offered, is_unfinished};
@@ -28,6 +29,7 @@ pub use product::{Part, scaled};
 pub use signed::difference;
 pub use stored::{first_unit, stored_duration};
 pub use sum::{longest_first, total_of};
+pub use unit::unit_nanos;
 
 #[cfg(test)]
 mod tests;

@@ -1,10 +1,11 @@
 // Made by tools/erase of crates/duration_str/src/parser.rt.
 //! Reading: the duration that a text means, or why it means none.
 
-pub use super::fault::{Cause, Expected, Fault};
+pub use super::cause::{Cause, Expected};
+pub use super::fault::Fault;
+use super::options::Options;
 use super::reader::read;
 use super::token::Tokens;
-use super::unit::Options;
 use core::time::Duration;
 
 /// The duration that a text means with all options off.

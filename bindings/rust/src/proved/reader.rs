@@ -1,9 +1,10 @@
 // Made by tools/erase of crates/duration_str/src/reader.rt.
 //! The one pass over the tokens of a text.
 
-use super::fault::Cause;
+use super::cause::{Cause, Expected};
+use super::operator::CondUnit;
 use super::token::{Number, Sort, Tokens};
-use super::unit::{CondUnit, TimeUnit};
+use super::unit::TimeUnit;
 
 /// The value of the tokens that are left, or the cause of their refusal.
 #[inline(always)]
@@ -18,7 +19,7 @@ pub(crate) fn read(tokens: &mut Tokens<'_>, no_calc: bool) -> Result<u64, Cause>
     }
 }
 
-/// Reads the terms after the first one, and combines them by the operator before the second one. Their first fault is
+/// ReadsItem the terms after the first one, and combines them by the operator before the second one. Their first fault is
 /// held back until the syntax is read to its end, except under `no_calc`.
 #[inline(always)]
 fn read_later(
@@ -27,18 +28,15 @@ fn read_later(
     first: u64,
     operator: CondUnit,
 ) -> Result<u64, Cause> {
-    let mut later = Later {
-        total: identity_of(operator),
-        fault: None,
-    };
+    let mut later = LaterTerms::new(first, operator);
     loop {
         let number = tokens.take_number();
         let unit = read_unit(tokens, no_calc)?;
-        later.add(operator, number, unit);
-        later.check_sum(no_calc, first, operator)?;
+        later.add(number, unit);
+        later.check_sum(no_calc)?;
         match read_operator(tokens, no_calc)? {
-            None => return later.answer(first, operator),
-            Some(next) => later.check_operator(operator, next),
+            None => return later.answer(),
+            Some(next) => later.check_operator(next),
         }
     }
 }
@@ -49,14 +47,14 @@ fn expect_number(tokens: &mut Tokens<'_>) -> Result<(), Cause> {
     if tokens.is_number_ahead() {
         return Ok(());
     }
-    Err(Cause::misplaced_at_start(tokens.place()))
+    Err(Cause::syntax(tokens.place(), Expected::at_start()))
 }
 
-/// Reads the unit after a number. Seconds if an operator or the end follows, which is not taken.
+/// ReadsItem the unit after a number. Seconds if an operator or the end follows, which is not taken.
 #[inline(always)]
 fn read_unit(tokens: &mut Tokens<'_>, no_calc: bool) -> Result<TimeUnit, Cause> {
     let ahead = tokens.sort_after_number();
-    let fault = Cause::misplaced_after_number(tokens.place(), no_calc);
+    let fault = Cause::syntax(tokens.place(), Expected::after_number(no_calc));
     let Some(sort) = ahead else {
         return Ok(TimeUnit::Second);
     };
@@ -77,11 +75,11 @@ fn read_unit(tokens: &mut Tokens<'_>, no_calc: bool) -> Result<TimeUnit, Cause> 
     }
 }
 
-/// Reads the operator after a unit, up to the number that must follow: a plus if it is left out, `None` at the end.
+/// ReadsItem the operator after a unit, up to the number that must follow: a plus if it is left out, `None` at the end.
 #[inline(always)]
 fn read_operator(tokens: &mut Tokens<'_>, no_calc: bool) -> Result<Option<CondUnit>, Cause> {
     let ahead = tokens.sort_ahead();
-    let fault = Cause::misplaced_after_unit(tokens.place(), no_calc);
+    let fault = Cause::syntax(tokens.place(), Expected::after_unit(no_calc));
     let Some(sort) = ahead else {
         return Ok(None);
     };
@@ -100,20 +98,34 @@ fn read_operator(tokens: &mut Tokens<'_>, no_calc: bool) -> Result<Option<CondUn
     }
 }
 
-/// The value of the later terms, or their first fault, which is held back.
-pub(crate) struct Later {
+/// The first term's value, the operator before all later terms, and their value so far, or their first fault, which is
+/// held back.
+pub(crate) struct LaterTerms {
+    first: u64,
+    operator: CondUnit,
     total: u64,
     fault: Option<Cause>,
 }
 
-impl Later {
+impl LaterTerms {
+    /// No later terms yet.
+    #[inline(always)]
+    fn new(first: u64, operator: CondUnit) -> LaterTerms {
+        LaterTerms {
+            first,
+            operator,
+            total: identity_of(operator),
+            fault: None,
+        }
+    }
+
     /// Adds a term, which is not evaluated if a fault is held back.
     #[inline(always)]
-    fn add(&mut self, operator: CondUnit, number: Number<'_>, unit: TimeUnit) {
+    fn add(&mut self, number: Number<'_>, unit: TimeUnit) {
         if self.fault.is_some() {
             return;
         }
-        match with_term(operator, self.total, number, unit) {
+        match with_term(self.operator, self.total, number, unit) {
             Ok(total) => self.total = total,
             Err(fault) => self.fault = Some(fault),
         }
@@ -121,10 +133,10 @@ impl Later {
 
     /// Checks that the next operator is the same.
     #[inline(always)]
-    fn check_operator(&mut self, operator: CondUnit, next: CondUnit) {
-        if next != operator && self.fault.is_none() {
+    fn check_operator(&mut self, next: CondUnit) {
+        if next != self.operator && self.fault.is_none() {
             self.fault = Some(Cause::Mixed {
-                first: operator,
+                first: self.operator,
                 later: next,
             });
         }
@@ -132,20 +144,20 @@ impl Later {
 
     /// The total including the first term, or the first later fault.
     #[inline(always)]
-    fn answer(&self, first: u64, operator: CondUnit) -> Result<u64, Cause> {
+    fn answer(&self) -> Result<u64, Cause> {
         if let Some(fault) = self.fault {
             return Err(fault);
         }
-        within(combination(operator, first, self.total))
+        within(combination(self.operator, self.first, self.total))
     }
 
-    /// Under `no_calc`, reports at once the fault of a term, or an overflow of the sum so far.
+    /// Under `no_calc`, reports immediately the fault of a term, or an overflow of the sum so far.
     #[inline]
-    fn check_sum(&self, no_calc: bool, first: u64, operator: CondUnit) -> Result<(), Cause> {
+    fn check_sum(&self, no_calc: bool) -> Result<(), Cause> {
         if !no_calc {
             return Ok(());
         }
-        match self.answer(first, operator) {
+        match self.answer() {
             Ok(_) => Ok(()),
             Err(cause) => Err(cause),
         }

@@ -1,10 +1,9 @@
 // Made by tools/erase of crates/duration_str/src/unit.rt.
 //! The units of time and their names, with the options and operators that are used with them.
 
-use super::fault::Cause;
+use super::cause::Cause;
 pub use super::operator::CondUnit;
 pub use super::options::Options;
-use super::token::number_of;
 use core::fmt;
 
 /// A unit of time.
@@ -15,7 +14,7 @@ use core::fmt;
 /// assert_eq!(TimeUnit::default(), TimeUnit::Second);
 /// assert_eq!(TimeUnit::Minute.to_string(), "min");
 /// ```
-#[derive(Clone, Copy, Debug, PartialEq, Eq)]
+#[derive(Clone, Copy, Debug, PartialEq, Eq, Hash)]
 pub enum TimeUnit {
     /// 365 days.
     Year,
@@ -155,11 +154,7 @@ impl TimeUnit {
     /// assert_eq!(TimeUnit::from_word("Minutes", Options::off()), Some(TimeUnit::Minute));
     /// ```
     pub fn from_word(word: &str, o: Options) -> Option<TimeUnit> {
-        let likely = likely_unit(word, o);
-        if likely.is_named(word, o) {
-            return Some(likely);
-        }
-        named_unit(word, o)
+        UNITS.iter().copied().find(|unit| unit.is_named(word, o))
     }
 
     /// The value in nanoseconds of a term with this number, a nonempty run of digits.
@@ -173,7 +168,7 @@ impl TimeUnit {
     /// assert_eq!(duration_str::TimeUnit::Hour.value("2"), Ok(7_200_000_000_000));
     /// ```
     pub fn value(self, number: &str) -> Result<u64, Cause> {
-        self.times(number_of(number.as_bytes()), None)
+        self.times(number.parse::<u64>().ok(), None)
     }
 
     /// The value of a term in nanoseconds. `number` is `None` if it exceeds `u64`; `place` goes into the error.
@@ -230,32 +225,6 @@ static UNITS: [TimeUnit; 11] = [
     TimeUnit::MicroSecond,
     TimeUnit::NanoSecond,
 ];
-
-/// The first unit with the word among its names.
-#[inline(never)]
-fn named_unit(word: &str, o: Options) -> Option<TimeUnit> {
-    UNITS.iter().copied().find(|unit| unit.is_named(word, o))
-}
-
-/// The unit that the word most likely names. No contract says which: the caller tests it, so that a wrong guess costs
-/// time and changes no answer.
-fn likely_unit(word: &str, o: Options) -> TimeUnit {
-    if !o.cn_unit {
-        return TimeUnit::MicroSecond;
-    }
-    match word {
-        "年" => TimeUnit::Year,
-        "月" => TimeUnit::Month,
-        "周" => TimeUnit::Week,
-        "日" | "天" => TimeUnit::Day,
-        "时" => TimeUnit::Hour,
-        "分" => TimeUnit::Minute,
-        "秒" => TimeUnit::Second,
-        "毫秒" => TimeUnit::MilliSecond,
-        "纳秒" => TimeUnit::NanoSecond,
-        _ => TimeUnit::MicroSecond,
-    }
-}
 
 /// Whether a word is one of these names.
 fn is_any(names: &[&str], word: &str, o: Options) -> bool {

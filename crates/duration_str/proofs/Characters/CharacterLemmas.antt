@@ -1,6 +1,5 @@
 -- The classes of characters exclude one another, and a run is of one class.
-use Rattle.std.proofs.Common.{◌≡◌, ℕ, ◌≤◌, Bool, true, false, ◌&&◌, ◌||◌, inl, inr, List, [], ◌∷◌, Some, IsTrue, arith, refl, nat_lt}
-use Rattle.duration_str.proofs.Common.{cases_Bool, false_from_ne_true, or_cases, and_parts, and_from, list_all, nat_tests, is_ascii_alphabetic, is_ascii_uppercase, Options, CondUnit, is_blank, is_digit, is_unit_letter, operator_of, are_of_one_run, is_ascii}
+use Rattle.duration_str.proofs.Common.{◌≡◌, ℕ, zero, suc, ◌+◌, ◌<◌, ◌≤◌, length, get_or, add-zero, Bool, true, false, ◌&&◌, ◌||◌, inl, inr, List, [], ◌∷◌, Some, IsTrue, arith, refl, nat_lt, false_from_ne_true, or_cases, and_parts, and_from, list_all, nat_tests, is_ascii_uppercase, Options, CondUnit, is_blank, is_digit, is_unit_letter, operator_of, are_of_one_run}
 
 -- Characters that pass a test also pass a weaker one.
 pub all_weaker : (p q : ℕ → Bool) (cs : List ℕ) → ((c : ℕ) → p c ≡ true → q c ≡ true) → IsTrue (list_all p cs)
@@ -28,20 +27,8 @@ pub letter-not_digit : (o : Options) (c : ℕ) → is_unit_letter o c ≡ true �
 letter-not_digit o c e = false_from_ne_true _ (λ t. cc (digit-not_letter o c t))
 
 -- the letters before `a` are the capitals
-pub capital_below : (c : ℕ) → is_ascii_alphabetic c ≡ true → nat_lt c 97 ≡ is_ascii_uppercase c
-capital_below c e = grind (arith, nat_tests)
-
-pub letter_of_ascii : (o : Options) (c : ℕ) → is_ascii_alphabetic c ≡ true → is_unit_letter o c ≡ true
-letter_of_ascii o c e = rw e refl
-
--- an ASCII character that is not a letter is not a unit letter
-pub no_letter_of_ascii : (o : Options) (c : ℕ) → is_ascii c ≡ true → is_ascii_alphabetic c ≡ false
-    → is_unit_letter o c ≡ false
-no_letter_of_ascii o c small e = grind (arith, nat_tests)
-
-pub ascii_letter : (o : Options) (c : ℕ) → is_unit_letter o c ≡ true → is_ascii c ≡ true → is_ascii_alphabetic c ≡ true
-ascii_letter o c letter small =
-    elim (cases_Bool (is_ascii_alphabetic c)) [ inl e ↦ e | inr e ↦ cc (no_letter_of_ascii o c small e) ]
+pub capital_below : (o : Options) (c : ℕ) → is_unit_letter o c ≡ true → nat_lt c 97 ≡ is_ascii_uppercase c
+capital_below o c e = grind (arith, nat_tests)
 
 -- The tests a, b, c are for digits and p, q, r for unit letters, at three characters of which the first two are of one
 -- run.
@@ -58,3 +45,18 @@ run-not_blank o c d h = elim (or_cases (is_digit c && is_digit d) (is_unit_lette
   | inl both ↦ digit-not_blank d (and_parts (is_digit c) _ both).1
   | inr both ↦ letter-not_blank o d (and_parts (is_unit_letter o c) _ both).1
 ]
+
+-- ---- the table of blanks
+
+abbrev pub blanks_from : ℕ → List Bool → List Bool
+blanks_from i [] = []
+blanks_from i (b ∷ bs) = is_blank i ∷ blanks_from (i + 1) bs
+
+-- An entry of a table of blanks says whether its character is one.
+pub blank_at : (bs : List Bool) (i j : ℕ) (d : Bool) → j < length bs → bs ≡ blanks_from i bs
+    → get_or bs j d ≡ is_blank (i + j)
+blank_at [] i j d lt right = absurd (omega (arith, lt))
+blank_at (b ∷ bs) i zero d lt right = rw add-zero (cc right)
+blank_at (b ∷ bs) i (suc j) d lt right =
+    let there : i + 1 + j ≡ i + suc j = omega arith in
+    rw (← there) (blank_at bs (i + 1) j d (omega (arith, lt)) (cc right))

@@ -1,6 +1,5 @@
 -- A property that holds of each unit in the table holds of every unit.
-use Rattle.std.proofs.Common.{◌≡◌, Bool, true, List, [], ◌∷◌}
-use Rattle.duration_str.proofs.Common.{and_parts, ⊤, list_all, TimeUnit, Year, Quarter, Month, Week, Day, Hour, Minute, Second, MilliSecond, MicroSecond, NanoSecond, units}
+use Rattle.duration_str.proofs.Common.{◌≡◌, Bool, true, List, [], ◌∷◌, and_parts, ⊤, list_all, TimeUnit, Year, Quarter, Month, Week, Day, Hour, Minute, Second, MilliSecond, MicroSecond, NanoSecond, units}
 
 abbrev pub Each : (TimeUnit → Type 0) → List TimeUnit → Type 0
 Each P [] = ⊤

@@ -1,6 +1,5 @@
 -- The printed names: their lengths in bytes, and that they are characters.
-use Rattle.std.proofs.Common.{◌≡◌, true, length, encode_utf8_all, refl}
-use Rattle.duration_str.proofs.Common.{TimeUnit, byte_len, row_of}
+use Rattle.duration_str.proofs.Common.{◌≡◌, true, length, encode_utf8_all, refl, TimeUnit, byte_len, row_of}
 use Rattle.std.proofs.Math.Utf8.{scalars}
 use Rattle.duration_str.proofs.Characters.EachUnit.{each_unit, all_units}
 

@@ -1,13 +1,100 @@
 -- Digits as std reads and writes them.
-use Rattle.std.proofs.Common.{◌≡◌, ℕ, ◌^◌, ◌<◌, length, Result, Ok, Err, Option, decimal, List, [], ◌∷◌, IsUtf8, IsTrue, sym, ◌∙◌, inl, inr, arith, rules, le-ltb, lt-ltb, chars, OkIff}
-use Rattle.duration_str.proofs.Common.{cases_lt, cond-true, decimal_nonempty, encodes-IsAscii, encodes-chars, list_all, Options, is_digit, IsNumber, number_after, number_of, number, terminal_of, u64_from, IsAscii-from_digits, digits_decimal, digits_value-decimal}
-use Rattle.std.proofs.lemmas.Str.Parse.{IsNumeralModel, numerals_by_fold, parse_digits}
+use Rattle.duration_str.proofs.Common.{◌≡◌, ℕ, suc, ◌+◌, ◌-◌, ◌*◌, ◌%◌, ◌^◌, ◌<◌, ◌≤◌, Bool, true, false, ◌&&◌, ◌||◌, ◌==◌, nat_le, length, take, drop, get_or, Result, Ok, Err, Option, Some, decimal, List, [], ◌∷◌, ◌++◌, IsUtf8, IsTrue, refl, ap, sym, ◌∙◌, inl, inr, arith, rules, le-ltb, lt-ltb, chars, OkIff, mul-pos, pow-suc, drop-cons, take-append-drop, length-drop, cases_Bool, cases_lt, and_parts, cond-true, decimal_nonempty, encodes-IsAscii, encodes-chars, fits, list_all, list_all-append, nat_tests, Options, is_digit, IsNumber, number_after, number_of, number, terminal_of, u64_from, IsAscii-from_digits, digits_decimal, digits_value-decimal}
+use Rattle.std.proofs.lemmas.Str.Parse.{IsNumeralModel, digits_value_short, numerals_by_fold, parse_digits}
+use native.Mathlib.Nat.{pow-le-pow_right}
 use Rattle.std.specs.Result.{result_ok}
 use Rattle.std.specs.Str.Parse.{ParsesUnsigned}
 
 -- Digits are tested and read as std does.
 pub decimal_digits : IsNumeralModel (λ ds. IsTrue (list_all is_digit ds)) (number_after 0)
 decimal_digits = numerals_by_fold _ (search rules) number_after (search rules)
+
+-- ---- more than 19 digits
+
+number_after-is : (n : ℕ) (cs : List ℕ) → number_after n cs ≡ n * 10 ^ length cs + number_of cs
+number_after-is n [] = omega arith
+number_after-is n (c ∷ cs) =
+    let here = number_after-is (n * 10 + (c - 48)) cs in
+    let there = number_after-is (0 * 10 + (c - 48)) cs in
+    omega (arith, ap (λ x. n * x) (pow-suc 10 (length cs)))
+
+number_after-append : (n : ℕ) (cs ds : List ℕ) → number_after n (cs ++ ds) ≡ number_after (number_after n cs) ds
+number_after-append n [] ds = refl
+number_after-append n (c ∷ cs) ds = number_after-append (n * 10 + (c - 48)) cs ds
+
+abbrev are_zeros : List ℕ → Bool
+are_zeros = list_all (λ digit. digit == 48)
+
+number_of-zeros : (cs : List ℕ) → are_zeros cs ≡ true → number_of cs ≡ 0
+number_of-zeros [] h = refl
+number_of-zeros (c ∷ cs) h =
+    let parts = and_parts (c == 48) _ h in
+    let is : c ≡ 48 = grind arith in
+    rw is (number_of-zeros cs parts.1)
+
+number_of-others : (cs : List ℕ) → IsTrue (list_all is_digit cs) → are_zeros cs ≡ false → 0 < number_of cs
+number_of-others [] all h = absurd cc
+number_of-others (c ∷ cs) all h =
+    let parts = and_parts (is_digit c) _ all in
+    elim (cases_Bool (c == 48)) [
+      | inl zero ↦ let is : c ≡ 48 = grind arith in rw is (number_of-others cs parts.1 (rw zero at h))
+      | inr other ↦ let above : 48 < c = grind (arith, nat_tests) in
+          let some : 0 < 10 ^ length cs = pow-le-pow_right {n = 10} (omega arith) {i = 0} (omega arith) in
+          let d = 0 * 10 + (c - 48) in
+          let weight : 0 < d * 10 ^ length cs = mul-pos (omega arith) some in
+          let is : number_of (c ∷ cs) ≡ d * 10 ^ length cs + number_of cs = number_after-is d cs in
+          omega arith
+    ]
+
+long_value : (zeros : Bool) (front first last low n : ℕ) → (zeros ≡ true → front ≡ 0) → (zeros ≡ false → 0 < front)
+    → 48 ≤ first → last < 10 ^ 19 → n ≡ (front * 10 + (first - 48)) * 10 ^ 19 + last → low ≡ n % 2 ^ 64
+    → (zeros && (first == 48 || (first == 49 && nat_le 10000000000000000000 low))) ≡ fits n
+long_value false front first last low n none some digit short is same =
+    let above = some refl in sym (le-ltb n _ (omega arith))
+long_value true front first last low n none some digit short is same =
+    let zero = none refl in
+    elim (cases_lt n (2 ^ 64)) [
+      | inl below ↦ let whole : low ≡ n = omega arith in grind (arith, nat_tests)
+      | inr above ↦ grind (arith, nat_tests)
+    ]
+
+-- More than 19 digits write a number below 2^64 exactly if zeros stand before the last 20 digits, and the first of these
+-- is a zero, or a one and the number modulo 2^64 is at least 10^19.
+pub long_number : (digits : List ℕ) (low : ℕ) → 19 < length digits → IsTrue (list_all is_digit digits)
+    → low ≡ number_of digits % 2 ^ 64 → (let at = length digits - 19 - 1 in
+    (are_zeros (take at digits)
+    && (get_or digits at 0 == 48 || (get_or digits at 0 == 49 && nat_le 10000000000000000000 low)))
+    ≡ fits (number_of digits))
+long_number digits low long all same =
+    let at = length digits - 19 - 1 in
+    let front = take at digits in
+    let first = get_or digits at 0 in
+    let last = drop (suc at) digits in
+    let rest : drop at digits ≡ first ∷ last = drop-cons digits at 0 (omega arith) in
+    let split : front ++ first ∷ last ≡ digits = rw (← rest) (take-append-drop at digits) in
+    let passed : (list_all is_digit front && list_all is_digit (first ∷ last)) ≡ true =
+    rw (← list_all-append is_digit front (first ∷ last), split) all in
+    let fronts = and_parts (list_all is_digit front) _ passed in
+    let lasts = and_parts (is_digit first) _ fronts.1 in
+    let few : length last ≡ 19 = omega (arith, length-drop (suc at) digits) in
+    let value : number_of digits ≡ (number_of front * 10 + (first - 48)) * 10 ^ length last + number_of last =
+    sym (ap number_of split) ∙ number_after-append 0 front (first ∷ last)
+    ∙ number_after-is (number_of front * 10 + (first - 48)) last in
+    long_value (are_zeros front) (number_of front) first (number_of last) low (number_of digits) (number_of-zeros front)
+    (number_of-others front fronts.0) (grind (arith, nat_tests))
+    (digits_value_short decimal_digits last 19 lasts.1 (omega arith)) (rw few at value) same
+
+-- Digits are ASCII, so their bytes are their characters.
+pub bytes_of_digits : (bs : List ℕ) → IsUtf8 bs → IsNumber (chars bs) → chars bs ≡ bs
+bytes_of_digits bs utf8 digits =
+    let own = encodes-IsAscii (chars bs) (IsAscii-from_digits (chars bs) (decimal_digits.to (chars bs) digits.1)) in
+    sym own ∙ encodes-chars bs utf8
+
+-- A number that fits is its value modulo 2^64.
+pub whole_number : (n low : ℕ) → low ≡ n % 2 ^ 64 → n < 2 ^ 64 → Some low ≡ u64_from n
+whole_number n low same below =
+    let whole : low ≡ n = omega arith in
+    rw (lt-ltb n (2 ^ 64) below, whole)
 
 ok_u64 : {E : Type 0} (r : Result ℕ E) (n len : ℕ) → 0 < len → OkIff r ((0 < len) × (n < 2 ^ 64)) n
     → result_ok r ≡ u64_from n
@@ -19,8 +106,7 @@ ok_u64 (Err e) n len some h =
 pub parsed_u64 : {E : Type 0} (bs : List ℕ) (r : Result ℕ E) (parsed : Option ℕ) → IsUtf8 bs → IsNumber (chars bs)
     → ParsesUnsigned 64 10 bs r → parsed ≡ result_ok r → parsed ≡ u64_from (number_of (chars bs))
 parsed_u64 bs r parsed utf8 digits parses is =
-    let own = encodes-IsAscii (chars bs) (IsAscii-from_digits (chars bs) (decimal_digits.to (chars bs) digits.1)) in
-    let same : bs ≡ chars bs = sym (encodes-chars bs utf8) ∙ own in
+    let same = sym (bytes_of_digits bs utf8 digits) in
     let read = parse_digits decimal_digits 64 (chars bs) r (rw same at parses) digits.1 in
     is ∙ ok_u64 r _ (length (chars bs)) digits.0 read
 

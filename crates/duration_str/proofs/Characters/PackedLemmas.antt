@@ -1,92 +1,215 @@
 -- Packed names and their slots.
-use Rattle.std.proofs.Common.{◌≡◌, ℕ, zero, suc, ◌+◌, ◌*◌, ◌/◌, ◌%◌, ◌^◌, ◌<◌, ◌≤◌, Bool, true, false, leb, eqb, ◌&&◌, List, [], ◌∷◌, map, length, get_or, Option, Some, None, refl, sym, ◌∙◌, arith, inl, inr, lit<, add-zero, eq-eqb, eqb-true, if◌then◌else◌, find, bytes_eq}
-use Rattle.duration_str.proofs.Common.{pow-succ', cases_Bool, and_parts, and_from, false_from_ne_true, nat_tests, bytes_eq-Decides, same_from_decides, list_all, list_any, to_ascii_lowercase, is_ascii_alphabetic, is_ascii_uppercase, Options, TimeUnit, SPREAD, units, row_of, comparison_form, is_named, unit_of_word, packed_number_after, packed_number, packs_to, pow-le-pow_right, or_parts, length-reverse, reverse-reverse}
-use Rattle.std.proofs.Math.Bool.{and-false, or-false}
+use Rattle.duration_str.proofs.Common.{◌≡◌, ℕ, zero, suc, ◌+◌, ◌-◌, ◌*◌, ◌/◌, ◌%◌, ◌^◌, ◌<◌, ◌≤◌, Bool, true, false, not, leb, eqb, ◌==◌, ◌&&◌, ◌||◌, List, [], ◌∷◌, map, length, get_or, Option, Some, None, refl, sym, ◌∙◌, arith, inl, inr, lit<, add-zero, eq-eqb, eqb-true, leb-true, if◌then◌else◌, find, bytes_eq, pow-succ', cases_Bool, and_parts, and_from, false_from_ne_true, nat_tests, bytes_eq-Decides, same_from_decides, list_all, list_any, list_any-append, to_ascii_lowercase, is_ascii_alphabetic, is_ascii_uppercase, Options, TimeUnit, SPREAD, all_names, byte_len, chinese_letters, is_chinese, is_unit_letter, width, letter_number, number_in, units, row_of, comparison_form, is_named, unit_of_word, packed_number_after, packed_number, packs_to, pow-le-pow_right, or_cases, or_parts, length-reverse, reverse-reverse}
 use mathlib.Core.List.{reverse_aux, reverse}
 use Rattle.duration_str.specs.Internal.Packed.{unit_of_packed}
-use Rattle.duration_str.proofs.Characters.EachUnit.{each_unit}
+use Rattle.duration_str.proofs.Characters.EachUnit.{all_units}
+use Rattle.duration_str.proofs.Characters.UnitLemmas.{among_all, named_passes}
+
+-- ---- the numbers of letters
+
+abbrev wide_letters : List ℕ
+wide_letters = 0xB5 ∷ chinese_letters
 
 abbrev is_small_letter : ℕ → Bool
 is_small_letter c = leb 97 c && leb c 122
 
-abbrev are_small : List ℕ → Bool
-are_small cs = list_all is_small_letter cs
+abbrev is_wide_letter : ℕ → Bool
+is_wide_letter c = list_any (λ d. d == c) wide_letters
+
+-- a letter of the names
+abbrev is_name_letter : ℕ → Bool
+is_name_letter c = is_small_letter c || is_wide_letter c
+
+abbrev are_letters : List ℕ → Bool
+are_letters cs = list_all is_name_letter cs
+
+number_in-below : (n : ℕ) (ds : List ℕ) (c : ℕ) → 0 < n → number_in n ds c < n + length ds
+number_in-below n [] c some = omega arith
+number_in-below n (d ∷ ds) c some = elim (cases_Bool (d == c)) [
+  | inl is ↦ rw is (omega arith)
+  | inr other ↦ rw other (omega (arith, number_in-below (n + 1) ds c (omega arith)))
+]
+
+number_in-above : (n : ℕ) (ds : List ℕ) (c : ℕ) → list_any (λ d. d == c) ds ≡ true → n ≤ number_in n ds c
+number_in-above n [] c h = absurd cc
+number_in-above n (d ∷ ds) c h = elim (cases_Bool (d == c)) [
+  | inl is ↦ rw is (omega arith)
+  | inr other ↦ rw other (omega (arith, number_in-above (n + 1) ds c (rw other at h)))
+]
+
+number_in-same : (n : ℕ) (ds : List ℕ) (x y : ℕ) → list_any (λ d. d == x) ds ≡ true → list_any (λ d. d == y) ds ≡ true
+    → number_in n ds x ≡ number_in n ds y → x ≡ y
+number_in-same n [] x y h k e = absurd cc
+number_in-same n (d ∷ ds) x y h k e = elim (cases_Bool (d == x)) [
+  | inl is ↦ elim (cases_Bool (d == y)) [
+    | inl too ↦ sym (eqb-true d x is) ∙ eqb-true d y too
+    | inr other ↦ absurd (omega (arith, number_in-above (n + 1) ds y (rw other at k), rw (is, other) at e))
+  ]
+  | inr apart ↦ elim (cases_Bool (d == y)) [
+    | inl is ↦ absurd (omega (arith, number_in-above (n + 1) ds x (rw apart at h), rw (apart, is) at e))
+    | inr other ↦ number_in-same (n + 1) ds x y (rw apart at h) (rw other at k) (rw (apart, other) at e)
+  ]
+]
+
+letter_number-below : (c : ℕ) → letter_number c < 40
+letter_number-below c = elim (cases_Bool (is_ascii_alphabetic c)) [
+  | inl letter ↦ rw letter (omega arith)
+  | inr other ↦ rw other (omega (arith, number_in-below 27 wide_letters c (omega arith)))
+]
+
+small_number : (c : ℕ) → is_small_letter c ≡ true → (letter_number c ≡ c - 96) × (97 ≤ c) × (c ≤ 122)
+small_number c e =
+    let letter : is_ascii_alphabetic c ≡ true = grind (arith, nat_tests) in
+    let above : 97 ≤ c = grind (arith, nat_tests) in
+    let up : c ≤ 122 = grind (arith, nat_tests) in
+    (rw letter (omega arith), above, up)
+
+large_number : (c : ℕ) → is_wide_letter c ≡ true
+    → (letter_number c ≡ number_in 27 wide_letters c) × (27 ≤ number_in 27 wide_letters c)
+large_number c e =
+    let other : is_ascii_alphabetic c ≡ false = grind (arith, nat_tests) in
+    (rw other refl, number_in-above 27 wide_letters c e)
+
+letter_number-some : (c : ℕ) → is_name_letter c ≡ true → 0 < letter_number c
+letter_number-some c h = elim (or_cases (is_small_letter c) (is_wide_letter c) h) [
+  | inl small ↦ omega (arith, small_number c small)
+  | inr wide ↦ omega (arith, large_number c wide)
+]
+
+letter_number-same : (x y : ℕ) → is_name_letter x ≡ true → is_name_letter y ≡ true
+    → letter_number x ≡ letter_number y → x ≡ y
+letter_number-same x y h k e = elim (or_cases (is_small_letter x) (is_wide_letter x) h) [
+  | inl small ↦ let first = small_number x small in elim (or_cases (is_small_letter y) (is_wide_letter y) k) [
+    | inl too ↦ let second = small_number y too in omega arith
+    | inr wide ↦ let second = large_number y wide in absurd (omega arith)
+  ]
+  | inr wide ↦ let first = large_number x wide in elim (or_cases (is_small_letter y) (is_wide_letter y) k) [
+    | inl small ↦ let second = small_number y small in absurd (omega arith)
+    | inr too ↦ number_in-same 27 wide_letters x y wide too (sym first.0 ∙ e ∙ (large_number y too).0)
+  ]
+]
 
 -- ---- words whose packed numbers are exact and different
 
 -- the packed number of letters, the last one first
 abbrev packed_back : List ℕ → ℕ
 packed_back [] = 0
-packed_back (c ∷ cs) = packed_back cs * 32 + c % 32
+packed_back (c ∷ cs) = packed_back cs * 40 + letter_number c
 
 packed_turned : (cs done : List ℕ) → packed_number_after (packed_back done) cs ≡ packed_back (reverse_aux cs done)
 packed_turned [] done = refl
 packed_turned (c ∷ cs) done = packed_turned cs (c ∷ done)
 
-small_turned : (cs done : List ℕ) → are_small cs ≡ true → are_small done ≡ true → are_small (reverse_aux cs done) ≡ true
-small_turned [] done h k = k
-small_turned (c ∷ cs) done h k = let b = and_parts _ _ h in small_turned cs (c ∷ done) b.1 (and_from _ _ b.0 k)
+letters_turned : (cs done : List ℕ) → are_letters cs ≡ true → are_letters done ≡ true
+    → are_letters (reverse_aux cs done) ≡ true
+letters_turned [] done h k = k
+letters_turned (c ∷ cs) done h k = let b = and_parts _ _ h in letters_turned cs (c ∷ done) b.1 (and_from _ _ b.0 k)
 
-below : (cs : List ℕ) → packed_back cs < 32 ^ length cs
+below : (cs : List ℕ) → packed_back cs < 40 ^ length cs
 below [] = omega arith
-below (c ∷ cs) = rw (pow-succ' 32 (length cs)) (omega (arith, below cs))
+below (c ∷ cs) = rw (pow-succ' 40 (length cs)) (omega (arith, below cs, letter_number-below c))
 
 -- the packed number of a word of at most 12 letters is exact
 pub exact : (w : List ℕ) (n : ℕ) → length w ≤ 12 → n ≡ packed_number w % 2 ^ 64 → n ≡ packed_number w
 exact w n h e =
-    let pow : 32 ^ length w ≤ 32 ^ 12 = pow-le-pow_right (lit< tt) h in
+    let pow : 40 ^ length w ≤ 40 ^ 12 = pow-le-pow_right (lit< tt) h in
     omega (arith, rw (length-reverse w) at (below (reverse w)), packed_turned w [], pow, e)
 
-small_letter : (c : ℕ) → is_small_letter c ≡ true → (97 ≤ c) × (c ≤ 122)
-small_letter c e = grind (arith, nat_tests)
-
-same_back : (xs ys : List ℕ) → are_small xs ≡ true → are_small ys ≡ true → packed_back xs ≡ packed_back ys → xs ≡ ys
+same_back : (xs ys : List ℕ) → are_letters xs ≡ true → are_letters ys ≡ true → packed_back xs ≡ packed_back ys
+    → xs ≡ ys
 same_back [] [] h k e = refl
-same_back [] (y ∷ ys) h k e = absurd (omega (arith, small_letter y (and_parts _ _ k).0, e))
-same_back (x ∷ xs) [] h k e = absurd (omega (arith, small_letter x (and_parts _ _ h).0, e))
+same_back [] (y ∷ ys) h k e = absurd (omega (arith, letter_number-some y (and_parts _ _ k).0, e))
+same_back (x ∷ xs) [] h k e = absurd (omega (arith, letter_number-some x (and_parts _ _ h).0, e))
 same_back (x ∷ xs) (y ∷ ys) h k e =
-    let bx = and_parts (is_small_letter x) (are_small xs) h in
-    let by = and_parts (is_small_letter y) (are_small ys) k in
-    let first : x ≡ y = omega (arith, small_letter x bx.0, small_letter y by.0, e) in
-    cc (first, same_back xs ys bx.1 by.1 (omega (arith, first, e)))
+    let bx = and_parts (is_name_letter x) (are_letters xs) h in
+    let by = and_parts (is_name_letter y) (are_letters ys) k in
+    let number : letter_number x ≡ letter_number y = omega (arith, letter_number-below x, letter_number-below y, e) in
+    cc (letter_number-same x y bx.0 by.0 number, same_back xs ys bx.1 by.1 (omega (arith, number, e)))
 
--- Different words of small letters have different packed numbers.
-packed_same : (xs ys : List ℕ) → are_small xs ≡ true → are_small ys ≡ true → packed_number xs ≡ packed_number ys
+-- Different words of these letters have different packed numbers.
+packed_same : (xs ys : List ℕ) → are_letters xs ≡ true → are_letters ys ≡ true → packed_number xs ≡ packed_number ys
     → xs ≡ ys
 packed_same xs ys h k e =
-    let turned : reverse xs ≡ reverse ys = same_back (reverse xs) (reverse ys) (small_turned xs [] h refl)
-    (small_turned ys [] k refl) (sym (packed_turned xs []) ∙ e ∙ packed_turned ys []) in
+    let turned : reverse xs ≡ reverse ys = same_back (reverse xs) (reverse ys) (letters_turned xs [] h refl)
+    (letters_turned ys [] k refl) (sym (packed_turned xs []) ∙ e ∙ packed_turned ys []) in
     cc (turned, reverse-reverse xs, reverse-reverse ys)
 
 -- ---- a word in small letters
 
-lower_word : (w : List ℕ) → list_all is_ascii_alphabetic w ≡ true → (are_small (map to_ascii_lowercase w) ≡ true)
-    × ((n : ℕ) → packed_number_after n (map to_ascii_lowercase w) ≡ packed_number_after n w)
-lower_word [] e = (refl, λ n. refl)
-lower_word (c ∷ cs) e =
-    let (letter, letters) = and_parts (is_ascii_alphabetic c) (list_all is_ascii_alphabetic cs) e in
-    let small : is_small_letter (to_ascii_lowercase c) ≡ true = grind (arith, nat_tests) in
-    let packed : to_ascii_lowercase c % 32 ≡ c % 32 = grind (arith, nat_tests) in
-    let (rest, more) = lower_word cs letters in
-    (and_from _ _ small rest, λ n. rw (more (n * 32 + to_ascii_lowercase c % 32), packed))
+lower_letter : (o : Options) (c : ℕ) → is_unit_letter o c ≡ true → is_name_letter (to_ascii_lowercase c) ≡ true
+lower_letter o c e = grind (arith, nat_tests)
 
--- ---- a word of small letters is a name if their packed numbers are equal
+lower_number : (c : ℕ) → letter_number (to_ascii_lowercase c) ≡ letter_number c
+lower_number c = elim (cases_Bool (is_ascii_uppercase c)) [
+  | inl capital ↦
+      let letter : is_ascii_alphabetic c ≡ true = grind (arith, nat_tests) in
+      let small : is_ascii_alphabetic (to_ascii_lowercase c) ≡ true = grind (arith, nat_tests) in
+      let same : to_ascii_lowercase c % 32 ≡ c % 32 = grind (arith, nat_tests) in
+      rw (letter, small) same
+  | inr other ↦ let same : to_ascii_lowercase c ≡ c = grind (arith, nat_tests) in rw same refl
+]
 
-name_test : (v name : List ℕ) → are_small v ≡ true → bytes_eq v name ≡ packs_to (packed_number v) name
-name_test v name small =
-    let found = λ (both : packs_to (packed_number v) name ≡ true).
-    let b = and_parts (are_small name) (eqb (packed_number name) (packed_number v)) both in
-    packed_same v name small b.0 (sym (eqb-true _ _ b.1)) in
-    sym (same_from_decides _ _ (found, λ e. rw (← e, small) (eq-eqb _ _ refl)) (bytes_eq-Decides v name))
+-- a unit letter has a number
+letter_some : (o : Options) (c : ℕ) → is_unit_letter o c ≡ true → 0 < letter_number c
+letter_some o c e = omega (arith, letter_number-some (to_ascii_lowercase c) (lower_letter o c e), lower_number c)
 
-names_test : (v : List ℕ) (names : List (List ℕ)) → are_small v ≡ true
+-- the letter with the number n, if n is not 0
+pub numbered_letter : (o : Options) (c n : ℕ) → n ≡ (if is_unit_letter o c then letter_number c else 0)
+    → (n ≡ 0 → ⊥) → (is_unit_letter o c ≡ true) × (n ≡ letter_number c)
+numbered_letter o c n is some = elim (cases_Bool (is_unit_letter o c)) [
+  | inl letter ↦ (letter, rw letter at is)
+  | inr other ↦ absurd (some (rw other at is))
+]
+
+-- a character without number is no letter
+pub unnumbered : (o : Options) (c n : ℕ) → n ≡ (if is_unit_letter o c then letter_number c else 0) → n ≡ 0
+    → is_unit_letter o c ≡ false
+unnumbered o c n is none =
+    false_from_ne_true _ (λ letter. absurd (omega (arith, letter_some o c letter, rw letter at is, none)))
+
+lower_word : (o : Options) (w : List ℕ) → list_all (is_unit_letter o) w ≡ true
+    → are_letters (map to_ascii_lowercase w) ≡ true
+lower_word o [] e = refl
+lower_word o (c ∷ cs) e =
+    let parts = and_parts (is_unit_letter o c) (list_all (is_unit_letter o) cs) e in
+    and_from _ _ (lower_letter o c parts.0) (lower_word o cs parts.1)
+
+lower_packed : (n : ℕ) (w : List ℕ) → packed_number_after n (map to_ascii_lowercase w) ≡ packed_number_after n w
+lower_packed n [] = refl
+lower_packed n (c ∷ cs) = rw (lower_packed (n * 40 + letter_number (to_ascii_lowercase c)) cs, lower_number c)
+
+-- ---- a word is a name if their packed numbers are equal
+
+name_test : (v name : List ℕ) → are_letters v ≡ true → are_letters name ≡ true
+    → bytes_eq v name ≡ packs_to (packed_number v) name
+name_test v name letters own =
+    let found = λ (e : packs_to (packed_number v) name ≡ true). packed_same v name letters own (sym (eqb-true _ _ e)) in
+    sym (same_from_decides _ _ (found, λ e. rw (← e) (eq-eqb _ _ refl)) (bytes_eq-Decides v name))
+
+names_test : (v : List ℕ) (names : List (List ℕ)) → are_letters v ≡ true → list_all are_letters names ≡ true
     → list_any (bytes_eq v) names ≡ list_any (packs_to (packed_number v)) names
-names_test v [] small = refl
-names_test v (name ∷ names) small = rw (name_test v name small, names_test v names small)
+names_test v [] letters own = refl
+names_test v (name ∷ names) letters own =
+    let parts = and_parts (are_letters name) (list_all are_letters names) own in
+    rw (name_test v name letters parts.0, names_test v names letters parts.1)
 
--- no Chinese name is all small letters
-no_chinese : (n : ℕ) (u : TimeUnit) → list_any (packs_to n) (row_of u).chinese ≡ false
-no_chinese n = each_unit (λ u. list_any (packs_to n) (row_of u).chinese ≡ false) assumption
+-- without `cn_unit` no letter is Chinese, so the word is no Chinese name
+no_chinese_letter : (o : Options) (w : List ℕ) → o.cn_unit ≡ false → list_all (is_unit_letter o) w ≡ true
+    → list_any is_chinese (map to_ascii_lowercase w) ≡ false
+no_chinese_letter o [] off e = refl
+no_chinese_letter o (c ∷ cs) off e =
+    let parts = and_parts (is_unit_letter o c) (list_all (is_unit_letter o) cs) e in
+    let other : is_chinese (to_ascii_lowercase c) ≡ false = grind (arith, nat_tests) in
+    rw other (no_chinese_letter o cs off parts.1)
+
+no_chinese_name : (o : Options) (w : List ℕ) (u : TimeUnit) → o.cn_unit ≡ false → list_all (is_unit_letter o) w ≡ true
+    → list_any (bytes_eq (map to_ascii_lowercase w)) (row_of u).chinese ≡ false
+no_chinese_name o w u off e = false_from_ne_true _ (λ t.
+    let chinese = all_units (λ v. list_all (list_any is_chinese) (row_of v).chinese) refl u in
+    cc (
+      named_passes (list_any is_chinese) (map to_ascii_lowercase w) (row_of u).chinese chinese t,
+      no_chinese_letter o w off e,
+    ))
 
 no_capital : (w : List ℕ) → list_any is_ascii_uppercase w ≡ false → map to_ascii_lowercase w ≡ w
 no_capital [] e = refl
@@ -100,22 +223,56 @@ form_lower : (o : Options) (w : List ℕ) → (o.lowercase && list_any is_ascii_
 form_lower o w e = elim (cases_Bool o.lowercase) [ inl on ↦ rw (on, no_capital w (rw on at e)) | inr off ↦ rw off ]
 
 named_by_number : (o : Options) (w : List ℕ) (u : TimeUnit) → (o.lowercase && list_any is_ascii_uppercase w) ≡ false
-    → list_all is_ascii_alphabetic w ≡ true → is_named o w u ≡ list_any (packs_to (packed_number w)) (row_of u).names
+    → list_all (is_unit_letter o) w ≡ true → is_named o w u ≡ list_any (packs_to (packed_number w)) (all_names u)
 named_by_number o w u folded letters =
-    let (small, packed) = lower_word w letters in
-    rw (form_lower o w folded, names_test _ (row_of u).names small, names_test _ (row_of u).chinese small, packed 0)
-    (rw (no_chinese (packed_number w) u, and-false o.cn_unit) (or-false _))
+    let v = map to_ascii_lowercase w in
+    let small = lower_word o w letters in
+    let names = names_test v (row_of u).names small (all_units (λ v. list_all are_letters (row_of v).names) refl u) in
+    let chinese =
+    names_test v (row_of u).chinese small (all_units (λ v. list_all are_letters (row_of v).chinese) refl u) in
+    rw (form_lower o w folded, list_any-append (packs_to (packed_number w)) (row_of u).names, ← lower_packed 0 w, ← names, ← chinese)
+    (elim (cases_Bool o.cn_unit) [ inl on ↦ rw on | inr off ↦ rw (off, no_chinese_name o w u off letters) ])
 
--- the unit that a word of ASCII letters names, without capitals under `lowercase`
+-- the unit that a word names, without capitals under `lowercase`
 pub unit_by_number : (o : Options) (w : List ℕ) → (o.lowercase && list_any is_ascii_uppercase w) ≡ false
-    → list_all is_ascii_alphabetic w ≡ true → unit_of_word o w ≡ unit_of_packed (packed_number w)
+    → list_all (is_unit_letter o) w ≡ true → unit_of_word o w ≡ unit_of_packed (packed_number w)
 unfolding unit_of_packed
 unit_by_number o w folded letters = simp (λ (u : TimeUnit). named_by_number o w u folded letters)
+
+-- ---- words that name no unit
+
+-- All names pass the test, and the word fails it.
+no_name : (o : Options) (w : List ℕ) (test : List ℕ → Bool) → list_all (λ u. list_all test (all_names u)) units ≡ true
+    → test (comparison_form o w) ≡ false → None ≡ unit_of_word o w
+no_name o w test all fails =
+    let unnamed = λ (u : TimeUnit). false_from_ne_true (is_named o w u) (λ t. cc (
+      fails,
+      named_passes test (comparison_form o w) (all_names u) (all_units (λ v. list_all test (all_names v)) all u)
+          (among_all o w u t),
+    )) in
+    simp unnamed
+
+pub no_capital_name : (o : Options) (w : List ℕ) → o.lowercase ≡ true → list_any is_ascii_uppercase w ≡ true
+    → None ≡ unit_of_word o w
+no_capital_name o w on capital =
+    no_name o w (λ name. not (list_any is_ascii_uppercase name)) refl (rw (on, capital) refl)
+
+byte_len-form : (o : Options) (w : List ℕ) → byte_len (comparison_form o w) ≡ byte_len w
+byte_len-form o w = elim (cases_Bool o.lowercase) [ inl on ↦ rw on refl | inr off ↦ rw off (lower w) ]
+  where
+    lower : (w : List ℕ) → byte_len (map to_ascii_lowercase w) ≡ byte_len w
+    lower [] = refl
+    lower (c ∷ cs) =
+        let same : width (to_ascii_lowercase c) ≡ width c = grind (arith, nat_tests) in rw (same, lower cs)
+
+pub no_long_name : (o : Options) (w : List ℕ) → 12 < byte_len w → None ≡ unit_of_word o w
+no_long_name o w long = no_name o w (λ name. leb (byte_len name) 12) refl
+    (false_from_ne_true _ (λ t. absurd (omega (arith, leb-true _ _ t, byte_len-form o w))))
 
 -- ---- slots
 
 abbrev pub slot : ℕ → ℕ
-slot n = n * SPREAD / 2 ^ 58 % 64
+slot n = n * SPREAD / 2 ^ 57 % 128
 
 -- what each entry says, or, for an entry in its own slot, the unit of its number
 abbrev pub found_from : ℕ → List (ℕ × TimeUnit) → List (Option TimeUnit)
@@ -132,41 +289,37 @@ slot_found_from (e ∷ es) i (suc j) d lt right own =
     slot_found_from es (i + 1) j d (omega (arith, lt)) (cc right) (omega (arith, own))
 
 -- if the number in the slot is the one searched for, its unit is found
-pub slot_found : (table : List (ℕ × TimeUnit)) (d : ℕ × TimeUnit) (n : ℕ) → length table ≡ 64
+pub slot_found : (table : List (ℕ × TimeUnit)) (d : ℕ × TimeUnit) (n : ℕ) → length table ≡ 128
     → found_from 0 table ≡ map (λ e. Some e.1) table → n < 2 ^ 64 → (get_or table (slot n) d).0 ≡ n
     → Some (get_or table (slot n) d).1 ≡ unit_of_packed n
 slot_found table d n len right small key =
     rw key at (slot_found_from table 0 (slot n) d (omega (arith, len)) right (rw key (omega arith)))
 
--- whether a name, if it is all small letters, is in its slot
+-- whether a name is in its slot
 abbrev pub is_kept : List (ℕ × TimeUnit) → (ℕ × TimeUnit) → List ℕ → Bool
-is_kept table d name =
-    if are_small name then eqb (get_or table (slot (packed_number name)) d).0 (packed_number name) else true
+is_kept table d name = eqb (get_or table (slot (packed_number name)) d).0 (packed_number name)
 
 abbrev pub are_kept : List (ℕ × TimeUnit) → (ℕ × TimeUnit) → List TimeUnit → Bool
-are_kept table d us = list_all (λ u. list_all (is_kept table d) (row_of u).names) us
+are_kept table d us = list_all (λ u. list_all (is_kept table d) (all_names u)) us
 
 module _ (table : List (ℕ × TimeUnit)) (d : ℕ × TimeUnit) (n : ℕ) (differs : (get_or table (slot n) d).0 ≡ n → ⊥) where
   not_it : (name : List ℕ) → is_kept table d name ≡ true → packs_to n name ≡ false
-  not_it name kept = elim (cases_Bool (are_small name)) [
-    | inl small ↦ rw small (false_from_ne_true (eqb (packed_number name) n) (λ e.
-        let is = eqb-true (packed_number name) n e in
-        differs (rw is at (eqb-true _ _ (rw small at kept)))))
-    | inr other ↦ rw other
-  ]
+  not_it name kept = false_from_ne_true (eqb (packed_number name) n) (λ e.
+      let is = eqb-true (packed_number name) n e in differs (rw is at (eqb-true _ _ kept)))
 
-  none_of_names : (ns : List (List ℕ)) → list_all (is_kept table d) ns ≡ true → list_any (packs_to n) ns ≡ false
+  none_of_names : (ns : List (List ℕ)) → list_all (is_kept table d) ns ≡ true
+      → list_any (packs_to n) ns ≡ false
   none_of_names [] kept = refl
   none_of_names (name ∷ names) kept =
       let b = and_parts (is_kept table d name) (list_all (is_kept table d) names) kept in
       rw (not_it name b.0) (none_of_names names b.1)
 
   none_of_units : (us : List TimeUnit) → are_kept table d us ≡ true
-      → None ≡ find (λ u. list_any (packs_to n) (row_of u).names) us
+      → None ≡ find (λ u. list_any (packs_to n) (all_names u)) us
   none_of_units [] kept = refl
   none_of_units (u ∷ us) kept =
-      let b = and_parts (list_all (is_kept table d) (row_of u).names) (are_kept table d us) kept in
-      rw (none_of_names (row_of u).names b.0) (none_of_units us b.1)
+      let b = and_parts (list_all (is_kept table d) (all_names u)) (are_kept table d us) kept in
+      rw (none_of_names (all_names u) b.0) (none_of_units us b.1)
 
   -- if the number in the slot is another one, no name has the number searched for
   pub slot_empty : are_kept table d units ≡ true → None ≡ unit_of_packed n

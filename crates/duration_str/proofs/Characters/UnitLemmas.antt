@@ -1,6 +1,5 @@
 -- Words and names, as bytes and as characters, and their ASCII capitals.
-use Rattle.std.proofs.Common.{◌≡◌, ◌+◌, ◌/◌, ◌%◌, ℕ, ◌≤◌, Bool, true, ltb, eqb, not, ◌||◌, Some, List, [], ◌∷◌, ◌++◌, map, IsUtf8, refl, ap, ◌∙◌, arith, inl, inr, find, bytes_eq, chars, le-ltb, eqb-true, Bor}
-use Rattle.duration_str.proofs.Common.{list_any, list_all, to_ascii_lowercase, bytes_eq-Decides, encodes-chars, encode_ascii, cases_Bool, cases_lt, and_parts, or_cases, nat_tests, same_from_decides, map-append, list_any-append, encodes, Options, TimeUnit, units, row_of, nanos_of, comparison_form, is_named, unit_of_word, AreEncoded, encodes_same}
+use Rattle.duration_str.proofs.Common.{◌≡◌, ◌+◌, ◌/◌, ◌%◌, ℕ, ◌≤◌, Bool, true, ltb, eqb, not, ◌||◌, Some, List, [], ◌∷◌, map, IsUtf8, refl, ap, ◌∙◌, arith, inl, inr, find, bytes_eq, chars, le-ltb, eqb-true, Bor, list_any, list_all, to_ascii_lowercase, bytes_eq-Decides, encodes-chars, encode_ascii, cases_Bool, cases_lt, and_parts, or_cases, nat_tests, same_from_decides, map-append, list_any-append, encodes, Options, TimeUnit, all_names, units, row_of, nanos_of, comparison_form, is_named, unit_of_word, AreEncoded, encodes_same}
 use Rattle.std.proofs.lemmas.Str.Ascii.{lowercase_ascii}
 use lib.Utf8.{encode, next}
 use Rattle.duration_str.proofs.Characters.EachUnit.{each_unit, all_units}
@@ -103,9 +102,6 @@ by_chinese o word u texts r =
 
 -- ---- a name belongs to one unit
 
-abbrev all_names : TimeUnit → List (List ℕ)
-all_names u = (row_of u).names ++ (row_of u).chinese
-
 -- whether the two units share no name
 abbrev are_apart : TimeUnit → TimeUnit → Bool
 are_apart u v = list_all (λ name. not (list_any (bytes_eq name) (all_names v))) (all_names u)
@@ -133,7 +129,7 @@ named_passes test w (name ∷ names) all h =
       | inr later ↦ named_passes test w names parts.1 later
     ]
 
-among_all : (o : Options) (w : List ℕ) (u : TimeUnit) → is_named o w u ≡ true
+pub among_all : (o : Options) (w : List ℕ) (u : TimeUnit) → is_named o w u ≡ true
     → list_any (bytes_eq (comparison_form o w)) (all_names u) ≡ true
 among_all o w u h = rw (list_any-append (bytes_eq (comparison_form o w)) (row_of u).names) (grind arith)
 

@@ -1,10 +1,9 @@
 -- Tokens by their first character.
-use Rattle.std.proofs.Common.{◌≡◌, ℕ, Bool, true, false, inl, inr, List, [], ◌∷◌, length, ◌<◌, Option, Some, None, refl, sym, ◌∙◌, add-zero, arith, IsTrue, if◌then◌else◌}
-use Rattle.duration_str.proofs.Common.{cases_Bool, and_parts, list_all, Options, TimeUnit, CondUnit, Sort, Number, Word, is_blank, is_digit, is_unit_letter, operator_of, number_of, IsNumber, unit_of_word, Terminal, number, word, operator_or_other, terminal_of, EndsRun, are_of_one_run, goes_on, IsLexeme, AreTokens, tokens_from, ahead, StandsAt, Between, Passes, Stops, sign_sort, sort_at, sort_of, is_number, IsSign, Token, with_first_character}
+use Rattle.duration_str.proofs.Common.{◌≡◌, ℕ, Bool, true, false, inl, inr, List, [], ◌∷◌, length, ◌<◌, Option, Some, None, refl, sym, ◌∙◌, add-zero, arith, IsTrue, if◌then◌else◌, cases_Bool, and_parts, list_all, Options, TimeUnit, CondUnit, Sort, Number, Word, is_blank, is_digit, is_unit_letter, operator_of, number_of, IsNumber, unit_of_word, Terminal, number, word, operator_or_other, terminal_of, EndsRun, are_of_one_run, goes_on, IsLexeme, AreTokens, tokens_from, ahead, StandsAt, Between, Passes, Stops, sign_sort, sort_at, sort_of, is_number, IsSign, Token, with_first_character}
 use Rattle.duration_str.proofs.Characters.CharacterLemmas.{digit-not_letter, letter-not_digit}
 use Rattle.duration_str.proofs.Cutting.TokenLemmas.{tokens_are}
 use Rattle.duration_str.proofs.Cutting.TerminalLemmas.{digits_are_lexeme, letters_are_lexeme, no_run, lexeme_sort}
-use Rattle.duration_str.proofs.Cutting.CuttingLemmas.{TakesWord}
+use Rattle.duration_str.proofs.Cutting.PositionLemmas.{TakesWord}
 
 -- The characters from `place` to `next` are a token, as long as possible, that stands for this terminal.
 pub record StandsToken (o : Options) (text : List ℕ) (place next : ℕ) (terminal : Terminal) : Type 0 where

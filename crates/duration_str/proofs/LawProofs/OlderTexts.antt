@@ -1,6 +1,5 @@
 -- The law `older_texts`: a sentence over the units without the quarter is a sentence over all units.
-use Rattle.std.proofs.Common.{◌≡◌, ℕ, Bool, true, false, List, [], ◌∷◌, map, Option, Some, None, IsTrue, refl, sym, ap, ap₂, ◌∙◌, append-nil, ◌⊎◌, inl, inr, true≢false, find}
-use Rattle.duration_str.proofs.Common.{⊤, and_parts, cases_Bool, list_all, Options, CondUnit, Plus, TimeUnit, Quarter, Cause, is_digit, is_unit_letter, operator_of, UnitRow, row_of, nanos_of, is_named, unit_of_word, Terminal, number, word, operator, operator_or_other, sign_terminal, terminal_by, terminal_of, IsSentence, IsSentenceOf, kinds_after, allows, terms_by, terms_of, or_else, evaluation_fault, IsRead, IsRefusedAt, IsRefused, first_fault, early, late, older_row_of, older_units, was_named, older_nanos_of, older_unit_of_word, older_terminals, older_terms, WasSentenceOf, WasRead, WasRefused, sentence_fault, OlderTexts}
+use Rattle.duration_str.proofs.Common.{◌≡◌, ℕ, Bool, true, false, List, [], ◌∷◌, map, Option, Some, None, IsTrue, refl, sym, ap, ap₂, ◌∙◌, append-nil, ◌⊎◌, inl, inr, true≢false, find, ⊤, and_parts, cases_Bool, list_all, Options, CondUnit, Plus, TimeUnit, Quarter, Cause, is_digit, is_unit_letter, operator_of, UnitRow, row_of, nanos_of, is_named, unit_of_word, Terminal, number, word, operator, operator_or_other, sign_terminal, terminal_by, terminal_of, IsSentence, IsSentenceOf, kinds_after, allows, terms_by, terms_of, or_else, evaluation_fault, IsRead, IsRefusedAt, IsRefused, first_fault, early, late, older_row_of, older_units, was_named, older_nanos_of, older_unit_of_word, older_terminals, older_terms, WasSentenceOf, WasRead, WasRefused, sentence_fault, OlderTexts}
 use Rattle.duration_str.proofs.Characters.UnitLemmas.{named_unit}
 use Rattle.duration_str.proofs.Sentences.AnswerLemmas.{sentence_refused}
 use Rattle.duration_str.proofs.Sentences.FrontLemmas.{AreAllowed, sentence_allowed}

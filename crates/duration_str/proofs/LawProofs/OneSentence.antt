@@ -1,6 +1,5 @@
 -- A text has only one list of tokens, and at most one sentence spells it.
-use Rattle.std.proofs.Common.{List, ℕ, sym, subst, ◌∙◌}
-use Rattle.duration_str.proofs.Common.{Spells, tokens_of, OneSentence, OneCut}
+use Rattle.duration_str.proofs.Common.{List, ℕ, sym, subst, ◌∙◌, Spells, tokens_of, OneSentence, OneCut}
 use Rattle.duration_str.proofs.Cutting.TokenLemmas.{tokens_once, tokens_are}
 use Rattle.duration_str.proofs.Sentences.SpellingLemmas.{sentence_tokens, tokens_spell}
 

@@ -1,6 +1,5 @@
 -- The table says what can follow the beginning of a sentence, and finds the front.
-use Rattle.std.proofs.Common.{◌≡◌, Bool, true, ◌≢◌, List, [], ◌∷◌, Option, Some, None, IsTrue, sym, ◌∙◌, true≢false}
-use Rattle.duration_str.proofs.Common.{CondUnit, Terminal, operator, kinds_after, allows, last_of, PlaceAndKinds}
+use Rattle.duration_str.proofs.Common.{◌≡◌, Bool, true, ◌≢◌, List, [], ◌∷◌, Option, Some, None, IsTrue, sym, ◌∙◌, true≢false, CondUnit, Terminal, operator, kinds_after, allows, last_of, PlaceAndKinds}
 use Rattle.duration_str.proofs.Sentences.FrontLemmas.{AreAllowed, begins_allowed, kinds_by_table, no_operators, table_front, one_front}
 
 allowed_no_operator : (no_calc : Bool) (last : Option Terminal) (t : Terminal) (op : CondUnit) → no_calc ≡ true

@@ -1,6 +1,5 @@
 -- A printed text is read back below 2^64 nanoseconds, and otherwise overflows.
-use Rattle.std.proofs.Common.{◌≡◌, ℕ, ◌+◌, ◌*◌, ◌/◌, ◌^◌, ◌≤◌, ◌<◌, Bool, true, false, ◌==◌, List, [], ◌∷◌, map, drop, Some, None, arith, sym, ne_eqb, lt-ltb, le-ltb}
-use Rattle.duration_str.proofs.Common.{FitsDuration, Options, Year, Overflow, units, nanos_of, unit_lengths, Terminal, number, word, terminal_of, sum_of, terms_of, early_fault, IsRead, early, IsRefused, IsPrinted, counts_of, ReadsBack}
+use Rattle.duration_str.proofs.Common.{◌≡◌, ℕ, ◌+◌, ◌*◌, ◌/◌, ◌^◌, ◌≤◌, ◌<◌, Bool, true, false, ◌==◌, List, [], ◌∷◌, map, drop, Some, None, arith, sym, ne_eqb, lt-ltb, le-ltb, FitsDuration, Options, Year, Overflow, units, nanos_of, unit_lengths, Terminal, number, word, terminal_of, sum_of, terms_of, early_fault, IsRead, early, IsRefused, IsPrinted, counts_of, ReadsBack}
 use Rattle.duration_str.proofs.Sentences.AnswerLemmas.{sentence_refused}
 use Rattle.duration_str.proofs.Sentences.SumReadings.{terms_of_lexemes, sum_read, EachFits, sum_fits_each, sum_overflows}
 use Rattle.duration_str.proofs.Printer.PrintingLemmas.{kept, terminals, duration_lexemes, terminals_of_duration, printed_is_sum, duration_sum}

@@ -1,6 +1,5 @@
 -- Two accepted texts without `*`, joined by a plus, have the sum of their values, or overflow.
-use Rattle.std.proofs.Common.{◌≡◌, ℕ, inl, inr, ◌+◌, true, false, not, ◌==◌, List, [], ◌∷◌, ◌++◌, map, Some, codes, arith, refl, ◌∙◌, append_assoc}
-use Rattle.duration_str.proofs.Common.{cases_Bool, and_parts, and_from, nat_tests, map-append, list_all-append, Options, CondUnit, Plus, IsBlank, operator_of, Terminal, number, word, operator, terminal_of, IsSentence, Spells, AllPlus, Term, sum_of, terms_of, terms_after, IsRead, SumOfTexts, HasNoStar}
+use Rattle.duration_str.proofs.Common.{◌≡◌, ℕ, inl, inr, ◌+◌, true, false, not, ◌==◌, List, [], ◌∷◌, ◌++◌, map, Some, codes, arith, refl, ◌∙◌, append_assoc, cases_Bool, and_parts, and_from, nat_tests, map-append, list_all-append, Options, CondUnit, Plus, IsBlank, operator_of, Terminal, number, word, operator, terminal_of, IsSentence, Spells, AllPlus, Term, sum_of, terms_of, terms_after, IsRead, SumOfTexts, HasNoStar}
 use Rattle.duration_str.proofs.Cutting.TerminalLemmas.{terminal_cases}
 use Rattle.duration_str.proofs.Sentences.SpellingLemmas.{EachPasses, lexemes_pass, begins_with}
 use Rattle.duration_str.proofs.Sentences.SumLemmas.{sum-append}

@@ -1,6 +1,5 @@
 -- Combining the later terms one by one gives their faults in the order of the whole list.
-use Rattle.std.proofs.Common.{◌≡◌, ℕ, ◌+◌, ◌*◌, ◌^◌, ◌<◌, Bool, true, false, inl, inr, List, [], ◌∷◌, ◌++◌, Option, Some, None, Result, Ok, IsTrue, if◌then◌else◌, unwrap_or, refl, ap, ◌∙◌, arith, append_assoc, append-nil, ok_or, lt-ltb, le-ltb}
-use Rattle.duration_str.proofs.Common.{cases_Bool, cases_lt, CondUnit, Plus, Star, Cause, Overflow, Mixed, Term, value_of_term, sum_of, later_total, combination, value_of, fits, or_else, unless, term_fault, later_fault, evaluation_fault, is_same_operator, u64_from, checked_term, first_fault, running_fault, fault_or, identity_of, before_operator, at_once, result_err, checked_combination}
+use Rattle.duration_str.proofs.Common.{◌≡◌, ℕ, ◌+◌, ◌*◌, ◌^◌, ◌<◌, Bool, true, false, inl, inr, List, [], ◌∷◌, ◌++◌, Option, Some, None, Result, Ok, IsTrue, if◌then◌else◌, unwrap_or, refl, ap, ◌∙◌, arith, append_assoc, append-nil, ok_or, lt-ltb, le-ltb, cases_Bool, cases_lt, CondUnit, Plus, Star, Cause, Overflow, Mixed, Term, value_of_term, sum_of, later_total, combination, value_of, fits, or_else, unless, term_fault, later_fault, evaluation_fault, is_same_operator, u64_from, checked_term, first_fault, running_fault, fault_or, identity_of, check_operator, immediate_fault, result_err, checked_combination}
 use Rattle.std.proofs.lemmas.List.Sums.{fold-append}
 use Rattle.duration_str.proofs.Sentences.FaultLemmas.{no_fault, is_same_operator-true}
 use Rattle.duration_str.proofs.Sentences.SumLemmas.{AreAdded, sum-append, later_none, running_below, value_is_sum}
@@ -39,11 +38,11 @@ checked_combination-fault_right op x (Some cause) y = refl
 ok_or-fits : (n : ℕ) → ok_or (u64_from n) (Overflow None) ≡ fault_or (unless (fits n) (Overflow None)) (Ok n)
 ok_or-fits n = elim (cases_Bool (fits n)) [ inl e ↦ rw e | inr e ↦ rw e ]
 
-before_operator-fault : (op next : CondUnit) (a : Option Cause) (x : ℕ)
-    → before_operator op (fault_or a (Ok x)) next
+check_operator-fault : (op next : CondUnit) (a : Option Cause) (x : ℕ)
+    → check_operator op (fault_or a (Ok x)) next
     ≡ fault_or a (fault_or (unless (is_same_operator op next) (Mixed op next)) (Ok x))
-before_operator-fault op next (Some cause) x = refl
-before_operator-fault op next None x = elim (cases_Bool (is_same_operator op next)) [ inl e ↦ rw e | inr e ↦ rw e ]
+check_operator-fault op next (Some cause) x = refl
+check_operator-fault op next None x = elim (cases_Bool (is_same_operator op next)) [ inl e ↦ rw e | inr e ↦ rw e ]
 
 ruleset fault_order = (
   or_else_assoc,
@@ -52,7 +51,7 @@ ruleset fault_order = (
   checked_combination-fault_left,
   checked_combination-fault_right,
   ok_or-fits,
-  before_operator-fault,
+  check_operator-fault,
 )
 
 running_append : (before xs ys : List Term)
@@ -72,9 +71,9 @@ abbrev value_by : CondUnit → List Term → Result ℕ Cause
 value_by op later = fault_or (later_fault op [] later) (Ok (later_total op later))
 
 -- The value of a term, or its fault, as `checked_term` gives it.
-pub term_told : (place : Option ℕ) (t : Term)
+pub checked_term_is : (place : Option ℕ) (t : Term)
     → checked_term place (u64_from t.number) t.length ≡ fault_or (term_fault place t) (Ok (value_of_term t))
-term_told place t = elim (cases_Bool (fits t.number)) [
+checked_term_is place t = elim (cases_Bool (fits t.number)) [
   | inl e ↦ rw e (elim (cases_Bool (fits (value_of_term t))) [ inl f ↦ rw f | inr f ↦ rw f ])
   | inr e ↦ rw e
 ]
@@ -94,11 +93,11 @@ together-push Star before t = rw fold-append
 
 -- One more term is combined if its operator is the same.
 one_more : (op : CondUnit) (before : List Term) (t : Term)
-    → checked_combination op (before_operator op (value_by op before) t.operator)
+    → checked_combination op (check_operator op (value_by op before) t.operator)
     (checked_term None (u64_from t.number) t.length)
     ≡ value_by op (before ++ t ∷ [])
 one_more op before t =
-    simp (fault_order, term_told None t, later_append op [] before (t ∷ []), together-push op before t)
+    simp (fault_order, checked_term_is None t, later_append op [] before (t ∷ []), together-push op before t)
 
 -- ---- All terms, one by one
 
@@ -108,8 +107,8 @@ abbrev pub answer_with : Bool → ℕ → CondUnit → Result ℕ Cause → List
 answer_with no_calc first op later [] syntax = fault_or syntax (checked_combination op (Ok first) later)
 answer_with no_calc first op later (t ∷ terms) syntax =
     let term = checked_term None (u64_from t.number) t.length in
-    let next = checked_combination op (before_operator op later t.operator) term in
-    fault_or (at_once no_calc (checked_combination op (Ok first) next))
+    let next = checked_combination op (check_operator op later t.operator) term in
+    fault_or (immediate_fault no_calc (checked_combination op (Ok first) next))
     (answer_with no_calc first op next terms syntax)
 
 -- the answer, given the first value and the terms after it
@@ -126,17 +125,17 @@ default_left first op before (t ∷ later) syntax =
     rw (one_more op before t, default_left first op (before ++ t ∷ []) later syntax, append_assoc before)
 
 -- the overflow of the later terms' sum, and that of the sum with the first term, are one fault
-sum_told : (first sum : ℕ) (own : Option Cause)
+one_overflow : (first sum : ℕ) (own : Option Cause)
     → or_else own (or_else (unless (fits (first + sum)) (Overflow None)) None)
     ≡ result_err (checked_combination Plus (Ok first)
     (fault_or (or_else own (or_else (unless (fits sum) (Overflow None)) None)) (Ok sum)))
-sum_told first sum (Some cause) = refl
-sum_told first sum None = elim (cases_lt sum (2 ^ 64)) [
+one_overflow first sum (Some cause) = refl
+one_overflow first sum None = elim (cases_lt sum (2 ^ 64)) [
   | inl below ↦ rw (lt-ltb sum _ below) (elim (cases_Bool (fits (first + sum))) [ inl e ↦ rw e | inr e ↦ rw e ])
   | inr above ↦ rw (le-ltb sum _ above, le-ltb (first + sum) (2 ^ 64) (omega arith))
 ]
 
--- Under `no_calc` the fault of one more term, or of the sum, is reported at once.
+-- Under `no_calc` the fault of one more term, or of the sum, is reported immediately.
 checked_sum : (f : Term) (before : List Term) (t : Term) → t.operator ≡ Plus → AreAdded (f ∷ before)
     → sum_of (f ∷ before) < 2 ^ 64
     → running_fault (f ∷ before) (t ∷ [])
@@ -144,7 +143,7 @@ checked_sum : (f : Term) (before : List Term) (t : Term) → t.operator ≡ Plus
 checked_sum f before t plus a h =
     let same = (is_same_operator-true Plus t.operator).1 plus in
     rw (later_append Plus [] before (t ∷ []), later_none [] before a.2 (omega arith), same)
-    (sum_told (value_of_term f) (sum_of (before ++ t ∷ [])) (term_fault None t))
+    (one_overflow (value_of_term f) (sum_of (before ++ t ∷ [])) (term_fault None t))
 
 -- Results after a fault are equal if they are without it.
 unless_fault : {x y : Result ℕ Cause} (fault : Option Cause) → (fault ≡ None → x ≡ y)

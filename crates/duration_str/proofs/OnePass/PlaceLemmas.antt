@@ -1,11 +1,10 @@
 -- The place of a fault is a character boundary of the text.
-use Rattle.std.proofs.Common.{◌≡◌, ℕ, zero, suc, ◌+◌, ◌-◌, ◌≤◌, Bool, true, false, List, [], ◌∷◌, ◌++◌, length, take, drop, Option, Some, None, Err, IfSome, IsUtf8, refl, ap, sym, subst, ◌∙◌, arith, append_assoc, append-nil, length-append, IsCharBoundary, chars}
-use Rattle.duration_str.proofs.Common.{ForSome, IsUtf8-take, encodes-append, encodes-chars, scalars-chars, chars-append, and_parts, scalar, scalars, encodes, encode, Options, CondUnit, Cause, Syntax, byte_len, Terminal, AreTokens, tokens_of, start_after, Term, or_else, unless, terms_of, later_fault, evaluation_fault, complete_terms, first_fault, running_fault, early_fault, late_fault, answer, IsRefused, early, syntax_fault, late, IsCharBoundary-start, IsCharBoundary-at_seam, length-encode, Token}
+use Rattle.duration_str.proofs.Common.{◌≡◌, ℕ, zero, suc, ◌+◌, ◌-◌, ◌≤◌, Bool, true, false, List, [], ◌∷◌, ◌++◌, length, take, drop, Option, Some, None, Err, IfSome, IsUtf8, refl, ap, sym, subst, ◌∙◌, arith, append_assoc, append-nil, length-append, IsCharBoundary, chars, ForSome, IsUtf8-take, encodes-append, encodes-chars, scalars-chars, chars-append, and_parts, scalar, scalars, encodes, encode, Options, CondUnit, Cause, Syntax, byte_len, Terminal, AreTokens, tokens_of, start_after, Term, or_else, unless, terms_of, later_fault, evaluation_fault, complete_terms, first_fault, running_fault, early_fault, late_fault, answer, IsRefused, early, syntax_fault, late, IsCharBoundary-start, IsCharBoundary-at_seam, length-encode, Token}
 use Rattle.std.proofs.Math.Seq.{drop-nil, take-add}
 use Rattle.duration_str.specs.Faults.{place_of}
 use Rattle.duration_str.proofs.Characters.TextLemmas.{width-scalar, byte_len-append}
 use Rattle.duration_str.proofs.Cutting.TokenLemmas.{tokens_are}
-use Rattle.duration_str.proofs.Sentences.AnswerLemmas.{is_answer_holds}
+use Rattle.duration_str.proofs.Sentences.AnswerLemmas.{answer_is_reading_holds}
 
 -- ---- A property of the place of a syntax fault
 
@@ -101,7 +100,7 @@ pub fault_placed : {c : Cause} (o : Options) (bs : List ℕ) → IsUtf8 bs → a
     → ForSome (place_of c) (IsCharBoundary bs)
 fault_placed {c} o bs utf8 e =
     stands_at (IsCharBoundary bs) (IsCharBoundary-start bs utf8) c
-    (refused_stands (IsCharBoundary bs) o (chars bs) c ((is_answer_holds.refused o (chars bs) c).0 e)
+    (refused_stands (IsCharBoundary bs) o (chars bs) c ((answer_is_reading_holds.refused o (chars bs) c).0 e)
     (λ n. start_placed o bs [] (chars bs) n 0 _ utf8 refl refl (tokens_are o 0 (chars bs))))
 
 -- There are at most as many characters before an earlier place.

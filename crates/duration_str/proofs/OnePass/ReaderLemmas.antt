@@ -1,8 +1,7 @@
 -- The reader's steps: what comes next, by the sort ahead, and what is left after it.
-use Rattle.std.proofs.Common.{◌≡◌, ℕ, Bool, true, false, length, Option, Some, None, Result, Ok, Err, IsTrue, refl, sym, ap, ◌∙◌, if◌then◌else◌}
-use Rattle.duration_str.proofs.Common.{TimeUnit, CondUnit, Plus, Cause, Syntax, Sort, Tokens, Terminal, number, word, operator, other, terminal_of, kinds_at_start, sort_of, source, options_of, tokens_left, LooksAhead, is_number, TakesToken, TakesSign, Rest, terminal_at, end_at, rest_from, rest_of, lacks_number, fault_or, Read, leaving, operator_read}
-use Rattle.duration_str.specs.Tokenizer.{cut_place}
-use Rattle.duration_str.proofs.Cutting.TokenizerLemmas.{none_left, first_left}
+use Rattle.duration_str.proofs.Common.{◌≡◌, ℕ, Bool, true, false, length, Option, Some, None, Result, Ok, Err, IsTrue, refl, sym, ap, ◌∙◌, if◌then◌else◌, TimeUnit, CondUnit, Plus, Cause, Syntax, Sort, Tokens, Terminal, number, word, operator, other, terminal_of, kinds_at_start, sort_of, source, options_of, tokens_left, LooksAhead, is_number, TakesToken, TakesSign, Rest, terminal_at, end_at, rest_from, rest_of, number_fault, fault_or, ReadItem, leaving, operator_read}
+use Rattle.duration_str.specs.Iteration.{cut_place}
+use Rattle.duration_str.proofs.Cutting.StepLemmas.{none_left, first_left}
 use Rattle.duration_str.specs.declared.token.Sort.TheVariants as sorts
 
 pub same_rest : {s m : Tokens} {sort : Option Sort} → LooksAhead s m sort → rest_of m ≡ rest_of s
@@ -36,7 +35,7 @@ starts {s} {m} {sort = sort} look is =
 
 -- A number follows, or its absence is a fault at the place.
 pub number_comes : {s m : Tokens} {sort : Option Sort} → LooksAhead s m sort
-    → lacks_number (rest_of s) ≡ (if is_number sort then None else Some (Syntax (cut_place m) kinds_at_start))
+    → number_fault (rest_of s) ≡ (if is_number sort then None else Some (Syntax (cut_place m) kinds_at_start))
 number_comes {sort = None} look = rw (at_end look).0
 number_comes {sort = Some sorts.Number} look = rw (starts look refl).2
 number_comes {sort = Some sorts.Word} look = rw (starts look refl).2
@@ -62,13 +61,13 @@ after_token {s} {t} taken =
 
 pub operator_taken : {s m : Tokens} {ahead : Option Sort} {op : CondUnit} (t : Tokens) → LooksAhead s m ahead
     → ahead ≡ Some (sorts.Operator op) → TakesSign m t
-    → operator_read false (rest_of s) ≡ leaving (rest_of t) (fault_or (lacks_number (rest_of t)) (Ok (Some op)))
+    → operator_read false (rest_of s) ≡ leaving (rest_of t) (fault_or (number_fault (rest_of t)) (Ok (Some op)))
 operator_taken {m = m} {op = op} t look is takes =
     let taken = takes (sorts.Operator op) tt (rw is at look.ahead) in
     rw (← same_rest look, after_token taken.token, operator_terminal taken.terminal op taken.has)
 
 -- the operator that was read
-abbrev operator_of : Result (Read (Option CondUnit)) Cause → Option CondUnit
+abbrev operator_of : Result (ReadItem (Option CondUnit)) Cause → Option CondUnit
 operator_of (Ok r) = r.item
 operator_of (Err cause) = None
 

@@ -1,14 +1,13 @@
 -- The terms that are left while a text is read, and the answer that they give.
-use Rattle.std.proofs.Common.{◌≡◌, ℕ, ◌^◌, ◌<◌, Bool, true, false, List, [], ◌∷◌, ◌++◌, length, take, drop, Option, Some, None, Result, Ok, Err, if◌then◌else◌, IsTrue, refl, sym, ap, subst, ◌∙◌, arith}
-use Rattle.duration_str.proofs.Common.{TimeUnit, NanoSecond, CondUnit, Plus, Star, Cause, Syntax, Expected, Number, Tokens, nanos_of, Terminal, number, word, operator, AllPlus, Term, value_of_term, terms_of, terms_after, unless, checked_term, term_of, without_last_number, complete_terminals, late_answer, answer_at, kinds_after, last_of, front_of, IsAhead, LooksAhead, TakesNumber, Rest, terminal_at, rest_of, start_left, terminals_in, Read, leaving, unit_read, operator_read, answer_left, first_term, fault_or, identity_of, before_operator, at_once, checked_combination}
-use Rattle.duration_str.specs.Tokenizer.{cut_place}
+use Rattle.duration_str.proofs.Common.{◌≡◌, ℕ, ◌^◌, ◌<◌, Bool, true, false, List, [], ◌∷◌, ◌++◌, length, take, drop, Option, Some, None, Result, Ok, Err, if◌then◌else◌, IsTrue, refl, sym, ap, subst, ◌∙◌, arith, TimeUnit, NanoSecond, CondUnit, Plus, Star, Cause, Syntax, Expected, Number, Tokens, nanos_of, Terminal, number, word, operator, AllPlus, Term, value_of_term, terms_of, terms_after, unless, checked_term, term_of, without_last_number, complete_terminals, late_answer, answer_at, kinds_after, last_of, front_of, IsAhead, LooksAhead, TakesNumber, Rest, terminal_at, rest_of, start_left, terminals_in, ReadItem, leaving, unit_read, operator_read, answer_left, first_term, fault_or, check_operator, immediate_fault, checked_combination, Later, no_later, with_first}
+use Rattle.duration_str.specs.Iteration.{cut_place}
 use Rattle.duration_str.proofs.Sentences.FaultLemmas.{term_below_no_fault}
 use Rattle.duration_str.proofs.Sentences.FrontLemmas.{begins_allowed, table_front}
 use Rattle.duration_str.proofs.Sentences.SumLemmas.{AreAdded, terms_added}
 use Rattle.duration_str.proofs.Sentences.AnswerLemmas.{allowed_plus}
-use Rattle.duration_str.proofs.OnePass.EvaluationLemmas.{answer_of, term_told, answer_with, answer_after_first, one_by_one}
+use Rattle.duration_str.proofs.OnePass.EvaluationLemmas.{answer_of, checked_term_is, answer_with, answer_after_first, one_by_one}
 use Rattle.duration_str.proofs.OnePass.ReaderLemmas.{starts, after_token}
-use Rattle.duration_str.proofs.Cutting.TokenizerLemmas.{keeps_all}
+use Rattle.duration_str.proofs.Cutting.StepLemmas.{keeps_all}
 
 -- terms, and the syntax fault after them
 pub record Ended : Type 0 where
@@ -45,12 +44,12 @@ abbrev pub no_terms : Cause → Ended
 no_terms cause = record { terms = []; fault = Some cause }
 
 -- the terms after a unit, given what was read as the operator after it
-abbrev pub after_unit : Bool → Result (Read (Option CondUnit)) Cause → Ended
+abbrev pub after_unit : Bool → Result (ReadItem (Option CondUnit)) Cause → Ended
 after_unit no_calc (Ok r) = next_terms no_calc r.item r.rest
 after_unit no_calc (Err cause) = no_terms cause
 
 -- the terms from the number n on, given what was read as the unit after it
-abbrev pub after_number : Bool → CondUnit → ℕ → Result (Read TimeUnit) Cause → Ended
+abbrev pub after_number : Bool → CondUnit → ℕ → Result (ReadItem TimeUnit) Cause → Ended
 after_number no_calc op n (Ok r) =
     let more = after_unit no_calc (operator_read no_calc r.rest) in
     record { terms = record { operator = op; number = n; length = nanos_of r.item } ∷ more.terms; fault = more.fault }
@@ -79,16 +78,17 @@ terms_read no_calc op at n rest = refl
 
 -- A number is taken, and r is the result of reading the unit after it.
 pub number_taken : {s a : Tokens} {n : Option ℕ} (no_calc : Bool) (op : CondUnit) (taken : TakesNumber s a n)
-    (r : Result (Read TimeUnit) Cause) → r ≡ unit_read no_calc (rest_of a)
+    (r : Result (ReadItem TimeUnit) Cause) → r ≡ unit_read no_calc (rest_of a)
     → left_after no_calc op (rest_of s) ≡ after_number no_calc op taken.n r
 number_taken {s} {a} no_calc op taken r is =
     rw (after_token taken.token, terms_read no_calc op (cut_place s) taken.n (rest_of a), is)
 
 -- ---- Steps of the answer
 
--- the answer, given the first value, the later terms so far, and what is left
-abbrev pub with_left : Bool → ℕ → CondUnit → Result ℕ Cause → Ended → Result ℕ Cause
-with_left no_calc first op later left = answer_with no_calc first op later left.terms left.fault
+-- the answer, given the later terms so far and what is left
+abbrev pub with_left : Bool → Later → Ended → Result ℕ Cause
+with_left no_calc later left =
+    answer_with no_calc later.first later.operator later.value left.terms left.fault
 
 -- the answer, given the first value and what is left after it
 abbrev pub total_of : Bool → ℕ → Ended → Result ℕ Cause
@@ -97,7 +97,7 @@ total_of no_calc first left = answer_after_first no_calc first left.terms left.f
 -- A property of the terms that are left after a number holds if a number is ahead.
 by_number : {A : Type 0} {s : Tokens} (no_calc : Bool) (f g : Ended → A) (op next : CondUnit)
     → IsAhead s (Some Number)
-    → ((n : ℕ) (r : Read TimeUnit) → f (after_number no_calc op n (Ok r)) ≡ g (after_number no_calc next n (Ok r)))
+    → ((n : ℕ) (r : ReadItem TimeUnit) → f (after_number no_calc op n (Ok r)) ≡ g (after_number no_calc next n (Ok r)))
     → ((cause : Cause) → f (no_terms cause) ≡ g (no_terms cause))
     → f (left_after no_calc op (rest_of s)) ≡ g (left_after no_calc next (rest_of s))
 by_number {s = s} no_calc f g op next ahead terms none =
@@ -121,52 +121,52 @@ fewer {next = next} no_calc op taken unit read ahead =
     omega (arith, here, after, by_number no_calc count count op next ahead (λ n r. refl) (λ cause. refl))
 
 -- The same operator is not a fault.
-same_operator : (op : CondUnit) (later : Result ℕ Cause) → before_operator op later op ≡ later
+same_operator : (op : CondUnit) (later : Result ℕ Cause) → check_operator op later op ≡ later
 same_operator Plus (Ok total) = refl
 same_operator Star (Ok total) = refl
 same_operator op (Err cause) = refl
 
-module _ (no_calc : Bool) (first : ℕ) (op : CondUnit) where
-  -- The first of the later terms sets the operator.
-  pub operator_set : {s : Tokens} → IsAhead s (Some Number)
-      → with_left no_calc first op (Ok (identity_of op)) (left_after no_calc op (rest_of s))
-      ≡ total_of no_calc first (left_after no_calc op (rest_of s))
-  operator_set ahead =
-      by_number no_calc (with_left no_calc first op (Ok (identity_of op))) (total_of no_calc first) op op ahead
-      (λ n r. refl) (λ cause. refl)
+-- The first of the later terms sets the operator.
+pub operator_set : (no_calc : Bool) (first : ℕ) (op : CondUnit) {s : Tokens} → IsAhead s (Some Number)
+    → with_left no_calc (no_later first op) (left_after no_calc op (rest_of s))
+    ≡ total_of no_calc first (left_after no_calc op (rest_of s))
+operator_set no_calc first op ahead =
+    by_number no_calc (with_left no_calc (no_later first op)) (total_of no_calc first) op op ahead
+    (λ n r. refl) (λ cause. refl)
 
-  -- Checking an operator when it is read gives the same answer as checking it with its term.
-  pub operator_next : {s : Tokens} (next : CondUnit) (later : Result ℕ Cause) → IsAhead s (Some Number)
-      → with_left no_calc first op (before_operator op later next) (left_after no_calc op (rest_of s))
-      ≡ with_left no_calc first op later (left_after no_calc next (rest_of s))
-  operator_next next later ahead =
-      by_number no_calc (with_left no_calc first op (before_operator op later next))
-      (with_left no_calc first op later) op next ahead
-      (λ n r. rw (same_operator op (before_operator op later next))) (λ cause. refl)
+-- Checking an operator when it is read gives the same answer as checking it with its term.
+pub operator_next : (no_calc : Bool) (later : Later) {s : Tokens} (next : CondUnit) → IsAhead s (Some Number)
+    → with_left no_calc (record later { value = check_operator later.operator later.value next })
+    (left_after no_calc later.operator (rest_of s))
+    ≡ with_left no_calc later (left_after no_calc next (rest_of s))
+operator_next no_calc later next ahead =
+    let checked = check_operator later.operator later.value next in
+    by_number no_calc (with_left no_calc (record later { value = checked })) (with_left no_calc later)
+    later.operator next ahead (λ n r. rw (same_operator later.operator checked)) (λ cause. refl)
 
-  -- A later term is read up to b and added: `next` is the later terms' value including it.
-  pub later_step : {next : Result ℕ Cause} {s a : Tokens} {b : Rest} {n : Option ℕ} {u : TimeUnit}
-      (later : Result ℕ Cause) → TakesNumber s a n → leaving b (Ok u) ≡ unit_read no_calc (rest_of a)
-      → next ≡ checked_combination op later (checked_term None n (nanos_of u))
-      → with_left no_calc first op later (left_after no_calc op (rest_of s))
-      ≡ fault_or (at_once no_calc (checked_combination op (Ok first) next))
-      (with_left no_calc first op next (after_unit no_calc (operator_read no_calc b)))
-  later_step later taken unit is =
-      ap (with_left no_calc first op later) (number_taken no_calc op taken _ unit)
-      ∙ rw (same_operator op later, is, taken.is_value)
+-- A later term is read up to b and added.
+pub later_step : (no_calc : Bool) (later : Later) {s a : Tokens} {b : Rest} {n : Option ℕ} {u : TimeUnit} {next : Later}
+    → TakesNumber s a n → leaving b (Ok u) ≡ unit_read no_calc (rest_of a)
+    → next ≡ record later { value = checked_combination later.operator later.value (checked_term None n (nanos_of u)) }
+    → with_left no_calc later (left_after no_calc later.operator (rest_of s))
+    ≡ fault_or (immediate_fault no_calc (with_first next))
+    (with_left no_calc next (after_unit no_calc (operator_read no_calc b)))
+later_step no_calc later taken unit is =
+    ap (with_left no_calc later) (number_taken no_calc later.operator taken _ unit)
+    ∙ rw (same_operator later.operator later.value, is, taken.is_value)
 
 -- ---- The answer in order: the early fault, the syntax fault, the late fault, and the value
 
-whole_told : (whole : Bool) (cause : Cause) (late : Option Cause) (terminals : List Terminal)
+whole_answer : (whole : Bool) (cause : Cause) (late : Option Cause) (terminals : List Terminal)
     → fault_or (unless whole cause) (late_answer late terminals)
     ≡ (if whole then late_answer late terminals else Err cause)
-whole_told false cause late terminals = refl
-whole_told true cause late terminals = refl
+whole_answer false cause late terminals = refl
+whole_answer true cause late terminals = refl
 
 in_order : (no_calc : Bool) (place : ℕ) (front rest : List Terminal)
     → answer_of no_calc (terms_of (complete_terminals front rest))
     (fault_at place (kinds_after no_calc (last_of None front)) rest) ≡ answer_at no_calc place front rest
-in_order no_calc place front [] = rw whole_told
+in_order no_calc place front [] = rw whole_answer
 in_order no_calc place front (terminal ∷ rest) = refl
 
 -- ---- The answer in terms of what is left
@@ -227,7 +227,7 @@ first_step {m} {b = b} {u = u} no_calc same taken unit is =
     let added =
     λ (h : IsTrue no_calc). subst (λ (l : Ended). AreAdded l.terms) read (left_added no_calc Plus (rest_of m) refl h) in
     let start = from_start no_calc (rest_of m) _ read in
-    rw (← same, ← start, is, taken.is_value, term_told (Some 0) t, by_first-fault no_calc)
+    rw (← same, ← start, is, taken.is_value, checked_term_is (Some 0) t, by_first-fault no_calc)
     (one_by_one no_calc t more.terms more.fault added)
 
 same_kinds : (no_calc : Bool) (op : CondUnit) (front : List Terminal)

@@ -1,6 +1,5 @@
 -- The result of reading everything from the start of a text is the text's answer.
-use Rattle.std.proofs.Common.{◌≡◌, ◌==◌, ℕ, zero, suc, ◌<◌, false, sym, List, [], ◌∷◌, Result, Err, map, length, IsUtf8, refl, arith, chars}
-use Rattle.duration_str.proofs.Common.{chars-nil, Options, Cause, Empty, Tokens, byte_len, terminal_of, tokens_of, lexemes_of, start_after, answer, rest_from, rest_of, start_left, terminals_in, answer_left, source, options_of, tokens_left, Token}
+use Rattle.duration_str.proofs.Common.{◌≡◌, ◌==◌, ℕ, zero, suc, ◌<◌, false, sym, List, [], ◌∷◌, Result, Err, map, length, IsUtf8, refl, arith, chars, chars-nil, Options, Cause, Empty, Tokens, byte_len, terminal_of, tokens_of, lexemes_of, start_after, answer, rest_from, rest_of, start_left, terminals_in, answer_left, source, options_of, tokens_left, Token}
 use Rattle.std.proofs.Math.Seq.{drop-nil}
 use Rattle.std.proofs.lemmas.Bool.{eqb-false}
 use Rattle.duration_str.proofs.OnePass.PlaceLemmas.{byte_count}

@@ -1,6 +1,5 @@
 -- The bytes built unit by unit are the UTF-8 of the printed text.
-use Rattle.std.proofs.Common.{rules, ◌≡◌, ◌∙◌, ℕ, ◌+◌, ◌*◌, ◌/◌, ◌%◌, ◌^◌, ◌<◌, ◌≤◌, ◌==◌, List, [], ◌∷◌, ◌++◌, length, take, map, decimal, encode_utf8_all, refl, sym, inl, inr, arith, length-append, append_assoc, append-nil, lit<, flat_map, codes, IsUtf8, div-le_self, length-take-le}
-use Rattle.duration_str.proofs.Common.{cases_Bool, encodes-append, encodes-IsAscii, TimeUnit, Year, Second, units, row_of, nanos_of, unit_lengths, printed_counts, spaced_parts, counts_of, printed_parts, with_space, with_part, with_parts, units_below_year, mod-le, IsAscii-decimal_wide, decimal_by_steps_wide, IsUtf8-append, IsUtf8-from_ascii, IsUtf8-nil}
+use Rattle.duration_str.proofs.Common.{rules, ◌≡◌, ◌∙◌, ℕ, ◌+◌, ◌*◌, ◌/◌, ◌%◌, ◌^◌, ◌<◌, ◌≤◌, ◌==◌, List, [], ◌∷◌, ◌++◌, length, take, map, decimal, encode_utf8_all, refl, sym, inl, inr, arith, length-append, append_assoc, append-nil, lit<, flat_map, codes, IsUtf8, div-le_self, length-take-le, cases_Bool, encodes-append, encodes-IsAscii, TimeUnit, Year, Second, units, row_of, nanos_of, unit_lengths, printed_counts, spaced_parts, counts_of, printed_parts, with_space, with_part, with_parts, units_below_year, mod-le, IsAscii-decimal_wide, decimal_by_steps_wide, IsUtf8-append, IsUtf8-from_ascii, IsUtf8-nil}
 use Rattle.duration_str.proofs.Characters.NameLemmas.{scalar_name}
 
 smaller : (nanos l : ℕ) → nanos < 10 ^ 64 → (nanos / l < 10 ^ 64) × (nanos % l < 10 ^ 64)

@@ -1,6 +1,5 @@
 -- A text is read or refused, not both, and the computed answer says which.
-use Rattle.std.proofs.Common.{◌≡◌, ℕ, ◌^◌, ◌<◌, ◌≤◌, Bool, true, false, ◌⊎◌, ◌↔◌, inl, inr, List, [], ◌∷◌, ◌++◌, map, length, Option, Some, None, Result, Ok, Err, if◌then◌else◌, arith, refl, sym, ap, ◌∙◌, append-nil}
-use Rattle.duration_str.proofs.Common.{and_parts, cond-true, list_all, Options, CondUnit, Cause, Syntax, byte_len, Terminal, number, word, operator, other, terminal_of, IsSentence, IsSentenceOf, tokens_of, lexemes_of, IsFront, start_after, terminals_of, AllPlus, Term, value_of_term, combination, later_total, value_of, terms_of, later_fault, evaluation_fault, is_same_operator, Evaluates, first_fault, early_fault, late_fault, IsRead, IsRefusedAt, early, syntax_fault, late, IsRefused, is_whole, fault_or, late_answer, answer, kinds_after, last_of, OneAnswer, IsAnswer}
+use Rattle.duration_str.proofs.Common.{◌≡◌, ℕ, ◌^◌, ◌<◌, ◌≤◌, Bool, true, false, ◌⊎◌, ◌↔◌, inl, inr, List, [], ◌∷◌, ◌++◌, map, length, Option, Some, None, Result, Ok, Err, if◌then◌else◌, arith, refl, sym, ap, ◌∙◌, append-nil, and_parts, cond-true, list_all, Options, CondUnit, Cause, Syntax, byte_len, Terminal, number, word, operator, other, terminal_of, IsSentence, IsSentenceOf, tokens_of, lexemes_of, IsFront, start_after, terminals_of, AllPlus, Term, value_of_term, combination, later_total, value_of, terms_of, later_fault, evaluation_fault, is_same_operator, Evaluates, first_fault, early_fault, late_fault, IsRead, IsRefusedAt, early, syntax_fault, late, IsRefused, is_whole, fault_or, late_answer, answer, kinds_after, last_of, OneReading, AnswerIsReading}
 use Rattle.duration_str.proofs.Sentences.FrontLemmas.{AreAllowed, sentence_allowed, no_operators, one_front, one_expected, table_front, front_allowed, ends_by_table, kinds_by_table}
 use Rattle.duration_str.proofs.Sentences.SpellingLemmas.{sentence_terminals, tokens_spell, empty_no_sentence}
 use Rattle.duration_str.proofs.Sentences.FaultLemmas.{no_fault, or_else-none, is_same_operator-true}
@@ -228,8 +227,8 @@ only_meaning o text (Ok m) (Err cause) h k = absurd (not_both o text m cause h k
 only_meaning o text (Err cause) (Ok n) h k = absurd (not_both o text n cause k h)
 only_meaning o text (Err c) (Err d) h k = ap Err (one_cause o text c d h k)
 
-pub one_answer_holds : OneAnswer
-one_answer_holds = record {
+pub one_reading_holds : OneReading
+one_reading_holds = record {
   some = λ o text. elim (answer o text) as (λ r. Means o text r
       → ((nanos : ℕ) × IsRead o text nanos) ⊎ ((cause : Cause) × IsRefused o text cause)) [
         | Ok nanos ↦ λ h. inl (nanos, h)
@@ -240,8 +239,8 @@ one_answer_holds = record {
   not_both = not_both;
 }
 
-pub is_answer_holds : IsAnswer
-is_answer_holds = record {
+pub answer_is_reading_holds : AnswerIsReading
+answer_is_reading_holds = record {
   read = λ o text nanos. let is = answer_means o text in (λ e. rw e at is, only_meaning o text _ (Ok nanos) is);
   refused = λ o text cause. let is = answer_means o text in (λ e. rw e at is, only_meaning o text _ (Err cause) is);
 }

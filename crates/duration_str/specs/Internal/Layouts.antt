@@ -1,7 +1,7 @@
 -- How messages are laid out.
 use Rattle.std.specs.Prelude.{ℕ, List}
-use Rattle.duration_str.specs.declared.fault.Layout.{Layout}
-use Rattle.duration_str.specs.declared.fault.Layout.TheVariants.{Line, Byte, Caret}
+use Rattle.duration_str.specs.declared.message.Layout.{Layout}
+use Rattle.duration_str.specs.declared.message.Layout.TheVariants.{Line, Byte, Caret}
 use Rattle.duration_str.specs.FaultText.{byte_text, caret_text}
 
 -- the bytes of a message, given those of the text and of the line

@@ -1,7 +1,7 @@
 -- Numbers and values below 2^64, as the code passes them on.
 use Rattle.std.specs.Prelude.{ℕ, ◌*◌, Option, Some, None, Result, Ok, Err, if◌then◌else◌}
-use Rattle.duration_str.specs.declared.fault.Cause.{Cause}
-use Rattle.duration_str.specs.declared.fault.Cause.TheVariants.{NumberTooLarge, Overflow}
+use Rattle.duration_str.specs.declared.cause.Cause.{Cause}
+use Rattle.duration_str.specs.declared.cause.Cause.TheVariants.{NumberTooLarge, Overflow}
 use Rattle.duration_str.specs.Value.{fits}
 
 -- `Some` of a number below 2^64, else `None`

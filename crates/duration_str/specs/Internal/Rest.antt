@@ -2,15 +2,19 @@
 use Rattle.std.specs.Prelude.{◌≡◌, ℕ, zero, suc, ◌≤◌, Bool, false, List, [], ◌∷◌, ◌++◌, length, take, drop, Option, Some, None, Result, Ok, Err, IfErr, if◌then◌else◌}
 use Rattle.std.specs.Option.{ForSome, ok_or}
 use Rattle.std.specs.Result.{result_and, result_err}
+use Rattle.std.specs.Duration.{as_nanos}
+use Rattle.std.specs.declared.time.Duration.{Duration}
 use Rattle.duration_str.specs.declared.options.Options.{Options}
 use Rattle.duration_str.specs.declared.unit.TimeUnit.{TimeUnit}
 use Rattle.duration_str.specs.declared.unit.TimeUnit.TheVariants.{Second, NanoSecond}
 use Rattle.duration_str.specs.declared.operator.CondUnit.{CondUnit}
 use Rattle.duration_str.specs.declared.operator.CondUnit.TheVariants.{Plus, Star}
-use Rattle.duration_str.specs.declared.fault.Cause.{Cause}
-use Rattle.duration_str.specs.declared.fault.Cause.TheVariants.{Syntax, Overflow, Mixed}
-use Rattle.duration_str.specs.declared.fault.Expected.{Expected}
+use Rattle.duration_str.specs.declared.cause.Cause.{Cause}
+use Rattle.duration_str.specs.declared.cause.Cause.TheVariants.{Syntax, Overflow, Mixed}
+use Rattle.duration_str.specs.declared.cause.Expected.{Expected}
+use Rattle.duration_str.specs.declared.fault.Fault.{Fault}
 use Rattle.duration_str.specs.declared.token.Tokens.{Tokens}
+use Rattle.duration_str.specs.Results.{IsValueOrFault}
 use Rattle.duration_str.specs.Grammar.{Terminal, number, word, operator, terminal_of}
 use Rattle.duration_str.specs.Tokens.{Token}
 use Rattle.duration_str.specs.Value.{second, combination, is_same_operator}
@@ -18,8 +22,8 @@ use Rattle.duration_str.specs.Terms.{fault_or}
 use Rattle.duration_str.specs.Internal.Numbers.{u64_from, checked_term}
 use Rattle.duration_str.specs.Answer.{answer_at, kinds_at_start, kinds_after_number, kinds_after_unit, front_of}
 use Rattle.duration_str.specs.Faults.{place_of}
-use Rattle.duration_str.specs.Tokenizer.{source, options_of, cut_place, tokens_left}
-use Rattle.duration_str.specs.Internal.Tokenizer.{IsAhead}
+use Rattle.duration_str.specs.Iteration.{source, options_of, cut_place, tokens_left}
+use Rattle.duration_str.specs.Internal.Steps.{IsAhead}
 use Rattle.duration_str.specs.Units.{nanos_of}
 use Rattle.duration_str.specs.declared.token.Sort.TheVariants.{Number}
 
@@ -55,31 +59,31 @@ abbrev pub misplacement : Expected → Rest → Cause
 misplacement expected rest = Syntax (start_left 0 rest) expected
 
 -- what was read, and the rest after it
-pub record Read (A : Type 0) : Type 0 where
+pub record ReadItem (A : Type 0) : Type 0 where
   pub item : A
   pub rest : Rest
 
 -- a result paired with the rest after it, or its fault
-abbrev pub leaving : {A : Type 0} → Rest → Result A Cause → Result (Read A) Cause
+abbrev pub leaving : {A : Type 0} → Rest → Result A Cause → Result (ReadItem A) Cause
 leaving rest (Ok item) = Ok (record { item = item; rest = rest })
 leaving rest (Err cause) = Err cause
 
 -- the fault if the rest does not start with a number, as it must at the start of a text and after an operator
-abbrev pub lacks_number : Rest → Option Cause
-lacks_number (terminal_at at (number n) rest) = None
-lacks_number rest = Some (misplacement kinds_at_start rest)
+abbrev pub number_fault : Rest → Option Cause
+number_fault (terminal_at at (number n) rest) = None
+number_fault rest = Some (misplacement kinds_at_start rest)
 
 -- the unit after a number; seconds if it is left out before an operator or at the end
-abbrev pub unit_read : Bool → Rest → Result (Read TimeUnit) Cause
+abbrev pub unit_read : Bool → Rest → Result (ReadItem TimeUnit) Cause
 unit_read no_calc (terminal_at at (word (Some u)) rest) = leaving rest (Ok u)
 unit_read false (terminal_at at (operator op) rest) = leaving (terminal_at at (operator op) rest) (Ok Second)
 unit_read no_calc (end_at at) = leaving (end_at at) (Ok Second)
 unit_read no_calc rest = Err (misplacement (kinds_after_number no_calc) rest)
 
 -- the operator after a unit, which a number must follow; plus if it is left out, `None` at the end
-abbrev pub operator_read : Bool → Rest → Result (Read (Option CondUnit)) Cause
+abbrev pub operator_read : Bool → Rest → Result (ReadItem (Option CondUnit)) Cause
 operator_read no_calc (terminal_at at (number n) rest) = leaving (terminal_at at (number n) rest) (Ok (Some Plus))
-operator_read false (terminal_at at (operator op) rest) = leaving rest (fault_or (lacks_number rest) (Ok (Some op)))
+operator_read false (terminal_at at (operator op) rest) = leaving rest (fault_or (number_fault rest) (Ok (Some op)))
 operator_read no_calc (end_at at) = leaving (end_at at) (Ok None)
 operator_read no_calc rest = Err (misplacement (kinds_after_unit no_calc) rest)
 
@@ -102,6 +106,10 @@ answer_left no_calc front rest =
     let n = front_of no_calc terminals in
     answer_at no_calc (start_left n rest) (front ++ take n terminals) (drop n terminals)
 
+-- The result is the computed answer `a`, as a duration or as a fault of these bytes.
+abbrev pub ReturnsAnswer : Result ℕ Cause → List ℕ → Result Duration Fault → Type 0
+ReturnsAnswer a bytes result = IsValueOrFault (λ d. a ≡ Ok (as_nanos d)) (λ cause. a ≡ Err cause) bytes result
+
 -- a first term of `nanos` nanoseconds, and the operator after it
 abbrev pub first_term : ℕ → CondUnit → List Terminal
 first_term nanos op = number nanos ∷ word (Some NanoSecond) ∷ operator op ∷ []
@@ -120,22 +128,36 @@ identity_of Plus = 0
 identity_of Star = second
 
 -- the later terms' value, or their first fault; `Mixed` if the operator `next` differs from `op`
-abbrev pub before_operator : CondUnit → Result ℕ Cause → CondUnit → Result ℕ Cause
-before_operator op later next = result_and later (if is_same_operator op next then later else Err (Mixed op next))
+abbrev pub check_operator : CondUnit → Result ℕ Cause → CondUnit → Result ℕ Cause
+check_operator op later next = result_and later (if is_same_operator op next then later else Err (Mixed op next))
 
 -- the value of a later term, or its fault, which has no place
 abbrev pub later_term : Option ℕ → TimeUnit → Result ℕ Cause
 later_term n unit = checked_term None n (nanos_of unit)
 
--- the fault of a value if it is reported at once, as under `no_calc`
-abbrev pub at_once : Bool → Result ℕ Cause → Option Cause
-at_once no_calc value = if no_calc then result_err value else None
+-- the first term's value, the operator after it, and the value of the later terms so far, or their first fault
+pub record Later : Type 0 where
+  pub first : ℕ
+  pub operator : CondUnit
+  pub value : Result ℕ Cause
+
+-- no later terms yet
+abbrev pub no_later : ℕ → CondUnit → Later
+no_later first op = record { first = first; operator = op; value = Ok (identity_of op) }
+
+-- the value of all terms, or the first fault
+abbrev pub with_first : Later → Result ℕ Cause
+with_first later = checked_combination later.operator (Ok later.first) later.value
+
+-- the fault of a value that is reported immediately, as under `no_calc`
+abbrev pub immediate_fault : Bool → Result ℕ Cause → Option Cause
+immediate_fault no_calc value = if no_calc then result_err value else None
 
 -- ---- Steps of the reader
 
 -- The result is what `f` reads from the rest, and the rest after it is left.
-abbrev pub Reads : {A : Type 0} → (Rest → Result (Read A) Cause) → Tokens → Tokens → Result A Cause → Type 0
-Reads f old new result = leaving (rest_of new) result ≡ f (rest_of old)
+abbrev pub ReadsItem : {A : Type 0} → (Rest → Result (ReadItem A) Cause) → Tokens → Tokens → Result A Cause → Type 0
+ReadsItem f old new result = leaving (rest_of new) result ≡ f (rest_of old)
 
 -- The source stays the same, and the place of a fault is not beyond the place reached.
 pub record CutsOn {A : Type 0} (old new : Tokens) (result : Result A Cause) : Type 0 where

@@ -13,30 +13,40 @@ const INPUT: &[u8] = b"3m31\n\n580y*2";
 
 const OUTPUT: &[u8] = b"211000000000 3min 31s\nEmpty input\noverflow error\n";
 
-/// Gives at most `step` bytes per call, and fails after `calls` calls.
+/// Gives at most `step` bytes per call. The call after `calls` calls fails, and later ones work again.
 #[derive(Drop)]
 struct Source<'a> {
     bytes: &'a [u8],
     step: usize,
     calls: usize,
+    has_failed: bool,
+    is_called_again: bool,
 }
 
 impl Source<'_> {
     fn new<'a>(bytes: &'a [u8]) -> Source<'a> {
+        Source::giving(bytes, usize::MAX, usize::MAX)
+    }
+
+    fn giving<'a>(bytes: &'a [u8], step: usize, calls: usize) -> Source<'a> {
         Source {
             bytes,
-            step: usize::MAX,
-            calls: usize::MAX,
+            step,
+            calls,
+            has_failed: false,
+            is_called_again: false,
         }
     }
 }
 
 impl Read for Source<'_> {
     fn read(&mut self, buf: &mut [u8]) -> io::Result<usize> {
-        if self.calls == 0 {
+        self.is_called_again |= self.has_failed;
+        if self.calls == 0 && !self.has_failed {
+            self.has_failed = true;
             return Err(io::Error::from(ErrorKind::Other));
         }
-        self.calls -= 1;
+        self.calls = self.calls.saturating_sub(1);
         let count = buf.len().min(self.step).min(self.bytes.len());
         buf[..count].copy_from_slice(&self.bytes[..count]);
         self.bytes = &self.bytes[count..];
@@ -55,7 +65,8 @@ impl Read for Blanks {
     }
 }
 
-/// Takes at most `step` bytes per call into a fixed buffer, and fails after `calls` calls.
+/// Takes at most `step` bytes per call into a fixed buffer. The call after `calls` calls fails, or the first flush if
+/// `flushes` is not set, and later ones work again.
 #[derive(Drop)]
 struct Sink {
     held: [u8; 64],
@@ -63,6 +74,8 @@ struct Sink {
     step: usize,
     calls: usize,
     flushes: bool,
+    has_failed: bool,
+    is_called_again: bool,
     ghost within: { len ≤ 64 },
 }
 
@@ -78,6 +91,8 @@ impl Sink {
             step,
             calls,
             flushes: true,
+            has_failed: false,
+            is_called_again: false,
         }
     }
 
@@ -88,10 +103,12 @@ impl Sink {
 
 impl Write for Sink {
     fn write(&mut self, buf: &[u8]) -> io::Result<usize> {
-        if self.calls == 0 {
+        self.is_called_again |= self.has_failed;
+        if self.calls == 0 && !self.has_failed {
+            self.has_failed = true;
             return Err(io::Error::from(ErrorKind::Other));
         }
-        self.calls -= 1;
+        self.calls = self.calls.saturating_sub(1);
         let count = buf.len().min(self.step).min(64 - self.len);
         self.held[self.len..self.len + count].copy_from_slice(&buf[..count]);
         self.len += count;
@@ -99,23 +116,28 @@ impl Write for Sink {
     }
 
     fn flush(&mut self) -> io::Result<()> {
-        if self.flushes {
-            Ok(())
-        } else {
-            Err(io::Error::from(ErrorKind::Other))
+        self.is_called_again |= self.has_failed;
+        if self.flushes || self.has_failed {
+            return Ok(());
         }
+        self.has_failed = true;
+        Err(io::Error::from(ErrorKind::Other))
     }
 }
 
-/// Whether a run with all options off ends with this answer, and has then written this.
-fn ends<R: Read + Drop>(
+/// Whether a run with all options off ends with this answer, and has then written this. Once a call failed, no other
+/// may be made.
+fn ends(
     alloc: Global,
-    mut reader: R,
-    mut writer: Sink,
+    mut source: Source<'_>,
+    mut sink: Sink,
     answer: Result<bool, RunFault>,
     written: &[u8],
 ) -> bool {
-    run(alloc, &mut reader, &mut writer, Options::off()) == answer && writer.written() == written
+    run(alloc, &mut source, &mut sink, Options::off()) == answer
+        && sink.written() == written
+        && !source.is_called_again
+        && !sink.is_called_again
 }
 
 #[test]
@@ -139,10 +161,7 @@ fn answers_each_line(rt: HostRuntime) {
 
 #[test]
 fn reads_byte_by_byte(rt: HostRuntime) {
-    let source = Source {
-        step: 1,
-        ..Source::new(INPUT)
-    };
+    let source = Source::giving(INPUT, 1, usize::MAX);
     assert!(rt; ends(rt.alloc(), source, Sink::new(), Ok(false), OUTPUT));
 }
 
@@ -192,18 +211,16 @@ fn stops_at_a_failing_flush_and_a_full_writer(rt: HostRuntime) {
 #[test]
 fn stops_at_a_failing_reader(rt: HostRuntime) {
     for calls in 0..INPUT.len() + 1 {
-        let source = Source {
-            bytes: INPUT,
-            step: 1,
-            calls,
-        };
+        let source = Source::giving(INPUT, 1, calls);
         let failed = Err(RunFault::Read);
         assert!(rt;
             ends(rt.alloc(), source, Sink::new(), failed, b""),
             "at {calls}"
         );
     }
-    assert!(rt; ends(rt.alloc(), Blanks, Sink::new(), Err(RunFault::TooLong), b""));
+    let mut sink = Sink::new();
+    let answer = run(rt.alloc(), &mut Blanks, &mut sink, Options::off());
+    assert!(rt; answer == Err(RunFault::TooLong) && sink.written().is_empty());
 }
 
 #[test]
@@ -235,11 +252,7 @@ fn makes_a_read_for_each_byte_and_one_more(rt: HostRuntime) -> Result<(), Fail> 
         (most, 1_048_576, RunFault::Read),
         (blanks.as_slice(), 1_048_577, RunFault::TooLong),
     ] {
-        let source = Source {
-            bytes,
-            step: 1,
-            calls,
-        };
+        let source = Source::giving(bytes, 1, calls);
         assert!(rt;
             ends(rt.alloc(), source, Sink::taking(0, 1), Err(fault), b""),
             "{fault:?}"

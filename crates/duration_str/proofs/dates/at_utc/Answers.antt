@@ -1,4 +1,4 @@
-use Rattle.std.proofs.Common.{arith}
+use Rattle.duration_str.proofs.Common.{arith}
 use Rattle.jiff.proofs.Family.{civil_nanos-parts, time_nanos_bound}
 use Rattle.jiff.proofs.SpanFacts.{signed_arith}
 use Rattle.duration_str.proofs.dates.at_utc.Goals as goal

@@ -1,5 +1,4 @@
-use Rattle.std.proofs.Common.{take, arith, sym, ap, ◌∙◌}
-use Rattle.duration_str.proofs.Common.{as_nanos}
+use Rattle.duration_str.proofs.Common.{take, arith, sym, ap, ◌∙◌, as_nanos}
 use Rattle.duration_str.specs.Internal.PrintedBytes.{digits}
 use Rattle.duration_str.proofs.Printer.PrintedBytesLemmas.{ended, ended_take, printed_from_seconds, IsUtf8-printed}
 use Rattle.duration_str.proofs.ext.fill.Goals as goal

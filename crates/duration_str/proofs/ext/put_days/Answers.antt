@@ -1,4 +1,4 @@
-use Rattle.std.proofs.Common.{rules}
+use Rattle.duration_str.proofs.Common.{rules}
 use Rattle.duration_str.proofs.ext.put_days.Goals as goal
 
 -- Here the digits of a count stay closed.

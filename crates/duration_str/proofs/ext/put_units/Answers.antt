@@ -1,4 +1,4 @@
-use Rattle.std.proofs.Common.{rules}
+use Rattle.duration_str.proofs.Common.{rules}
 use Rattle.duration_str.proofs.ext.put_units.Goals as goal
 
 -- The digits of a count are not unfolded here.

@@ -1,5 +1,4 @@
-use Rattle.std.proofs.Common.{sym, ◌∙◌}
-use Rattle.duration_str.proofs.Common.{chars_from_encodes, as_nanos, printed_counts, counts_of, unit_lengths}
+use Rattle.duration_str.proofs.Common.{sym, ◌∙◌, chars_from_encodes, as_nanos, printed_counts, counts_of, unit_lengths}
 use Rattle.duration_str.proofs.LawProofs.GreatestBreakdown.{greatest_breakdown_holds}
 use Rattle.duration_str.proofs.ext.write_human.Goals as goal
 

@@ -1,6 +1,5 @@
-use Rattle.std.proofs.Common.{◌≡◌, ◌∙◌, ◌+◌, ◌<◌, length, arith, ap, get_or, IsCharBoundary}
+use Rattle.duration_str.proofs.Common.{◌≡◌, ◌∙◌, ◌+◌, ◌<◌, length, arith, ap, get_or, IsCharBoundary, StandsAt}
 use Rattle.std.proofs.lemmas.Grind.{get_or_default_zero}
-use Rattle.duration_str.proofs.Common.{StandsAt}
 use Rattle.duration_str.proofs.Characters.TextLemmas.{ascii_stands, end_ahead}
 use Rattle.duration_str.proofs.eye.character_at.Goals as goal
 

@@ -1,5 +1,4 @@
-use Rattle.std.proofs.Common.{sym, ◌∙◌}
-use Rattle.duration_str.proofs.Common.{IsCharBoundary-past_char}
+use Rattle.duration_str.proofs.Common.{sym, ◌∙◌, IsCharBoundary-past_char}
 use Rattle.duration_str.proofs.Characters.TextLemmas.{stands_char}
 use Rattle.duration_str.proofs.eye.decoded_at.Goals as goal
 

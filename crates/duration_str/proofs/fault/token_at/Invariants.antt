@@ -1,5 +1,4 @@
-use Rattle.std.proofs.Common.{◌≡◌, length}
-use Rattle.duration_str.proofs.Common.{token_at, source, tokens_left}
+use Rattle.duration_str.proofs.Common.{◌≡◌, length, token_at, source, tokens_left}
 use Rattle.duration_str.proofs.fault.token_at.Given as goal
 
 abbrev pub invariant-loop-token : goal.invariant-loop-token

@@ -1,5 +1,4 @@
-use Rattle.std.proofs.Common.{refl}
-use Rattle.duration_str.proofs.Common.{SLOTS}
+use Rattle.duration_str.proofs.Common.{refl, SLOTS}
 use Rattle.duration_str.specs.Internal.Packed.{unit_of_packed}
 use Rattle.duration_str.proofs.Characters.PackedLemmas.{slot_found, slot_empty}
 use Rattle.duration_str.proofs.packed.unit_of_packed.Goals as goal

@@ -1,4 +1,4 @@
-use Rattle.duration_str.proofs.Sentences.AnsweredLemmas.{parses_text}
+use Rattle.duration_str.proofs.Sentences.ParsingLemmas.{parses_text}
 use Rattle.duration_str.proofs.parser.parse_looked.Goals as goal
 
 pub returns-clause-parsed : goal.returns-clause-parsed

@@ -1,4 +1,4 @@
 use Rattle.duration_str_c.proofs.moment.duration_str_after.Goals as goal
 
-pub returns-clause-told : goal.returns-clause-told
-returns-clause-told c = c.told_of_move.ensures.told
+pub returns-clause-answers : goal.returns-clause-answers
+returns-clause-answers c = c.answer_to_move.ensures.answers

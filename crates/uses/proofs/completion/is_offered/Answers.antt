@@ -10,7 +10,9 @@ returns-in-Some c h =
     let only : Token = record { start = 0; characters = w } in
     let cut = tokens_of_lexeme c.one_sentence.ensures.tokens c.args.o w h in
     let steps = c.in-Some.ensures.steps in
-    let first : token_of c.in-Some.token ∷ tokens_left c.next.new.self ≡ only ∷ [] = sym steps.first ∙ c.new.ensures.left ∙ cut in
+    let first : token_of c.in-Some.token ∷ tokens_left c.next.new.self ≡ only ∷ [] = sym steps.first
+    ∙ c.new.ensures.left ∙ cut in
     let same : token_of c.in-Some.token ≡ only = cc in
     c.allows.ensures (terminal_of c.args.o w)
-    (steps.token.sort ∙ ap₂ (λ (o : Options) (token : Token). what_of (terminal_of o token.characters)) c.new.ensures.options same)
+    (steps.token.sort ∙ ap₂ (λ (o : Options) (token : Token). what_of (terminal_of o token.characters))
+    c.new.ensures.options same)

@@ -1,5 +1,5 @@
 use Rattle.std.proofs.Common.{◌≡◌, pos, Result, Ok, Err, sym, chars}
-use Rattle.duration_str.proofs.Common.{as_nanos, off, OneAnswer}
+use Rattle.duration_str.proofs.Common.{as_nanos, off, OneReading}
 use Rattle.uses.proofs.Common.{true≢false, Duration, Fault}
 use Rattle.serde_json.specs.Data.{Data, string}
 use Rattle.duration_str.specs.declared.error.DError.{DError}
@@ -21,7 +21,7 @@ given_fault : {A : Type 0} (value : Data) (f : Fault) (error : DError A) → IsG
 given_fault (string text) f error (bytes, refused) is = (f.cause, refused, is)
 given_fault _ f error (bytes, no_text) is = rw no_text at is
 
-overflow_given : OneAnswer → (value : Data) (f : Fault) → Overflows value → IsGiven value (Err f) → IsOverflow f.cause
+overflow_given : OneReading → (value : Data) (f : Fault) → Overflows value → IsGiven value (Err f) → IsOverflow f.cause
 overflow_given law value f o given =
     let (bytes, refused) = rw o.is_text at given in
     rw (law.one_cause off (chars o.text) f.cause _ refused o.refused) tt
@@ -31,9 +31,10 @@ returns-in-Ok-clause-answer g c = given_value g.row.A.Denot _ c.in-Ok.length c.i
 
 pub returns-in_ok-to_derror-in-Err-clause-answer : goal.returns-in_ok-to_derror-in-Err-clause-answer
 returns-in_ok-to_derror-in-Err-clause-answer g c =
-    given_fault _ c.in-Err.fault c.in_ok-to_derror-in-Err.field-0 c.in-Err.ensures c.in_ok-to_derror-in-Err.ensures.error
+    given_fault _ c.in-Err.fault c.in_ok-to_derror-in-Err.field-0 c.in-Err.ensures
+    c.in_ok-to_derror-in-Err.ensures.error
 
 pub returns-in_err-to_derror-in-Err-clause-overflow : goal.returns-in_err-to_derror-in-Err-clause-overflow
 returns-in_err-to_derror-in-Err-clause-overflow g c overflows =
-    let is_overflow = overflow_given c.one_sentence.ensures.answer _ c.in-Err.fault overflows c.in-Err.ensures in
+    let is_overflow = overflow_given c.one_sentence.ensures.reading _ c.in-Err.fault overflows c.in-Err.ensures in
     absurd (true≢false (sym (c.in_err-to_derror-in-Err.ensures.overflow is_overflow)))

@@ -6,7 +6,8 @@ use Rattle.uses.proofs.line.without_line_feed.Goals as goal
 
 is_line : (c : goal.In-Some) → c.args.line.now ≡ with_line_feed c.in-Some.text.now
 is_line c =
-    rw c.in-Some.is at (strip_suffix_char 10 c.args.line.now c.strip_suffix.result c.strip_suffix.ensures.cases (omega arith))
+    rw c.in-Some.is at (strip_suffix_char 10 c.args.line.now c.strip_suffix.result c.strip_suffix.ensures.cases
+    (omega arith))
 
 pub returns-in-Some-clause-text : goal.returns-in-Some-clause-text
 returns-in-Some-clause-text c = inl (is_line c)

@@ -8,6 +8,13 @@ from_utf8_unchecked-requires c =
     let written = c.write_message.new.buffer in
     let end = c.in_ok-end.end in
     let bytes = c.in_ok-end.ensures.bytes.0 in
-    let room : end < length written = omega (arith, c.if-end-buffer.false, bytes.0, ap length bytes.1, length-take end written) in
+    let room : end < length written = omega (
+      arith,
+      c.if-end-buffer.false,
+      bytes.0,
+      ap length bytes.1,
+      length-take end
+          written,
+    ) in
     rw (take_more_set written end 10 room)
     (IsUtf8-append (take end written) (10 ∷ []) c.in_ok-end.ensures.utf8 (IsUtf8-from_ascii (10 ∷ []) (search rules)))

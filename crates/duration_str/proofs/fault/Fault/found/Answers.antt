@@ -1,5 +1,4 @@
-use Rattle.std.proofs.Common.{◌≡◌, ◌∙◌, drop, IsUtf8, rules, arith}
-use Rattle.duration_str.proofs.Common.{source}
+use Rattle.duration_str.proofs.Common.{◌≡◌, ◌∙◌, drop, IsUtf8, rules, arith, source}
 use Rattle.duration_str.proofs.Cutting.FoundLemmas.{slice_found}
 use Rattle.duration_str.proofs.OnePass.EndLemmas.{missing_at_end}
 use Rattle.duration_str.proofs.fault.Fault.found.Goals as goal

@@ -1,4 +1,4 @@
-use Rattle.std.proofs.Common.{sym}
+use Rattle.duration_str.proofs.Common.{sym}
 use Rattle.duration_str.proofs.fault.Fault.layout.Goals as goal
 
 pub chars_before-requires : goal.chars_before-requires

@@ -1,5 +1,4 @@
-use Rattle.std.proofs.Common.{rules}
-use Rattle.duration_str.proofs.Common.{EndsInsideLine, fault_text}
+use Rattle.duration_str.proofs.Common.{rules, EndsInsideLine, fault_text}
 use Rattle.duration_str.proofs.Printer.MessageLemmas.{front_has, text_ends}
 use Rattle.duration_str.proofs.fault.Fault.write_message.Goals as goal
 

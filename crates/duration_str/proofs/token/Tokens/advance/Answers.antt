@@ -1,7 +1,6 @@
-use Rattle.std.proofs.Common.{rules, ◌∙◌, ap, arith}
-use Rattle.duration_str.proofs.Common.{IsUtf8-had}
-use Rattle.duration_str.proofs.Cutting.CuttingLemmas.{counted_past, looks_fit, stands_same}
-use Rattle.duration_str.proofs.Cutting.TokenizerLemmas.{takes_sign}
+use Rattle.duration_str.proofs.Common.{rules, ◌∙◌, ap, arith, IsUtf8-had}
+use Rattle.duration_str.proofs.Cutting.PositionLemmas.{counted_past, looks_fit, stands_same}
+use Rattle.duration_str.proofs.Cutting.StepLemmas.{takes_sign}
 use Rattle.duration_str.proofs.token.Tokens.advance.Goals as goal
 
 pub look-self-requires : goal.look-self-requires

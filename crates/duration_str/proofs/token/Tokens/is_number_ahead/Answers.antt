@@ -1,7 +1,6 @@
-use Rattle.std.proofs.Common.{Some, None, refl, ◌∙◌}
-use Rattle.duration_str.proofs.Common.{sort_at, options_of}
+use Rattle.duration_str.proofs.Common.{Some, None, refl, ◌∙◌, sort_at, options_of}
 use Rattle.duration_str.proofs.Cutting.SortLemmas.{digit_sort}
-use Rattle.duration_str.proofs.Cutting.TokenizerLemmas.{looks_ahead}
+use Rattle.duration_str.proofs.Cutting.StepLemmas.{looks_ahead}
 use Rattle.duration_str.proofs.token.Tokens.is_number_ahead.Goals as goal
 
 pub returns-in-Some : goal.returns-in-Some

@@ -1,6 +1,6 @@
-use Rattle.std.proofs.Common.{◌∙◌, sym}
-use Rattle.duration_str.proofs.Cutting.CuttingLemmas.{passes_none, passes_head}
-use Rattle.duration_str.proofs.Cutting.TokenizerLemmas.{keeps_all, keeps_on, fewer_ahead}
+use Rattle.duration_str.proofs.Common.{◌∙◌, sym}
+use Rattle.duration_str.proofs.Cutting.PositionLemmas.{passes_none, passes_head}
+use Rattle.duration_str.proofs.Cutting.StepLemmas.{keeps_all, keeps_on, fewer_ahead}
 use Rattle.duration_str.proofs.token.Tokens.skip_blanks.Goals as goal
 
 pub loop-self-init : goal.loop-self-init

@@ -1,5 +1,4 @@
-use Rattle.std.proofs.Common.{length}
-use Rattle.duration_str.proofs.Common.{is_blank, ahead, Passes, source, KeepsInput, cut_place}
+use Rattle.duration_str.proofs.Common.{length, is_blank, ahead, Passes, source, KeepsInput, cut_place}
 use Rattle.duration_str.proofs.token.Tokens.skip_blanks.Given as goal
 
 abbrev pub invariant-loop-self : goal.invariant-loop-self

@@ -1,4 +1,4 @@
-use Rattle.duration_str.proofs.Cutting.TokenizerLemmas.{looks_ahead}
+use Rattle.duration_str.proofs.Cutting.StepLemmas.{looks_ahead}
 use Rattle.duration_str.proofs.token.Tokens.sort_ahead.Goals as goal
 
 pub returns-in_err-first : goal.returns-in_err-first

@@ -1,5 +1,4 @@
-use Rattle.std.proofs.Common.{length}
-use Rattle.duration_str.proofs.Common.{ahead, TakesDigits, source, KeepsInput, cut_place}
+use Rattle.duration_str.proofs.Common.{length, ahead, TakesDigits, source, KeepsInput, cut_place}
 use Rattle.duration_str.proofs.token.Tokens.take_digits.Given as goal
 
 abbrev pub invariant-loop-self : goal.invariant-loop-self

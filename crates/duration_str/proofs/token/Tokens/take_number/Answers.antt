@@ -1,4 +1,4 @@
-use Rattle.duration_str.proofs.Cutting.TokenizerLemmas.{takes_number}
+use Rattle.duration_str.proofs.Cutting.StepLemmas.{takes_number}
 use Rattle.duration_str.proofs.token.Tokens.take_number.Goals as goal
 
 pub invariant_of-result : goal.invariant_of-result

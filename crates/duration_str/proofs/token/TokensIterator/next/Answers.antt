@@ -1,6 +1,6 @@
-use Rattle.std.proofs.Common.{◌∙◌, ap, sym, arith, length}
+use Rattle.duration_str.proofs.Common.{◌∙◌, ap, sym, arith, length}
 use Rattle.duration_str.specs.declared.token.Token.{Token}
-use Rattle.duration_str.proofs.Cutting.TokenizerLemmas.{none_left, takes_terminal}
+use Rattle.duration_str.proofs.Cutting.StepLemmas.{none_left, takes_terminal}
 use Rattle.duration_str.proofs.token.TokensIterator.next.Goals as goal
 
 pub returns-in_err-sort-clause-steps : goal.returns-in_err-sort-clause-steps

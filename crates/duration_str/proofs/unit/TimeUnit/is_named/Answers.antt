@@ -1,4 +1,4 @@
-use Rattle.std.proofs.Common.{◌≡◌, Bool, true, false, ◌||◌, ◌&&◌, arith}
+use Rattle.duration_str.proofs.Common.{◌≡◌, Bool, true, false, ◌||◌, ◌&&◌, arith}
 use Rattle.duration_str.proofs.Characters.UnitLemmas.{by_name, by_chinese}
 use Rattle.duration_str.proofs.unit.TimeUnit.is_named.Goals as goal
 

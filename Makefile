@@ -1,0 +1,169 @@
+# make                 proves and builds the program, out/durstr, and the library for C, in out/x86_64
+# make program         the program alone
+# make library         the library alone, for target=TARGET, in out/TARGET: on Linux x86_64 and aarch64 (an archive and
+#                      a shared library), as WebAssembly wasm64 and wasm32 (a module with addresses of so many bits)
+# make check           proves and tests everything, in half an hour to an hour
+# make quick           proves what has changed and runs the tests that take seconds
+# make install         puts both, the header and the manual pages below prefix=/usr/local, or into bindir=, libdir=,
+#                      includedir=, mandir= and docdir=, all below DESTDIR= if that is set; with target=aarch64 the
+#                      library for ARM alone
+# make uninstall       removes them again, given the same variables
+# make release         fills dist/, or dist=FOLDER, with packages for machines without the toolchain
+# make page            writes out/duration_str.html, a page to try texts on
+# make clean           removes what was built and proved here, except dist/
+#
+# Proving and building needs the Rattle toolchain's command rt on the path. What is current is decided by
+# tools/if-changed, from the contents of the sources and the toolchain's version.
+SHELL := bash
+.SHELLFLAGS := -euo pipefail -c
+.ONESHELL:
+.NOTPARALLEL:
+.PHONY: all program library check quick install uninstall release page clean help installable FORCE
+unexport MAKEFLAGS
+MAKEFLAGS += --no-builtin-rules --no-print-directory
+
+target = x86_64
+ifeq ($(filter $(target),x86_64 aarch64 wasm64 wasm32),)
+$(error target is x86_64, aarch64, wasm64 or wasm32, and not $(target))
+endif
+has_program := $(filter x86_64,$(target))
+quoted = '$(subst ','\'',$(1))'
+crate := crates/duration_str_c
+header := $(crate)/include/duration_str.h
+version = $(shell sed -n 's/^\#define DURATION_STR_VERSION_\(MAJOR\|MINOR\|PATCH\) //p' $(header) | paste -sd .)
+major = $(firstword $(subst ., ,$(version)))
+
+all: $(if $(has_program),program) library
+
+help:
+	@sed -n '/^[^#]/q; s/^# \{0,1\}//p' Makefile
+
+# ---- What is built
+
+program: out/durstr
+
+library: out/$(target)/$(if $(filter wasm%,$(target)),duration_str.wasm,libduration_str.so)
+
+# The sources of these crates
+sources = crates.txt $(wildcard $(foreach name,$(1),$(addprefix crates/$(name)/,src specs proofs)))
+
+# The command that makes FILE by rt in the folder of CRATE: $(call by_rt,CRATE,FILE,WORDS)
+by_rt = bash -c 'cd crates/$(1) && rt $(3) && cp out/$(2) "$$OLDPWD/$@.new"'
+
+out/durstr: FORCE
+	@tools/if-changed rt $@ $(call sources,duration_str durstr_run durstr) -- \
+	    $(call by_rt,durstr,durstr,run --cpu x86-64)
+
+# It has to be there before a proof begins. What the module with 32-bit addresses is made of takes its linker over.
+out/x86_64/%: linker = cc
+out/aarch64/%: linker = aarch64-linux-gnu-gcc
+out/wasm32/%: linker = wasm-opt
+
+out/x86_64/libduration_str.a: words = --cpu x86-64
+out/aarch64/libduration_str.a: words = --target aarch64-unknown-linux-gnu
+out/wasm64/libduration_str.a: words = --target wasm64-unknown-unknown
+
+out/x86_64/libduration_str.a out/aarch64/libduration_str.a out/wasm64/libduration_str.a: FORCE
+	@tools/if-changed 'rt $(linker)' $@ $(call sources,duration_str duration_str_c) -- \
+	    $(call by_rt,duration_str_c,libduration_str_c.a,lib $(words))
+
+out/x86_64/libduration_str.so out/aarch64/libduration_str.so: %.so: %.a FORCE
+	@tools/if-changed $(linker) $@ $< $(crate)/exports.map -- $(linker) -shared -o $@.new \
+	    -Wl,-soname,libduration_str.so.$(major) -Wl,--version-script,$(crate)/exports.map -Wl,--no-undefined \
+	    -Wl,--whole-archive $< -Wl,--no-whole-archive
+
+out/wasm64/duration_str.wasm: out/wasm64/libduration_str.a FORCE
+	@tools/if-changed 'rt $(linker)' $@ $< -- bash -c 'bin=$$(dirname "$$(readlink -f "$$(type -P rt)")") && \
+	    "$$bin/rattle-link" --target wasm64-unknown-unknown --toolchain "$$bin/../toolchain" -o $@.new $<'
+
+features := memory64 simd bulk-memory sign-ext multivalue nontrapping-float-to-int mutable-globals
+out/wasm32/duration_str.wasm: out/wasm64/duration_str.wasm FORCE
+	@tools/if-changed $(linker) $@ $< -- wasm-opt $(addprefix --enable-,$(features)) --memory64-lowering -o $@.new $<
+
+page:
+	@tools/page
+
+# ---- Installing, by the conventions of GNU
+
+prefix = /usr/local
+exec_prefix = $(prefix)
+bindir = $(exec_prefix)/bin
+libdir = $(exec_prefix)/lib
+includedir = $(prefix)/include
+datarootdir = $(prefix)/share
+mandir = $(datarootdir)/man
+docdir = $(datarootdir)/doc/duration_str
+INSTALL = install
+INSTALL_PROGRAM = $(INSTALL)
+INSTALL_DATA = $(INSTALL) -m 644
+export DESTDIR
+
+calls = $(shell sed -n 's/^ *\(duration_str_[a-z_]*\);$$/\1/p' $(crate)/exports.map)
+shared = libduration_str.so libduration_str.so.$(major) libduration_str.so.$(version)
+installed = $(if $(has_program),$(bindir)/durstr $(mandir)/man1/durstr.1) $(includedir)/duration_str.h \
+    $(addprefix $(libdir)/,libduration_str.a $(shared) pkgconfig/duration_str.pc) \
+    $(patsubst %,$(mandir)/man3/%.3,duration_str $(calls)) $(addprefix $(docdir)/,LICENSE NOTICE)
+
+# put FROM TO: copies the file to where TO is to be installed
+put = put() { $(INSTALL_DATA) -v -D "$$1" "$$DESTDIR$$2"; }
+
+# What the header says of the grammar's units, each sentence on lines of its own, as manual pages want it
+units = sed -n '/^ \* Units: /,/^ \*\//s|^ \*/\{0,1\} \{0,1\}||p' $(header) | paste -sd ' ' | \
+    sed 's/ Numbers are .*//; s/\. /.\n/g' | fold -s -w 40 | sed 's/ *$$//'
+
+# The manual page in that file, for what is installed
+page = sed -e '/^@TEXTS@$$/{r docs/man/texts.in' -e 'd}' docs/man/$(1) | \
+    sed -e '/^@UNITS@$$/{r '<($(units)) -e 'd}' -e 's/@VERSION@/$(version)/' \
+    $(if $(has_program),,-e '/^\.Sh SEE ALSO$$/,/^\.Xr/d')
+
+# The folder as it stands in the file for pkg-config
+in_pc = $(patsubst $(prefix)/%,$${prefix}/%,$(1))
+
+# Some characters pkg-config takes for something else, and others it quotes, so that compilers misread them.
+installable:
+	@export LC_ALL=C
+	for folder in $(foreach name,prefix bindir libdir includedir mandir docdir,$(call quoted,$($(name)))); do
+	    [[ $$folder =~ ^/[A-Za-z0-9/._+,@=~-]*$$ ]] && continue
+	    echo "install: $$folder can't be told to pkg-config: a folder has to begin with / and may have ASCII letters," \
+	        'digits and . _ + , @ = ~ -' >&2
+	    exit 1
+	done
+	case $(target) in wasm*) echo 'install: WebAssembly modules are not installed' >&2; exit 1 ;; esac
+
+install: installable all
+	@$(put)
+	if [ -n '$(has_program)' ]; then
+	    $(INSTALL_PROGRAM) -v -D out/durstr "$$DESTDIR$(bindir)/durstr"
+	    $(call page,durstr.1.in) | put /dev/stdin $(mandir)/man1/durstr.1
+	fi
+	put $(header) $(includedir)/duration_str.h
+	put out/$(target)/libduration_str.a $(libdir)/libduration_str.a
+	put out/$(target)/libduration_str.so $(libdir)/libduration_str.so.$(version)
+	ln -sf libduration_str.so.$(version) "$$DESTDIR$(libdir)/libduration_str.so.$(major)"
+	ln -sf libduration_str.so.$(major) "$$DESTDIR$(libdir)/libduration_str.so"
+	sed -e 's|@PREFIX@|$(prefix)|; s|@VERSION@|$(version)|; s|@LIBDIR@|$(call in_pc,$(libdir))|' \
+	    -e 's|@INCLUDEDIR@|$(call in_pc,$(includedir))|' $(crate)/duration_str.pc.in |
+	    put /dev/stdin $(libdir)/pkgconfig/duration_str.pc
+	$(call page,duration_str.3.in) | put /dev/stdin $(mandir)/man3/duration_str.3
+	for call in $(calls); do echo '.so man3/duration_str.3' | put /dev/stdin "$(mandir)/man3/$$call.3"; done
+	for file in LICENSE NOTICE; do put "$$file" "$(docdir)/$$file"; done
+	[ -n "$$DESTDIR" ] || echo 'install: programs find the shared library once ldconfig knows $(libdir)'
+
+uninstall: installable
+	@for file in $(installed); do rm -fv "$$DESTDIR$$file"; done
+	[ ! -d "$$DESTDIR$(docdir)" ] || rmdir --ignore-fail-on-non-empty "$$DESTDIR$(docdir)"
+
+# ---- The rest
+
+dist = dist
+check:
+	@./check
+
+quick:
+	@./check --quick
+
+release:
+	@tools/release $(call quoted,$(dist))
+
+clean:
+	rm -rf out crates/*/out examples/out tests/fuzz/out bench/target bindings/rust/target bindings/js/dist

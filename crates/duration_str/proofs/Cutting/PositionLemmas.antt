@@ -1,0 +1,199 @@
+-- The steps of cutting, in terms of a text, the byte up to which it is cut, and the looks.
+use Rattle.duration_str.proofs.Common.{◌≡◌, ℕ, ◌+◌, ◌-◌, ◌*◌, ◌%◌, ◌<◌, ◌≤◌, ◌^◌, Bool, true, false, List, [], ◌∷◌, ◌++◌, length, take, drop, Option, Some, None, IsUtf8, refl, ap, sym, ◌∙◌, arith, nat_lt, ◌&&◌, ◌||◌, is_some, IsSome, IfSome, slice_range, if◌then◌else◌, IsCharBoundary, chars, take-append-drop, drop-drop, add-zero, length-append, append_assoc, length-drop, is_ascii_uppercase, and_from, list_any-append, list_all-append, ForSome, encodes-chars, chars-append, IsUtf8-take, IsUtf8-drop, Options, TimeUnit, tokens_from, IsLexeme, EndsRun, byte_len, is_blank, is_digit, is_unit_letter, number_after, number_of, IsNumber, unit_of_word, u64_from, unit_of_packed, ahead, StandsAt, Between, Passes, TakesDigits, TakesLetters, letter_number, packed_number_after, length-le-encodes, append_cancel_right}
+use Rattle.std.proofs.Math.Bool.{or-false}
+pub use Rattle.duration_str.proofs.Cutting.TokenLemmas.{blanks_no_token, tokens_step}
+use Rattle.duration_str.proofs.Characters.CharacterLemmas.{capital_below}
+use Rattle.duration_str.proofs.Characters.TextLemmas.{width_some, byte_len-append}
+use Rattle.duration_str.proofs.Characters.NumberLemmas.{decimal_digits, whole_number}
+use Rattle.std.proofs.lemmas.Str.Parse.{digits_value_short}
+use Rattle.duration_str.proofs.Characters.PackedLemmas.{exact, no_capital_name, no_long_name, unit_by_number}
+
+-- ---- how many times a character was looked at
+
+-- the looks so far and the characters ahead, counting a looked-at head only once, are all the characters
+abbrev pub IsCounted : List ℕ → ℕ → ℕ → Option ℕ → Type 0
+IsCounted text place looks head =
+    looks + length (ahead text place) ≡ length (chars text) + (if is_some head then 1 else 0)
+
+-- a text has at most as many characters as bytes
+chars_short : (text : List ℕ) → IsUtf8 text → length (chars text) ≤ length text
+chars_short text utf8 = omega (arith, length-le-encodes (chars text), ap length (encodes-chars text utf8))
+
+module _ {text : List ℕ} (place looks : ℕ) where
+  -- no character after the head was looked at
+  pub counted_past : (next : ℕ) (head : Option ℕ) → IsSome head → ForSome head (StandsAt text place next)
+      → IsCounted text place looks head → looks + length (ahead text next) ≡ length (chars text)
+  counted_past next None h stands counted = absurd cc
+  counted_past next (Some c) h stands counted = omega (arith, ap length (stands c refl).head, counted)
+
+  -- one more look fits into 64 bits
+  pub looks_fit : IsUtf8 text → length text < 2 ^ 63 → looks + length (ahead text place) ≡ length (chars text)
+      → looks + 1 < 2 ^ 64
+  looks_fit utf8 short counted = omega (arith, chars_short text utf8, short, counted)
+
+  -- there are at most as many looks as characters
+  pub looks_most : (next : ℕ) (head : Option ℕ) → ForSome head (StandsAt text place next)
+      → IsCounted text place looks head → looks ≤ length (chars text)
+  looks_most next None stands counted = omega (arith, counted)
+  looks_most next (Some c) stands counted = omega (arith, ap length (stands c refl).head, counted)
+
+  -- each character before the place was looked at
+  pub looks_least : (head : Option ℕ) → IsUtf8 text → IsCharBoundary text place → IsCounted text place looks head
+      → length (chars (take place text)) ≤ looks
+  looks_least head utf8 boundary counted =
+      let front = chars (take place text) in
+      let parts = chars-append (take place text) (drop place text) (IsUtf8-take text place utf8 boundary) in
+      omega (arith, ap length (rw take-append-drop at parts), length-append front (ahead text place), counted)
+
+-- what a look found, if the text and the place stay the same
+pub stands_same : {text text' : List ℕ} {place place' next : ℕ} (head : Option ℕ) → text' ≡ text → place' ≡ place
+    → IfSome head (StandsAt text place next) → ForSome head (StandsAt text' place' next)
+stands_same None e p h c is = cc
+stands_same (Some d) e p h c is = let same : d ≡ c = cc in rw (e, p) (rw same at h)
+
+-- ---- characters that pass a test
+
+abbrev pub passes_none : {test : ℕ → Bool} {text : List ℕ} {place : ℕ} → Passes test text place place
+passes_none = record { characters = []; between = record { cut = refl; bytes = omega arith }; all = refl }
+
+-- one run that passes after another
+abbrev passes_on : {test : ℕ → Bool} {text : List ℕ} {place at next : ℕ} → Passes test text place at
+    → Passes test text at next → Passes test text place next
+passes_on {test} passed more = record {
+  characters = passed.characters ++ more.characters;
+  between = record {
+    cut = rw append_assoc (rw more.between.cut at passed.between.cut);
+    bytes = rw byte_len-append (omega (arith, passed.between.bytes, more.between.bytes));
+  };
+  all = list_all-append test passed.characters more.characters ∙ and_from _ _ passed.all more.all;
+}
+
+-- the head of what is left passes the test, and joins the run
+abbrev pub passes_head : {test : ℕ → Bool} {text : List ℕ} {place at next c : ℕ} → Passes test text place at
+    → StandsAt text at next c → test c ≡ true → Passes test text place next
+passes_head {c = c} passed stands e = passes_on passed (record {
+  characters = c ∷ [];
+  between = record { cut = stands.head; bytes = omega (arith, stands.bytes) };
+  all = rw e;
+})
+
+-- ---- values of digits and letters
+
+number_after-push : (n : ℕ) (cs : List ℕ) (c : ℕ) → number_after n (cs ++ c ∷ []) ≡ number_after n cs * 10 + (c - 48)
+number_after-push n [] c = refl
+number_after-push n (d ∷ cs) c = number_after-push (n * 10 + (d - 48)) cs c
+
+packed_after-push : (n : ℕ) (cs : List ℕ) (c : ℕ)
+    → packed_number_after n (cs ++ c ∷ []) ≡ packed_number_after n cs * 40 + letter_number c
+packed_after-push n [] c = refl
+packed_after-push n (d ∷ cs) c = packed_after-push (n * 40 + letter_number d) cs c
+
+pub digits_none : {text : List ℕ} {place : ℕ} → TakesDigits text place place 0
+digits_none = record { run = passes_none; number = refl }
+
+pub digits_head : {text : List ℕ} {place at next c value value' : ℕ} → TakesDigits text place at value
+    → StandsAt text at next c → is_digit c ≡ true → value' ≡ (value * 10 + (c - 48)) % 2 ^ 64
+    → TakesDigits text place next value'
+digits_head {c = c} taken stands e more = record {
+  run = passes_head taken.run stands e;
+  number = omega (arith, more, taken.number, number_after-push 0 taken.run.characters c);
+}
+
+pub letters_none : {o : Options} {text : List ℕ} {place : ℕ} → TakesLetters o text place place 0 false
+letters_none = record { run = passes_none; number = refl; capital = refl }
+
+pub letters_head : {o : Options} {text : List ℕ} {place at next c value value' : ℕ} {capital capital' : Bool}
+    → TakesLetters o text place at value capital → StandsAt text at next c → is_unit_letter o c ≡ true
+    → value' ≡ (value * 40 + letter_number c) % 2 ^ 64 → capital' ≡ (capital || nat_lt c 97)
+    → TakesLetters o text place next value' capital'
+letters_head {o} {c = c} taken stands e more or = record {
+  run = passes_head taken.run stands e;
+  number = omega (arith, more, taken.number, packed_after-push 0 taken.run.characters c);
+  capital = rw (list_any-append is_ascii_uppercase taken.run.characters, or-false (is_ascii_uppercase c))
+      (rw (← taken.capital, ← capital_below o c e) or);
+}
+
+-- ---- the characters between two places
+
+length-le-byte_len : (cs : List ℕ) → length cs ≤ byte_len cs
+length-le-byte_len [] = omega arith
+length-le-byte_len (c ∷ cs) = omega (arith, width_some c, length-le-byte_len cs)
+
+-- the slice between two places has these characters
+pub chars_between : {text cs slice : List ℕ} {place next : ℕ} → Between text place next cs
+    → slice ≡ slice_range text place next → IsUtf8 slice → chars slice ≡ cs
+chars_between {text} {cs} {slice} {place} {next} between is utf8 =
+    let there : place + (next - place) ≡ next = omega (arith, between.bytes) in
+    let parts : slice ++ drop next text ≡ drop place text =
+    rw (is, ← there, ← drop-drop (next - place) place text, there)
+    (take-append-drop (next - place) (drop place text)) in
+    append_cancel_right (chars slice) cs (ahead text next)
+    (sym (chars-append slice (drop next text) utf8) ∙ rw parts between.cut)
+
+-- ---- numbers and words
+
+-- a number with at most 19 digits is below 2^64
+pub short_number : (digits : List ℕ) (low : ℕ) → IsUtf8 digits → IsNumber (chars digits)
+    → low ≡ number_of (chars digits) % 2 ^ 64 → length digits ≤ 19 → Some low ≡ u64_from (number_of (chars digits))
+short_number digits low utf8 number same short =
+    let cs = chars digits in
+    let few : length cs ≤ 19 = omega (arith, chars_short digits utf8, short) in
+    let less = digits_value_short decimal_digits cs 19 number.1 few in
+    whole_number (number_of cs) low same (omega arith)
+
+-- The characters from `place` to `next` are unit letters, and `unit` is the unit that they name.
+pub record TakesWord (o : Options) (text : List ℕ) (place next : ℕ) (unit : Option TimeUnit) : Type 0 where
+  pub run : Passes (is_unit_letter o) text place next
+  pub named : unit ≡ unit_of_word o run.characters
+
+-- a word of at most 12 bytes, without capitals under `lowercase`, identified by its packed number
+pub short_word : {o : Options} {text : List ℕ} {place next value : ℕ} {capital : Bool} {unit : Option TimeUnit}
+    → TakesLetters o text place next value capital → (o.lowercase && capital) ≡ false → next - place ≤ 12
+    → unit ≡ unit_of_packed value → TakesWord o text place next unit
+short_word {o} {value = value} taken folded short found =
+    let cs = taken.run.characters in
+    let few : length cs ≤ 12 = omega (arith, length-le-byte_len cs, taken.run.between.bytes, short) in
+    record {
+      run = taken.run;
+      named =
+          rw (found, exact cs value few taken.number, unit_by_number o cs (rw taken.capital at folded) taken.run.all);
+    }
+
+module _ {o : Options} {text : List ℕ} {place next value : ℕ} {capital : Bool}
+    (taken : TakesLetters o text place next value capital) where
+  -- under `lowercase` a word with a capital names no unit
+  pub capital_word : o.lowercase ≡ true → capital ≡ true → TakesWord o text place next None
+  capital_word on is = record {
+    run = taken.run;
+    named = no_capital_name o taken.run.characters on (sym taken.capital ∙ is);
+  }
+
+  -- a word of more than 12 bytes names no unit
+  pub long_word : 12 < next - place → TakesWord o text place next None
+  long_word long = record {
+    run = taken.run;
+    named = no_long_name o taken.run.characters (omega (arith, taken.run.between.bytes));
+  }
+
+-- ---- the first token that is left
+
+-- skipping blanks leaves the same tokens
+pub blanks_passed : {text : List ℕ} {place next : ℕ} (o : Options) → Passes is_blank text place next
+    → tokens_from o place (ahead text place) ≡ tokens_from o next (ahead text next)
+blanks_passed {text} {place} {next} o run =
+    rw (run.between.cut, blanks_no_token o place run.characters (ahead text next) run.all, ← run.between.bytes)
+
+pub token_taken : {text cs : List ℕ} {place next : ℕ} (o : Options) → Between text place next cs → IsLexeme o cs
+    → EndsRun o cs (ahead text next)
+    → tokens_from o place (ahead text place)
+    ≡ record { start = place; characters = cs } ∷ tokens_from o next (ahead text next)
+token_taken {text} {cs} {place} {next} o between is_lexeme ends =
+    let step : place + 0 + byte_len cs ≡ next = omega (arith, between.bytes) in
+    rw (between.cut, tokens_step o place [] cs (ahead text next) refl is_lexeme ends, step, add-zero place)
+
+-- if nothing is ahead, the place is the end of the text
+pub place_at_end : (text : List ℕ) (place : ℕ) → IsUtf8 text → IsCharBoundary text place → ahead text place ≡ []
+    → place ≡ length text
+place_at_end text place utf8 boundary nothing =
+    let whole = encodes-chars (drop place text) (IsUtf8-drop text place utf8 boundary) in
+    omega (arith, ap length (rw nothing at whole), length-drop place text, boundary.0)

@@ -1,0 +1,141 @@
+-- The steps of `Tokens`: what is ahead, and the next token.
+use Rattle.duration_str.proofs.Common.{◌≡◌, ℕ, ◌-◌, ◌<◌, ◌%◌, ◌^◌, ◌≤◌, drop, length-drop, arith, true, List, [], ◌∷◌, length, Option, Some, None, IsUtf8, refl, ap, ◌∙◌, slice_range, IsCharBoundary, chars, length-take-le, ForSome, IsUtf8-had, TimeUnit, CondUnit, Sort, Number, Word, Operator, Other, Tokens, Terminal, word, operator, other, operator_or_other, terminal_of, is_blank, is_digit, is_unit_letter, operator_of, number_of, IsNumber, tokens_from, ahead, StandsAt, Passes, Stops, TakesDigits, sort_of, u64_from, source, options_of, tokens_left, what_of, KeepsInput, YieldsNextToken, IsAhead, LooksAhead, IsSign, TakesToken, TakesTokenWith, TakesNumber, Token, cut_place}
+use Rattle.duration_str.specs.declared.token.Token.{Token as RustToken}
+use Rattle.duration_str.proofs.Cutting.PositionLemmas.{TakesWord, chars_between, blanks_passed, token_taken, place_at_end}
+use Rattle.duration_str.proofs.Cutting.SortLemmas.{StandsToken, number_stands, word_stands, sign_stands, digit_of_sort, letter_of_sort, sign_of_sort, first_token}
+use Rattle.duration_str.proofs.Cutting.TerminalLemmas.{sign_sorts}
+use Rattle.duration_str.specs.declared.token.What.TheVariants as whats
+
+pub keeps_all : (s : Tokens) → KeepsInput s s
+keeps_all s = record { text = refl; options = refl }
+
+pub keeps_on : {s m t : Tokens} → KeepsInput s m → KeepsInput m t → KeepsInput s t
+keeps_on kept later = record { text = later.text ∙ kept.text; options = later.options ∙ kept.options }
+
+-- the tokens that are left after a step, in terms of the source and the options before it
+left_same : {s t : Tokens} → KeepsInput s t
+    → tokens_left t ≡ tokens_from (options_of s) (cut_place t) (ahead (source s) (cut_place t))
+left_same kept = rw (kept.options, kept.text)
+
+-- ---- what is ahead
+
+-- Past the character ahead, fewer are ahead.
+pub fewer_ahead : {s t : Tokens} {c : ℕ} → KeepsInput s t
+    → ForSome s.head (StandsAt (source s) (cut_place s) (cut_place t)) → s.head ≡ Some c
+    → length (ahead (source t) (cut_place t)) < length (ahead (source s) (cut_place s))
+fewer_ahead kept past is = simp (kept.text, (past _ is).head) (omega arith)
+
+-- skipping the blanks from s to t
+pub looks_ahead : {s t : Tokens} (sort : Option Sort) → KeepsInput s t
+    → Passes is_blank (source s) (cut_place s) (cut_place t) → IsAhead t sort → LooksAhead s t sort
+looks_ahead {s} sort kept blanks ahead =
+    record { kept = kept; same_left = rw (left_same kept, blanks_passed (options_of s) blanks); ahead = ahead }
+
+pub none_left : (s : Tokens) → IsAhead s None → (tokens_left s ≡ []) × (cut_place s ≡ length (source s))
+none_left s end =
+    let utf8 = IsUtf8-had s.eye.text.now s.eye.utf8 in
+    (rw (s.none end), place_at_end (source s) (cut_place s) utf8 s.eye.at_place (s.none end))
+
+-- The first token that is left starts at the place, and its terminal has the sort ahead.
+pub first_left : (s : Tokens) (sort : Sort) → IsAhead s (Some sort)
+    → (cs : List ℕ) × (rest : List Token) × (tokens_left s ≡ record { start = cut_place s; characters = cs } ∷ rest)
+    × (sort ≡ sort_of (terminal_of (options_of s) cs))
+first_left s sort h =
+    let stands : StandsAt (source s) (cut_place s) s.eye.next h.character = s.some h.character h.is_head in
+    let (cs, rest, is, sort_is) =
+    first_token (options_of s) (cut_place s) h.character (ahead (source s) s.eye.next) h.not_blank in
+    (cs, rest, rw stands.head is, rw h.is_sort sort_is)
+
+-- a word starts with a unit letter
+pub letter_ahead : (s : Tokens) (c : ℕ) → IsAhead s (Some Word) → s.head ≡ Some c
+    → is_unit_letter (options_of s) c ≡ true
+letter_ahead s c h is =
+    let same : h.character ≡ c = cc (h.is_head) in
+    rw (← same) (letter_of_sort (options_of s) h.character h.is_sort)
+
+-- ---- the next token
+
+takes_token : {s t : Tokens} {terminal : Terminal} → KeepsInput s t
+    → StandsToken (options_of s) (source s) (cut_place s) (cut_place t) terminal → TakesToken s t terminal
+takes_token {s} kept token = record {
+  characters = token.characters;
+  kept = kept;
+  first = rw (token_taken (options_of s) token.between token.is_lexeme token.ends, left_same kept);
+  between = token.between;
+  is_terminal = token.is_terminal;
+}
+
+-- a slice of the same text from the same place
+same_slice : {s t : Tokens} {slice : List ℕ} {start : ℕ} → KeepsInput s t → start ≡ cut_place s
+    → slice ≡ slice_range (source t) start (cut_place t) → slice ≡ slice_range (source s) (cut_place s) (cut_place t)
+same_slice kept there is = simp (kept.text, there) at is
+
+-- The slice from s to t is the number ahead, and `low` is its value modulo 2^64.
+pub takes_number : {s t : Tokens} {low start : ℕ} {slice : List ℕ} → IsAhead s (Some Number) → KeepsInput s t
+    → TakesDigits (source s) (cut_place s) (cut_place t) low → Stops is_digit (ahead (source t) (cut_place t))
+    → start ≡ cut_place s → slice ≡ slice_range (source t) start (cut_place t) → IsUtf8 slice
+    → IsNumber (chars slice) × (low ≡ number_of (chars slice) % 2 ^ 64)
+    × TakesNumber s t (u64_from (number_of (chars slice)))
+takes_number {s} h kept taken stops there is utf8 =
+    let same = chars_between taken.run.between (same_slice kept there is) utf8 in
+    let digit = digit_of_sort (options_of s) h.character h.is_sort in
+    let run = number_stands (options_of s) taken.run (simp kept.text at stops) (s.some h.character h.is_head) digit in (
+      rw same run.0,
+      rw same taken.number,
+      record { n = number_of taken.run.characters; token = takes_token kept run.1; is_value = rw same },
+    )
+
+pub takes_word : {s t : Tokens} {unit : Option TimeUnit} → IsAhead s (Some Word) → KeepsInput s t
+    → TakesWord (options_of s) (source s) (cut_place s) (cut_place t) unit
+    → Stops (is_unit_letter (options_of s)) (ahead (source t) (cut_place t)) → TakesToken s t (word unit)
+takes_word {s} h kept taken stops =
+    let letter = letter_of_sort (options_of s) h.character h.is_sort in
+    takes_token kept (word_stands (options_of s) taken (simp kept.text at stops) (s.some h.character h.is_head) letter)
+
+-- taking the single character ahead
+pub takes_sign : {s t : Tokens} (sort : Sort) → IsSign sort → IsAhead s (Some sort) → KeepsInput s t
+    → ((c : ℕ) → s.head ≡ Some c → StandsAt (source s) (cut_place s) (cut_place t) c)
+    → TakesTokenWith s t (λ terminal. sort ≡ sort_of terminal)
+takes_sign {s} sort sign h kept past =
+    let c = h.character in
+    let (no_digit, no_letter, sort_is) = sign_of_sort (options_of s) c sort sign h.is_sort in
+    record {
+      terminal = operator_or_other (operator_of c);
+      token = takes_token kept (sign_stands (options_of s) (past c h.is_head) h.not_blank no_digit no_letter);
+      has = sort_is ∙ sign_sorts (operator_of c);
+    }
+
+-- the terminal of a single character, given its sort
+pub sign_what : (terminal : Terminal) (op : CondUnit) → Operator op ≡ sort_of terminal
+    → whats.Operator op ≡ what_of terminal
+sign_what (operator next) op e = cc
+sign_what _ op e = absurd cc
+
+pub other_what : (terminal : Terminal) → Other ≡ sort_of terminal → whats.Other ≡ what_of terminal
+other_what other e = refl
+other_what _ e = absurd cc
+
+-- the token that was taken is the next one
+pub takes_terminal : {s m t : Tokens} {terminal : Terminal} (x : RustToken) → KeepsInput s m
+    → tokens_left m ≡ tokens_left s → TakesToken m t terminal
+    → x.start ≡ cut_place m → x.text.now ≡ slice_range (source t) x.start (cut_place t)
+    → IsUtf8 x.text.now → x.what ≡ what_of terminal → IsCharBoundary (source m) (cut_place m)
+    → IsCharBoundary (source t) (cut_place t) → YieldsNextToken s (Some x) t
+takes_terminal {s} {m} {t} x kept same taken there is utf8 sort before boundary =
+    let cs = chars_between taken.between (same_slice taken.kept there is) utf8 in
+    let order : x.start ≤ cut_place t = omega (arith, taken.between.bytes, there) in
+    let len : length x.text.now ≡ cut_place t - x.start =
+    ap length is
+    ∙ length-take-le (cut_place t - x.start) (drop x.start (source t))
+    (simp length-drop (omega (arith, boundary.0, order))) in
+    let all = keeps_on kept taken.kept in
+    record {
+      first = rw (there, cs, ← same) taken.first;
+      kept = all;
+      token = record {
+        end = omega (arith, len, order);
+        slice = simp all.text at is;
+        sort = rw (sort, taken.is_terminal, kept.options, cs);
+      };
+      end = tt;
+    }

@@ -1,7 +1,0 @@
-use Rattle.std.proofs.Common.{arith}
-use Rattle.duration_str.proofs.Common.{length-decimal-le}
-use Rattle.duration_str.proofs.fault.put_decimal.Goals as goal
-
-pub put_number-end-requires : goal.put_number-end-requires
-put_number-end-requires c =
-    record { room = omega (arith, length-decimal-le 20 c.args.number (omega arith) (omega arith) (omega arith)) }

@@ -1,0 +1,10 @@
+use Rattle.duration_str.proofs.Common.{arith, IsUtf8, caret_text}
+use Rattle.std.proofs.lemmas.Grind.{common_steps}
+use Rattle.duration_str.proofs.Printer.MessageLemmas.{front_has, caret_text_utf8}
+use Rattle.duration_str.proofs.message.put_caret.Goals as goal
+
+pub returns-clause-utf8 : goal.returns-clause-utf8
+returns-clause-utf8 c =
+    front_has IsUtf8 (caret_text c.args.text.now c.args.spaces c.args.line.now) c.put-4.result c.put-4.new.buffer
+    (caret_text_utf8 c.args.text.now c.args.spaces c.args.line.now c.utf8.text c.utf8.line)
+    (grind (arith, common_steps))

@@ -1,0 +1,39 @@
+use Rattle.duration_str.proofs.Common.{refl, arith}
+use Rattle.duration_str.proofs.Characters.PackedLemmas.{numbered_letter, unnumbered}
+use Rattle.duration_str.proofs.Cutting.PositionLemmas.{letters_none, letters_head}
+use Rattle.duration_str.proofs.Cutting.StepLemmas.{keeps_on, fewer_ahead, letter_ahead}
+use Rattle.duration_str.proofs.token.Tokens.take_letters.Goals as goal
+
+pub loop-self-init : goal.loop-self-init
+loop-self-init c =
+    let s = c.args.self.now in
+    let first = c.in-Some.first in
+    record {
+      kept = c.advance.ensures.kept;
+      letters = letters_head letters_none (c.advance.ensures.past first c.in-Some.is)
+          (letter_ahead s first c.requires c.in-Some.is)
+          (omega (arith, c.first_number-packed.ensures, c.first_number-packed.type_inv)) refl;
+    }
+
+pub loop-self-preserved : goal.loop-self-preserved
+loop-self-preserved c =
+    let inv = c.loop-self.invariant in
+    let more = c.advance-in-Some-head.ensures in
+    let next = c.in-Some-head.c in
+    let letter = numbered_letter c.loop-self.self.options next _ c.letter_number-number.ensures c.if-number-eq0.false in
+    record {
+      kept = keeps_on inv.kept more.kept;
+      letters = letters_head inv.letters (rw inv.kept.text at (more.past next c.in-Some-head.is))
+          (rw inv.kept.options at letter.0) (rw letter.1 refl) refl;
+    }
+
+pub loop-self-smaller : goal.loop-self-smaller
+loop-self-smaller c =
+    let more = c.advance-in-Some-head.ensures in fewer_ahead more.kept more.past c.in-Some-head.is
+
+pub returns-then-number-eq0-clause-stops : goal.returns-then-number-eq0-clause-stops
+returns-then-number-eq0-clause-stops c =
+    let s = c.loop-self.self in
+    rw (s.some c.in-Some-head.c c.in-Some-head.is).head
+    (rw c.loop-self.invariant.kept.options at
+    (unnumbered s.options c.in-Some-head.c _ c.letter_number-number.ensures c.if-number-eq0.true))

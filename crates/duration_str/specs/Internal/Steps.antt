@@ -1,0 +1,78 @@
+-- What the private calls of `Tokens` do: they look ahead, and take the token ahead.
+use Rattle.std.specs.Prelude.{◌≡◌, ℕ, Bool, true, false, List, ◌∷◌, Option, Some, None, ⊤}
+use Rattle.std.specs.Str.{chars}
+use Rattle.duration_str.specs.declared.token.Sort.{Sort}
+use Rattle.duration_str.specs.declared.token.Sort.TheVariants as sorts
+use Rattle.duration_str.specs.declared.token.Number.{Number}
+use Rattle.duration_str.specs.declared.token.Tokens.{Tokens}
+use Rattle.duration_str.specs.Text.{is_blank, number_of}
+use Rattle.duration_str.specs.Grammar.{Terminal, number, terminal_of}
+use Rattle.duration_str.specs.Iteration.{source, options_of, cut_place, tokens_left, KeepsInput}
+use Rattle.duration_str.specs.Internal.Numbers.{u64_from}
+use Rattle.duration_str.specs.Internal.Positions.{Between}
+use Rattle.duration_str.specs.Internal.Sorts.{sort_at, sort_of}
+
+-- The character ahead starts a token of this sort.
+pub record StartsToken (s : Tokens) (sort : Sort) : Type 0 where
+  pub character : ℕ
+  pub is_head : s.head ≡ Some character
+  pub not_blank : is_blank character ≡ false
+  pub is_sort : sort ≡ sort_at (options_of s) character
+
+-- A token of this sort is ahead; `None` at the end.
+abbrev pub IsAhead : Tokens → Option Sort → Type 0
+IsAhead s None = s.head ≡ None
+IsAhead s (Some sort) = StartsToken s sort
+
+-- Blanks are skipped, so the same tokens are left, and the character ahead starts a token of this sort; `None` at the
+-- end.
+pub record LooksAhead (old new : Tokens) (sort : Option Sort) : Type 0 where
+  pub kept : KeepsInput old new
+  pub same_left : tokens_left new ≡ tokens_left old
+  pub ahead : IsAhead new sort
+
+-- whether a number is ahead
+abbrev pub is_number : Option Sort → Bool
+is_number (Some sorts.Number) = true
+is_number _ = false
+
+-- Blanks are skipped, and the answer is whether a number is ahead.
+pub record LooksForNumber (old new : Tokens) (answer : Bool) : Type 0 where
+  pub sort : Option Sort
+  pub look : LooksAhead old new sort
+  pub is_answer : answer ≡ is_number sort
+
+-- The sort is of a single character, neither a digit nor a unit letter.
+abbrev pub IsSign : Sort → Type 0
+IsSign sorts.Number = ⊥
+IsSign sorts.Word = ⊥
+IsSign _ = ⊤
+
+-- The first token that is left is taken; it starts at the place and stands for this terminal.
+pub record TakesToken (old new : Tokens) (terminal : Terminal) : Type 0 where
+  pub characters : List ℕ
+  pub kept : KeepsInput old new
+  pub first : tokens_left old ≡ record { start = cut_place old; characters = characters } ∷ tokens_left new
+  pub between : Between (source old) (cut_place old) (cut_place new) characters
+  pub is_terminal : terminal ≡ terminal_of (options_of old) characters
+
+-- the number, or `None` from 2^64 on
+abbrev pub u64_of : Number → Option ℕ
+u64_of n = u64_from (number_of (chars n.digits.now))
+
+-- The first token that is left is taken; it is a number, and `value` is `None` from 2^64 on.
+pub record TakesNumber (old new : Tokens) (value : Option ℕ) : Type 0 where
+  pub n : ℕ
+  pub token : TakesToken old new (number n)
+  pub is_value : value ≡ u64_from n
+
+-- The first token that is left is taken; it stands for a terminal that has the property.
+pub record TakesTokenWith (old new : Tokens) (Has : Terminal → Type 0) : Type 0 where
+  pub terminal : Terminal
+  pub token : TakesToken old new terminal
+  pub has : Has terminal
+
+-- If a token of a single character is ahead, it is taken; it stands for a terminal of its sort.
+abbrev pub TakesSign : Tokens → Tokens → Type 0
+TakesSign old new =
+    (sort : Sort) → IsSign sort → IsAhead old (Some sort) → TakesTokenWith old new (λ terminal. sort ≡ sort_of terminal)

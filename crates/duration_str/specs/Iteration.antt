@@ -1,0 +1,57 @@
+-- What callers see of the iterator `Tokens`: the text, how far it is cut, and the tokens that are left.
+use Rattle.std.specs.Prelude.{◌≡◌, ℕ, ◌+◌, List, length, Option, IfSome, IfNone, slice_range}
+use Rattle.std.specs.Str.{chars}
+use Rattle.std.specs.Iterator.{YieldsFirstBy}
+use Rattle.duration_str.specs.declared.options.Options.{Options}
+use Rattle.duration_str.specs.declared.token.What.{What}
+use Rattle.duration_str.specs.declared.token.What.TheVariants as whats
+use Rattle.duration_str.specs.declared.token.Token.{Token as RustToken}
+use Rattle.duration_str.specs.declared.token.Tokens.{Tokens}
+use Rattle.duration_str.specs.Text.{ahead}
+use Rattle.duration_str.specs.Grammar.{Terminal, number, word, operator, other, terminal_of}
+use Rattle.duration_str.specs.Tokens.{Token, tokens_from}
+
+-- what the token of a terminal is
+abbrev pub what_of : Terminal → What
+what_of (number n) = whats.Number
+what_of (word u) = whats.Word u
+what_of (operator op) = whats.Operator op
+what_of other = whats.Other
+
+-- the bytes of the text being cut
+abbrev pub source : Tokens → List ℕ
+source s = s.eye.text.now
+
+-- the options under which it is cut
+abbrev pub options_of : Tokens → Options
+options_of s = s.options
+
+-- the byte up to which it is cut
+abbrev pub cut_place : Tokens → ℕ
+cut_place s = s.eye.place
+
+-- the tokens that are left
+abbrev pub tokens_left : Tokens → List Token
+tokens_left s = tokens_from s.options s.eye.place (ahead s.eye.text.now s.eye.place)
+
+-- a Rust token as its start and its characters
+abbrev pub token_of : RustToken → Token
+token_of t = record { start = t.start; characters = chars t.text.now }
+
+-- The text that is cut and the options stay the same.
+pub record KeepsInput (old new : Tokens) : Type 0 where
+  pub text : source new ≡ source old
+  pub options : options_of new ≡ options_of old
+
+-- The token is the text from its start to the place, and says what it is.
+pub record IsCutAt (o : Options) (text : List ℕ) (place : ℕ) (token : RustToken) : Type 0 where
+  pub end : place ≡ token.start + length token.text.now
+  pub slice : token.text.now ≡ slice_range text token.start place
+  pub sort : token.what ≡ what_of (terminal_of o (chars token.text.now))
+
+-- The first token that is left is returned; if none is left, the whole text is cut.
+pub record YieldsNextToken (old : Tokens) (result : Option RustToken) (new : Tokens) : Type 0 where
+  pub first : YieldsFirstBy token_of tokens_left old result new
+  pub kept : KeepsInput old new
+  pub token : IfSome result (IsCutAt (options_of old) (source old) (cut_place new))
+  pub end : IfNone result (cut_place new ≡ length (source old))

@@ -1,0 +1,269 @@
+//! The message of a fault: printed, or written to a buffer.
+//!
+//! A `Display` may fail for reasons that its contract does not name, so no contract can promise that it prints. Into a
+//! buffer a message for which there is room is always written.
+ghost use Rattle.std.specs.Prelude.{◌≡◌, ◌≤◌, ◌-◌, ◌^◌, ◌++◌, None, Some, IfSome, IsUtf8, min, length, take, replicate, decimal, encode_utf8_all};
+ghost use Rattle.std.specs.Fmt.{DisplaysOnOk, DisplaysStyledOnOk};
+ghost use Rattle.std.specs.Str.{IsCharBoundary};
+ghost use Rattle.duration_str.specs.Buffers.{IsInFront, IsWritten};
+ghost use Rattle.duration_str.specs.FaultText.{EndsInsideLine, byte_text, caret_text, chars_before, fault_text, line_of};
+ghost use Rattle.duration_str.specs.Internal.Layouts.{message_of};
+
+use crate::cause::Cause;
+use crate::ext::put_number;
+use crate::fault::Fault;
+use std::fmt;
+
+impl Cause {
+    /// Writes the line that says why the text is refused to the start of a buffer, and returns its length in bytes.
+    ///
+    /// `None` if it is longer than the buffer, which is then unchanged. Allocates nothing.
+    ///
+    /// ```
+    /// use duration_str::{Options, parse_with};
+    ///
+    /// let mut buffer = [0; 64];
+    /// let cause = parse_with("3 + ", Options::off()).unwrap_err().cause();
+    /// assert_eq!(cause.write_line(&mut buffer), Some(15));
+    /// assert_eq!(&buffer[..15], b"expected number");
+    /// ```
+    pub fn write_line(self, buffer: &mut [u8]) -> Option<usize>
+        ensures bytes { IsWritten (encode_utf8_all (line_of self)) buffer.old result buffer.new }
+        ensures utf8 { IfSome result (λ end. IsUtf8 (take end buffer.new)) }
+    {
+        put(buffer, 0, self.line().as_bytes())
+    }
+}
+
+impl Fault<'_> {
+    /// How its message is laid out.
+    pub(crate) fn layout(&self) -> Layout
+        ensures { message_of result self.now.text.now (encode_utf8_all (line_of self.now.cause))
+            ≡ fault_text self.now.text.now self.now.cause }
+    {
+        let Some(place) = self.cause.place() else {
+            return Layout::Line;
+        };
+        if self.text.as_bytes().contains(&b'\n') {
+            return Layout::Byte { place };
+        }
+        Layout::Caret {
+            spaces: chars_before(self.text, place),
+        }
+    }
+
+    /// The length in bytes of the message that `write_message` writes; `usize::MAX` if it is greater than that.
+    ///
+    /// ```
+    /// use duration_str::{Options, parse_with};
+    ///
+    /// assert_eq!(parse_with("3ms-2ms", Options::off()).unwrap_err().message_len(), 32);
+    /// ```
+    pub fn message_len(&self) -> usize
+        ensures { result ≡ min (length (fault_text self.now.text.now self.now.cause)) (2 ^ 64 - 1) }
+    {
+        self.layout().len(self.text, self.cause.line())
+    }
+
+    /// Writes the fault's message to the start of a buffer, and returns its length in bytes.
+    ///
+    /// `None` if it is longer than the buffer, which is then unchanged. Allocates nothing.
+    ///
+    /// ```
+    /// use duration_str::{Options, parse_with};
+    ///
+    /// let mut buffer = [0; 64];
+    /// let fault = parse_with("", Options::off()).unwrap_err();
+    /// assert_eq!(fault.write_message(&mut buffer), Some(11));
+    /// assert_eq!(&buffer[..11], b"Empty input");
+    /// ```
+    pub fn write_message(&self, buffer: &mut [u8]) -> Option<usize>
+        ensures bytes { IsWritten (fault_text self.now.text.now self.now.cause)
+            buffer.old result buffer.new }
+        ensures utf8 { IfSome result (λ end. IsUtf8 (take end buffer.new)) }
+        ensures last_line { IfSome result (λ end. EndsInsideLine (take end buffer.new)) }
+    {
+        let layout = self.layout();
+        let line = self.cause.line();
+        if layout.len(self.text, line) > buffer.len() {
+            return None;
+        }
+        layout.put(buffer, self.text, line)
+    }
+}
+
+const SPACES: &str = "                                                                ";
+
+/// This many spaces, at most 64.
+fn short_run(count: usize) -> &'static str
+    requires { count ≤ 64 }
+    ensures { result.now ≡ replicate count 32 }
+{
+    &SPACES[..count]
+}
+
+/// This many spaces, written in runs.
+#[derive(Clone, Copy)]
+struct Spaces(usize);
+
+impl fmt::Display for Spaces {
+    ghost output = { λ spaces. Some (replicate spaces.0 32) };
+
+    fn fmt<W: fmt::Write>(&self, f: &mut fmt::Formatter<W>) -> fmt::Result {
+        let mut left = self.0;
+        while left > 64 {
+            f.write_str(short_run(64))?;
+            left -= 64;
+        }
+        f.write_str(short_run(left))
+    }
+}
+
+/// The number of characters before the place. In ASCII it is that of the bytes, which takes less time.
+fn chars_before(text: &str, place: usize) -> usize
+    requires { IsCharBoundary text.now place }
+    ensures { result ≡ chars_before text.now place }
+{
+    let before = &text[..place];
+    if before.is_ascii() {
+        before.len()
+    } else {
+        before.chars().count()
+    }
+}
+
+/// How a message is laid out around its line.
+#[derive(Clone, Copy)]
+pub(crate) enum Layout {
+    /// The line alone.
+    Line,
+    /// `byte N: ` with the place, and the line.
+    Byte { place: usize },
+    /// The text, below it a caret after this many spaces, and below that the line.
+    Caret { spaces: usize },
+}
+
+/// The line that says what is wrong. If the fault has a place, the text and a caret under the place are printed above
+/// it; or, if the text has a line feed, the byte offset is printed before it: `byte 5: expected number`.
+///
+/// ```text
+/// 3ms-2ms
+///    ^
+/// expected ['+', '*']
+/// ```
+impl fmt::Display for Fault<'_> {
+    ghost output = { λ fault. Some (fault_text fault.text.now fault.cause) };
+
+    fn fmt<W: fmt::Write>(&self, f: &mut fmt::Formatter<W>) -> fmt::Result
+        ensures writes { DisplaysOnOk W.write_str_gives f.old result
+            (Some (fault_text self.now.text.now self.now.cause)) f.new }
+        ensures styled { DisplaysStyledOnOk W.write_str_gives f.old result None f.new }
+    {
+        let text = self.text;
+        let line = self.cause.line();
+        match self.layout() {
+            Layout::Line => f.write_str(line),
+            Layout::Byte { place } => write!(f, "byte {place}: {line}"),
+            Layout::Caret { spaces } => {
+                let spaces = Spaces(spaces);
+                write!(f, "{text}\n{spaces}^\n{line}")
+            }
+        }
+    }
+}
+
+/// Writes a part after the first `at` bytes, and returns where it ends; `None` if there is no room.
+fn put(buffer: &mut [u8], at: usize, part: &[u8]) -> Option<usize>
+    requires { at ≤ length buffer.old }
+    ensures { IsWritten (take at buffer.old ++ part.now) buffer.old result buffer.new }
+{
+    if part.len() > buffer.len() - at {
+        return None;
+    }
+    let end = at + part.len();
+    buffer[at..end].copy_from_slice(part);
+    Some(end)
+}
+
+/// Writes this many spaces, as `put` does.
+fn put_spaces(buffer: &mut [u8], at: usize, count: usize) -> Option<usize>
+    requires { at ≤ length buffer.old }
+    ensures { IsInFront (take at buffer.old ++ replicate count 32) result buffer.new }
+{
+    if count > buffer.len() - at {
+        return None;
+    }
+    let end = at + count;
+    buffer[at..end].fill(b' ');
+    Some(end)
+}
+
+/// Writes a number in decimal as `put` does.
+fn put_decimal(buffer: &mut [u8], at: usize, number: usize) -> Option<usize>
+    requires { at ≤ length buffer.old }
+    ensures { IsInFront (take at buffer.old ++ decimal number) result buffer.new }
+{
+    let mut digits = [0; 64];
+    let end = put_number(&mut digits, 0, number as u64);
+    put(buffer, at, &digits[..end])
+}
+
+/// Writes the place as a number, and the line.
+fn put_byte(buffer: &mut [u8], place: usize, line: &str) -> Option<usize>
+    ensures bytes { IsInFront (byte_text place line.now) result buffer.new }
+    ensures utf8 { IfSome result (λ end. IsUtf8 (take end buffer.new)) }
+{
+    let word = put(buffer, 0, b"byte ")?;
+    let number = put_decimal(buffer, word, place)?;
+    let colon = put(buffer, number, b": ")?;
+    put(buffer, colon, line.as_bytes())
+}
+
+/// Writes the text, a caret after this many spaces, and the line.
+fn put_caret(buffer: &mut [u8], text: &str, spaces: usize, line: &str) -> Option<usize>
+    ensures bytes { IsInFront (caret_text text.now spaces line.now) result buffer.new }
+    ensures utf8 { IfSome result (λ end. IsUtf8 (take end buffer.new)) }
+{
+    let above = put(buffer, 0, text.as_bytes())?;
+    let below = put(buffer, above, b"\n")?;
+    let caret = put_spaces(buffer, below, spaces)?;
+    let line_start = put(buffer, caret, b"^\n")?;
+    put(buffer, line_start, line.as_bytes())
+}
+
+/// The number of decimal digits.
+fn decimal_len(number: usize) -> usize
+    ensures digits { result ≡ length (decimal number) }
+    ensures short { result ≤ 20 }
+{
+    let mut digits = [0; 64];
+    put_number(&mut digits, 0, number as u64)
+}
+
+impl Layout {
+    /// The length in bytes of a message with this layout; `usize::MAX` if it is greater than that.
+    fn len(self, text: &str, line: &str) -> usize
+        ensures { result ≡ min (length (message_of self text.now line.now)) (2 ^ 64 - 1) }
+    {
+        match self {
+            Layout::Line => line.len(),
+            Layout::Byte { place } => line.len().saturating_add(decimal_len(place) + 7),
+            Layout::Caret { spaces } => {
+                let above = text.len().saturating_add(spaces);
+                above.saturating_add(line.len()).saturating_add(3)
+            }
+        }
+    }
+
+    /// Writes a message with this layout, and returns where it ends; `None` if there is no room.
+    fn put(self, buffer: &mut [u8], text: &str, line: &str) -> Option<usize>
+        ensures bytes { IsInFront (message_of self text.now line.now) result buffer.new }
+        ensures utf8 { IfSome result (λ end. IsUtf8 (take end buffer.new)) }
+    {
+        match self {
+            Layout::Line => put(buffer, 0, line.as_bytes()),
+            Layout::Byte { place } => put_byte(buffer, place, line),
+            Layout::Caret { spaces } => put_caret(buffer, text, spaces, line),
+        }
+    }
+}

@@ -1,0 +1,135 @@
+-- The answer that a caller of C gets for a text.
+use Rattle.std.specs.Prelude.{◌≡◌, ℕ, ◌+◌, ◌==◌, Bool, false, not, List, ◌⊎◌, Option, Some, None, if◌then◌else◌, is_some, unwrap_or}
+use Rattle.std.specs.Int.Bits.{bit_and}
+use Rattle.std.specs.Option.{ForSome}
+use Rattle.std.specs.Str.{chars, IsCharBoundary}
+use Rattle.duration_str.specs.declared.options.Options.{Options}
+use Rattle.duration_str.specs.declared.operator.CondUnit.{CondUnit}
+use Rattle.duration_str.specs.declared.operator.CondUnit.TheVariants.{Plus, Star}
+use Rattle.duration_str.specs.declared.cause.Cause.{Cause}
+use Rattle.duration_str.specs.declared.cause.Cause.TheVariants.{Empty, Syntax, NumberTooLarge, Overflow, Mixed, OutOfRange, NotText}
+use Rattle.duration_str.specs.declared.cause.Expected.{Expected}
+use Rattle.duration_str.specs.Text.{byte_len, operator_of}
+use Rattle.duration_str.specs.Tokens.{Token}
+use Rattle.duration_str.specs.Faults.{place_of, found_token}
+use Rattle.duration_str.specs.Reading.{IsRead, IsRefused}
+use Rattle.duration_str_c.specs.declared.answer.Answer.{Answer}
+
+-- whether a flag is set among the bits
+abbrev pub has_flag : ℕ → ℕ → Bool
+has_flag bits flag = not (bit_and bits flag == 0)
+
+-- the options whose bits are set; other bits have no effect
+abbrev pub options_of_bits : ℕ → Options
+options_of_bits bits = record { no_calc = has_flag bits 1; lowercase = has_flag bits 2; cn_unit = has_flag bits 4 }
+
+-- the number of a cause
+abbrev pub cause_number : Cause → ℕ
+cause_number Empty = 1
+cause_number (Syntax place expected) = 2
+cause_number (NumberTooLarge place) = 3
+cause_number (Overflow place) = 4
+cause_number (Mixed first later) = 5
+cause_number OutOfRange = 6
+cause_number (NotText optional) = 7
+
+-- the bits of the kinds that could stand at a place
+abbrev pub bits_of : Expected → ℕ
+bits_of e =
+    (if e.number then 1 else 0) + (if e.unit_word then 2 else 0) + (if e.operator then 4 else 0)
+    + (if e.text_end then 8 else 0)
+
+-- the bits of the kinds that could stand at the place of a syntax fault; 0 for other causes
+abbrev pub expected_bits : Cause → ℕ
+expected_bits (Syntax place expected) = bits_of expected
+expected_bits _ = 0
+
+-- the character of an operator, by its code
+abbrev pub sign_code : CondUnit → ℕ
+sign_code Plus = 43
+sign_code Star = 42
+
+-- the character of the first operator for mixed operators, otherwise 0
+abbrev pub first_sign : Cause → ℕ
+first_sign (Mixed first later) = sign_code first
+first_sign _ = 0
+
+-- the character of the later operator for mixed operators, otherwise 0
+abbrev pub later_sign : Cause → ℕ
+later_sign (Mixed first later) = sign_code later
+later_sign _ = 0
+
+-- the length of a token in bytes; 0 without one
+abbrev pub token_length : Option Token → ℕ
+token_length None = 0
+token_length (Some token) = byte_len token.characters
+
+-- the answer with a value
+abbrev pub value_answer : ℕ → Answer
+value_answer nanos = record {
+  nanos = nanos;
+  place = 0;
+  found_length = 0;
+  cause = 0;
+  expected = 0;
+  has_place = 0;
+  first_operator = 0;
+  later_operator = 0;
+}
+
+-- the answer with a refusal, and the length of the token at its place
+abbrev pub refusal_answer : Cause → ℕ → Answer
+refusal_answer cause found_length = record {
+  nanos = 0;
+  place = unwrap_or (place_of cause) 0;
+  found_length = found_length;
+  cause = cause_number cause;
+  expected = expected_bits cause;
+  has_place = if is_some (place_of cause) then 1 else 0;
+  first_operator = first_sign cause;
+  later_operator = later_sign cause;
+}
+
+-- the kinds that could stand at a place, given their bits
+abbrev pub expected_of : ℕ → Expected
+expected_of bits = record {
+  number = has_flag bits 1;
+  unit_word = has_flag bits 2;
+  operator = has_flag bits 4;
+  text_end = has_flag bits 8;
+}
+
+-- the place in an answer, if it has one
+abbrev pub answer_place : Answer → Option ℕ
+answer_place a = if a.has_place == 0 then None else Some a.place
+
+-- the fault of two mixed operators, if both are operators
+abbrev pub mixed_cause : Option CondUnit → Option CondUnit → Option Cause
+mixed_cause (Some first) (Some later) = Some (Mixed first later)
+mixed_cause _ _ = None
+
+-- The cause in any answer, also in one that a caller made. Its number decides which other fields count, and those that
+-- the cause does not use have no effect. `None` if the number is no cause's, or an operator that counts is none.
+abbrev pub answer_cause : Answer → Option Cause
+answer_cause a =
+    if a.cause == 1 then Some Empty
+    else if a.cause == 2 then Some (Syntax a.place (expected_of a.expected))
+    else if a.cause == 3 then Some (NumberTooLarge (answer_place a))
+    else if a.cause == 4 then Some (Overflow (answer_place a))
+    else if a.cause == 5 then mixed_cause (operator_of a.first_operator) (operator_of a.later_operator)
+    else if a.cause == 6 then Some OutOfRange
+    else if a.cause == 7 then Some (NotText false)
+    else None
+
+-- The answer says that the bytes are refused for this cause. The cause can be recovered from the answer, and its place
+-- is a character boundary of the bytes.
+abbrev pub IsRefusalAnswer : Options → List ℕ → Cause → Answer → Type 0
+IsRefusalAnswer o bytes cause answer =
+    IsRefused o (chars bytes) cause × (answer ≡ refusal_answer cause (token_length (found_token o (chars bytes) cause)))
+    × (answer_cause answer ≡ Some cause) × ForSome (place_of cause) (IsCharBoundary bytes)
+
+-- The answer has the value of the bytes, or the cause of their refusal.
+abbrev pub IsAnswerTo : Options → List ℕ → Answer → Type 0
+IsAnswerTo o bytes answer =
+    ((nanos : ℕ) × IsRead o (chars bytes) nanos × (answer ≡ value_answer nanos))
+    ⊎ ((cause : Cause) × IsRefusalAnswer o bytes cause answer)
