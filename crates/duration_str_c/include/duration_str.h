@@ -119,25 +119,19 @@ bool duration_str_after(const uint8_t *text, size_t length, uint32_t options, st
 bool duration_str_before(const uint8_t *text, size_t length, uint32_t options, struct duration_str_moment *moment,
                          struct duration_str_answer *answer);
 
-/* Writes the message about a refused text to the start of `buffer`, which has room for `room` bytes, and returns the
- * length of the message in bytes. If that is more than `room`, nothing is written: with room 0 a caller asks for the
- * length.
+/* Reads a text under these options, and writes the message about its refusal to the start of `buffer`, which has room
+ * for `room` bytes. Returns the length of the message in bytes; 0 if the text is read. If the length is more than `room`,
+ * nothing is written: with room 0 a caller asks for the length. A length of 2^64 bytes or more, which no memory has, is
+ * returned as SIZE_MAX.
  *
- * `*answer` is the answer of one of the calls above for this text. If the fault has a place, the message is the text,
- * below it a caret under the place, and a line that says what is wrong; or, if the text has a line feed, `byte N: ` and
- * the line. Without a place it is only the line, which for DURATION_STR_NOT_TEXT is `not UTF-8`.
- *
- * Any other answer is safe too. `cause` decides which other fields count: for DURATION_STR_SYNTAX `place` and the four
- * bits of `expected`; for DURATION_STR_NUMBER_TOO_LARGE and DURATION_STR_OVERFLOW `place`, unless `has_place` is 0; for
- * DURATION_STR_MIXED the operators. What the others hold has no effect. The message is only the line if the text is not
- * UTF-8, or if the place is not one of its character boundaries; and it is empty if `cause` is not from 1 to 7, or is
- * DURATION_STR_MIXED with an operator that is neither '+' nor '*'. A length of 2^64 bytes or more, which no memory has,
- * is returned as SIZE_MAX. */
-size_t duration_str_message(const uint8_t *text, size_t length, const struct duration_str_answer *answer,
-                            uint8_t *buffer, size_t room);
+ * If the fault has a place, the message is the text, below it a caret under the place, and a line that says what is
+ * wrong; or, if the text has a line feed, `byte N: ` and the line. Without a place it is only the line. For
+ * DURATION_STR_NOT_TEXT it is `not UTF-8`. DURATION_STR_OUT_OF_RANGE has no message here, since its text is read: its
+ * line is `date out of range`. */
+size_t duration_str_message(const uint8_t *text, size_t length, uint32_t options, uint8_t *buffer, size_t room);
 
 /* Writes only the line of the message, such as `expected number`, in the same way as duration_str_message. */
-size_t duration_str_line(const struct duration_str_answer *answer, uint8_t *buffer, size_t room);
+size_t duration_str_line(const uint8_t *text, size_t length, uint32_t options, uint8_t *buffer, size_t room);
 
 /* The version of the library, in the form of DURATION_STR_VERSION_NUMBER: 19000 is 0.19.0. */
 uint32_t duration_str_version(void);
