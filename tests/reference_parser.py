@@ -1,9 +1,10 @@
 """What a text means, as docs/GRAMMAR.md and the table of README.md say it, computed the naive way.
 
-This is the parser against which `compare` holds the program, the library and the packages. It was written from the documents, not from the
-Rattle code, and works in another manner: it tries all the ways to split a text into tokens, and keeps those that are
-sentences; it tries which tokens go on after a beginning; and its numbers are whole numbers without bound. Where the
-documents say that there is only one of something, it looks for all of them and fails where it finds another.
+This is the parser against which `compare` holds the program, the library and the packages. It was written from the
+documents, not from the Rattle code, and works in another manner: it tries all the ways to split a text into tokens, and
+keeps those that are sentences; it tries which tokens go on after a beginning; and its numbers are whole numbers without
+bound. Where the documents say that there is only one of something, it looks for all of them and fails where it finds
+another.
 """
 import functools
 import typing

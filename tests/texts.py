@@ -1,8 +1,8 @@
 #!/usr/bin/env python3
 """The texts and durations with which compare and the fuzzer try the library, generated from a seed.
 
-texts.py FOLDER COUNT [SEED]  writes for the fuzzer so many texts into the file FOLDER/texts, each after its length in two
-                              bytes; a file in FOLDER/seeds for each of the first 500; and libFuzzer's FOLDER/dictionary
+texts.py FOLDER COUNT [SEED]  writes for the fuzzer so many texts into FOLDER/texts, each after its length in two bytes;
+                              a file in FOLDER/seeds for each of the first 500; and libFuzzer's FOLDER/dictionary
 """
 import pathlib
 import random
@@ -16,7 +16,8 @@ class Texts:
     """Generated texts: terms with operators and blanks, of which most are then spoilt at a place or two."""
 
     BLANKS = ("", "", "", " ", " ", "  ", "\t", "\r", " \r\t ", "\n")
-    STRAYS = ("-", "x", ".", "μ", "µ", "é", "ß", "K", "分", "中", "𝟙", "١", "\u00a0", "\0", "_", "/", "(", ":", "\n", "\x0b")
+    STRAYS = ("-", "x", ".", "μ", "µ", "é", "ß", "K", "分", "中",
+              "𝟙", "١", "\u00a0", "\0", "_", "/", "(", ":", "\n", "\x0b")
     BROKEN = (b"\xff", b"\xc2", b"\xb5", b"\xe5\x88", b"\xc0\x80", b"\xed\xa0\x80", b"\xf4\x90\x80\x80", b"\xf0\x9f")
     NAMES = [name for unit in UNITS for name in (unit.names + " " + unit.chinese).split()]
     SHORT = [name for name in NAMES if len(name) < 3]

@@ -1,5 +1,5 @@
-/* driver FILE: gives the target each text of a file that tests/texts.py makes: two bytes of its length, the lower one first,
- * then the text. It tells how many there were. */
+/* driver FILE: gives the target each text of a file that tests/texts.py makes: two bytes of its length, the lower one
+ * first, then the text. It tells how many there were. */
 #include <stdint.h>
 #include <stdio.h>
 

@@ -1,7 +1,7 @@
 /* What must hold of every answer of the library, tried on any bytes: the target of libFuzzer, and of driver.c.
  *
- * Each text is at the end of a page that can't be written, before a page that can't be read, and each buffer at the end of
- * a page, before one that can't be written. What the answers have to be is not said here: tests/compare does that. */
+ * Each text is at the end of a page that can't be written, before a page that can't be read, and each buffer at the end
+ * of a page, before one that can't be written. What the answers have to be is not said here: tests/compare does that. */
 #define _GNU_SOURCE
 #include <stdio.h>
 #include <stdlib.h>

@@ -1,7 +1,7 @@
-//! For tests/compare: answers each line of standard input. A line of two numbers, seconds and nanoseconds, is a duration,
-//! which is printed. Any other is a text in hexadecimal digits: what follows are the fields of the answer, as the header
-//! for C numbers them, and in hexadecimal digits the message and its last line. The words of the command line choose the
-//! options.
+//! For tests/compare: answers each line of standard input. A line of two numbers, seconds and nanoseconds, is a
+//! duration, which is printed. Any other is a text in hexadecimal digits: what follows are the fields of the answer, as
+//! the header for C numbers them, and in hexadecimal digits the message and its last line. The words of the command
+//! line choose the options.
 #![forbid(unsafe_code)]
 
 use duration_str::{Cause, CondUnit, Fault, HumanFormat, Options, parse_with, write_human};

@@ -4,7 +4,6 @@ use crate::options::Options;
 use crate::proved::parser as proved;
 pub use crate::proved::parser::{Cause, Expected};
 use alloc::string::{String, ToString};
-use alloc::vec;
 use core::fmt;
 use core::hash::{Hash, Hasher};
 
@@ -173,12 +172,16 @@ impl<'a> Fault<'a> {
         }
     }
 
-    /// The message.
+    /// The message. Without a place it is the line; one of at most 256 bytes takes one allocation, of its length.
     pub(crate) fn message(&self) -> String {
-        let mut message = vec![0; self.message_len()];
-        match self.write_message(&mut message) {
-            Some(_) => String::from_utf8(message).unwrap_or_else(|_| self.to_string()),
-            None => self.to_string(),
+        if self.place().is_none() {
+            return self.line();
+        }
+        let mut buffer = [0; 256];
+        let length = self.write_message(&mut buffer);
+        match length.map(|length| str::from_utf8(&buffer[..length])) {
+            Some(Ok(message)) => String::from(message),
+            _ => self.to_string(),
         }
     }
 }

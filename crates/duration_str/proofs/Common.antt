@@ -24,6 +24,7 @@ pub use Rattle.duration_str.specs.declared.operator.CondUnit.{CondUnit}
 pub use Rattle.duration_str.specs.declared.operator.CondUnit.TheVariants.{Plus, Star}
 pub use Rattle.duration_str.specs.declared.options.Options.{Options}
 pub use Rattle.duration_str.specs.declared.packed.TheConstants.{SLOTS, SPREAD}
+pub use Rattle.duration_str.specs.declared.token.TheConstants.{BLANKS}
 pub use Rattle.duration_str.specs.declared.token.Sort.{Sort}
 pub use Rattle.duration_str.specs.declared.token.Sort.TheVariants.{Number, Operator, Other, Word}
 pub use Rattle.duration_str.specs.declared.token.Tokens.{Tokens}

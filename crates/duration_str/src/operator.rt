@@ -10,7 +10,7 @@ use std::fmt;
 /// ```
 /// assert_eq!(duration_str::CondUnit::Star.to_string(), "*");
 /// ```
-#[derive(Clone, Copy, Debug, PartialEq, Eq)]
+#[derive(Clone, Copy, Debug, PartialEq, Eq, Hash)]
 pub enum CondUnit {
     /// `+`
     Plus,

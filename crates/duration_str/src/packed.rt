@@ -15,7 +15,7 @@ pub(crate) fn unit_of_packed(packed: u64) -> Option<TimeUnit>
     if name == packed { Some(unit) } else { None }
 }
 
-/// A multiplier that gives each packed name a slot of its own: bits 57 to 63 of the product. `tools/packed-slots` finds
+/// A multiplier that gives each packed name a slot of its own: bits 57 to 63 of the product. `tests/packed-slots` finds
 /// one, and writes the table below.
 const SPREAD: u64 = 439_394_506_952_439_165;
 

@@ -8,7 +8,7 @@ use core::fmt;
 /// ```
 /// assert_eq!(duration_str::CondUnit::Star.to_string(), "*");
 /// ```
-#[derive(Clone, Copy, Debug, PartialEq, Eq)]
+#[derive(Clone, Copy, Debug, PartialEq, Eq, Hash)]
 pub enum CondUnit {
     /// `+`
     Plus,

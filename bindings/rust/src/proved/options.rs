@@ -9,7 +9,7 @@
 /// let chinese = Options { cn_unit: true, ..Options::off() };
 /// assert_eq!(parse_with("1分 31秒", chinese).unwrap().as_secs(), 91);
 /// ```
-#[derive(Clone, Copy, Debug, PartialEq, Eq)]
+#[derive(Clone, Copy, Debug, PartialEq, Eq, Hash)]
 pub struct Options {
     /// Operators are not read, and the terms are added one by one.
     pub no_calc: bool,

@@ -70,8 +70,7 @@ fn read_unit(tokens: &mut Tokens<'_>, no_calc: bool) -> Result<TimeUnit, Cause> 
                 Ok(TimeUnit::Second)
             }
         }
-        Sort::Number => Err(fault),
-        Sort::Other => Err(fault),
+        Sort::Number | Sort::Other => Err(fault),
     }
 }
 
@@ -93,8 +92,7 @@ fn read_operator(tokens: &mut Tokens<'_>, no_calc: bool) -> Result<Option<CondUn
             expect_number(tokens)?;
             Ok(Some(operator))
         }
-        Sort::Word => Err(fault),
-        Sort::Other => Err(fault),
+        Sort::Word | Sort::Other => Err(fault),
     }
 }
 

@@ -14,7 +14,7 @@ use core::fmt;
 /// assert_eq!(TimeUnit::default(), TimeUnit::Second);
 /// assert_eq!(TimeUnit::Minute.to_string(), "min");
 /// ```
-#[derive(Clone, Copy, Debug, PartialEq, Eq)]
+#[derive(Clone, Copy, Debug, PartialEq, Eq, Hash)]
 pub enum TimeUnit {
     /// 365 days.
     Year,

@@ -1,5 +1,5 @@
 -- The classes of characters exclude one another, and a run is of one class.
-use Rattle.duration_str.proofs.Common.{◌≡◌, ℕ, ◌≤◌, Bool, true, false, ◌&&◌, ◌||◌, inl, inr, List, [], ◌∷◌, Some, IsTrue, arith, refl, nat_lt, false_from_ne_true, or_cases, and_parts, and_from, list_all, nat_tests, is_ascii_uppercase, Options, CondUnit, is_blank, is_digit, is_unit_letter, operator_of, are_of_one_run}
+use Rattle.duration_str.proofs.Common.{◌≡◌, ℕ, zero, suc, ◌+◌, ◌<◌, ◌≤◌, length, get_or, add-zero, Bool, true, false, ◌&&◌, ◌||◌, inl, inr, List, [], ◌∷◌, Some, IsTrue, arith, refl, nat_lt, false_from_ne_true, or_cases, and_parts, and_from, list_all, nat_tests, is_ascii_uppercase, Options, CondUnit, is_blank, is_digit, is_unit_letter, operator_of, are_of_one_run}
 
 -- Characters that pass a test also pass a weaker one.
 pub all_weaker : (p q : ℕ → Bool) (cs : List ℕ) → ((c : ℕ) → p c ≡ true → q c ≡ true) → IsTrue (list_all p cs)
@@ -45,3 +45,18 @@ run-not_blank o c d h = elim (or_cases (is_digit c && is_digit d) (is_unit_lette
   | inl both ↦ digit-not_blank d (and_parts (is_digit c) _ both).1
   | inr both ↦ letter-not_blank o d (and_parts (is_unit_letter o c) _ both).1
 ]
+
+-- ---- the table of blanks
+
+abbrev pub blanks_from : ℕ → List Bool → List Bool
+blanks_from i [] = []
+blanks_from i (b ∷ bs) = is_blank i ∷ blanks_from (i + 1) bs
+
+-- An entry of a table of blanks says whether its character is one.
+pub blank_at : (bs : List Bool) (i j : ℕ) (d : Bool) → j < length bs → bs ≡ blanks_from i bs
+    → get_or bs j d ≡ is_blank (i + j)
+blank_at [] i j d lt right = absurd (omega (arith, lt))
+blank_at (b ∷ bs) i zero d lt right = rw add-zero (cc right)
+blank_at (b ∷ bs) i (suc j) d lt right =
+    let there : i + 1 + j ≡ i + suc j = omega arith in
+    rw (← there) (blank_at bs (i + 1) j d (omega (arith, lt)) (cc right))
