@@ -19,7 +19,7 @@ struct told {
     bool read;
     struct duration_str_answer answer;
     size_t length, printed_length;
-    uint8_t message[256], printed[64];
+    uint8_t message[256], printed[DURATION_STR_FORMAT_BUFFER_SIZE];
 };
 
 static struct told first[COUNT(texts)][8];

@@ -38,7 +38,7 @@ int main(int count, char **words)
             print_message(text, length);
         return 1;
     }
-    uint8_t printed[64];
+    uint8_t printed[DURATION_STR_FORMAT_BUFFER_SIZE];
     size_t end = duration_str_format(answer.nanos / 1000000000, (uint32_t)(answer.nanos % 1000000000), printed);
     printf("%llu %.*s %lld.%09u\n", (unsigned long long)answer.nanos, (int)end, (const char *)printed,
            (long long)moment.secs, (unsigned)moment.nanos);

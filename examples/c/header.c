@@ -81,7 +81,7 @@ static void check_messages(void)
 
 static void check_plain_calls(void)
 {
-    uint8_t printed[64];
+    uint8_t printed[DURATION_STR_FORMAT_BUFFER_SIZE];
     expect(duration_str_format(193, 29000000, printed) == 13 && memcmp(printed, "3min 13s 29ms", 13) == 0, "a duration");
     expect(duration_str_format(0, 1000000000, printed) == 0, "nanoseconds that are a second");
     const uint8_t *text = (const uint8_t *)"3ms-2ms";
