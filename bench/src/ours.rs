@@ -86,7 +86,7 @@ unsafe extern "C" {
     fn duration_str_message(
         text: *const u8,
         length: usize,
-        answer: *const Answer,
+        options: u32,
         buffer: *mut u8,
         room: usize,
     ) -> usize;
@@ -129,7 +129,7 @@ impl Library for Archive {
         let length = unsafe {
             let read = duration_str_parse_with(text.as_ptr(), text.len(), 0, &mut answer);
             assert!(!read, "read");
-            duration_str_message(text.as_ptr(), text.len(), &answer, buffer.as_mut_ptr(), ROOM)
+            duration_str_message(text.as_ptr(), text.len(), 0, buffer.as_mut_ptr(), ROOM)
         };
         assert!(0 < length && length <= ROOM);
         length

@@ -94,7 +94,7 @@ function placeOf(byte) {
 const NO_PLACE = { index: null, byte: null, column: null };
 
 /** The error by which the text at TEXT is refused, after the call that refused it. */
-function refusal(text, length) {
+function refusal(text, length, bits) {
     const foundLength = Number(fields.getBigUint64(FOUND_LENGTH, true));
     const place = fields.getUint8(HAS_PLACE) ? placeOf(Number(fields.getBigUint64(PLACE, true))) : NO_PLACE;
     const fault = {
@@ -103,10 +103,10 @@ function refusal(text, length) {
         ...place,
         found: foundLength ? decoded(place.byte, foundLength) : null,
         expected: expectedOf(fields.getUint32(EXPECTED, true)),
-        line: told(length, (buffer, room) => calls.duration_str_line(ANSWER_POINTER, buffer, room)),
+        line: told(length, (buffer, room) => calls.duration_str_line(TEXT_POINTER, BigInt(length), bits, buffer, room)),
     };
     const message = told(length, (buffer, room) =>
-        calls.duration_str_message(TEXT_POINTER, BigInt(length), ANSWER_POINTER, buffer, room),
+        calls.duration_str_message(TEXT_POINTER, BigInt(length), bits, buffer, room),
     );
     return new DurationError(message, fault);
 }
@@ -156,7 +156,7 @@ export function parse(text, options) {
     if (typeof text !== "string") throw new TypeError(`a duration's text must be a string, not ${typeOf(text)}`);
     const bits = bitsOf(options);
     const length = write(text);
-    if (!calls.duration_str_parse_with(TEXT_POINTER, BigInt(length), bits, ANSWER_POINTER)) throw refusal(text, length);
+    if (!calls.duration_str_parse_with(TEXT_POINTER, BigInt(length), bits, ANSWER_POINTER)) throw refusal(text, length, bits);
     return fields.getBigUint64(ANSWER, true);
 }
 
