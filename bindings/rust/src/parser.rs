@@ -1,5 +1,5 @@
 //! Reading.
-use crate::fault::Fault;
+use crate::fault::{Fault, OwnedFault};
 use crate::options::Options;
 use crate::proved::parser;
 use alloc::string::String;
@@ -72,6 +72,25 @@ fn message(fault: parser::Fault<'_>) -> String {
 /// ```
 pub fn parse(input: impl AsRef<str>) -> Result<Duration, String> {
     read(input.as_ref())
+}
+
+/// Reads a text as [`parse`] does, with a fault that owns its text. It has the name of humantime's function, and can be
+/// handed on as it is, such as to `value_parser` of clap.
+///
+/// ```
+/// use duration_str::parse_duration;
+/// use std::error::Error;
+/// use std::time::Duration;
+///
+/// fn timeout(text: &str) -> Result<Duration, Box<dyn Error + Send + Sync>> {
+///     Ok(parse_duration(text)?)
+/// }
+///
+/// assert_eq!(timeout("1m 30s").unwrap(), Duration::from_secs(90));
+/// assert_eq!(timeout("").unwrap_err().to_string(), "Empty input");
+/// ```
+pub fn parse_duration(input: &str) -> Result<Duration, OwnedFault> {
+    parse_with(input, Options::of_features()).map_err(Fault::into_owned)
 }
 
 /// Reads a text as [`parse`] does.

@@ -1,7 +1,8 @@
 //! Faults that own their text, durations that are written as text, and the parts of texts.
 use crate::all_options;
 use duration_str::{
-    Cause, CondUnit, HumanDuration, Options, OwnedFault, TimeUnit, Tokens, What, parse_with,
+    Cause, CondUnit, HumanDuration, Options, OwnedFault, TimeUnit, Tokens, What, format_duration,
+    parse_duration, parse_with,
 };
 use std::collections::HashSet;
 use std::error::Error;
@@ -64,6 +65,9 @@ fn reads_and_prints_as_text() {
         (timeout.to_string(), format!("[{timeout:>10}]")),
         ("1min 30s".into(), "[  1min 30s]".into())
     );
+    assert_eq!(timeout.as_secs(), timeout.as_ref().as_secs());
+    assert_eq!(parse_duration("1m 30s"), Ok(*timeout));
+    assert_eq!(format_duration(*timeout).to_string(), "1min 30s");
     assert_eq!(HumanDuration::default().to_string(), "0s");
     assert_eq!(
         "600y".parse::<HumanDuration>().unwrap_err().cause(),
