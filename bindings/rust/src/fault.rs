@@ -1,5 +1,6 @@
 //! A refused text, with the options under which it was read.
 use crate::error::DError;
+use crate::one_line::write_one_line;
 use crate::options::Options;
 use crate::proved::parser as proved;
 pub use crate::proved::parser::{Cause, Expected};
@@ -17,6 +18,16 @@ use core::hash::{Hash, Hasher};
 /// assert_eq!(fault.found(), Some("hurs"));
 /// assert!(matches!(fault.cause(), Cause::Syntax { expected, .. } if expected.unit_word));
 /// assert!(fault.to_string().starts_with("3h 2 hurs\n     ^\nexpected "));
+/// ```
+///
+/// `{:#}` is one line for a log: what is wrong, at which column, and at most 40 characters of the text, with control
+/// characters escaped. The column counts characters from 1.
+///
+/// ```
+/// use duration_str::{Options, parse_with};
+///
+/// let fault = parse_with("1m 3-5", Options::off()).unwrap_err();
+/// assert_eq!(format!("{fault:#}"), r#"expected a unit, '+', '*' or the end at column 5, found "-""#);
 /// ```
 ///
 /// It borrows the text; [`Fault::into_owned`] gives a fault that outlives it.
@@ -109,8 +120,8 @@ impl<'a> Fault<'a> {
     ///
     /// assert_eq!(parse_with("600y", Options::off()).unwrap_err().line(), "overflow error");
     /// ```
-    pub fn line(&self) -> String {
-        self.cause().line().to_string()
+    pub fn line(&self) -> &'static str {
+        self.cause().line()
     }
 
     /// The length of the message in bytes.
@@ -149,7 +160,7 @@ impl<'a> Fault<'a> {
     pub fn to_derror(&self) -> DError {
         match self.cause() {
             Cause::Overflow { .. } => DError::OverflowError,
-            _ => DError::ParseError(self.line()),
+            _ => DError::ParseError(self.line().to_string()),
         }
     }
 
@@ -172,23 +183,36 @@ impl<'a> Fault<'a> {
         }
     }
 
-    /// The message. Without a place it is the line; one of at most 256 bytes takes one allocation, of its length.
+    /// The message. Unless the text has a line feed it is one allocation of its length; joining texts takes no test for
+    /// UTF-8.
     pub(crate) fn message(&self) -> String {
-        if self.place().is_none() {
-            return self.line();
+        let (text, line) = (self.text(), self.line());
+        let Some(place) = self.place() else {
+            return line.to_string();
+        };
+        if text.as_bytes().contains(&b'\n') {
+            return self.to_string();
         }
-        let mut buffer = [0; 256];
-        let length = self.write_message(&mut buffer);
-        match length.map(|length| str::from_utf8(&buffer[..length])) {
-            Some(Ok(message)) => String::from(message),
-            _ => self.to_string(),
+        let spaces = text[..place].chars().count();
+        let mut message = String::with_capacity(text.len() + spaces + line.len() + 3);
+        message.push_str(text);
+        message.push('\n');
+        for _ in 0..spaces {
+            message.push(' ');
         }
+        message.push_str("^\n");
+        message.push_str(line);
+        message
     }
 }
 
 impl fmt::Display for Fault<'_> {
     fn fmt(&self, f: &mut fmt::Formatter<'_>) -> fmt::Result {
-        self.fault.fmt(f)
+        if f.alternate() {
+            write_one_line(self, f)
+        } else {
+            self.fault.fmt(f)
+        }
     }
 }
 
@@ -200,7 +224,7 @@ impl fmt::Debug for Fault<'_> {
 
 impl core::error::Error for Fault<'_> {}
 
-/// A [`Fault`] that owns its text. Its `Display` is the same message.
+/// A [`Fault`] that owns its text. It prints as that does, and has the same methods.
 ///
 /// ```
 /// use duration_str::{HumanDuration, OwnedFault};
@@ -287,6 +311,44 @@ impl OwnedFault {
     pub fn found(&self) -> Option<&str> {
         self.as_fault().found()
     }
+
+    /// The last line of the message, as [`Fault::line`] says it.
+    ///
+    /// ```
+    /// assert_eq!(duration_str::parse_duration("600y").unwrap_err().line(), "overflow error");
+    /// ```
+    pub fn line(&self) -> &'static str {
+        self.cause.line()
+    }
+
+    /// The length of the message in bytes.
+    ///
+    /// ```
+    /// assert_eq!(duration_str::parse_duration("3ms-2ms").unwrap_err().message_len(), 32);
+    /// ```
+    pub fn message_len(&self) -> usize {
+        self.as_fault().message_len()
+    }
+
+    /// Writes the message to the start of a buffer, as [`Fault::write_message`] does.
+    ///
+    /// ```
+    /// assert_eq!(duration_str::parse_duration("").unwrap_err().write_message(&mut [0; 64]), Some(11));
+    /// ```
+    pub fn write_message(&self, buffer: &mut [u8]) -> Option<usize> {
+        self.as_fault().write_message(buffer)
+    }
+
+    /// The error of the Rust crate for this fault.
+    ///
+    /// ```
+    /// use duration_str::{DError, parse_duration};
+    ///
+    /// assert_eq!(parse_duration("600y").unwrap_err().to_derror(), DError::OverflowError);
+    /// ```
+    pub fn to_derror(&self) -> DError {
+        self.as_fault().to_derror()
+    }
 }
 
 impl fmt::Display for OwnedFault {
@@ -309,6 +371,13 @@ impl core::error::Error for OwnedFault {}
 impl From<Fault<'_>> for OwnedFault {
     fn from(fault: Fault<'_>) -> OwnedFault {
         fault.into_owned()
+    }
+}
+
+/// The last line of a message, as [`Fault::line`] says it.
+impl fmt::Display for Cause {
+    fn fmt(&self, f: &mut fmt::Formatter<'_>) -> fmt::Result {
+        f.pad(self.line())
     }
 }
 

@@ -64,6 +64,8 @@ mod fault;
 #[forbid(unsafe_code)]
 mod human_duration;
 #[forbid(unsafe_code)]
+mod one_line;
+#[forbid(unsafe_code)]
 mod options;
 #[forbid(unsafe_code)]
 mod parser;

@@ -35,6 +35,17 @@ fn owns_what_the_fault_tells() {
                 (owned.found(), owned.to_string()),
                 (fault.found(), fault.to_string())
             );
+            assert_eq!(
+                (owned.line(), owned.message_len(), owned.to_derror()),
+                (fault.line(), fault.message_len(), fault.to_derror())
+            );
+            assert_eq!(fault.cause().to_string(), fault.line());
+            let (mut message, mut same) = ([0; 256], [0; 256]);
+            assert_eq!(
+                owned.write_message(&mut message),
+                fault.write_message(&mut same)
+            );
+            assert_eq!(message, same);
         }
     }
 }
