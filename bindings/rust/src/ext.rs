@@ -13,6 +13,8 @@ use core::time::Duration;
 /// assert_eq!(Duration::ZERO.human_format(), "0s");
 /// ```
 ///
+/// A duration of 2^64 nanoseconds or more, some 584 years, prints as a text that no call reads.
+///
 /// A duration of `chrono` or `time` may be negative. Then it is printed as a minus and the text of its magnitude, which no
 /// call reads back, since texts have no minus:
 ///

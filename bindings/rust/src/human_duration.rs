@@ -44,6 +44,7 @@ impl FromStr for HumanDuration {
     }
 }
 
+/// A duration of 2^64 nanoseconds or more, some 584 years, prints as a text that is refused.
 impl fmt::Display for HumanDuration {
     fn fmt(&self, f: &mut fmt::Formatter<'_>) -> fmt::Result {
         f.pad(write_human(&self.0, &mut [0; 64]))

@@ -61,6 +61,9 @@ mod error;
 mod ext;
 #[forbid(unsafe_code)]
 mod fault;
+#[cfg(feature = "serde")]
+#[forbid(unsafe_code)]
+pub mod human;
 #[forbid(unsafe_code)]
 mod human_duration;
 #[forbid(unsafe_code)]
@@ -100,9 +103,7 @@ pub use proved::token::{Token, Tokens, What};
 pub use proved::unit::{CondUnit, TimeUnit};
 #[cfg(feature = "serde")]
 #[allow(deprecated)]
-pub use serde_texts::{
-    DeserializeDuration, deserialize_duration, deserialize_option_duration, human,
-};
+pub use serde_texts::{DeserializeDuration, deserialize_duration, deserialize_option_duration};
 #[cfg(all(feature = "serde", feature = "chrono"))]
 #[allow(deprecated)]
 pub use serde_texts::{deserialize_duration_chrono, deserialize_option_duration_chrono};

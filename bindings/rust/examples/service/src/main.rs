@@ -31,6 +31,12 @@ struct Config {
     timeout: Duration,
     #[serde(default, with = "humantime_serde::option")]
     keep_alive: Option<Duration>,
+    #[serde(
+        default,
+        with = "humantime_serde",
+        skip_serializing_if = "Option::is_none"
+    )]
+    idle: Option<Duration>,
 }
 
 /// The settings, and how long all of three attempts take at most.
@@ -75,8 +81,12 @@ mod tests {
     #[test]
     fn reads_arguments_and_configurations() {
         assert_eq!(
-            told(&[], r#"{ "timeout": "60s", "keep_alive": "90s" }"#).unwrap(),
-            r#"{"timeout":"1min","keep_alive":"1min 30s"} pause 1s 500ms total 3min 3s"#
+            told(
+                &[],
+                r#"{ "timeout": "60s", "keep_alive": "90s", "idle": "1h" }"#
+            )
+            .unwrap(),
+            r#"{"timeout":"1min","keep_alive":"1min 30s","idle":"1h"} pause 1s 500ms total 3min 3s"#
         );
         assert_eq!(
             told(
