@@ -48,7 +48,7 @@ fn refused(text: &str, fault: &Fault<'_>) -> String {
         Cause::NumberTooLarge { .. } => (3, [0, 0]),
         Cause::Overflow { .. } => (4, [0, 0]),
         Cause::Mixed { first, later } => (5, [sign(first), sign(later)]),
-        Cause::OutOfRange | Cause::NotText { .. } => panic!("no cause of a text: {fault:?}"),
+        _ => panic!("no cause of a text: {fault:?}"),
     };
     let kinds = fault.expected().map_or(0, |expected| {
         u8::from(expected.number)

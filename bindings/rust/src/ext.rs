@@ -25,6 +25,7 @@ use core::time::Duration;
 /// ```
 pub trait HumanFormat {
     /// The counts of the units from the years to the nanoseconds, without those that are 0.
+    #[must_use]
     fn human_format(&self) -> String;
 }
 

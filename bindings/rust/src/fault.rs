@@ -62,6 +62,7 @@ impl<'a> Fault<'a> {
     ///
     /// assert_eq!(parse_with("1x", Options::off()).unwrap_err().text(), "1x");
     /// ```
+    #[must_use]
     pub fn text(&self) -> &'a str {
         self.fault.text()
     }
@@ -73,6 +74,7 @@ impl<'a> Fault<'a> {
     ///
     /// assert_eq!(parse_with("", Options::off()).unwrap_err().cause(), Cause::Empty);
     /// ```
+    #[must_use]
     pub fn cause(&self) -> Cause {
         self.fault.cause()
     }
@@ -84,6 +86,7 @@ impl<'a> Fault<'a> {
     ///
     /// assert_eq!(parse_with("1m 3-5", Options::off()).unwrap_err().place(), Some(4));
     /// ```
+    #[must_use]
     pub fn place(&self) -> Option<usize> {
         self.cause().place()
     }
@@ -95,6 +98,7 @@ impl<'a> Fault<'a> {
     ///
     /// assert!(parse_with("1m+", Options::off()).unwrap_err().expected().unwrap().number);
     /// ```
+    #[must_use]
     pub fn expected(&self) -> Option<Expected> {
         match self.cause() {
             Cause::Syntax { expected, .. } => Some(expected),
@@ -109,6 +113,7 @@ impl<'a> Fault<'a> {
     ///
     /// assert_eq!(parse_with("1m 3-5", Options::off()).unwrap_err().found(), Some("-"));
     /// ```
+    #[must_use]
     pub fn found(&self) -> Option<&'a str> {
         self.fault.found(self.options)
     }
@@ -120,6 +125,7 @@ impl<'a> Fault<'a> {
     ///
     /// assert_eq!(parse_with("600y", Options::off()).unwrap_err().line(), "overflow error");
     /// ```
+    #[must_use]
     pub fn line(&self) -> &'static str {
         self.cause().line()
     }
@@ -131,6 +137,7 @@ impl<'a> Fault<'a> {
     ///
     /// assert_eq!(parse_with("3ms-2ms", Options::off()).unwrap_err().message_len(), 32);
     /// ```
+    #[must_use]
     pub fn message_len(&self) -> usize {
         self.fault.message_len()
     }
@@ -157,6 +164,7 @@ impl<'a> Fault<'a> {
     ///
     /// assert_eq!(parse_with("600y", Options::off()).unwrap_err().to_derror(), DError::OverflowError);
     /// ```
+    #[must_use]
     pub fn to_derror(&self) -> DError {
         match self.cause() {
             Cause::Overflow { .. } => DError::OverflowError,
@@ -175,6 +183,7 @@ impl<'a> Fault<'a> {
     ///
     /// assert_eq!(read("1m 3-5".to_string()).unwrap_err().found(), Some("-"));
     /// ```
+    #[must_use]
     pub fn into_owned(self) -> OwnedFault {
         OwnedFault {
             text: self.text().to_string(),
@@ -254,6 +263,7 @@ impl OwnedFault {
     /// let fault = parse_with("1x", Options::off()).unwrap_err();
     /// assert_eq!(fault.into_owned().as_fault(), fault);
     /// ```
+    #[must_use]
     pub fn as_fault(&self) -> Fault<'_> {
         Fault::new(
             proved::Fault {
@@ -269,6 +279,7 @@ impl OwnedFault {
     /// ```
     /// assert_eq!("1x".parse::<duration_str::HumanDuration>().unwrap_err().text(), "1x");
     /// ```
+    #[must_use]
     pub fn text(&self) -> &str {
         &self.text
     }
@@ -280,6 +291,7 @@ impl OwnedFault {
     ///
     /// assert_eq!("".parse::<HumanDuration>().unwrap_err().cause(), Cause::Empty);
     /// ```
+    #[must_use]
     pub fn cause(&self) -> Cause {
         self.cause
     }
@@ -289,6 +301,7 @@ impl OwnedFault {
     /// ```
     /// assert_eq!("1x".parse::<duration_str::HumanDuration>().unwrap_err().place(), Some(1));
     /// ```
+    #[must_use]
     pub fn place(&self) -> Option<usize> {
         self.cause.place()
     }
@@ -299,6 +312,7 @@ impl OwnedFault {
     /// let fault = "1x".parse::<duration_str::HumanDuration>().unwrap_err();
     /// assert!(fault.expected().unwrap().unit_word);
     /// ```
+    #[must_use]
     pub fn expected(&self) -> Option<Expected> {
         self.as_fault().expected()
     }
@@ -308,6 +322,7 @@ impl OwnedFault {
     /// ```
     /// assert_eq!("1x".parse::<duration_str::HumanDuration>().unwrap_err().found(), Some("x"));
     /// ```
+    #[must_use]
     pub fn found(&self) -> Option<&str> {
         self.as_fault().found()
     }
@@ -317,6 +332,7 @@ impl OwnedFault {
     /// ```
     /// assert_eq!(duration_str::parse_duration("600y").unwrap_err().line(), "overflow error");
     /// ```
+    #[must_use]
     pub fn line(&self) -> &'static str {
         self.cause.line()
     }
@@ -324,8 +340,9 @@ impl OwnedFault {
     /// The length of the message in bytes.
     ///
     /// ```
-    /// assert_eq!(duration_str::parse_duration("3ms-2ms").unwrap_err().message_len(), 32);
+    /// assert_eq!(duration_str::parse_duration("600y").unwrap_err().message_len(), 21);
     /// ```
+    #[must_use]
     pub fn message_len(&self) -> usize {
         self.as_fault().message_len()
     }
@@ -346,6 +363,7 @@ impl OwnedFault {
     ///
     /// assert_eq!(parse_duration("600y").unwrap_err().to_derror(), DError::OverflowError);
     /// ```
+    #[must_use]
     pub fn to_derror(&self) -> DError {
         self.as_fault().to_derror()
     }

@@ -83,6 +83,8 @@ mod proved;
 #[cfg(feature = "serde")]
 #[forbid(unsafe_code)]
 mod serde_texts;
+#[forbid(unsafe_code)]
+mod tokens;
 
 #[cfg(feature = "chrono")]
 pub use dates::{

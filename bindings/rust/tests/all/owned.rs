@@ -110,6 +110,9 @@ fn cuts_texts_into_tokens() {
         (6, "?", What::Other),
     ];
     assert!(whats.eq(wanted));
+    let mut tokens = Tokens::new("3m", Options::off());
+    assert_eq!(tokens.next().unwrap().text, "3");
+    assert_eq!(format!("{tokens:?}"), "Tokens { place: 1, looked: 2, .. }");
 }
 
 #[test]
