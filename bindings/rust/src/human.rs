@@ -8,6 +8,8 @@
 //!
 //! What is written can be read: a negative duration, and one of 2^64 nanoseconds or more, is an error of the format.
 //!
+//! Needs the feature `serde`.
+//!
 //! ```
 //! use serde::{Deserialize, Serialize};
 //! use std::time::Duration;

@@ -104,6 +104,8 @@ pub fn parse_std(input: impl AsRef<str>) -> Result<Duration, String> {
 
 /// Reads a text as [`parse`] does, into a duration of `chrono`.
 ///
+/// Needs the feature `chrono`.
+///
 /// ```
 /// assert_eq!(duration_str::parse_chrono("2h 37m"), Ok(chrono::Duration::minutes(157)));
 /// ```
@@ -120,6 +122,8 @@ pub(crate) fn signed(length: Duration) -> chrono::Duration {
 }
 
 /// Reads a text as [`parse`] does, into a duration of `time`.
+///
+/// Needs the feature `time`.
 ///
 /// ```
 /// assert_eq!(duration_str::parse_time("2h 37m"), Ok(time::Duration::minutes(157)));

@@ -76,6 +76,8 @@ impl<'de, T: Length> Visitor<'de> for Optional<T> {
 /// Reads a duration, which must be a text, or an optional one, for which null and the empty text are `None`. With
 /// `#[serde(default)]` a missing field is `None` too.
 ///
+/// Needs the feature `serde`.
+///
 /// As in `duration-str` 0.19.0 a required duration is what the format says a value is, and an optional one what it gives
 /// if it is asked for a text. So YAML's `90` is refused where a duration is required, and read where it is optional; and
 /// formats that don't tell their values' types, such as bincode, can't have a required one. [`human`](crate::human) has
@@ -173,6 +175,8 @@ deserializes!(
 );
 
 /// Reads a duration of `chrono`, as [`deserialize_duration`] does.
+///
+/// Needs the features `serde` and `chrono`.
 #[cfg(feature = "chrono")]
 pub fn deserialize_duration_chrono<'de, D: Deserializer<'de>>(
     deserializer: D,
@@ -181,6 +185,8 @@ pub fn deserialize_duration_chrono<'de, D: Deserializer<'de>>(
 }
 
 /// Reads a duration of `time`, as [`deserialize_duration`] does.
+///
+/// Needs the features `serde` and `time`.
 #[cfg(feature = "time")]
 pub fn deserialize_duration_time<'de, D: Deserializer<'de>>(
     deserializer: D,
