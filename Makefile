@@ -69,7 +69,7 @@ out/x86_64/libduration_str.a out/aarch64/libduration_str.a out/wasm64/libduratio
 
 out/x86_64/libduration_str.so out/aarch64/libduration_str.so: %.so: %.a FORCE
 	@tools/if-changed $(linker) $@ $< $(crate)/exports.map -- $(linker) -shared -o $@.new \
-	    -Wl,-soname,libduration_str.so.$(major) -Wl,--version-script,$(crate)/exports.map -Wl,--no-undefined \
+	    -s -Wl,-z,now,-soname,libduration_str.so.$(major),--version-script,$(crate)/exports.map,--no-undefined \
 	    -Wl,--whole-archive $< -Wl,--no-whole-archive
 
 out/wasm64/duration_str.wasm: out/wasm64/libduration_str.a FORCE
@@ -100,8 +100,9 @@ export DESTDIR
 
 calls = $(shell sed -n 's/^ *\(duration_str_[a-z_]*\);$$/\1/p' $(crate)/exports.map)
 shared = libduration_str.so libduration_str.so.$(major) libduration_str.so.$(version)
+cmake_files = $(addprefix cmake/duration_str/duration_str-config,.cmake -version.cmake)
 installed = $(if $(has_program),$(bindir)/durstr $(mandir)/man1/durstr.1) $(includedir)/duration_str.h \
-    $(addprefix $(libdir)/,libduration_str.a $(shared) pkgconfig/duration_str.pc) \
+    $(addprefix $(libdir)/,libduration_str.a $(shared) pkgconfig/duration_str.pc $(cmake_files)) \
     $(patsubst %,$(mandir)/man3/%.3,duration_str $(calls)) $(addprefix $(docdir)/,LICENSE NOTICE)
 
 # put FROM TO: copies the file to where TO is to be installed
@@ -116,8 +117,10 @@ page = sed -e '/^@TEXTS@$$/{r docs/man/texts.in' -e 'd}' docs/man/$(1) | \
     sed -e '/^@UNITS@$$/{r '<($(units)) -e 'd}' -e 's/@VERSION@/$(version)/' \
     $(if $(has_program),,-e '/^\.Sh SEE ALSO$$/,/^\.Xr/d')
 
-# The folder as it stands in the file for pkg-config
-in_pc = $(patsubst $(prefix)/%,$${prefix}/%,$(1))
+# The template in that file, for what is installed; VARIABLE stands for the prefix: $(call filled,FILE,VARIABLE)
+filled = sed 's|@PREFIX@|$(prefix)|; s|@VERSION@|$(version)|; s|@LIBDIR@|$(call below,$(libdir),$(2))|; \
+    s|@INCLUDEDIR@|$(call below,$(includedir),$(2))|' $(crate)/$(1).in
+below = $(patsubst $(prefix)/%,$${$(2)}/%,$(1))
 
 # Some characters pkg-config takes for something else, and others it quotes, so that compilers misread them.
 installable:
@@ -141,9 +144,8 @@ install: installable all
 	put out/$(target)/libduration_str.so $(libdir)/libduration_str.so.$(version)
 	ln -sf libduration_str.so.$(version) "$$DESTDIR$(libdir)/libduration_str.so.$(major)"
 	ln -sf libduration_str.so.$(major) "$$DESTDIR$(libdir)/libduration_str.so"
-	sed -e 's|@PREFIX@|$(prefix)|; s|@VERSION@|$(version)|; s|@LIBDIR@|$(call in_pc,$(libdir))|' \
-	    -e 's|@INCLUDEDIR@|$(call in_pc,$(includedir))|' $(crate)/duration_str.pc.in |
-	    put /dev/stdin $(libdir)/pkgconfig/duration_str.pc
+	$(call filled,duration_str.pc,prefix) | put /dev/stdin $(libdir)/pkgconfig/duration_str.pc
+	$(foreach file,$(cmake_files),$(call filled,$(notdir $(file)),duration_str_prefix) | put /dev/stdin $(libdir)/$(file);)
 	$(call page,duration_str.3.in) | put /dev/stdin $(mandir)/man3/duration_str.3
 	for call in $(calls); do echo '.so man3/duration_str.3' | put /dev/stdin "$(mandir)/man3/$$call.3"; done
 	for file in LICENSE NOTICE; do put "$$file" "$(docdir)/$$file"; done
@@ -151,7 +153,9 @@ install: installable all
 
 uninstall: installable
 	@for file in $(installed); do rm -fv "$$DESTDIR$$file"; done
-	[ ! -d "$$DESTDIR$(docdir)" ] || rmdir --ignore-fail-on-non-empty "$$DESTDIR$(docdir)"
+	for folder in $(docdir) $(libdir)/cmake/duration_str; do
+	    [ ! -d "$$DESTDIR$$folder" ] || rmdir --ignore-fail-on-non-empty "$$DESTDIR$$folder"
+	done
 
 # ---- The rest
 

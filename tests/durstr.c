@@ -33,7 +33,7 @@ static bool answer_line(const uint8_t *text, size_t length, uint32_t options)
         printf("%" PRIu64 " ", answer.nanos);
         end = duration_str_format(answer.nanos / SECOND, (uint32_t)(answer.nanos % SECOND), message);
     } else {
-        end = duration_str_message(text, length, &answer, message, sizeof message);
+        end = duration_str_message(text, length, options, message, sizeof message);
     }
     fwrite(message, 1, end, stdout);
     putchar('\n');

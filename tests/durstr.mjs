@@ -55,7 +55,7 @@ function answered(line) {
         const end = calls.duration_str_format(nanos / SECOND, Number(nanos % SECOND), BigInt(printed));
         return [Buffer.concat([Buffer.from(`${nanos} `), bytes(printed, end)]), true];
     }
-    const end = calls.duration_str_message(from, length, BigInt(answer), BigInt(message), BigInt(room));
+    const end = calls.duration_str_message(from, length, options, BigInt(message), BigInt(room));
     return [Buffer.from(bytes(message, end)), false];
 }
 

@@ -19,7 +19,7 @@ struct told {
     bool read;
     struct duration_str_answer answer;
     size_t length, printed_length;
-    uint8_t message[256], printed[64];
+    uint8_t message[256], printed[DURATION_STR_FORMAT_BUFFER_SIZE];
 };
 
 static struct told first[COUNT(texts)][8];
@@ -31,7 +31,7 @@ static void tell(const char *text, uint32_t options, struct told *told)
     const uint8_t *bytes = (const uint8_t *)text;
     memset(told, 0, sizeof *told);
     told->read = duration_str_parse_with(bytes, strlen(text), options, &told->answer);
-    told->length = duration_str_message(bytes, strlen(text), &told->answer, told->message, sizeof told->message);
+    told->length = duration_str_message(bytes, strlen(text), options, told->message, sizeof told->message);
     uint64_t nanos = told->answer.nanos;
     told->printed_length = duration_str_format(nanos / 1000000000, nanos % 1000000000, told->printed);
     memset(told->printed + told->printed_length, 0, sizeof told->printed - told->printed_length);

@@ -7,15 +7,15 @@
 #include "duration_str.h"
 
 /* Prints the message of a refused text, in memory of its own, since a text can have any length. */
-static void print_message(const uint8_t *text, size_t length, const struct duration_str_answer *answer)
+static void print_message(const uint8_t *text, size_t length)
 {
-    size_t room = duration_str_message(text, length, answer, NULL, 0);
+    size_t room = duration_str_message(text, length, 0, NULL, 0);
     uint8_t *message = malloc(room);
     if (message == NULL) {
         fprintf(stderr, "out of memory\n");
         return;
     }
-    duration_str_message(text, length, answer, message, room);
+    duration_str_message(text, length, 0, message, room);
     fwrite(message, 1, room, stdout);
     putchar('\n');
     free(message);
@@ -32,10 +32,13 @@ int main(int count, char **words)
     struct duration_str_moment moment = {946684800, 0};
     struct duration_str_answer answer;
     if (!duration_str_after(text, length, 0, &moment, &answer)) {
-        print_message(text, length, &answer);
+        if (answer.cause == DURATION_STR_OUT_OF_RANGE)
+            puts("date out of range");
+        else
+            print_message(text, length);
         return 1;
     }
-    uint8_t printed[64];
+    uint8_t printed[DURATION_STR_FORMAT_BUFFER_SIZE];
     size_t end = duration_str_format(answer.nanos / 1000000000, (uint32_t)(answer.nanos % 1000000000), printed);
     printf("%llu %.*s %lld.%09u\n", (unsigned long long)answer.nanos, (int)end, (const char *)printed,
            (long long)moment.secs, (unsigned)moment.nanos);

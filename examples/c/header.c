@@ -65,27 +65,23 @@ static void check_messages(void)
 {
     const uint8_t *text = (const uint8_t *)"3ms-2ms";
     const char *wanted = "3ms-2ms\n   ^\nexpected ['+', '*']";
-    struct duration_str_answer answer = read_with("3ms-2ms", 0);
     uint8_t message[32];
-    expect(duration_str_message(text, 7, &answer, message, 32) == 32 && memcmp(message, wanted, 32) == 0, "a message");
+    expect(duration_str_message(text, 7, 0, message, 32) == 32 && memcmp(message, wanted, 32) == 0, "a message");
     memset(message, '#', sizeof message);
-    expect(duration_str_message(text, 7, &answer, message, 31) == 32 && message[0] == '#', "a message without room");
-    expect(duration_str_message(text, 7, &answer, NULL, 0) == 32, "the length of a message");
-    expect(duration_str_line(&answer, message, 32) == 19 && memcmp(message, wanted + 13, 19) == 0, "a line");
+    expect(duration_str_message(text, 7, 0, message, 31) == 32 && message[0] == '#', "a message without room");
+    expect(duration_str_message(text, 7, 0, NULL, 0) == 32, "the length of a message");
+    expect(duration_str_line(text, 7, 0, message, 32) == 19 && memcmp(message, wanted + 13, 19) == 0, "a line");
     expect(message[19] == '#', "what stands after the line");
-    expect(duration_str_line(&answer, NULL, 0) == 19, "the length of a line");
-    expect(duration_str_message(text, 2, &answer, message, 32) == 19, "a message of another text");
-    answer.has_place = 0;
-    expect(duration_str_message(text, 7, &answer, NULL, 0) == 32, "a message whatever a field is that does not count");
-    answer = read_with("1\xff", 0);
-    expect(duration_str_line(&answer, message, 32) == 9 && memcmp(message, "not UTF-8", 9) == 0, "what is no UTF-8");
-    answer.cause = 99;
-    expect(duration_str_message(text, 7, &answer, message, 32) == 0, "a message of an unknown cause");
+    expect(duration_str_line(text, 7, 0, NULL, 0) == 19, "the length of a line");
+    expect(duration_str_message(text, 3, 0, message, 32) == 0, "a message of a text that is read");
+    expect(duration_str_line((const uint8_t *)"1+2", 3, DURATION_STR_NO_CALC, NULL, 0) > 0, "a line under an option");
+    expect(duration_str_line((const uint8_t *)"1\xff", 2, 0, message, 32) == 9, "the length of a line without UTF-8");
+    expect(memcmp(message, "not UTF-8", 9) == 0, "a line without UTF-8");
 }
 
 static void check_plain_calls(void)
 {
-    uint8_t printed[64];
+    uint8_t printed[DURATION_STR_FORMAT_BUFFER_SIZE];
     expect(duration_str_format(193, 29000000, printed) == 13 && memcmp(printed, "3min 13s 29ms", 13) == 0, "a duration");
     expect(duration_str_format(0, 1000000000, printed) == 0, "nanoseconds that are a second");
     const uint8_t *text = (const uint8_t *)"3ms-2ms";
@@ -102,7 +98,7 @@ static void check_null_texts(void)
     struct duration_str_moment moment = {5, 6};
     expect(!duration_str_parse(NULL, 0, &nanos) && nanos == 7, "a null text");
     expect(!duration_str_parse_with(NULL, 0, 0, &answer) && answer.cause == DURATION_STR_EMPTY, "a null text with options");
-    expect(duration_str_message(NULL, 0, &answer, NULL, 0) == 11, "the message of a null text");
+    expect(duration_str_message(NULL, 0, 0, NULL, 0) == 11, "the message of a null text");
     expect(!duration_str_after(NULL, 0, 0, &moment, &answer) && answer.cause == DURATION_STR_EMPTY, "after a null text");
     expect(!duration_str_before(NULL, 0, 0, &moment, &answer) && answer.cause == DURATION_STR_EMPTY, "before a null text");
     expect(moment.secs == 5 && moment.nanos == 6, "a moment that stays");

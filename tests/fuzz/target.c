@@ -140,41 +140,30 @@ static void check_printed(uint64_t nanos)
     }
 }
 
-typedef size_t (*writer)(struct text text, const struct duration_str_answer *answer, uint8_t *buffer, size_t room);
-
-static size_t write_message(struct text text, const struct duration_str_answer *answer, uint8_t *buffer, size_t room)
-{
-    return duration_str_message(text.bytes, text.length, answer, buffer, room);
-}
-
-static size_t write_line(struct text text, const struct duration_str_answer *answer, uint8_t *buffer, size_t room)
-{
-    (void)text;
-    return duration_str_line(answer, buffer, room);
-}
+typedef size_t (*writer)(const uint8_t *text, size_t length, uint32_t options, uint8_t *buffer, size_t room);
 
 /* A length is the same whatever the room, and what is written stands there in that many bytes, or nothing is. */
-static void check_room(writer writes, struct text text, const struct duration_str_answer *answer)
+static void check_room(writer writes, struct text text, uint32_t options)
 {
-    size_t length = writes(text, answer, NULL, 0), more = length + 5;
+    size_t length = writes(text.bytes, text.length, options, NULL, 0), more = length + 5;
     uint8_t *buffer = buffer_at(output_end, more);
-    HOLDS(writes(text, answer, buffer, more) == length);
+    HOLDS(writes(text.bytes, text.length, options, buffer, more) == length);
     HOLDS(is_untouched(buffer - CANARIES, buffer) && is_untouched(buffer + length, output_end));
     if (length > 0) {
         buffer = buffer_at(output_end, length - 1);
-        HOLDS(writes(text, answer, buffer, length - 1) == length);
+        HOLDS(writes(text.bytes, text.length, options, buffer, length - 1) == length);
         HOLDS(is_untouched(buffer - CANARIES, output_end));
     }
     buffer = buffer_at(output_end, length);
-    HOLDS(writes(text, answer, buffer, length) == length);
+    HOLDS(writes(text.bytes, text.length, options, buffer, length) == length);
     HOLDS(is_untouched(buffer - CANARIES, buffer));
 }
 
-/* Any answer that a caller hands in, and so that of a text, is safe to print. */
-static void check_messages(struct text text, const struct duration_str_answer *answer)
+static void check_messages(struct text text, uint32_t options, bool is_read)
 {
-    check_room(write_message, text, answer);
-    check_room(write_line, text, answer);
+    HOLDS((duration_str_message(text.bytes, text.length, options, NULL, 0) == 0) == is_read);
+    check_room(duration_str_message, text, options);
+    check_room(duration_str_line, text, options);
 }
 
 /* ---- Numbers that follow from a text */
@@ -267,15 +256,6 @@ static void check_moments(struct text text, uint32_t options, struct duration_st
 
 /* ---- All together */
 
-static void check_strange_answer(struct text text)
-{
-    struct duration_str_answer strange = {any(), any(), any(), any() % 12, any() % 32, any() % 3, "+*-\0"[any() % 4],
-                                          "+*-\0"[any() % 4]};
-    if (any() % 2)
-        strange.place %= text.length + 2;
-    check_messages(text, &strange);
-}
-
 /* The plain call agrees with the full one. */
 static void check_plain(struct text text, struct duration_str_answer answer)
 {
@@ -310,13 +290,11 @@ static void check(struct text text)
         if (answer.cause == DURATION_STR_READ && (options == 0 || answer.nanos != answers[0].nanos))
             check_printed(answer.nanos);
         if (options == 0 || !are_equal(answer, answers[0]))
-            check_messages(text, &answer);
+            check_messages(text, options, answer.cause == DURATION_STR_READ);
     }
     check_plain(text, answers[0]);
     uint32_t options = any() % CHOICES;
-    check_messages(text, &answers[options]);
     check_moments(text, options, answers[options]);
-    check_strange_answer(text);
 }
 
 int LLVMFuzzerTestOneInput(const uint8_t *data, size_t size)

@@ -4,7 +4,8 @@
  * a pointer and a length in bytes; it need not end with a zero byte, and must not overlap what a function writes. A
  * null text of length 0 is the empty text, a null buffer with room for 0 bytes is one into which nothing fits, and an
  * array of 0 numbers may be null; no other pointer may be. Texts are UTF-8; other bytes are refused. No zero byte is
- * written at the end of a text.
+ * written at the end of a text. No function calls back or throws. The functions have no frames for an unwinder (no
+ * `.eh_frame`), so a backtrace taken inside one ends there.
  *
  * The grammar: terms, each a number and a unit such as `3m` or `29 ms`, joined by `+` or by `*`, or following one
  * another, which adds them. After a number the unit may be left out before an operator and at the end; it is seconds.
@@ -28,6 +29,20 @@
 #define DURATION_STR_VERSION_PATCH 0
 #define DURATION_STR_VERSION_NUMBER \
     (DURATION_STR_VERSION_MAJOR * 1000000 + DURATION_STR_VERSION_MINOR * 1000 + DURATION_STR_VERSION_PATCH)
+#define DURATION_STR_VERSION "0.19.0"
+
+/* The most bytes that a printed duration has, and the bytes that duration_str_format needs. */
+#define DURATION_STR_MAX_PRINTED_LEN 60
+#define DURATION_STR_FORMAT_BUFFER_SIZE 64
+
+/* What GCC and Clang are told: which pointers may not be null, and which results must be used. */
+#ifdef __GNUC__
+#define DURATION_STR_NONNULL(...) __attribute__((nonnull(__VA_ARGS__)))
+#define DURATION_STR_MUST_USE __attribute__((warn_unused_result))
+#else
+#define DURATION_STR_NONNULL(...)
+#define DURATION_STR_MUST_USE
+#endif
 
 #ifdef __cplusplus
 extern "C" {
@@ -83,15 +98,18 @@ struct duration_str_moment {
 
 /* Reads a text with all options off. Returns true if it is read: then `*nanos` is its value in nanoseconds. Returns
  * false if it is refused, also for bytes that are not UTF-8: then `*nanos` is unchanged. */
+DURATION_STR_MUST_USE DURATION_STR_NONNULL(3)
 bool duration_str_parse(const uint8_t *text, size_t length, uint64_t *nanos);
 
 /* Prints a duration of `secs` seconds and `nanos` nanoseconds, which are below 1,000,000,000, to the start of `buffer`,
- * such as `3min 13s 29ms`, and returns its length, at most 60 bytes. `buffer` has 64 bytes. Returns 0 if `nanos` is
- * 1,000,000,000 or more; then the buffer is unchanged. */
+ * such as `3min 13s 29ms`, and returns its length, at most DURATION_STR_MAX_PRINTED_LEN. `buffer` has
+ * DURATION_STR_FORMAT_BUFFER_SIZE bytes. Returns 0 if `nanos` is 1,000,000,000 or more; then the buffer is unchanged. */
+DURATION_STR_MUST_USE DURATION_STR_NONNULL(3)
 size_t duration_str_format(uint64_t secs, uint32_t nanos, uint8_t *buffer);
 
 /* Reads a text under these options, and writes its value to `*answer`, or why and where it is refused. Returns true if
  * it is read. */
+DURATION_STR_NONNULL(4)
 bool duration_str_parse_with(const uint8_t *text, size_t length, uint32_t options, struct duration_str_answer *answer);
 
 /* Reads the texts of a column under these options, and returns how many are read. Text `k` is the bytes from
@@ -112,32 +130,28 @@ size_t duration_str_parse_column(const uint8_t *bytes, size_t length, const size
  * refusal to `*answer`. Returns true if it is moved. Otherwise `*moment` is unchanged, and the cause is:
  * DURATION_STR_OUT_OF_RANGE if `*moment` is not one of the moments above, whatever the text is; otherwise why the text
  * is refused; otherwise DURATION_STR_OUT_OF_RANGE, since the moment that is reached is not one of those above. */
+DURATION_STR_MUST_USE DURATION_STR_NONNULL(4, 5)
 bool duration_str_after(const uint8_t *text, size_t length, uint32_t options, struct duration_str_moment *moment,
                         struct duration_str_answer *answer);
 
 /* Moves `*moment` back, in the same way as duration_str_after moves it forward. */
+DURATION_STR_MUST_USE DURATION_STR_NONNULL(4, 5)
 bool duration_str_before(const uint8_t *text, size_t length, uint32_t options, struct duration_str_moment *moment,
                          struct duration_str_answer *answer);
 
-/* Writes the message about a refused text to the start of `buffer`, which has room for `room` bytes, and returns the
- * length of the message in bytes. If that is more than `room`, nothing is written: with room 0 a caller asks for the
- * length.
+/* Reads a text under these options, and writes the message about its refusal to the start of `buffer`, which has room
+ * for `room` bytes. Returns the length of the message in bytes; 0 if the text is read. If the length is more than `room`,
+ * nothing is written: with room 0 a caller asks for the length. A length of 2^64 bytes or more, which no memory has, is
+ * returned as SIZE_MAX.
  *
- * `*answer` is the answer of one of the calls above for this text. If the fault has a place, the message is the text,
- * below it a caret under the place, and a line that says what is wrong; or, if the text has a line feed, `byte N: ` and
- * the line. Without a place it is only the line, which for DURATION_STR_NOT_TEXT is `not UTF-8`.
- *
- * Any other answer is safe too. `cause` decides which other fields count: for DURATION_STR_SYNTAX `place` and the four
- * bits of `expected`; for DURATION_STR_NUMBER_TOO_LARGE and DURATION_STR_OVERFLOW `place`, unless `has_place` is 0; for
- * DURATION_STR_MIXED the operators. What the others hold has no effect. The message is only the line if the text is not
- * UTF-8, or if the place is not one of its character boundaries; and it is empty if `cause` is not from 1 to 7, or is
- * DURATION_STR_MIXED with an operator that is neither '+' nor '*'. A length of 2^64 bytes or more, which no memory has,
- * is returned as SIZE_MAX. */
-size_t duration_str_message(const uint8_t *text, size_t length, const struct duration_str_answer *answer,
-                            uint8_t *buffer, size_t room);
+ * If the fault has a place, the message is the text, below it a caret under the place, and a line that says what is
+ * wrong; or, if the text has a line feed, `byte N: ` and the line. Without a place it is only the line. For
+ * DURATION_STR_NOT_TEXT it is `not UTF-8`. DURATION_STR_OUT_OF_RANGE has no message here, since its text is read: its
+ * line is `date out of range`. */
+size_t duration_str_message(const uint8_t *text, size_t length, uint32_t options, uint8_t *buffer, size_t room);
 
 /* Writes only the line of the message, such as `expected number`, in the same way as duration_str_message. */
-size_t duration_str_line(const struct duration_str_answer *answer, uint8_t *buffer, size_t room);
+size_t duration_str_line(const uint8_t *text, size_t length, uint32_t options, uint8_t *buffer, size_t room);
 
 /* The version of the library, in the form of DURATION_STR_VERSION_NUMBER: 19000 is 0.19.0. */
 uint32_t duration_str_version(void);

@@ -1,4 +1,3 @@
 -- The lemmas of this crate.
-pub mod CauseLemmas
 pub mod AnswerLemmas
 pub mod ColumnLemmas

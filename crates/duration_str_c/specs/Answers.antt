@@ -90,43 +90,11 @@ refusal_answer cause found_length = record {
   later_operator = later_sign cause;
 }
 
--- the kinds that could stand at a place, given their bits
-abbrev pub expected_of : ℕ → Expected
-expected_of bits = record {
-  number = has_flag bits 1;
-  unit_word = has_flag bits 2;
-  operator = has_flag bits 4;
-  text_end = has_flag bits 8;
-}
-
--- the place in an answer, if it has one
-abbrev pub answer_place : Answer → Option ℕ
-answer_place a = if a.has_place == 0 then None else Some a.place
-
--- the fault of two mixed operators, if both are operators
-abbrev pub mixed_cause : Option CondUnit → Option CondUnit → Option Cause
-mixed_cause (Some first) (Some later) = Some (Mixed first later)
-mixed_cause _ _ = None
-
--- The cause in any answer, also in one that a caller made. Its number decides which other fields count, and those that
--- the cause does not use have no effect. `None` if the number is no cause's, or an operator that counts is none.
-abbrev pub answer_cause : Answer → Option Cause
-answer_cause a =
-    if a.cause == 1 then Some Empty
-    else if a.cause == 2 then Some (Syntax a.place (expected_of a.expected))
-    else if a.cause == 3 then Some (NumberTooLarge (answer_place a))
-    else if a.cause == 4 then Some (Overflow (answer_place a))
-    else if a.cause == 5 then mixed_cause (operator_of a.first_operator) (operator_of a.later_operator)
-    else if a.cause == 6 then Some OutOfRange
-    else if a.cause == 7 then Some (NotText false)
-    else None
-
--- The answer says that the bytes are refused for this cause. The cause can be recovered from the answer, and its place
--- is a character boundary of the bytes.
+-- The answer says that the bytes are refused for this cause, whose place is a character boundary of the bytes.
 abbrev pub IsRefusalAnswer : Options → List ℕ → Cause → Answer → Type 0
 IsRefusalAnswer o bytes cause answer =
     IsRefused o (chars bytes) cause × (answer ≡ refusal_answer cause (token_length (found_token o (chars bytes) cause)))
-    × (answer_cause answer ≡ Some cause) × ForSome (place_of cause) (IsCharBoundary bytes)
+    × ForSome (place_of cause) (IsCharBoundary bytes)
 
 -- The answer has the value of the bytes, or the cause of their refusal.
 abbrev pub IsAnswerTo : Options → List ℕ → Answer → Type 0

@@ -3,8 +3,7 @@ ghost use Rattle.std.specs.Prelude.{◌≡◌};
 ghost use Rattle.std.specs.Str.{chars};
 ghost use Rattle.duration_str.specs.Faults.{found_token};
 ghost use Rattle.duration_str.specs.Reading.{IsRefused};
-ghost use Rattle.duration_str.specs.Text.{operator_of};
-ghost use Rattle.duration_str_c.specs.Answers.{cause_number, bits_of, expected_bits, sign_code, first_sign, later_sign, token_length, value_answer, refusal_answer, expected_of, answer_place, mixed_cause, answer_cause, IsRefusalAnswer};
+ghost use Rattle.duration_str_c.specs.Answers.{cause_number, bits_of, expected_bits, sign_code, first_sign, later_sign, token_length, value_answer, refusal_answer, IsRefusalAnswer};
 
 use duration_str::{Cause, CondUnit, Expected, Fault, Options};
 
@@ -86,51 +85,6 @@ impl Answer {
             later_operator,
         }
     }
-
-    /// The cause in this answer, in which the fields that the cause does not use have no effect; `None` if the number
-    /// is no cause's, or an operator that counts is none.
-    pub(crate) fn cause(self) -> Option<Cause>
-        ensures { result ≡ answer_cause self }
-    {
-        match self.cause {
-            EMPTY => Some(Cause::Empty),
-            SYNTAX => Some(Cause::Syntax {
-                place: self.place,
-                expected: expected_of(self.expected),
-            }),
-            NUMBER_TOO_LARGE => Some(Cause::NumberTooLarge {
-                place: self.place(),
-            }),
-            OVERFLOW => Some(Cause::Overflow {
-                place: self.place(),
-            }),
-            MIXED => self.mixed_fault(),
-            OUT_OF_RANGE => Some(Cause::OutOfRange),
-            NOT_TEXT => Some(Cause::NotText { optional: false }),
-            _ => None,
-        }
-    }
-
-    /// The place in this answer, if it has one.
-    fn place(self) -> Option<usize>
-        ensures { result ≡ answer_place self }
-    {
-        if self.has_place == 0 {
-            None
-        } else {
-            Some(self.place)
-        }
-    }
-
-    /// The fault of its two operators, if both are operators.
-    fn mixed_fault(self) -> Option<Cause>
-        ensures { result ≡ mixed_cause (operator_of self.first_operator)
-            (operator_of self.later_operator) }
-    {
-        let first = operator_of(self.first_operator)?;
-        let later = operator_of(self.later_operator)?;
-        Some(Cause::Mixed { first, later })
-    }
 }
 
 /// The answer with the fault for which a text is refused under these options.
@@ -188,18 +142,6 @@ fn bits_of(expected: Expected) -> u32
     number + unit + operator + end
 }
 
-/// The kinds that could stand at a place, given their bits.
-fn expected_of(bits: u32) -> Expected
-    ensures { result ≡ expected_of bits }
-{
-    Expected {
-        number: bits & NUMBER != 0,
-        unit_word: bits & UNIT != 0,
-        operator: bits & OPERATOR != 0,
-        text_end: bits & END != 0,
-    }
-}
-
 /// The characters of the first and the later operator for mixed operators, otherwise 0.
 fn signs_of(cause: Cause) -> (u8, u8)
     ensures first { result.0 ≡ first_sign cause }
@@ -218,16 +160,5 @@ fn sign_code(operator: CondUnit) -> u8
     match operator {
         CondUnit::Plus => b'+',
         CondUnit::Star => b'*',
-    }
-}
-
-/// The operator of a character, if it is one.
-fn operator_of(sign: u8) -> Option<CondUnit>
-    ensures { result ≡ operator_of sign }
-{
-    match sign {
-        b'+' => Some(CondUnit::Plus),
-        b'*' => Some(CondUnit::Star),
-        _ => None,
     }
 }

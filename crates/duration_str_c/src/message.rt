@@ -1,54 +1,47 @@
-//! The message for an answer.
-//!
-//! An answer comes from a caller and can be anything, but every one gives one of these messages.
-ghost use Rattle.std.specs.Prelude.{◌≡◌, ◌≤◌, length, take, Some, None, IfSome, IfNone, IsUtf8, codes};
-ghost use Rattle.duration_str.specs.FaultText.{fault_text};
-ghost use Rattle.duration_str.specs.declared.cause.Cause.{Cause};
-ghost use Rattle.duration_str_c.specs.Answers.{answer_cause};
-ghost use Rattle.duration_str_c.specs.Messages.{IsShown, CanFault, answer_line};
+//! The message about a refused text, which is read again for it.
+ghost use Rattle.std.specs.Prelude.{◌≡◌, ◌≤◌, length, take, IsUtf8, codes, encode_utf8_all};
+ghost use Rattle.duration_str.specs.FaultText.{fault_text, line_of};
+ghost use Rattle.duration_str_c.specs.Answers.{options_of_bits};
+ghost use Rattle.duration_str_c.specs.Messages.{IsShown, ShowsRefusal};
 
-use crate::answer::Answer;
-use crate::text_of;
-use duration_str::{Cause, Fault};
+use crate::{options_of_bits, text_of};
+use duration_str::{Cause, Fault, parse_with};
 
-/// Writes the message about a refused text to the start of the buffer, and returns its length in bytes. If it is longer
-/// than the buffer, nothing is written.
-///
-/// The message is only the line if this text cannot have a fault with this cause, or the cause is that the bytes are
-/// not UTF-8; and it is empty if the answer has no cause.
+/// Writes the message about the text's refusal under the options whose bits are set to the start of the buffer, and
+/// returns its length in bytes; 0 for a text that is read. If the message is longer than the buffer, nothing is
+/// written.
 #[unsafe(no_mangle)]
-pub extern "C" fn duration_str_message(text: &[u8], answer: &Answer, buffer: &mut [u8]) -> usize
-    ensures whole { (cause : Cause) → answer_cause answer.now ≡ Some cause
-        → CanFault text.now cause
-        → IsShown (fault_text text.now cause) buffer.old result buffer.new }
-    ensures line { (cause : Cause) → answer_cause answer.now ≡ Some cause
-        → ¬ (CanFault text.now cause)
-        → IsShown (answer_line cause) buffer.old result buffer.new }
-    ensures nothing { answer_cause answer.now ≡ None → (result ≡ 0) × (buffer.new ≡ buffer.old) }
+pub extern "C" fn duration_str_message(text: &[u8], options: u32, buffer: &mut [u8]) -> usize
+    ensures text { IsUtf8 text.now → ShowsRefusal (fault_text text.now)
+        (options_of_bits options) text.now buffer.old result buffer.new }
+    ensures not_text { ¬ (IsUtf8 text.now)
+        → IsShown (codes "not UTF-8") buffer.old result buffer.new }
     ensures utf8 { result ≤ length buffer.new → IsUtf8 (take result buffer.new) }
 {
-    let answer = *answer;
-    let Some(cause) = answer.cause() else {
-        return 0;
+    let Some(text) = text_of(text) else {
+        return show_not_text(buffer);
     };
-    match fault_of(text, cause) {
-        Some(fault) => show_message(&fault, buffer),
-        None => show_line(cause, buffer),
+    match parse_with(text, options_of_bits(options)) {
+        Ok(_) => 0,
+        Err(fault) => show_message(&fault, buffer),
     }
 }
 
 /// Writes the line that says what is wrong, in the same way as `duration_str_message` writes the message.
 #[unsafe(no_mangle)]
-pub extern "C" fn duration_str_line(answer: &Answer, buffer: &mut [u8]) -> usize
-    ensures line { (cause : Cause) → answer_cause answer.now ≡ Some cause
-        → IsShown (answer_line cause) buffer.old result buffer.new }
-    ensures nothing { answer_cause answer.now ≡ None → (result ≡ 0) × (buffer.new ≡ buffer.old) }
+pub extern "C" fn duration_str_line(text: &[u8], options: u32, buffer: &mut [u8]) -> usize
+    ensures text { IsUtf8 text.now → ShowsRefusal (λ cause. encode_utf8_all (line_of cause))
+        (options_of_bits options) text.now buffer.old result buffer.new }
+    ensures not_text { ¬ (IsUtf8 text.now)
+        → IsShown (codes "not UTF-8") buffer.old result buffer.new }
     ensures utf8 { result ≤ length buffer.new → IsUtf8 (take result buffer.new) }
 {
-    let answer = *answer;
-    match answer.cause() {
-        Some(cause) => show_line(cause, buffer),
-        None => 0,
+    let Some(text) = text_of(text) else {
+        return show_not_text(buffer);
+    };
+    match parse_with(text, options_of_bits(options)) {
+        Ok(_) => 0,
+        Err(fault) => show_line(fault.cause(), buffer),
     }
 }
 
@@ -66,16 +59,11 @@ fn show_message(fault: &Fault<'_>, buffer: &mut [u8]) -> usize
 
 /// Writes the line of the cause if there is room, and returns its length in bytes.
 fn show_line(cause: Cause, buffer: &mut [u8]) -> usize
-    ensures shown { IsShown (answer_line cause) buffer.old result buffer.new }
+    ensures shown { IsShown (encode_utf8_all (line_of cause)) buffer.old result buffer.new }
     ensures utf8 { result ≤ length buffer.new → IsUtf8 (take result buffer.new) }
 {
-    match cause {
-        Cause::NotText { .. } => show_not_text(buffer),
-        _ => {
-            cause.write_line(buffer);
-            cause.line_len()
-        }
-    }
+    cause.write_line(buffer);
+    cause.line_len()
 }
 
 /// Writes the line about bytes that are not UTF-8 if there is room, and returns its length in bytes.
@@ -88,20 +76,4 @@ fn show_not_text(buffer: &mut [u8]) -> usize
         buffer[..line.len()].copy_from_slice(line.as_bytes());
     }
     line.len()
-}
-
-/// The fault of these bytes with this cause; `None` if they cannot have it.
-fn fault_of<'a>(bytes: &'a [u8], cause: Cause) -> Option<Fault<'a>>
-    ensures fault { IfSome result (λ fault. (fault.text.now ≡ bytes.now) × (fault.cause ≡ cause)) }
-    ensures can { IfSome result (λ fault. CanFault bytes.now cause) }
-    ensures cannot { IfNone result (¬ (CanFault bytes.now cause)) }
-{
-    if let Cause::NotText { .. } = cause {
-        return None;
-    }
-    let text = text_of(bytes)?;
-    match cause.place() {
-        Some(place) if !text.is_char_boundary(place) => None,
-        _ => Some(Fault { text, cause }),
-    }
 }

@@ -189,114 +189,46 @@ fn moves_under_options_and_tells_places(rt: HostRuntime) {
 
 #[test]
 fn shows_what_the_buffer_has_room_for(rt: HostRuntime) {
-    let answer = answer_to(b"3ms-2ms", 0);
+    let text = b"3ms-2ms";
     let mut buffer = [b'#'; 32];
-    assert_eq!(rt; duration_str_message(b"3ms-2ms", &answer, &mut buffer), 32);
+    assert_eq!(rt; duration_str_message(text, 0, &mut buffer), 32);
     assert!(rt; buffer == *b"3ms-2ms\n   ^\nexpected ['+', '*']");
     let mut shorter = [b'#'; 31];
-    assert_eq!(rt; duration_str_message(b"3ms-2ms", &answer, &mut shorter), 32);
+    assert_eq!(rt; duration_str_message(text, 0, &mut shorter), 32);
     assert!(rt; shorter == [b'#'; 31]);
-    assert_eq!(rt; duration_str_line(&answer, &mut shorter), 19);
+    assert_eq!(rt; duration_str_line(text, 0, &mut shorter), 19);
     assert!(rt; shorter == *b"expected ['+', '*']############");
     let mut none = [b'#'; 18];
-    assert_eq!(rt; duration_str_line(&answer, &mut none), 19);
+    assert_eq!(rt; duration_str_line(text, 0, &mut none), 19);
     assert!(rt; none == [b'#'; 18]);
 }
 
 #[test]
 fn shows_the_byte_in_lines(rt: HostRuntime) {
     let mut buffer = [b'#'; 23];
-    let answer = answer_to(b"1m+\n -", 0);
-    assert_eq!(rt; duration_str_message(b"1m+\n -", &answer, &mut buffer), 23);
+    assert_eq!(rt; duration_str_message(b"1m+\n -", 0, &mut buffer), 23);
     assert!(rt; buffer == *b"byte 5: expected number");
 }
 
 #[test]
-fn shows_the_line_where_the_place_is_not_the_texts(rt: HostRuntime) {
-    let mut answer = answer_to(b"1m+", 0);
-    for (text, place) in [
-        ("1m".as_bytes(), 3),
-        ("1分".as_bytes(), 2),
-        (b"1m\xff", 1),
-        (b"", 1),
-        (b"1m+", usize::MAX),
-    ] {
-        let mut buffer = [b'#'; 16];
-        answer.place = place;
-        assert_eq!(rt;
-            duration_str_message(text, &answer, &mut buffer),
-            15,
-            "{place}"
-        );
-        assert!(rt; buffer == *b"expected number#");
-    }
-}
-
-#[test]
 fn shows_bytes_that_are_no_text(rt: HostRuntime) {
-    let answer = answer_to(b"1m\xff", 0);
-    for text in [&b"1m\xff"[..], b"1m", b""] {
-        let mut buffer = [b'#'; 10];
-        assert_eq!(rt; duration_str_message(text, &answer, &mut buffer), 9);
-        assert!(rt; buffer == *b"not UTF-8#");
-        assert_eq!(rt; duration_str_message(text, &answer, &mut buffer[..8]), 9);
-    }
-    let mut buffer = [b'#'; 9];
-    assert_eq!(rt; duration_str_line(&answer, &mut buffer), 9);
-    assert!(rt; buffer == *b"not UTF-8");
+    let mut buffer = [b'#'; 10];
+    assert_eq!(rt; duration_str_message(b"1m\xff", 0, &mut buffer), 9);
+    assert!(rt; buffer == *b"not UTF-8#");
+    assert_eq!(rt; duration_str_message(b"1m\xff", 0, &mut buffer[..8]), 9);
+    let mut line = [b'#'; 9];
+    assert_eq!(rt; duration_str_line(b"1m\xff", 0, &mut line), 9);
+    assert!(rt; line == *b"not UTF-8");
 }
 
 #[test]
-fn lets_the_cause_decide_which_fields_count(rt: HostRuntime) {
-    // The cause and whether there is a place, and the length of the message about `1m 3-5`: the text, a line feed, four
-    // spaces, a caret and a line feed are 13 bytes.
-    for (cause, has_place, length) in [
-        (1, 1, 11),
-        (SYNTAX, 0, 13 + 15),
-        (3, 0, 38),
-        (3, 255, 13 + 38),
-        (4, 0, 14),
-        (4, 2, 13 + 14),
-        (5, 1, 34),
-        (OUT_OF_RANGE, 1, 17),
-        (NOT_TEXT, 1, 9),
-    ] {
-        let answer = Answer {
-            nanos: 7,
-            place: 4,
-            found_length: 99,
-            cause,
-            expected: 1 + 16,
-            has_place,
-            first_operator: b'+',
-            later_operator: b'*',
-        };
-        let mut none = [];
-        assert_eq!(rt;
-            duration_str_message(b"1m 3-5", &answer, &mut none),
-            length,
-            "{cause}"
-        );
-    }
-}
-
-#[test]
-fn shows_nothing_of_what_is_no_refusal(rt: HostRuntime) {
+fn shows_nothing_of_a_text_that_is_read(rt: HostRuntime) {
     let mut buffer = [b'#'; 32];
-    let mut answer = answer_to(b"1m", 0);
-    for cause in [0, 8, u32::MAX] {
-        answer.cause = cause;
-        assert_eq!(rt;
-            duration_str_message(b"1m", &answer, &mut buffer),
-            0,
-            "{cause}"
-        );
-        assert_eq!(rt; duration_str_line(&answer, &mut buffer), 0, "{cause}");
-    }
-    let mut mixed = answer_to(b"1+2*3", 0);
-    mixed.later_operator = b'-';
-    assert_eq!(rt; duration_str_message(b"1+2*3", &mixed, &mut buffer), 0);
+    assert_eq!(rt; duration_str_message(b"1+2", 0, &mut buffer), 0);
+    assert_eq!(rt; duration_str_line(b"1+2", 0, &mut buffer), 0);
     assert!(rt; buffer == [b'#'; 32]);
+    assert_eq!(rt; duration_str_line(b"1m+2", NO_CALC, &mut buffer), 15);
+    assert!(rt; buffer.starts_with(b"expected number#"));
 }
 
 #[test]

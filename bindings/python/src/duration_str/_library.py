@@ -70,7 +70,7 @@ _parse_column.argtypes = [
 ]
 _parse_column.restype = ctypes.c_size_t
 _message = _loaded.duration_str_message
-_message.argtypes = [ctypes.c_char_p, ctypes.c_size_t, ctypes.c_void_p, ctypes.c_char_p, ctypes.c_size_t]
+_message.argtypes = [ctypes.c_char_p, ctypes.c_size_t, ctypes.c_uint32, ctypes.c_char_p, ctypes.c_size_t]
 _message.restype = ctypes.c_size_t
 _format = _loaded.duration_str_format
 _format.argtypes = [ctypes.c_uint64, ctypes.c_uint32, ctypes.c_char_p]
@@ -120,11 +120,11 @@ def parse_column(
     )
 
 
-def message(text: bytes, answer: Answer) -> str:
-    """What a person is told of a refused text."""
-    length = _message(text, len(text), ctypes.byref(answer), None, 0)
+def message(text: bytes, options: int) -> str:
+    """What a person is told of a text that is refused under these options."""
+    length = _message(text, len(text), options, None, 0)
     buffer = ctypes.create_string_buffer(length)
-    _message(text, len(text), ctypes.byref(answer), buffer, length)
+    _message(text, len(text), options, buffer, length)
     return buffer.raw.decode()
 
 

@@ -83,13 +83,15 @@ class DurationError(ValueError, argparse.ArgumentTypeError):
         return type(self), made_of, self.__dict__
 
 
-def _error(text: str, encoded: bytes, answer: _library.Answer, index: int | None) -> DurationError:
+def _error(
+    text: str, encoded: bytes, options: int, answer: _library.Answer, index: int | None
+) -> DurationError:
     """The error that the library told of a text."""
     place = answer.place if answer.has_place else None
     found = None
     if place is not None and answer.found_length > 0:
         found = encoded[place : place + answer.found_length].decode()
-    message = _library.message(encoded, answer)
+    message = _library.message(encoded, options)
     return DurationError(message, text, Cause(answer.cause), place, Expected(answer.expected), found, index)
 
 
@@ -112,7 +114,7 @@ def read(text: str, options: int, index: int | None = None) -> int:
             return nanos
     answer = _library.parse_with(encoded, options)
     if answer.cause != 0:
-        raise _error(text, encoded, answer, index)
+        raise _error(text, encoded, options, answer, index)
     return int(answer.nanos)
 
 
