@@ -48,7 +48,7 @@ fn refused(text: &str, fault: &Fault<'_>) -> String {
         Cause::NumberTooLarge { .. } => (3, [0, 0]),
         Cause::Overflow { .. } => (4, [0, 0]),
         Cause::Mixed { first, later } => (5, [sign(first), sign(later)]),
-        Cause::OutOfRange | Cause::NotText { .. } => panic!("no cause of a text: {fault:?}"),
+        _ => panic!("no cause of a text: {fault:?}"),
     };
     let kinds = fault.expected().map_or(0, |expected| {
         u8::from(expected.number)
@@ -60,7 +60,7 @@ fn refused(text: &str, fault: &Fault<'_>) -> String {
     let (place, found) = (fault.place(), fault.found().map_or(0, str::len));
     let has_place = u8::from(place.is_some());
     let place = place.unwrap_or(0);
-    let (message, line) = (hex(&message(fault)), hex(&fault.line()));
+    let (message, line) = (hex(&message(fault)), hex(fault.line()));
     format!("0 {place} {found} {cause} {kinds} {has_place} {first} {later} {message} {line}")
 }
 

@@ -7,6 +7,8 @@ use chrono::{NaiveDate, NaiveDateTime, Utc};
 
 /// The moment that comes after this one by the value of a text. Both are in the same zone, such as UTC.
 ///
+/// Needs the feature `chrono`.
+///
 /// The text is read first, and its fault comes first. The cause is [`Cause::OutOfRange`](crate::Cause::OutOfRange) where
 /// chrono has no such moment.
 ///
@@ -31,6 +33,8 @@ pub fn moment_after(
 
 /// The moment that comes before this one by the value of a text. All else is as with [`moment_after`].
 ///
+/// Needs the feature `chrono`.
+///
 /// ```
 /// use chrono::NaiveDate;
 /// use duration_str::{Options, moment_before};
@@ -52,6 +56,8 @@ pub fn moment_before(
 
 /// The moment, in UTC, that comes after now by the value of a text, which is read as [`parse`](crate::parse) reads it.
 ///
+/// Needs the feature `chrono`.
+///
 /// ```
 /// use chrono::{Duration, Utc};
 ///
@@ -63,6 +69,8 @@ pub fn after_naive_date_time(input: impl AsRef<str>) -> Result<NaiveDateTime, St
 }
 
 /// The moment, in UTC, that comes before now by the value of a text, which is read as [`parse`](crate::parse) reads it.
+///
+/// Needs the feature `chrono`.
 ///
 /// ```
 /// use chrono::{Duration, Utc};
@@ -76,6 +84,8 @@ pub fn before_naive_date_time(input: impl AsRef<str>) -> Result<NaiveDateTime, S
 
 /// The date of [`after_naive_date_time`].
 ///
+/// Needs the feature `chrono`.
+///
 /// ```
 /// assert!(duration_str::after_naive_date("180d").unwrap() > chrono::Utc::now().date_naive());
 /// ```
@@ -84,6 +94,8 @@ pub fn after_naive_date(input: impl AsRef<str>) -> Result<NaiveDate, String> {
 }
 
 /// The date of [`before_naive_date_time`].
+///
+/// Needs the feature `chrono`.
 ///
 /// ```
 /// assert!(duration_str::before_naive_date("180d").unwrap() < chrono::Utc::now().date_naive());

@@ -1,5 +1,5 @@
 //! The error type of the Rust crate.
-use crate::fault::Fault;
+use crate::fault::{Fault, OwnedFault};
 use alloc::string::String;
 use core::fmt;
 
@@ -40,6 +40,12 @@ impl core::error::Error for DError {}
 
 impl From<Fault<'_>> for DError {
     fn from(fault: Fault<'_>) -> DError {
+        fault.to_derror()
+    }
+}
+
+impl From<OwnedFault> for DError {
+    fn from(fault: OwnedFault) -> DError {
         fault.to_derror()
     }
 }

@@ -13,6 +13,8 @@ use core::time::Duration;
 /// assert_eq!(Duration::ZERO.human_format(), "0s");
 /// ```
 ///
+/// A duration of 2^64 nanoseconds or more, some 584 years, prints as a text that no call reads.
+///
 /// A duration of `chrono` or `time` may be negative. Then it is printed as a minus and the text of its magnitude, which no
 /// call reads back, since texts have no minus:
 ///
@@ -23,6 +25,7 @@ use core::time::Duration;
 /// ```
 pub trait HumanFormat {
     /// The counts of the units from the years to the nanoseconds, without those that are 0.
+    #[must_use]
     fn human_format(&self) -> String;
 }
 

@@ -1,5 +1,6 @@
 //! A refused text, with the options under which it was read.
 use crate::error::DError;
+use crate::one_line::write_one_line;
 use crate::options::Options;
 use crate::proved::parser as proved;
 pub use crate::proved::parser::{Cause, Expected};
@@ -17,6 +18,16 @@ use core::hash::{Hash, Hasher};
 /// assert_eq!(fault.found(), Some("hurs"));
 /// assert!(matches!(fault.cause(), Cause::Syntax { expected, .. } if expected.unit_word));
 /// assert!(fault.to_string().starts_with("3h 2 hurs\n     ^\nexpected "));
+/// ```
+///
+/// `{:#}` is one line for a log: what is wrong, at which column, and at most 40 characters of the text, with control
+/// characters escaped. The column counts characters from 1.
+///
+/// ```
+/// use duration_str::{Options, parse_with};
+///
+/// let fault = parse_with("1m 3-5", Options::off()).unwrap_err();
+/// assert_eq!(format!("{fault:#}"), r#"expected a unit, '+', '*' or the end at column 5, found "-""#);
 /// ```
 ///
 /// It borrows the text; [`Fault::into_owned`] gives a fault that outlives it.
@@ -51,6 +62,7 @@ impl<'a> Fault<'a> {
     ///
     /// assert_eq!(parse_with("1x", Options::off()).unwrap_err().text(), "1x");
     /// ```
+    #[must_use]
     pub fn text(&self) -> &'a str {
         self.fault.text()
     }
@@ -62,6 +74,7 @@ impl<'a> Fault<'a> {
     ///
     /// assert_eq!(parse_with("", Options::off()).unwrap_err().cause(), Cause::Empty);
     /// ```
+    #[must_use]
     pub fn cause(&self) -> Cause {
         self.fault.cause()
     }
@@ -73,6 +86,7 @@ impl<'a> Fault<'a> {
     ///
     /// assert_eq!(parse_with("1m 3-5", Options::off()).unwrap_err().place(), Some(4));
     /// ```
+    #[must_use]
     pub fn place(&self) -> Option<usize> {
         self.cause().place()
     }
@@ -84,6 +98,7 @@ impl<'a> Fault<'a> {
     ///
     /// assert!(parse_with("1m+", Options::off()).unwrap_err().expected().unwrap().number);
     /// ```
+    #[must_use]
     pub fn expected(&self) -> Option<Expected> {
         match self.cause() {
             Cause::Syntax { expected, .. } => Some(expected),
@@ -98,6 +113,7 @@ impl<'a> Fault<'a> {
     ///
     /// assert_eq!(parse_with("1m 3-5", Options::off()).unwrap_err().found(), Some("-"));
     /// ```
+    #[must_use]
     pub fn found(&self) -> Option<&'a str> {
         self.fault.found(self.options)
     }
@@ -109,8 +125,9 @@ impl<'a> Fault<'a> {
     ///
     /// assert_eq!(parse_with("600y", Options::off()).unwrap_err().line(), "overflow error");
     /// ```
-    pub fn line(&self) -> String {
-        self.cause().line().to_string()
+    #[must_use]
+    pub fn line(&self) -> &'static str {
+        self.cause().line()
     }
 
     /// The length of the message in bytes.
@@ -120,6 +137,7 @@ impl<'a> Fault<'a> {
     ///
     /// assert_eq!(parse_with("3ms-2ms", Options::off()).unwrap_err().message_len(), 32);
     /// ```
+    #[must_use]
     pub fn message_len(&self) -> usize {
         self.fault.message_len()
     }
@@ -146,10 +164,11 @@ impl<'a> Fault<'a> {
     ///
     /// assert_eq!(parse_with("600y", Options::off()).unwrap_err().to_derror(), DError::OverflowError);
     /// ```
+    #[must_use]
     pub fn to_derror(&self) -> DError {
         match self.cause() {
             Cause::Overflow { .. } => DError::OverflowError,
-            _ => DError::ParseError(self.line()),
+            _ => DError::ParseError(self.line().to_string()),
         }
     }
 
@@ -164,6 +183,7 @@ impl<'a> Fault<'a> {
     ///
     /// assert_eq!(read("1m 3-5".to_string()).unwrap_err().found(), Some("-"));
     /// ```
+    #[must_use]
     pub fn into_owned(self) -> OwnedFault {
         OwnedFault {
             text: self.text().to_string(),
@@ -172,23 +192,36 @@ impl<'a> Fault<'a> {
         }
     }
 
-    /// The message. Without a place it is the line; one of at most 256 bytes takes one allocation, of its length.
+    /// The message. Unless the text has a line feed it is one allocation of its length; joining texts takes no test for
+    /// UTF-8.
     pub(crate) fn message(&self) -> String {
-        if self.place().is_none() {
-            return self.line();
+        let (text, line) = (self.text(), self.line());
+        let Some(place) = self.place() else {
+            return line.to_string();
+        };
+        if text.as_bytes().contains(&b'\n') {
+            return self.to_string();
         }
-        let mut buffer = [0; 256];
-        let length = self.write_message(&mut buffer);
-        match length.map(|length| str::from_utf8(&buffer[..length])) {
-            Some(Ok(message)) => String::from(message),
-            _ => self.to_string(),
+        let spaces = text[..place].chars().count();
+        let mut message = String::with_capacity(text.len() + spaces + line.len() + 3);
+        message.push_str(text);
+        message.push('\n');
+        for _ in 0..spaces {
+            message.push(' ');
         }
+        message.push_str("^\n");
+        message.push_str(line);
+        message
     }
 }
 
 impl fmt::Display for Fault<'_> {
     fn fmt(&self, f: &mut fmt::Formatter<'_>) -> fmt::Result {
-        self.fault.fmt(f)
+        if f.alternate() {
+            write_one_line(self, f)
+        } else {
+            self.fault.fmt(f)
+        }
     }
 }
 
@@ -200,7 +233,7 @@ impl fmt::Debug for Fault<'_> {
 
 impl core::error::Error for Fault<'_> {}
 
-/// A [`Fault`] that owns its text. Its `Display` is the same message.
+/// A [`Fault`] that owns its text. It prints as that does, and has the same methods.
 ///
 /// ```
 /// use duration_str::{HumanDuration, OwnedFault};
@@ -230,6 +263,7 @@ impl OwnedFault {
     /// let fault = parse_with("1x", Options::off()).unwrap_err();
     /// assert_eq!(fault.into_owned().as_fault(), fault);
     /// ```
+    #[must_use]
     pub fn as_fault(&self) -> Fault<'_> {
         Fault::new(
             proved::Fault {
@@ -245,6 +279,7 @@ impl OwnedFault {
     /// ```
     /// assert_eq!("1x".parse::<duration_str::HumanDuration>().unwrap_err().text(), "1x");
     /// ```
+    #[must_use]
     pub fn text(&self) -> &str {
         &self.text
     }
@@ -256,6 +291,7 @@ impl OwnedFault {
     ///
     /// assert_eq!("".parse::<HumanDuration>().unwrap_err().cause(), Cause::Empty);
     /// ```
+    #[must_use]
     pub fn cause(&self) -> Cause {
         self.cause
     }
@@ -265,6 +301,7 @@ impl OwnedFault {
     /// ```
     /// assert_eq!("1x".parse::<duration_str::HumanDuration>().unwrap_err().place(), Some(1));
     /// ```
+    #[must_use]
     pub fn place(&self) -> Option<usize> {
         self.cause.place()
     }
@@ -275,6 +312,7 @@ impl OwnedFault {
     /// let fault = "1x".parse::<duration_str::HumanDuration>().unwrap_err();
     /// assert!(fault.expected().unwrap().unit_word);
     /// ```
+    #[must_use]
     pub fn expected(&self) -> Option<Expected> {
         self.as_fault().expected()
     }
@@ -284,8 +322,50 @@ impl OwnedFault {
     /// ```
     /// assert_eq!("1x".parse::<duration_str::HumanDuration>().unwrap_err().found(), Some("x"));
     /// ```
+    #[must_use]
     pub fn found(&self) -> Option<&str> {
         self.as_fault().found()
+    }
+
+    /// The last line of the message, as [`Fault::line`] says it.
+    ///
+    /// ```
+    /// assert_eq!(duration_str::parse_duration("600y").unwrap_err().line(), "overflow error");
+    /// ```
+    #[must_use]
+    pub fn line(&self) -> &'static str {
+        self.cause.line()
+    }
+
+    /// The length of the message in bytes.
+    ///
+    /// ```
+    /// assert_eq!(duration_str::parse_duration("600y").unwrap_err().message_len(), 21);
+    /// ```
+    #[must_use]
+    pub fn message_len(&self) -> usize {
+        self.as_fault().message_len()
+    }
+
+    /// Writes the message to the start of a buffer, as [`Fault::write_message`] does.
+    ///
+    /// ```
+    /// assert_eq!(duration_str::parse_duration("").unwrap_err().write_message(&mut [0; 64]), Some(11));
+    /// ```
+    pub fn write_message(&self, buffer: &mut [u8]) -> Option<usize> {
+        self.as_fault().write_message(buffer)
+    }
+
+    /// The error of the Rust crate for this fault.
+    ///
+    /// ```
+    /// use duration_str::{DError, parse_duration};
+    ///
+    /// assert_eq!(parse_duration("600y").unwrap_err().to_derror(), DError::OverflowError);
+    /// ```
+    #[must_use]
+    pub fn to_derror(&self) -> DError {
+        self.as_fault().to_derror()
     }
 }
 
@@ -309,6 +389,13 @@ impl core::error::Error for OwnedFault {}
 impl From<Fault<'_>> for OwnedFault {
     fn from(fault: Fault<'_>) -> OwnedFault {
         fault.into_owned()
+    }
+}
+
+/// The last line of a message, as [`Fault::line`] says it.
+impl fmt::Display for Cause {
+    fn fmt(&self, f: &mut fmt::Formatter<'_>) -> fmt::Result {
+        f.pad(self.line())
     }
 }
 

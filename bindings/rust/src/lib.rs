@@ -3,9 +3,10 @@
 //!
 //! This crate has the public interface of `duration-str` 0.19.0 from crates.io. What reads and prints is proved: it is the
 //! source of a proved library with its contracts taken out. What it adds: [`parse_with`], whose options are chosen at each
-//! call and whose [`Fault`] says why and where; [`OwnedFault`]; [`HumanDuration`], for command lines and serde;
-//! [`write_human`], which takes no memory; [`Tokens`]; and `moment_after` and `moment_before` for any moment. A message's
-//! caret stands at the first token with which no expression continues.
+//! call and whose [`Fault`] says why and where; [`parse_duration`], whose [`OwnedFault`] outlives the text, and
+//! [`format_duration`]; [`HumanDuration`], for command lines and serde; [`write_human`], which takes no memory; [`Tokens`];
+//! and `moment_after` and `moment_before` for any moment. A message's caret stands at the first token with which no
+//! expression continues.
 //!
 //! There is one `unsafe` block, in [`write_human`], which is proved with the rest of it.
 //!
@@ -60,8 +61,13 @@ mod error;
 mod ext;
 #[forbid(unsafe_code)]
 mod fault;
+#[cfg(feature = "serde")]
+#[forbid(unsafe_code)]
+pub mod human;
 #[forbid(unsafe_code)]
 mod human_duration;
+#[forbid(unsafe_code)]
+mod one_line;
 #[forbid(unsafe_code)]
 mod options;
 #[forbid(unsafe_code)]
@@ -77,6 +83,8 @@ mod proved;
 #[cfg(feature = "serde")]
 #[forbid(unsafe_code)]
 mod serde_texts;
+#[forbid(unsafe_code)]
+mod tokens;
 
 #[cfg(feature = "chrono")]
 pub use dates::{
@@ -86,20 +94,18 @@ pub use dates::{
 pub use error::{DError, DResult};
 pub use ext::{HumanFormat, MAX_PRINTED_LEN, write_human};
 pub use fault::{Cause, Expected, Fault, OwnedFault};
-pub use human_duration::HumanDuration;
+pub use human_duration::{HumanDuration, format_duration};
 pub use options::Options;
 #[cfg(feature = "chrono")]
 pub use parser::parse_chrono;
 #[cfg(feature = "time")]
 pub use parser::parse_time;
-pub use parser::{parse, parse_std, parse_with};
+pub use parser::{parse, parse_duration, parse_std, parse_with};
 pub use proved::token::{Token, Tokens, What};
 pub use proved::unit::{CondUnit, TimeUnit};
 #[cfg(feature = "serde")]
 #[allow(deprecated)]
-pub use serde_texts::{
-    DeserializeDuration, deserialize_duration, deserialize_option_duration, human,
-};
+pub use serde_texts::{DeserializeDuration, deserialize_duration, deserialize_option_duration};
 #[cfg(all(feature = "serde", feature = "chrono"))]
 #[allow(deprecated)]
 pub use serde_texts::{deserialize_duration_chrono, deserialize_option_duration_chrono};

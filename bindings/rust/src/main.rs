@@ -26,7 +26,7 @@ fn options() -> Option<Options> {
 /// Adds the output for a line, and returns whether the line was accepted.
 fn push_line(out: &mut Vec<u8>, line: &[u8], options: Options) -> Result<bool, TryReserveError> {
     out.try_reserve(100)?;
-    let Ok(text) = str::from_utf8(line) else {
+    let Ok(text) = std::str::from_utf8(line) else {
         out.extend_from_slice(b"not UTF-8\n");
         return Ok(false);
     };

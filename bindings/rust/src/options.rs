@@ -9,6 +9,7 @@ impl Options {
     ///
     /// assert_eq!(Options::of_features().no_calc, cfg!(feature = "no_calc"));
     /// ```
+    #[must_use]
     pub const fn of_features() -> Options {
         Options {
             no_calc: cfg!(feature = "no_calc"),

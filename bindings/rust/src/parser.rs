@@ -1,5 +1,5 @@
 //! Reading.
-use crate::fault::Fault;
+use crate::fault::{Fault, OwnedFault};
 use crate::options::Options;
 use crate::proved::parser;
 use alloc::string::String;
@@ -74,6 +74,25 @@ pub fn parse(input: impl AsRef<str>) -> Result<Duration, String> {
     read(input.as_ref())
 }
 
+/// Reads a text as [`parse`] does, with a fault that owns its text. It has the name of humantime's function, and can be
+/// handed on as it is, such as to `value_parser` of clap.
+///
+/// ```
+/// use duration_str::parse_duration;
+/// use std::error::Error;
+/// use std::time::Duration;
+///
+/// fn timeout(text: &str) -> Result<Duration, Box<dyn Error + Send + Sync>> {
+///     Ok(parse_duration(text)?)
+/// }
+///
+/// assert_eq!(timeout("1m 30s").unwrap(), Duration::from_secs(90));
+/// assert_eq!(timeout("").unwrap_err().to_string(), "Empty input");
+/// ```
+pub fn parse_duration(input: &str) -> Result<Duration, OwnedFault> {
+    parse_with(input, Options::of_features()).map_err(Fault::into_owned)
+}
+
 /// Reads a text as [`parse`] does.
 ///
 /// ```
@@ -84,6 +103,8 @@ pub fn parse_std(input: impl AsRef<str>) -> Result<Duration, String> {
 }
 
 /// Reads a text as [`parse`] does, into a duration of `chrono`.
+///
+/// Needs the feature `chrono`.
 ///
 /// ```
 /// assert_eq!(duration_str::parse_chrono("2h 37m"), Ok(chrono::Duration::minutes(157)));
@@ -101,6 +122,8 @@ pub(crate) fn signed(length: Duration) -> chrono::Duration {
 }
 
 /// Reads a text as [`parse`] does, into a duration of `time`.
+///
+/// Needs the feature `time`.
 ///
 /// ```
 /// assert_eq!(duration_str::parse_time("2h 37m"), Ok(time::Duration::minutes(157)));

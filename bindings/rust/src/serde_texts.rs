@@ -1,13 +1,10 @@
 //! Durations in what serde reads.
-use crate::ext::write_human;
-use crate::human_duration::HumanDuration;
 use crate::parser::parse;
 use alloc::string::String;
 use core::fmt;
 use core::marker::PhantomData;
 use core::time::Duration;
 use serde::de::{Deserializer, Error, Unexpected, Visitor};
-use serde::{Deserialize, Serialize, Serializer};
 
 /// Types that are read from a duration's text: the durations of `std`, `chrono` and `time`, and each of them as an
 /// `Option`.
@@ -17,8 +14,11 @@ pub trait DeserializeDuration<'de>: Sized {
 }
 
 /// Durations that are read from a text.
-trait Length: Sized {
+pub trait Length: Sized {
     fn of_text(text: &str) -> Result<Self, String>;
+
+    /// The duration of `std`, which is never negative.
+    fn to_std(&self) -> Option<Duration>;
 }
 
 /// A text is read as a duration; all else is refused.
@@ -76,6 +76,13 @@ impl<'de, T: Length> Visitor<'de> for Optional<T> {
 /// Reads a duration, which must be a text, or an optional one, for which null and the empty text are `None`. With
 /// `#[serde(default)]` a missing field is `None` too.
 ///
+/// Needs the feature `serde`.
+///
+/// As in `duration-str` 0.19.0 a required duration is what the format says a value is, and an optional one what it gives
+/// if it is asked for a text. So YAML's `90` is refused where a duration is required, and read where it is optional; and
+/// formats that don't tell their values' types, such as bincode, can't have a required one. [`human`](crate::human) has
+/// one rule for both.
+///
 /// ```
 /// use duration_str::deserialize_duration;
 /// use serde::Deserialize;
@@ -103,10 +110,14 @@ where
 
 /// Implements the traits for a type and its `Option`, and makes the function that reads the `Option` alone.
 macro_rules! deserializes {
-    ($length:ty, $parse:path, $option_name:ident, $instead:literal) => {
+    ($length:ty, $parse:path, $to_std:expr, $option_name:ident, $instead:literal) => {
         impl Length for $length {
             fn of_text(text: &str) -> Result<Self, String> {
                 $parse(text)
+            }
+
+            fn to_std(&self) -> Option<Duration> {
+                $to_std(*self)
             }
         }
 
@@ -142,6 +153,7 @@ macro_rules! deserializes {
 deserializes!(
     Duration,
     parse,
+    Some,
     deserialize_option_duration,
     "deserialize_duration"
 );
@@ -149,6 +161,7 @@ deserializes!(
 deserializes!(
     chrono::Duration,
     crate::parse_chrono,
+    |length: chrono::Duration| length.to_std().ok(),
     deserialize_option_duration_chrono,
     "deserialize_duration"
 );
@@ -156,11 +169,14 @@ deserializes!(
 deserializes!(
     time::Duration,
     crate::parse_time,
+    |length: time::Duration| length.try_into().ok(),
     deserialize_option_duration_time,
     "deserialize_duration"
 );
 
 /// Reads a duration of `chrono`, as [`deserialize_duration`] does.
+///
+/// Needs the features `serde` and `chrono`.
 #[cfg(feature = "chrono")]
 pub fn deserialize_duration_chrono<'de, D: Deserializer<'de>>(
     deserializer: D,
@@ -169,106 +185,11 @@ pub fn deserialize_duration_chrono<'de, D: Deserializer<'de>>(
 }
 
 /// Reads a duration of `time`, as [`deserialize_duration`] does.
+///
+/// Needs the features `serde` and `time`.
 #[cfg(feature = "time")]
 pub fn deserialize_duration_time<'de, D: Deserializer<'de>>(
     deserializer: D,
 ) -> Result<time::Duration, D::Error> {
     DeserializeDuration::deserialize_duration(deserializer)
-}
-
-impl Serialize for HumanDuration {
-    fn serialize<S: Serializer>(&self, serializer: S) -> Result<S::Ok, S::Error> {
-        serializer.serialize_str(write_human(&self.0, &mut [0; 64]))
-    }
-}
-
-impl<'de> Deserialize<'de> for HumanDuration {
-    fn deserialize<D: Deserializer<'de>>(deserializer: D) -> Result<HumanDuration, D::Error> {
-        deserializer
-            .deserialize_str(Required(PhantomData))
-            .map(HumanDuration)
-    }
-}
-
-/// For `#[serde(with = "duration_str::human")]`: a `Duration` as text, printed as [`HumanFormat`](crate::HumanFormat)
-/// prints and read as [`parse`](crate::parse) reads.
-///
-/// ```
-/// use serde::{Deserialize, Serialize};
-/// use std::time::Duration;
-///
-/// #[derive(Serialize, Deserialize)]
-/// struct Settings {
-///     #[serde(with = "duration_str::human")]
-///     timeout: Duration,
-///     #[serde(default, with = "duration_str::human::option")]
-///     keep_alive: Option<Duration>,
-/// }
-///
-/// let settings: Settings = serde_json::from_str(r#"{ "timeout": "90s" }"#).unwrap();
-/// assert_eq!((settings.timeout, settings.keep_alive), (Duration::from_secs(90), None));
-/// let text = serde_json::to_string(&settings).unwrap();
-/// assert_eq!(text, r#"{"timeout":"1min 30s","keep_alive":null}"#);
-/// ```
-pub mod human {
-    use super::{Deserialize, Deserializer, Duration, HumanDuration, Serialize, Serializer};
-
-    /// Prints the duration as text.
-    ///
-    /// ```
-    /// let text = duration_str::human::serialize(&std::time::Duration::ZERO, serde_json::value::Serializer);
-    /// assert_eq!(text.unwrap(), "0s");
-    /// ```
-    pub fn serialize<S: Serializer>(duration: &Duration, serializer: S) -> Result<S::Ok, S::Error> {
-        HumanDuration(*duration).serialize(serializer)
-    }
-
-    /// Reads the duration, which must be a text.
-    ///
-    /// ```
-    /// let duration = duration_str::human::deserialize(serde_json::json!("1m"));
-    /// assert_eq!(duration.unwrap().as_secs(), 60);
-    /// ```
-    pub fn deserialize<'de, D: Deserializer<'de>>(deserializer: D) -> Result<Duration, D::Error> {
-        HumanDuration::deserialize(deserializer).map(Duration::from)
-    }
-
-    /// The same for an `Option<Duration>`: `None` is null, and the empty text is read as `None` too.
-    ///
-    /// ```
-    /// use duration_str::human::option;
-    /// use serde_json::{Value, json};
-    ///
-    /// assert_eq!(option::deserialize(json!("")).unwrap(), None);
-    /// assert_eq!(option::serialize(&None, serde_json::value::Serializer).unwrap(), Value::Null);
-    /// ```
-    pub mod option {
-        use super::{Deserializer, Duration, HumanDuration, Serialize, Serializer};
-
-        /// Prints the duration as text, or null.
-        ///
-        /// ```
-        /// let minute = Some(std::time::Duration::from_secs(60));
-        /// let text = duration_str::human::option::serialize(&minute, serde_json::value::Serializer);
-        /// assert_eq!(text.unwrap(), "1min");
-        /// ```
-        pub fn serialize<S: Serializer>(
-            duration: &Option<Duration>,
-            serializer: S,
-        ) -> Result<S::Ok, S::Error> {
-            duration.map(HumanDuration).serialize(serializer)
-        }
-
-        /// Reads a text as a duration, and null and the empty text as `None`.
-        ///
-        /// ```
-        /// let read = duration_str::human::option::deserialize(serde_json::json!("1m"));
-        /// assert_eq!(read.unwrap(), Some(std::time::Duration::from_secs(60)));
-        /// ```
-        pub fn deserialize<'de, D: Deserializer<'de>>(
-            deserializer: D,
-        ) -> Result<Option<Duration>, D::Error> {
-            crate::deserialize_duration(deserializer)
-        }
-    }
 }

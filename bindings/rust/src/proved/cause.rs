@@ -67,6 +67,7 @@ impl Expected {
 /// assert_eq!(parse_with("", Options::off()).unwrap_err().cause(), Cause::Empty);
 /// ```
 #[derive(Clone, Copy, Debug, PartialEq, Eq)]
+#[non_exhaustive]
 pub enum Cause {
     /// The text is empty.
     Empty,

@@ -58,7 +58,10 @@ impl<'a> Fault<'a> {
             return None;
         };
         // To find a token at the place it is enough to cut from the character before it on.
-        let from = self.text.floor_char_boundary(place.saturating_sub(1));
+        let from = (0..place)
+            .rev()
+            .find(|at| self.text.is_char_boundary(*at))
+            .unwrap_or(0);
         token_at(Tokens::new(&self.text[from..], o), place - from)
     }
 }

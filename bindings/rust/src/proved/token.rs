@@ -149,9 +149,7 @@ impl<'a> Tokens<'a> {
     /// Moves past the blanks.
     #[inline(always)]
     fn skip_blanks(&mut self) {
-        while let Some(c) = self.head
-            && is_blank(c)
-        {
+        while self.head.is_some_and(is_blank) {
             self.advance();
         }
     }
@@ -160,9 +158,7 @@ impl<'a> Tokens<'a> {
     #[inline(always)]
     fn take_digits(&mut self) -> u64 {
         let mut number = 0u64;
-        while let Some(c) = self.head
-            && c.is_ascii_digit()
-        {
+        while let Some(c) = self.head.filter(char::is_ascii_digit) {
             number = ((number as u128 * 10 + (c as u32 - 48) as u128) % MODULUS) as u64;
             self.advance();
         }
@@ -261,9 +257,7 @@ impl<'a> Tokens<'a> {
     /// fewer instructions.
     #[inline(always)]
     pub(crate) fn sort_after_number(&mut self) -> Option<Sort> {
-        if let Some(c) = self.head
-            && c.is_ascii_alphabetic()
-        {
+        if self.head.is_some_and(|c| c.is_ascii_alphabetic()) {
             return Some(Sort::Word);
         }
         self.sort_ahead()

@@ -15,6 +15,7 @@ use core::fmt;
 /// assert_eq!(TimeUnit::Minute.to_string(), "min");
 /// ```
 #[derive(Clone, Copy, Debug, PartialEq, Eq, Hash)]
+#[non_exhaustive]
 pub enum TimeUnit {
     /// 365 days.
     Year,

@@ -1,7 +1,9 @@
 //! Texts that are refused, and what their faults tell.
 use crate::all_options;
 use crate::vectors::vectors;
-use duration_str::{Cause, CondUnit, DError, Expected, Fault, Options, parse, parse_with};
+use duration_str::{
+    Cause, CondUnit, DError, Expected, Fault, Options, parse, parse_duration, parse_with,
+};
 use std::error::Error;
 
 const NO_CALC: Options = Options {
@@ -31,7 +33,7 @@ fn check(name: &str, is_told: impl Fn(Options) -> bool) {
             let fault = fault(text, options);
             assert_eq!(
                 (fault.to_string(), fault.line(), fault.text()),
-                (message.clone(), line, &text[..]),
+                (message.clone(), &line[..], &text[..]),
                 "{options:?}"
             );
             if options == Options::of_features() {
@@ -221,4 +223,80 @@ fn shows_faults_to_programmers() {
         r#"Fault { text: "1s+2*3", cause: Mixed { first: Plus, later: Star } }"#
     );
     assert_eq!(format!("{} {}", CondUnit::Plus, CondUnit::Star), "+ *");
+}
+
+#[test]
+fn tells_in_one_line() {
+    let number = "9".repeat(50);
+    let rows = [
+        ("", "empty text".to_string()),
+        (
+            "1m 3-5",
+            r#"expected a unit, '+', '*' or the end at column 5, found "-""#.to_string(),
+        ),
+        (
+            "1m+",
+            "expected a number at column 4, found the end".to_string(),
+        ),
+        (
+            "-1",
+            r#"expected a number at column 1, found "-""#.to_string(),
+        ),
+        (
+            "1µs\r\n\u{7}x",
+            r#"expected a number, '+', '*' or the end at column 6, found "\u{7}""#.to_string(),
+        ),
+        (
+            "600y",
+            r#"duration of 2^64 nanoseconds or more at column 1, found "600y""#.to_string(),
+        ),
+        (
+            "1s 600y",
+            r#"duration of 2^64 nanoseconds or more in "1s 600y""#.to_string(),
+        ),
+        ("1s+2*3", r#"'*' after '+' in "1s+2*3""#.to_string()),
+        (
+            &number,
+            format!(
+                "number of 2^64 or more at column 1, found \"{}\"...",
+                &number[..40]
+            ),
+        ),
+    ];
+    for (text, line) in rows {
+        let fault = fault(text, Options::off());
+        assert_eq!(format!("{fault:#}"), line);
+        assert_eq!(format!("{:#}", fault.into_owned()), line);
+    }
+    let no_calc = fault("1+2", NO_CALC);
+    assert_eq!(
+        format!("{no_calc:#}"),
+        r#"expected a unit or the end at column 2, found "+""#
+    );
+}
+
+#[test]
+fn tells_of_a_long_text_in_a_short_line() {
+    let word = format!("1{}", "é".repeat(1 << 20));
+    let line = format!("{:#}", parse_duration(&word).unwrap_err());
+    assert!(line.len() < 200, "{line}");
+}
+
+#[test]
+fn takes_as_much_memory_as_the_message_is_long() {
+    for text in [
+        "",
+        "1m 3-5",
+        "1分 ?",
+        "600y",
+        "580y 580y",
+        "99999999999999999999",
+    ] {
+        let message = parse(text).unwrap_err();
+        let fault = parse_duration(text).unwrap_err();
+        assert_eq!(
+            (&message, message.capacity()),
+            (&fault.to_string(), fault.message_len())
+        );
+    }
 }

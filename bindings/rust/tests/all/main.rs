@@ -4,6 +4,8 @@ mod config;
 #[cfg(feature = "chrono")]
 mod dates;
 mod faults;
+#[cfg(feature = "serde")]
+mod human;
 mod owned;
 mod printing;
 mod values;

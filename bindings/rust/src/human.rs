@@ -1,0 +1,208 @@
+//! For `#[serde(with = "duration_str::human")]`: durations as text, printed as [`HumanFormat`](crate::HumanFormat) prints
+//! and read as [`parse`](crate::parse) reads.
+//!
+//! The field is a duration of `std`, `chrono` or `time`, or an `Option` or a `Vec` of what can be such a field. One rule
+//! holds for all of them, and for [`HumanDuration`]: the format is asked for a text, and the empty
+//! one is refused. So YAML's `90` is 90 seconds, and formats that don't tell their values' types, such as bincode, are
+//! read too. `None` is null, and with `#[serde(default)]` a missing field.
+//!
+//! What is written can be read: a negative duration, and one of 2^64 nanoseconds or more, is an error of the format.
+//!
+//! Needs the feature `serde`.
+//!
+//! ```
+//! use serde::{Deserialize, Serialize};
+//! use std::time::Duration;
+//!
+//! #[derive(Serialize, Deserialize)]
+//! struct Settings {
+//!     #[serde(with = "duration_str::human")]
+//!     timeout: Duration,
+//!     #[serde(default, with = "duration_str::human")]
+//!     keep_alive: Option<Duration>,
+//!     #[serde(default, with = "duration_str::human")]
+//!     pauses: Vec<Duration>,
+//! }
+//!
+//! let settings: Settings = serde_json::from_str(r#"{ "timeout": "90s", "pauses": ["1s", "5s"] }"#).unwrap();
+//! assert_eq!((settings.timeout, settings.keep_alive), (Duration::from_secs(90), None));
+//! let text = serde_json::to_string(&settings).unwrap();
+//! assert_eq!(text, r#"{"timeout":"1min 30s","keep_alive":null,"pauses":["1s","5s"]}"#);
+//! ```
+use crate::ext::write_human;
+use crate::human_duration::HumanDuration;
+use crate::serde_texts::Length;
+use alloc::vec::Vec;
+use core::fmt;
+use core::marker::PhantomData;
+use core::str;
+use core::time::Duration;
+use serde::de::{self, Deserialize, Deserializer, Unexpected, Visitor};
+use serde::ser::{self, Serialize, Serializer};
+
+/// The types of the fields that this module writes and reads.
+pub trait HumanText: Sized {
+    /// Writes the value. [`serialize`] does the same.
+    fn serialize_human<S: Serializer>(&self, serializer: S) -> Result<S::Ok, S::Error>;
+
+    /// Reads a value. [`deserialize`] does the same.
+    fn deserialize_human<'de, D: Deserializer<'de>>(deserializer: D) -> Result<Self, D::Error>;
+}
+
+/// Prints durations as text.
+///
+/// ```
+/// use serde_json::value::Serializer;
+/// use std::time::Duration;
+///
+/// assert_eq!(duration_str::human::serialize(&Duration::ZERO, Serializer).unwrap(), "0s");
+/// let refusal = duration_str::human::serialize(&Duration::MAX, Serializer).unwrap_err();
+/// assert_eq!(refusal.to_string(), "a duration of 2^64 nanoseconds or more can't be read back");
+/// ```
+pub fn serialize<T: HumanText, S: Serializer>(value: &T, serializer: S) -> Result<S::Ok, S::Error> {
+    value.serialize_human(serializer)
+}
+
+/// Reads durations, which must be texts.
+///
+/// ```
+/// use std::time::Duration;
+///
+/// let duration: Duration = duration_str::human::deserialize(serde_json::json!("1m")).unwrap();
+/// assert_eq!(duration, Duration::from_secs(60));
+/// ```
+pub fn deserialize<'de, T: HumanText, D: Deserializer<'de>>(
+    deserializer: D,
+) -> Result<T, D::Error> {
+    T::deserialize_human(deserializer)
+}
+
+/// The same for an `Option` alone, for those who come from `humantime_serde::option`.
+///
+/// ```
+/// use duration_str::human::option;
+/// use serde_json::{json, value::Serializer};
+/// use std::time::Duration;
+///
+/// assert_eq!(option::deserialize(json!("1m")).unwrap(), Some(Duration::from_secs(60)));
+/// assert_eq!(option::serialize(&None::<Duration>, Serializer).unwrap(), json!(null));
+/// ```
+pub mod option {
+    use super::{Deserializer, HumanText, Serializer};
+
+    /// Prints the duration as text, or null.
+    ///
+    /// ```
+    /// let minute = Some(std::time::Duration::from_secs(60));
+    /// let text = duration_str::human::option::serialize(&minute, serde_json::value::Serializer);
+    /// assert_eq!(text.unwrap(), "1min");
+    /// ```
+    pub fn serialize<T: HumanText, S: Serializer>(
+        value: &Option<T>,
+        serializer: S,
+    ) -> Result<S::Ok, S::Error> {
+        value.serialize_human(serializer)
+    }
+
+    /// Reads a text as a duration, and null as `None`.
+    ///
+    /// ```
+    /// use std::time::Duration;
+    ///
+    /// let read: Result<Option<Duration>, _> = duration_str::human::option::deserialize(serde_json::json!(""));
+    /// assert_eq!(read.unwrap_err().to_string(), "Empty input");
+    /// ```
+    pub fn deserialize<'de, T: HumanText, D: Deserializer<'de>>(
+        deserializer: D,
+    ) -> Result<Option<T>, D::Error> {
+        Option::deserialize_human(deserializer)
+    }
+}
+
+/// A text, or its bytes, is read as a duration.
+struct Text<T>(PhantomData<T>);
+
+impl<T: Length> Visitor<'_> for Text<T> {
+    type Value = T;
+
+    fn expecting(&self, f: &mut fmt::Formatter<'_>) -> fmt::Result {
+        f.write_str("a duration such as '1min 30s'")
+    }
+
+    fn visit_str<E: de::Error>(self, text: &str) -> Result<T, E> {
+        T::of_text(text).map_err(E::custom)
+    }
+
+    fn visit_bytes<E: de::Error>(self, bytes: &[u8]) -> Result<T, E> {
+        match str::from_utf8(bytes) {
+            Ok(text) => self.visit_str(text),
+            Err(_) => Err(E::invalid_value(Unexpected::Bytes(bytes), &self)),
+        }
+    }
+}
+
+impl<T: Length> HumanText for T {
+    fn serialize_human<S: Serializer>(&self, serializer: S) -> Result<S::Ok, S::Error> {
+        let refused = <S::Error as ser::Error>::custom;
+        let Some(duration) = self.to_std() else {
+            return Err(refused("a negative duration can't be read back"));
+        };
+        if duration > Duration::from_nanos(u64::MAX) {
+            let text = "a duration of 2^64 nanoseconds or more can't be read back";
+            return Err(refused(text));
+        }
+        serializer.serialize_str(write_human(&duration, &mut [0; 64]))
+    }
+
+    fn deserialize_human<'de, D: Deserializer<'de>>(deserializer: D) -> Result<T, D::Error> {
+        deserializer.deserialize_str(Text(PhantomData))
+    }
+}
+
+/// A part of a field, by serde's own traits.
+struct Part<T>(T);
+
+impl<T: HumanText> Serialize for Part<&T> {
+    fn serialize<S: Serializer>(&self, serializer: S) -> Result<S::Ok, S::Error> {
+        self.0.serialize_human(serializer)
+    }
+}
+
+impl<'de, T: HumanText> Deserialize<'de> for Part<T> {
+    fn deserialize<D: Deserializer<'de>>(deserializer: D) -> Result<Part<T>, D::Error> {
+        T::deserialize_human(deserializer).map(Part)
+    }
+}
+
+impl<T: HumanText> HumanText for Option<T> {
+    fn serialize_human<S: Serializer>(&self, serializer: S) -> Result<S::Ok, S::Error> {
+        self.as_ref().map(Part).serialize(serializer)
+    }
+
+    fn deserialize_human<'de, D: Deserializer<'de>>(deserializer: D) -> Result<Self, D::Error> {
+        Option::deserialize(deserializer).map(|value| value.map(|Part(value)| value))
+    }
+}
+
+impl<T: HumanText> HumanText for Vec<T> {
+    fn serialize_human<S: Serializer>(&self, serializer: S) -> Result<S::Ok, S::Error> {
+        serializer.collect_seq(self.iter().map(Part))
+    }
+
+    fn deserialize_human<'de, D: Deserializer<'de>>(deserializer: D) -> Result<Self, D::Error> {
+        let values = Vec::deserialize(deserializer)?;
+        Ok(values.into_iter().map(|Part(value)| value).collect())
+    }
+}
+
+impl Serialize for HumanDuration {
+    fn serialize<S: Serializer>(&self, serializer: S) -> Result<S::Ok, S::Error> {
+        self.0.serialize_human(serializer)
+    }
+}
+
+impl<'de> Deserialize<'de> for HumanDuration {
+    fn deserialize<D: Deserializer<'de>>(deserializer: D) -> Result<HumanDuration, D::Error> {
+        deserialize(deserializer).map(HumanDuration)
+    }
+}

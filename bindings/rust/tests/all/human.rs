@@ -1,0 +1,173 @@
+//! Durations as text, which serde writes and reads.
+use duration_str::HumanDuration;
+use duration_str::human::{self, HumanText};
+use serde::de::value::{BytesDeserializer, Error};
+use serde::de::{Deserializer, Error as _, Visitor};
+use serde::{Deserialize, Serialize, forward_to_deserialize_any};
+use serde_json::{Value, from_value, json, to_value, value::Serializer};
+use std::time::Duration;
+
+#[derive(Debug, Serialize, Deserialize, PartialEq)]
+struct Settings {
+    #[serde(with = "duration_str::human")]
+    timeout: Duration,
+    #[serde(default, with = "duration_str::human::option")]
+    keep_alive: Option<Duration>,
+    pause: HumanDuration,
+}
+
+#[test]
+fn writes_what_it_reads() {
+    let minute = Duration::from_secs(60);
+    for (keep_alive, text) in [(Some(minute), json!("1min")), (None, json!(null))] {
+        let settings = Settings {
+            timeout: minute,
+            keep_alive,
+            pause: HumanDuration(minute * 2),
+        };
+        let value = json!({ "timeout": "1min", "keep_alive": text, "pause": "2min" });
+        assert_eq!(to_value(&settings).unwrap(), value);
+        assert_eq!(from_value::<Settings>(value).unwrap(), settings);
+    }
+    let short = from_value::<Settings>(json!({ "timeout": "1m", "pause": "2m" })).unwrap();
+    assert_eq!(short.keep_alive, None);
+}
+
+#[test]
+fn refuses_other_values() {
+    for timeout in [json!("1x"), json!(""), json!(1), json!(null), json!(["1m"])] {
+        assert!(from_value::<Settings>(json!({ "timeout": timeout, "pause": "1m" })).is_err());
+        assert!(from_value::<Settings>(json!({ "timeout": "1m", "pause": timeout })).is_err());
+    }
+}
+
+#[test]
+fn reads_optional_bytes_as_text() {
+    let read = |bytes| -> Result<Option<Duration>, String> {
+        let bytes: BytesDeserializer<'_, Error> = BytesDeserializer::new(bytes);
+        duration_str::deserialize_duration(bytes).map_err(|error| error.to_string())
+    };
+    assert_eq!(read(b"1m"), Ok(Some(Duration::from_secs(60))));
+    assert_eq!(read(b""), Ok(None));
+    assert_eq!(read(b"600y"), Err("600y\n^\noverflow error".to_string()));
+    assert!(
+        read(b"1m\xff")
+            .unwrap_err()
+            .starts_with("invalid value: byte array")
+    );
+}
+
+/// A text in a format that does not tell its values' types.
+struct Untyped(&'static str);
+
+impl<'de> Deserializer<'de> for Untyped {
+    type Error = Error;
+
+    fn deserialize_any<V: Visitor<'de>>(self, _: V) -> Result<V::Value, Error> {
+        Err(Error::custom("the type is not known"))
+    }
+
+    fn deserialize_str<V: Visitor<'de>>(self, visitor: V) -> Result<V::Value, Error> {
+        visitor.visit_borrowed_str(self.0)
+    }
+
+    fn deserialize_option<V: Visitor<'de>>(self, visitor: V) -> Result<V::Value, Error> {
+        visitor.visit_some(self)
+    }
+
+    forward_to_deserialize_any! {
+        bool i8 i16 i32 i64 u8 u16 u32 u64 f32 f64 char string bytes byte_buf unit unit_struct newtype_struct seq
+        tuple tuple_struct map struct enum identifier ignored_any
+    }
+}
+
+/// What each way to have a duration as text reads here; they agree.
+fn read<D: Deserializer<'static, Error = Error>>(text: impl Fn() -> D) -> Result<Duration, String> {
+    let required: Result<Duration, Error> = human::deserialize(text());
+    let optional: Result<Option<Duration>, Error> = human::deserialize(text());
+    assert_eq!(optional, required.clone().map(Some));
+    assert_eq!(human::option::deserialize(text()), optional);
+    assert_eq!(
+        HumanDuration::deserialize(text()).map(Duration::from),
+        required
+    );
+    required.map_err(|error| error.to_string())
+}
+
+#[test]
+fn reads_required_and_optional_texts_in_one_way() {
+    let minute = Ok(Duration::from_secs(60));
+    assert_eq!(read(|| Untyped("1m")), minute);
+    assert_eq!(read(|| Untyped("60")), minute);
+    assert_eq!(read(|| Untyped("")), Err("Empty input".to_string()));
+    let required: Result<Duration, Error> = duration_str::deserialize_duration(Untyped("60"));
+    assert_eq!(required, Err(Error::custom("the type is not known")));
+    let optional = Option::<HumanDuration>::deserialize(Untyped(""));
+    assert_eq!(optional, Err(Error::custom("Empty input")));
+}
+
+#[test]
+fn reads_bytes_as_text() {
+    let bytes = |bytes| human::deserialize(BytesDeserializer::<Error>::new(bytes));
+    assert_eq!(bytes(b"1m"), Ok(Duration::from_secs(60)));
+    let refusal = "invalid value: byte array, expected a duration such as '1min 30s'";
+    assert_eq!(bytes(b"1m\xff"), Err(Error::custom(refusal)));
+}
+
+/// The value is written as this, and read back.
+fn keeps<T: HumanText + std::fmt::Debug + PartialEq>(value: T, written: Value) {
+    assert_eq!(human::serialize(&value, Serializer).unwrap(), written);
+    assert_eq!(human::deserialize::<T, _>(written).unwrap(), value);
+}
+
+#[test]
+fn writes_fields_of_all_types() {
+    let minute = Duration::from_secs(60);
+    keeps(vec![minute, minute * 2], json!(["1min", "2min"]));
+    keeps(Vec::<Duration>::new(), json!([]));
+    keeps(Some(vec![Some(minute), None]), json!(["1min", null]));
+    keeps(None::<Duration>, json!(null));
+    keeps(
+        Duration::from_nanos(u64::MAX),
+        json!("584y 3q 2mon 1w 3d 23h 34min 33s 709ms 551µs 615ns"),
+    );
+    #[cfg(feature = "chrono")]
+    keeps(Some(chrono::Duration::minutes(1)), json!("1min"));
+    #[cfg(feature = "time")]
+    keeps(Some(time::Duration::minutes(1)), json!("1min"));
+}
+
+#[test]
+fn writes_nothing_that_it_refuses() {
+    let refusal = |value: Result<Value, serde_json::Error>| {
+        value.map_err(|error| error.to_string()).unwrap_err()
+    };
+    let long = "a duration of 2^64 nanoseconds or more can't be read back";
+    for length in [
+        Duration::from_nanos(u64::MAX) + Duration::from_nanos(1),
+        Duration::MAX,
+    ] {
+        assert_eq!(refusal(to_value(HumanDuration(length))), long);
+        assert_eq!(refusal(human::serialize(&length, Serializer)), long);
+        assert_eq!(
+            refusal(human::option::serialize(&Some(length), Serializer)),
+            long
+        );
+    }
+    #[cfg(feature = "chrono")]
+    {
+        let length = chrono::Duration::nanoseconds(-1);
+        assert_eq!(
+            refusal(human::serialize(&length, Serializer)),
+            "a negative duration can't be read back"
+        );
+    }
+    #[cfg(feature = "time")]
+    {
+        let length = time::Duration::nanoseconds(-1);
+        assert_eq!(
+            refusal(human::serialize(&length, Serializer)),
+            "a negative duration can't be read back"
+        );
+    }
+}
