@@ -158,20 +158,6 @@ impl TimeUnit {
         UNITS.iter().copied().find(|unit| unit.is_named(word, o))
     }
 
-    /// The value in nanoseconds of a term with this number, a nonempty run of digits.
-    ///
-    /// # Errors
-    ///
-    /// `NumberTooLarge` for a number of 2^64 or more, otherwise `Overflow` for a value of 2^64 or more, both without a
-    /// place.
-    ///
-    /// ```
-    /// assert_eq!(duration_str::TimeUnit::Hour.value("2"), Ok(7_200_000_000_000));
-    /// ```
-    pub fn value(self, number: &str) -> Result<u64, Cause> {
-        self.times(number.parse::<u64>().ok(), None)
-    }
-
     /// The value of a term in nanoseconds. `number` is `None` if it exceeds `u64`; `place` goes into the error.
     #[inline]
     pub(crate) fn times(self, number: Option<u64>, place: Option<usize>) -> Result<u64, Cause> {
