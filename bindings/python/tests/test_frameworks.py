@@ -102,8 +102,9 @@ class Models(unittest.TestCase):
             if not isinstance(value, (bytes, datetime.timedelta, datetime.time)):
                 with self.subTest(json=value), self.assertRaises(self.pydantic.ValidationError):
                     self.model.model_validate_json(json.dumps({"timeout": value}))
-        with self.assertRaisesRegex(self.pydantic.ValidationError, "600y\n\\^\noverflow error"):
+        with self.assertRaises(self.pydantic.ValidationError) as told:
             self.model(timeout="600y")
+        self.assertEqual([error["msg"] for error in told.exception.errors()], ["Value error, 600y\n^\noverflow error"])
 
     def test_runs_the_recipe(self):
         self.assertEqual(run("model.py"), (0, '{"timeout":"1h 30min"}\n', ""))

@@ -71,8 +71,7 @@ def to_timedelta(
     Index an Index, and of a NumPy array or any other sequence an array of the same shape. It needs NumPy, and no
     pandas. The options are those of `parse_ns`.
 
-    Timedeltas are kept, and what is missing stays missing: None, NaN, NaT, pandas' NA, and what an array masks become
-    NaT.
+    Timedeltas are kept. None, NaN, NaT, pandas' NA, and what an array masks become NaT.
 
     With `errors="raise"` the first text that is refused raises its DurationError, which has its position as `index`. So
     does a value of 2**63 nanoseconds or more, some 292 years, which timedelta64 does not have. Any other value, such as
@@ -99,11 +98,6 @@ def to_timedelta(
     return _like(values, signed.view("timedelta64[ns]"))
 
 
-def _plain(value: Any) -> int | None:
-    """A duration's nanoseconds, or None where it is missing."""
-    return None if _is_missing(value) else nanos_of(value)
-
-
 def format_many(values: Any) -> Any:
     """The texts of a column of durations, each an int of nanoseconds or a timedelta, as `format` prints it: of a list
     or any other iterable a list of str, of a Series, an Index or a NumPy array one of objects, with the same shape,
@@ -118,7 +112,7 @@ def format_many(values: Any) -> Any:
     given = _durations(values) if hasattr(values, "__array__") else list(values)
     texts: list[str | None] = []
     try:
-        _native.format_list(given, _plain, texts)
+        _native.format_list(given, lambda value: None if _is_missing(value) else nanos_of(value), texts)
     except (OverflowError, TypeError, ValueError) as error:
         raise type(error)(f"{error}, at index {len(texts)}") from None
     if not hasattr(values, "__array__"):

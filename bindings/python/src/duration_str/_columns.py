@@ -42,8 +42,7 @@ def parse_many(
 def parse_many(
     texts: Any, *, errors: str = "raise", no_calc: bool = False, lowercase: bool = False, cn_unit: bool = False
 ) -> array[int] | tuple[array[int], array[int]]:
-    """The values in nanoseconds of a column of texts, as an `array('Q')`: a list of str, or any other iterable of them.
-    The options are those of `parse_ns`.
+    """The values in nanoseconds of texts, any iterable of str, as an `array('Q')`. The options are those of `parse_ns`.
 
     With `errors="raise"` the first text that is refused raises its DurationError, which has its `index`; a value that
     is no str, such as None, raises DurationTypeError before any text is read.

@@ -9,18 +9,25 @@ from typing import Annotated, Any
 from ._native import format, parse
 
 
+def _read(value: Any) -> datetime.timedelta:
+    """The value of a text, or a timedelta as it is. Raises ValueError of a negative one, which has no text."""
+    if isinstance(value, datetime.timedelta):
+        format(value)
+        return value
+    return parse(value)
+
+
 class _Texts:
     """How pydantic reads and writes a timedelta as a text."""
 
     def __get_pydantic_core_schema__(self, source: Any, handler: Any) -> Any:
-        core_schema: Any = import_module("pydantic_core.core_schema")
-        text = core_schema.no_info_after_validator_function(parse, core_schema.str_schema(strict=True))
-        kept = core_schema.timedelta_schema(strict=True, ge=datetime.timedelta(0))
-        printed = core_schema.plain_serializer_function_ser_schema(
-            format, return_schema=core_schema.str_schema(), when_used="json"
+        schema: Any = import_module("pydantic_core.core_schema")
+        text = schema.str_schema()
+        return schema.json_or_python_schema(
+            json_schema=schema.no_info_after_validator_function(parse, text),
+            python_schema=schema.no_info_plain_validator_function(_read),
+            serialization=schema.plain_serializer_function_ser_schema(format, return_schema=text, when_used="json"),
         )
-        both = core_schema.union_schema([kept, text])
-        return core_schema.json_or_python_schema(json_schema=text, python_schema=both, serialization=printed)
 
 
 Duration = Annotated[datetime.timedelta, _Texts()]
