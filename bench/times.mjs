@@ -1,5 +1,5 @@
-// Times of the package for JavaScript over the expressions: a line for each call with what it is, a tab, and the nanoseconds a
-// call, the least of the rounds.
+// Times of the package for JavaScript over the lines of the standard input: a line for each call with what it is, a tab, and
+// the nanoseconds a call, the least of the rounds.
 import { readFileSync } from "node:fs";
 
 import { DurationError, format, parse, parseMs } from "../bindings/js/dist/duration-str.js";
@@ -7,7 +7,7 @@ import { DurationError, format, parse, parseMs } from "../bindings/js/dist/durat
 const ROUNDS = 25;
 const TIMES = 100;
 
-const texts = readFileSync(new URL("expressions.txt", import.meta.url), "utf8").trimEnd().split("\n");
+const texts = readFileSync(0, "utf8").trimEnd().split("\n");
 const values = texts.map((text) => parse(text));
 const options = { noCalc: true, lowercase: true, cnUnit: true };
 

@@ -1,7 +1,8 @@
-"""Times of this package's parse_ns and of pytimeparse, over those of the expressions that both read as the same value: how
-many these are, and the nanoseconds a call, ours and theirs. Of each side it is the least of the rounds, which take turns."""
+"""Times of this package's parse_ns and of pytimeparse, over those lines of the standard input that both read as the same
+value: how many these are, and the nanoseconds a call, ours and theirs, a tab between them. Of each side it is the least of
+the rounds, which take turns."""
 
-import pathlib
+import sys
 import time
 
 from duration_str import parse_ns
@@ -17,8 +18,8 @@ def nanos_a_call(call, texts):
     return (time.perf_counter_ns() - start) / len(texts)
 
 
-lines = pathlib.Path(__file__).with_name("expressions.txt").read_text(encoding="utf-8").splitlines()
+lines = sys.stdin.read().splitlines()
 texts = [text for text in lines if (secs := timeparse(text)) is not None and parse_ns(text) == secs * 10**9]
 rounds = [(nanos_a_call(parse_ns, texts), nanos_a_call(timeparse, texts)) for _ in range(ROUNDS)]
 ours, theirs = (min(taken) for taken in zip(*rounds))
-print(f"{len(texts)} {ours:.0f} {theirs:.0f}")
+print(f"{len(texts)}\t{ours:.0f}\t{theirs:.0f}")

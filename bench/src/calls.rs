@@ -11,36 +11,7 @@
 mod ours;
 mod texts;
 
-use duration_str::HumanFormat;
-use ours::{Archive, Crate, Library, ROOM};
-use std::hint::black_box;
-use std::time::Duration;
-use texts::{EXPRESSION, long_text, refused, repeat};
-
-fn calls<L: Library>(words: &[&str], count: u64) {
-    let length = Duration::new(193, 29_000_000);
-    match words {
-        ["nothing"] => repeat(count, || { black_box(black_box(EXPRESSION)); }),
-        ["read"] => repeat(count, || { black_box(L::reading(black_box(EXPRESSION))); }),
-        ["print"] => repeat(count, || { black_box(L::printing(black_box(length))); }),
-        ["print-string"] => repeat(count, || { black_box(black_box(length).human_format()); }),
-        ["with", options, text] => {
-            let options = options.parse().expect("options");
-            repeat(count, || { black_box(L::reading_with(black_box(text), black_box(options))); });
-        }
-        ["text", bytes] => {
-            let text = long_text(bytes.parse().expect("a length"));
-            repeat(count, || { black_box(L::reading(black_box(&text))); });
-        }
-        ["refuse", name] => {
-            let text = refused(name);
-            let mut buffer = [0; ROOM];
-            repeat(count, || { black_box(L::refusing(black_box(&text), &mut buffer)); });
-            black_box(&buffer);
-        }
-        _ => panic!("see the first lines of src/calls.rs"),
-    }
-}
+use ours::{Archive, Crate, calls};
 
 fn main() {
     let words: Vec<String> = std::env::args().skip(1).collect();

@@ -1,40 +1,50 @@
 //! Times of this library and of humantime, and single calls of humantime for a program that counts instructions.
 //! `calls.rs` has those of this library. The Rust crate is measured, unless the archive is named.
 //!
-//! - `bench times`: nanoseconds a call over 1,000 expressions, a line `WHAT OURS THEIRS` for reading and for printing.
+//! - `bench expressions`: the 1,000 expressions of `texts.rs`, a line each.
+//! - `bench times`: nanoseconds a call over them, a line with WHAT, OURS and THEIRS for reading and for printing. In all
+//!   these lines a tab stands between the words.
 //! - `bench archive-times`: the same of the archive through C, beside the crate.
-//! - `bench option-times`: nanoseconds a call over 1,000 expressions through `parse_with`, a line `OPTIONS NANOS` for each
-//!   choice of options, the bits of `duration_str.h`.
-//! - `bench refused-times NAME..`: nanoseconds for a refused text and its message, a line `NAME OURS THEIRS` for each
-//!   of these names of `texts.rs`. A text that humantime reads has `-` for THEIRS.
-//! - `bench calls WHAT COUNT`: so many calls of humantime on `3m 13s 29ms`. WHAT is `read`, `print` (into a buffer) or
-//!   `print-string`.
-//! - `bench text BYTES COUNT`: humantime reads a text of so many bytes so many times.
-//! - `bench refuse NAME COUNT`: humantime refuses a text so many times, and its message is written into a buffer. Where
-//!   it doesn't refuse the text, `-` is printed.
-//! - `bench seconds BYTES`: the seconds in which a text of so many bytes is read, ours and theirs.
+//! - `bench calls WORDS COUNT`: humantime's calls, by the words of `calls.rs` after SIDE.
 mod ours;
 mod texts;
 
-use duration_str::HumanFormat;
-use ours::{Archive, Crate, Library, ROOM};
+use ours::{Archive, Crate, Library, ROOM, calls};
 use std::hint::black_box;
 use std::io::Write;
 use std::time::{Duration, Instant};
-use texts::{EXPRESSION, long_text, refused, repeat};
 
-fn their_reading(text: &str) -> Duration {
-    humantime::parse_duration(text).expect("a text that humantime reads")
+struct Humantime;
+
+impl Library for Humantime {
+    type Value = Duration;
+
+    fn reading(text: &str) -> Duration {
+        humantime::parse_duration(text).expect("a text that humantime reads")
+    }
+
+    /// It has no options.
+    fn reading_with(text: &str, _: u32) -> Duration {
+        Humantime::reading(text)
+    }
+
+    fn printing(length: Duration) -> [u8; 64] {
+        let mut buffer = [0; 64];
+        write!(&mut buffer[..], "{}", humantime::format_duration(length)).expect("a text of at most 64 bytes");
+        buffer
+    }
+
+    fn printing_string(length: Duration) -> String {
+        humantime::format_duration(length).to_string()
+    }
+
+    fn refusing(text: &str, buffer: &mut [u8; ROOM]) -> usize {
+        let fault = humantime::parse_duration(text).expect_err("a text that humantime refuses");
+        let mut room = &mut buffer[..];
+        write!(room, "{fault}").expect("a message that fits");
+        ROOM - room.len()
+    }
 }
-
-fn their_printing(length: Duration) -> [u8; 64] {
-    let mut buffer = [0; 64];
-    write!(&mut buffer[..], "{}", humantime::format_duration(length)).expect("a text of at most 64 bytes");
-    buffer
-}
-
-/// A thousand expressions of one to five terms, the longest unit first, with all the names that both libraries read.
-const EXPRESSIONS: &str = include_str!("../expressions.txt");
 
 /// Nanoseconds a call: of each side the least of the rounds, which take turns, since the machine's speed may change.
 fn nanos_a_call<const SIDES: usize>(calls: usize, sides: [&dyn Fn(); SIDES]) -> [f64; SIDES] {
@@ -55,7 +65,7 @@ fn nanos_a_call<const SIDES: usize>(calls: usize, sides: [&dyn Fn(); SIDES]) -> 
 
 /// The expressions, and their values.
 fn expressions() -> (Vec<&'static str>, Vec<Duration>) {
-    EXPRESSIONS.lines().map(|text| (text, their_reading(text))).unzip()
+    texts::expressions().leak().iter().map(|text| (text.as_str(), Humantime::reading(text))).unzip()
 }
 
 /// Calls this for each element.
@@ -63,133 +73,28 @@ fn all<T: Copy, R>(of: &[T], call: impl Fn(T) -> R) {
     of.iter().for_each(|each| { black_box(call(black_box(*each))); });
 }
 
-fn times() {
+/// A line for reading and for each way to print: what it is, and the nanoseconds a call of each side.
+fn times<Ours: Library, Theirs: Library>(prints_strings: bool) {
     let (texts, lengths) = expressions();
-    let string = |length: Duration| humantime::format_duration(length).to_string();
     let sides: [(&str, &dyn Fn(), &dyn Fn()); 3] = [
-        ("read", &|| all(&texts, Crate::reading), &|| all(&texts, their_reading)),
-        ("print", &|| all(&lengths, Crate::printing), &|| all(&lengths, their_printing)),
-        ("print-string", &|| all(&lengths, |length| length.human_format()), &|| all(&lengths, string)),
+        ("read", &|| all(&texts, Ours::reading), &|| all(&texts, Theirs::reading)),
+        ("print", &|| all(&lengths, Ours::printing), &|| all(&lengths, Theirs::printing)),
+        ("print-string", &|| all(&lengths, Ours::printing_string), &|| all(&lengths, Theirs::printing_string)),
     ];
-    for (what, ours, theirs) in sides {
-        let [ours, theirs] = nanos_a_call(texts.len(), [ours, theirs]);
-        println!("{what} {ours:.1} {theirs:.1}");
+    for (what, ours, theirs) in &sides[..2 + usize::from(prints_strings)] {
+        let [ours, theirs] = nanos_a_call(texts.len(), [*ours, *theirs]);
+        println!("{what}\t{ours:.1}\t{theirs:.1}");
     }
-}
-
-fn archive_times() {
-    let (texts, lengths) = expressions();
-    let sides: [(&str, &dyn Fn(), &dyn Fn()); 2] = [
-        ("read", &|| all(&texts, Archive::reading), &|| all(&texts, Crate::reading)),
-        ("print", &|| all(&lengths, Archive::printing), &|| all(&lengths, Crate::printing)),
-    ];
-    for (what, archive, ours) in sides {
-        let [archive, ours] = nanos_a_call(texts.len(), [archive, ours]);
-        println!("{what} {archive:.1} {ours:.1}");
-    }
-}
-
-fn option_times() {
-    let texts: Vec<&str> = EXPRESSIONS.lines().collect();
-    let sides: [_; 8] = std::array::from_fn(|options| {
-        let texts = &texts;
-        move || texts.iter().for_each(|text| { black_box(Crate::reading_with(black_box(text), black_box(options as u32))); })
-    });
-    let nanos = nanos_a_call(texts.len(), sides.each_ref().map(|side| side as &dyn Fn()));
-    for (options, nanos) in nanos.iter().enumerate() {
-        println!("{options} {nanos:.1}");
-    }
-}
-
-/// What humantime has as a message for the text goes into the buffer; its length. `None` where the text is read.
-fn their_refusing(text: &str, buffer: &mut [u8; ROOM]) -> Option<usize> {
-    let fault = humantime::parse_duration(text).err()?;
-    let mut room = &mut buffer[..];
-    write!(room, "{fault}").expect("a message that fits");
-    Some(ROOM - room.len())
-}
-
-/// The text of this name, where humantime refuses it.
-fn refused_by_them(name: &str) -> Option<String> {
-    let text = refused(name);
-    their_refusing(&text, &mut [0; ROOM])?;
-    Some(text)
-}
-
-fn refused_times(names: &[&str]) {
-    const CALLS: usize = 100;
-    for name in names {
-        let text = refused(name);
-        let ours = || {
-            let mut buffer = [0; ROOM];
-            repeat(CALLS as u64, || { black_box(Crate::refusing(black_box(&text), &mut buffer)); });
-            black_box(&buffer);
-        };
-        match refused_by_them(name) {
-            Some(text) => {
-                let theirs = || {
-                    let mut buffer = [0; ROOM];
-                    repeat(CALLS as u64, || { black_box(their_refusing(black_box(&text), &mut buffer)); });
-                    black_box(&buffer);
-                };
-                let [ours, theirs] = nanos_a_call(CALLS, [&ours, &theirs]);
-                println!("{name} {ours:.1} {theirs:.1}");
-            }
-            None => {
-                let [ours] = nanos_a_call(CALLS, [&ours]);
-                println!("{name} {ours:.1} -");
-            }
-        }
-    }
-}
-
-fn refuse(name: &str, count: u64) {
-    let Some(text) = refused_by_them(name) else { return println!("-") };
-    let mut buffer = [0; ROOM];
-    repeat(count, || { black_box(their_refusing(black_box(&text), &mut buffer)); });
-    black_box(&buffer);
-}
-
-fn calls(what: &str, count: u64) {
-    let length = Duration::new(193, 29_000_000);
-    match what {
-        "read" => repeat(count, || { black_box(their_reading(black_box(EXPRESSION))); }),
-        "print" => repeat(count, || { black_box(their_printing(black_box(length))); }),
-        "print-string" => repeat(count, || {
-            black_box(humantime::format_duration(black_box(length)).to_string());
-        }),
-        _ => panic!("no call: {what}"),
-    }
-}
-
-fn text(bytes: usize, count: u64) {
-    let text = long_text(bytes);
-    repeat(count, || { black_box(their_reading(black_box(&text))); });
-}
-
-fn seconds(bytes: usize) {
-    let text = long_text(bytes);
-    let start = Instant::now();
-    black_box(Crate::reading(black_box(&text)));
-    let ours = start.elapsed().as_secs_f64();
-    let start = Instant::now();
-    black_box(their_reading(black_box(&text)));
-    let theirs = start.elapsed().as_secs_f64();
-    println!("{bytes} {ours:.4} {theirs:.4}");
 }
 
 fn main() {
     let words: Vec<String> = std::env::args().skip(1).collect();
     let words: Vec<&str> = words.iter().map(String::as_str).collect();
     match words.as_slice() {
-        ["times"] => times(),
-        ["archive-times"] => archive_times(),
-        ["calls", what, count] => calls(what, count.parse().expect("a count")),
-        ["option-times"] => option_times(),
-        ["refused-times", names @ ..] => refused_times(names),
-        ["text", bytes, count] => text(bytes.parse().expect("a length"), count.parse().expect("a count")),
-        ["refuse", name, count] => refuse(name, count.parse().expect("a count")),
-        ["seconds", bytes] => seconds(bytes.parse().expect("a length")),
+        ["expressions"] => println!("{}", texts::expressions().join("\n")),
+        ["times"] => times::<Crate, Humantime>(true),
+        ["archive-times"] => times::<Archive, Crate>(false),
+        ["calls", words @ .., count] => calls::<Humantime>(words, count.parse().expect("a count")),
         _ => panic!("see the first lines of src/main.rs"),
     }
 }

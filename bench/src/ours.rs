@@ -1,12 +1,13 @@
-//! This library's calls that are measured: those of the Rust crate, and those of the archive through C.
-use duration_str::{Options, parse, parse_with, write_human};
+//! The calls that are measured: those of the Rust crate, and those of the archive through C.
+use crate::texts::{EXPRESSION, long_text, refused, repeat};
+use duration_str::{HumanFormat, Options, parse, parse_with, write_human};
 use std::hint::black_box;
 use std::time::Duration;
 
 /// More bytes than the message of any measured text has.
 pub const ROOM: usize = 512;
 
-/// One way to the library.
+/// One way to a library.
 pub trait Library {
     /// What a value is read as.
     type Value;
@@ -16,6 +17,10 @@ pub trait Library {
     fn reading_with(text: &str, options: u32) -> Self::Value;
     /// A duration printed into a buffer.
     fn printing(length: Duration) -> [u8; 64];
+    /// A duration printed into a `String`, where the library does so.
+    fn printing_string(_: Duration) -> String {
+        unimplemented!()
+    }
     /// Writes the message of a refused text into the buffer, and returns its length.
     fn refusing(text: &str, buffer: &mut [u8; ROOM]) -> usize;
 }
@@ -42,6 +47,11 @@ impl Library for Crate {
         let mut buffer = [0; 64];
         black_box(write_human(&length, &mut buffer).len());
         buffer
+    }
+
+    #[inline(always)]
+    fn printing_string(length: Duration) -> String {
+        length.human_format()
     }
 
     #[inline(always)]
@@ -123,5 +133,31 @@ impl Library for Archive {
         };
         assert!(0 < length && length <= ROOM);
         length
+    }
+}
+
+/// Calls a library so many times, as the first lines of `calls.rs` say.
+pub fn calls<L: Library>(words: &[&str], count: u64) {
+    let length = Duration::new(193, 29_000_000);
+    match words {
+        ["nothing"] => repeat(count, || { black_box(black_box(EXPRESSION)); }),
+        ["read"] => repeat(count, || { black_box(L::reading(black_box(EXPRESSION))); }),
+        ["print"] => repeat(count, || { black_box(L::printing(black_box(length))); }),
+        ["print-string"] => repeat(count, || { black_box(L::printing_string(black_box(length))); }),
+        ["with", options, text] => {
+            let options = options.parse().expect("options");
+            repeat(count, || { black_box(L::reading_with(black_box(text), black_box(options))); });
+        }
+        ["text", bytes] => {
+            let text = long_text(bytes.parse().expect("a length"));
+            repeat(count, || { black_box(L::reading(black_box(&text))); });
+        }
+        ["refuse", name] => {
+            let text = refused(name);
+            let mut buffer = [0; ROOM];
+            repeat(count, || { black_box(L::refusing(black_box(&text), &mut buffer)); });
+            black_box(&buffer);
+        }
+        _ => panic!("see the first lines of src/calls.rs"),
     }
 }

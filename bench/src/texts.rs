@@ -2,6 +2,44 @@
 
 pub const EXPRESSION: &str = "3m 13s 29ms";
 
+/// The units with the names that both libraries read, the longest first, and up to which count each is taken.
+const UNITS: [(&str, u64); 10] = [
+    ("y year years", 24),
+    ("month months", 11),
+    ("w week weeks", 4),
+    ("d day days", 29),
+    ("h hr hour hours", 23),
+    ("m min minute minutes", 59),
+    ("s sec second seconds", 59),
+    ("ms msec", 999),
+    ("us usec", 999),
+    ("ns nsec", 999),
+];
+
+/// A thousand expressions of one to five terms, the same in every run: those of a linear congruential generator.
+pub fn expressions() -> Vec<String> {
+    let mut state: u64 = 19;
+    let mut below = move |bound: u64| {
+        state = state.wrapping_mul(6_364_136_223_846_793_005).wrapping_add(1_442_695_040_888_963_407);
+        (state >> 33) % bound
+    };
+    let mut expression = move |_| {
+        let mut terms = 1 + below(5);
+        let mut text = String::new();
+        for ((names, most), units_left) in UNITS.iter().zip((1..=10).rev()) {
+            // Each choice of so many units is as likely as any other.
+            if below(units_left) < terms {
+                terms -= 1;
+                let names: Vec<&str> = names.split(' ').collect();
+                let blank = if text.is_empty() || below(10) == 0 { "" } else { " " };
+                text += &format!("{blank}{}{}", 1 + below(*most), names[below(names.len() as u64) as usize]);
+            }
+        }
+        text
+    };
+    (0..1000).map(&mut expression).collect()
+}
+
 /// A text of so many bytes: terms of one nanosecond, and blanks.
 pub fn long_text(bytes: usize) -> String {
     let mut text = "1ns ".repeat(bytes / 4);

@@ -8,7 +8,7 @@
  * nanoseconds.
  */
 
-/** How a text is read. All are off where they are left out; other names are a `TypeError`. */
+/** How a text is read: a plain object. All are off where they are left out; other names are a `TypeError`. */
 export interface Options {
     /** `+` and `*` are not read; terms are added as they come. */
     noCalc?: boolean | undefined;
@@ -17,18 +17,6 @@ export interface Options {
     /** The Chinese names of the units are read too. */
     cnUnit?: boolean | undefined;
 }
-
-/**
- * Why a text is refused.
- *
- * - `EMPTY`: the text is empty.
- * - `SYNTAX`: no expression continues as the text does at the place.
- * - `NUMBER_TOO_LARGE`: a number is 2^64 or more.
- * - `OVERFLOW`: a term, a step or the value is 2^64 nanoseconds or more.
- * - `MIXED`: `+` and `*` are mixed.
- * - `NOT_TEXT`: the string holds a lone surrogate, so it has no UTF-8.
- */
-export type Code = "EMPTY" | "SYNTAX" | "NUMBER_TOO_LARGE" | "OVERFLOW" | "MIXED" | "NOT_TEXT";
 
 /** What could stand at the place of a syntax fault. */
 export interface Expected {
@@ -40,38 +28,71 @@ export interface Expected {
     readonly end: boolean;
 }
 
+interface Refused {
+    /** The whole text that was read. */
+    readonly text: string;
+    /** What could stand at the place of a syntax fault; for other faults all are false. */
+    readonly expected: Expected;
+    /** What is wrong, in one line without the text. */
+    readonly line: string;
+    /**
+     * The line and, where the fault has a place, the text with a caret under it: of a text with line feeds the line of the
+     * place, and of more than 200 UTF-16 units the part around it.
+     */
+    readonly message: string;
+}
+
+/** At a place, no expression continues as the text does. */
+export interface SyntaxFault extends Refused {
+    readonly code: "SYNTAX";
+    /** Where the fault stands, as an index of the string: `text.slice(index)` begins with `found`. */
+    readonly index: number;
+    /** The same as a byte of the text in UTF-8. */
+    readonly byte: number;
+    /** The same as a count of characters. It equals `index`, since each character before a fault is one unit of UTF-16. */
+    readonly column: number;
+    /** The token at the place, or null at the end. */
+    readonly found: string | null;
+}
+
+/** A number, or a value in nanoseconds, is 2^64 or more: in the first term, at place 0, or later, without a place. */
+export interface SizeFault extends Refused {
+    readonly code: "NUMBER_TOO_LARGE" | "OVERFLOW";
+    readonly index: 0 | null;
+    readonly byte: 0 | null;
+    readonly column: 0 | null;
+    readonly found: null;
+}
+
+/** The text is empty, mixes `+` and `*`, or has a lone surrogate and so no UTF-8. */
+export interface OtherFault extends Refused {
+    readonly code: "EMPTY" | "MIXED" | "NOT_TEXT";
+    readonly index: null;
+    readonly byte: null;
+    readonly column: null;
+    readonly found: null;
+}
+
+/** What is wrong with a refused text. Its code discriminates: only `SYNTAX` always has a place. */
+export type Fault = SyntaxFault | SizeFault | OtherFault;
+
 /**
- * A refused text. Its message is for a person: the text, a caret below the place, and the line that says what is wrong.
+ * A refused text. The fault is also its `cause`, which survives `structuredClone`, and `toJSON` gives all of it.
  *
  * ```js
  * try {
  *     parse("3h 2 hurs");
  * } catch (error) {
  *     if (!(error instanceof DurationError)) throw error;
- *     console.log(error.code, error.index, error.found); // SYNTAX 5 hurs
+ *     if (error.code === "SYNTAX") console.log(error.index, error.found); // 5 hurs
  * }
  * ```
  */
-export class DurationError extends Error {
-    private constructor();
-    readonly name: "DurationError";
-    /** Why the text is refused. */
-    readonly code: Code;
-    /** The whole text that was read. */
-    readonly text: string;
-    /** Where the fault stands, as an index of the string: `text.slice(index)` begins with `found`. Null without a place. */
-    readonly index: number | null;
-    /** The same as a byte of the text in UTF-8. */
-    readonly byte: number | null;
-    /** The same as a count of characters. It equals `index`, since each character before a fault is one unit of UTF-16. */
-    readonly column: number | null;
-    /** The token at the place of a syntax fault, or null at the end and for other faults. */
-    readonly found: string | null;
-    /** What could stand at the place of a syntax fault; for other faults all are false. */
-    readonly expected: Expected;
-    /** What is wrong, in one line without the text. */
-    readonly line: string;
-}
+export type DurationError = Error & Fault & { readonly cause: Fault; toJSON(): Fault & { name: string } };
+export declare const DurationError: abstract new (...nobody: never) => DurationError;
+
+/** What a text is read as: its value in nanoseconds, or what is wrong with it. */
+export type Result = { readonly ok: true; readonly value: bigint } | { readonly ok: false; readonly fault: Fault };
 
 /**
  * The value of a text in nanoseconds, which is exact: `parse("3m + 13s + 29ms")` is `193029000000n`.
@@ -82,6 +103,13 @@ export class DurationError extends Error {
 export function parse(text: string, options?: Options): bigint;
 
 /**
+ * What `parse` returns, or what is wrong with the text, without an error and its stack.
+ *
+ * @throws TypeError where it is no string, or an option is unknown or no boolean
+ */
+export function tryParse(text: string, options?: Options): Result;
+
+/**
  * The value of a text in whole milliseconds, rounded down: `parseMs("1m 30s")` is `90000`. Each value that is read is below
  * 2^64 nanoseconds, so it is far below `Number.MAX_SAFE_INTEGER`.
  *
@@ -90,13 +118,21 @@ export function parse(text: string, options?: Options): bigint;
 export function parseMs(text: string, options?: Options): number;
 
 /**
- * The text of a duration: `format(5_400_000_000_000n)` is `1h 30min`.
+ * The text of a duration in nanoseconds: `format(5_400_000_000_000n)` is `1h 30min`.
  *
- * @param nanoseconds from 0 to 2^64 - 1, as a bigint or as a whole number up to `Number.MAX_SAFE_INTEGER`
- * @throws RangeError where it is negative, fractional or too large
- * @throws TypeError where it is neither a bigint nor a number
+ * @throws RangeError where it is negative, or 2^64 or more
+ * @throws TypeError where it is no bigint
  */
-export function format(nanoseconds: bigint | number): string;
+export function format(nanoseconds: bigint): string;
+
+/**
+ * The text of a duration in whole milliseconds: `formatMs(90_000)` is `1min 30s`, and `formatMs(parseMs(text))` the text
+ * without what it has beyond milliseconds.
+ *
+ * @throws RangeError where it is negative, fractional, or 2^53 or more, or 2^64 nanoseconds or more
+ * @throws TypeError where it is no number
+ */
+export function formatMs(milliseconds: number): string;
 
 /**
  * The date that is a text's duration after this one. A Date has whole milliseconds, so what the text has beyond them is

@@ -1,8 +1,6 @@
-// Durations as people write them, read and printed by a proved library, which is embedded as a WebAssembly module.
+// Durations as people write them, read and printed by a proved library, which is a WebAssembly module.
 // index.d.ts documents what is exported.
-
-/** The module in base64, which `build` puts here. */
-const MODULE = "{{MODULE}}";
+import bytes from "../dist/duration_str.wasm";
 
 const PAGE = 65_536;
 const SECOND = 1_000_000_000n;
@@ -16,11 +14,14 @@ const LONE_SURROGATE = /\p{Surrogate}/u;
 /** The codes of the refusals, in the order of `enum duration_str_cause` in the library's header. */
 const CODES = ["READ", "EMPTY", "SYNTAX", "NUMBER_TOO_LARGE", "OVERFLOW", "MIXED", "OUT_OF_RANGE", "NOT_TEXT"];
 
-const bytes = Uint8Array.from(atob(MODULE), (character) => character.charCodeAt(0));
-const { memory, __heap_base: heap, ...calls } = (await WebAssembly.instantiate(bytes)).instance.exports;
+/** How much of a text a message shows: all of a shorter one, and this many UTF-16 units before and after a place. */
+const SHOWN = 200;
+const AROUND = 80;
+
+const { memory, __heap_base: heap, ...calls } = new WebAssembly.Instance(new WebAssembly.Module(bytes)).exports;
 
 // In the memory above the module's own stands a `struct duration_str_answer`, whose fields have the offsets below, and
-// after it the text; what is told of the text comes last. Pointers and lengths are bigints at the border.
+// after it the text; what is written about the text comes last. Pointers and lengths are bigints at the border.
 const ANSWER = Math.ceil(Number(heap.value) / 8) * 8;
 const PLACE = ANSWER + 8;
 const FOUND_LENGTH = ANSWER + 16;
@@ -61,22 +62,27 @@ function decoded(start, length) {
 }
 
 /** What a call writes into a buffer, of which it is given the pointer and the size; the buffer is `start` bytes after TEXT. */
-function told(start, call) {
+function written(start, call) {
     const length = call(0n, 0n);
     reserve(start + Number(length));
     call(BigInt(TEXT + start), length);
     return decoded(start, Number(length));
 }
 
+/** A refused text. What is wrong is the error's cause, which survives a structured clone, and has all its fields. */
 export class DurationError extends Error {
-    constructor(message, fault) {
-        super(message);
-        Object.assign(this, fault);
+    constructor(fault) {
+        super(fault.message, { cause: fault });
     }
 
-    get name() {
-        return "DurationError";
+    toJSON() {
+        return { name: this.name, ...this.cause };
     }
+}
+
+Object.defineProperty(DurationError.prototype, "name", { value: "DurationError", writable: true, configurable: true });
+for (const field of ["code", "text", "index", "byte", "column", "found", "expected", "line"]) {
+    Object.defineProperty(DurationError.prototype, field, { get() { return this.cause[field]; }, configurable: true });
 }
 
 /** The flags of what could stand at the place, by the bits of `enum duration_str_kind`. */
@@ -93,40 +99,58 @@ function placeOf(byte) {
 
 const NO_PLACE = { index: null, byte: null, column: null };
 
-/** The error by which the text at TEXT is refused, after the call that refused it. */
-function refusal(text, length, bits) {
+/** The nearest index from there on that is not inside a surrogate pair. */
+function whole(text, index) {
+    return /[\udc00-\udfff]/.test(text.charAt(index)) ? index + 1 : index;
+}
+
+/** The line of the text that has the place, or the part of it around the place, and a caret under the place. */
+function pointed(text, index) {
+    let from = text.lastIndexOf("\n", index - 1) + 1;
+    let to = text.indexOf("\n", index);
+    if (to < 0) to = text.length;
+    let [before, after] = ["", ""];
+    if (to - from > SHOWN) {
+        if (index - from > AROUND) [from, before] = [index - AROUND, "…"];
+        if (to - index > AROUND) [to, after] = [whole(text, index + AROUND), "…"];
+    }
+    const indent = (before + text.slice(from, index)).replace(/[^\t]/g, " ");
+    return `${before}${text.slice(from, to)}${after}\n${indent}^`;
+}
+
+/** A fault with its message: the line, which an error's name can precede, and below it where the fault stands. */
+function withMessage(fault) {
+    const { line, text, index } = fault;
+    return { ...fault, message: index === null ? line : `${line}\n${pointed(text, index)}` };
+}
+
+/** Why the text at TEXT is refused, after the call that refused it. */
+function faultOf(text, length, bits) {
     const foundLength = Number(fields.getBigUint64(FOUND_LENGTH, true));
     const place = fields.getUint8(HAS_PLACE) ? placeOf(Number(fields.getBigUint64(PLACE, true))) : NO_PLACE;
-    const fault = {
+    return withMessage({
         code: CODES[fields.getUint32(CAUSE, true)],
         text,
         ...place,
         found: foundLength ? decoded(place.byte, foundLength) : null,
         expected: expectedOf(fields.getUint32(EXPECTED, true)),
-        line: told(length, (buffer, room) => calls.duration_str_line(TEXT_POINTER, BigInt(length), bits, buffer, room)),
-    };
-    const message = told(length, (buffer, room) =>
-        calls.duration_str_message(TEXT_POINTER, BigInt(length), bits, buffer, room),
-    );
-    return new DurationError(message, fault);
+        line: written(length, (buffer, room) => calls.duration_str_line(TEXT_POINTER, BigInt(length), bits, buffer, room)),
+    });
 }
 
-/** The error for a text whose character at this index is half of a surrogate pair. */
+/** Why a text is refused whose character at this index is half of a surrogate pair. */
 function noText(text, index) {
     const line = `not UTF-8: the character at index ${index} is a lone surrogate`;
-    return new DurationError(line, { code: "NOT_TEXT", text, ...NO_PLACE, found: null, expected: expectedOf(0), line });
+    return withMessage({ code: "NOT_TEXT", text, ...NO_PLACE, found: null, expected: expectedOf(0), line });
 }
 
-/** Writes the text at TEXT, and returns its length in bytes. */
+/** Writes the text at TEXT, and returns its length in bytes, or the index of a lone surrogate. */
 function write(text) {
     reserve(3 * text.length);
-    const { written } = encoder.encodeInto(text, texts);
+    const { written: length } = encoder.encodeInto(text, texts);
     // What is longer in UTF-8 has characters beyond ASCII, and only there a surrogate can be.
-    if (written > text.length) {
-        const lone = text.search(LONE_SURROGATE);
-        if (lone >= 0) throw noText(text, lone);
-    }
-    return written;
+    const lone = length > text.length ? text.search(LONE_SURROGATE) : -1;
+    return { length, lone };
 }
 
 function typeOf(value) {
@@ -140,49 +164,62 @@ function flag(name, value) {
     return Boolean(value);
 }
 
+/** Whether nothing is inherited but what every object has, also where that is another realm's. */
+function isPlain(options) {
+    if (typeof options !== "object" || options === null) return false;
+    const prototype = Object.getPrototypeOf(options);
+    return prototype === null || Object.getPrototypeOf(prototype) === null;
+}
+
 /** The options as the bits of `enum duration_str_option`. */
 function bitsOf(options) {
     if (options === undefined) return 0;
-    if (typeof options !== "object" || options === null) {
-        throw new TypeError(`the options must be an object, not ${typeOf(options)}`);
-    }
-    const { noCalc, lowercase, cnUnit, ...others } = options;
+    if (!isPlain(options)) throw new TypeError(`the options must be a plain object, not ${typeOf(options)}`);
+    const { noCalc, lowercase, cnUnit, ...others } = { __proto__: null, ...options };
     const unknown = Object.keys(others);
     if (unknown.length > 0) throw new TypeError(`unknown option: ${unknown[0]}`);
     return flag("noCalc", noCalc) | (flag("lowercase", lowercase) << 1) | (flag("cnUnit", cnUnit) << 2);
 }
 
-export function parse(text, options) {
+export function tryParse(text, options) {
     if (typeof text !== "string") throw new TypeError(`a duration's text must be a string, not ${typeOf(text)}`);
     const bits = bitsOf(options);
-    const length = write(text);
-    if (!calls.duration_str_parse_with(TEXT_POINTER, BigInt(length), bits, ANSWER_POINTER)) throw refusal(text, length, bits);
-    return fields.getBigUint64(ANSWER, true);
+    const { length, lone } = write(text);
+    if (lone >= 0) return { ok: false, fault: noText(text, lone) };
+    if (!calls.duration_str_parse_with(TEXT_POINTER, BigInt(length), bits, ANSWER_POINTER)) {
+        return { ok: false, fault: faultOf(text, length, bits) };
+    }
+    return { ok: true, value: fields.getBigUint64(ANSWER, true) };
+}
+
+export function parse(text, options) {
+    const { ok, value, fault } = tryParse(text, options);
+    if (!ok) throw new DurationError(fault);
+    return value;
 }
 
 export function parseMs(text, options) {
     return Number(parse(text, options) / MILLISECOND);
 }
 
-/** A number of nanoseconds as a bigint. */
-function nanosecondsOf(value) {
-    if (typeof value === "bigint") return value;
-    if (typeof value !== "number") {
-        throw new TypeError(`nanoseconds must be a bigint or a number, not ${typeOf(value)}`);
+export function format(nanoseconds) {
+    if (typeof nanoseconds !== "bigint") {
+        throw new TypeError(`nanoseconds must be a bigint, not ${typeOf(nanoseconds)}; formatMs takes milliseconds`);
     }
-    if (!Number.isInteger(value)) throw new RangeError(`nanoseconds must be a whole number, not ${value}`);
-    if (!Number.isSafeInteger(value)) {
-        throw new RangeError(`${value} is too large for a number to be exact: nanoseconds from 2^53 on must be a bigint`);
-    }
-    return BigInt(value);
+    if (nanoseconds < 0n) throw new RangeError(`a negative duration has no text: ${nanoseconds}`);
+    if (nanoseconds >= LIMIT) throw new RangeError("a duration of 2^64 nanoseconds or more has no text");
+    const length = calls.duration_str_format(nanoseconds / SECOND, Number(nanoseconds % SECOND), TEXT_POINTER);
+    return decoded(0, Number(length));
 }
 
-export function format(nanoseconds) {
-    const nanos = nanosecondsOf(nanoseconds);
-    if (nanos < 0n) throw new RangeError(`a negative duration has no text: ${nanos}`);
-    if (nanos >= LIMIT) throw new RangeError("a duration of 2^64 nanoseconds or more has no text");
-    const length = calls.duration_str_format(nanos / SECOND, Number(nanos % SECOND), TEXT_POINTER);
-    return decoded(0, Number(length));
+export function formatMs(milliseconds) {
+    if (typeof milliseconds !== "number") {
+        throw new TypeError(`milliseconds must be a number, not ${typeOf(milliseconds)}; format takes nanoseconds`);
+    }
+    if (!Number.isSafeInteger(milliseconds)) {
+        throw new RangeError(`milliseconds must be a whole number up to 2^53 - 1, not ${milliseconds}`);
+    }
+    return format(BigInt(milliseconds) * MILLISECOND);
 }
 
 /** The date that is a text's whole milliseconds away, in the direction of the sign. */

@@ -2,7 +2,7 @@
 // lines are read, and 1 if some are refused.
 import { readFileSync, writeFileSync } from "node:fs";
 
-import { DurationError, format, parse } from "duration-str";
+import { format, tryParse } from "duration-str";
 
 const NAMES = { no_calc: "noCalc", lowercase: "lowercase", cn_unit: "cnUnit" };
 
@@ -17,13 +17,13 @@ function answered(line) {
     } catch {
         return ["not UTF-8", false];
     }
-    try {
-        const nanoseconds = parse(text, options);
-        return [`${nanoseconds} ${format(nanoseconds)}`, true];
-    } catch (error) {
-        if (!(error instanceof DurationError)) throw error;
-        return [error.message, false];
-    }
+    const { ok, value, fault } = tryParse(text, options);
+    return ok ? [`${value} ${format(value)}`, true] : [messageOf(fault), false];
+}
+
+/** The library's message, of which the package shows the parts otherwise. A line has no line feed. */
+function messageOf({ text, column, line }) {
+    return column === null ? line : `${text}\n${" ".repeat(column)}^\n${line}`;
 }
 
 /** The lines of the input: a line feed ends each, and may be missing after the last. */

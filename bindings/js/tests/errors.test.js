@@ -1,7 +1,7 @@
 import assert from "node:assert/strict";
 import test from "node:test";
 
-import { DurationError, parse } from "duration-str";
+import { DurationError, parse, tryParse } from "duration-str";
 import { IS_UNDER, OPTIONS, VECTORS } from "./vectors.js";
 
 const NOTHING = { number: false, unit: false, operator: false, end: false };
@@ -21,16 +21,26 @@ function errorOf(text, options) {
     return assert.fail(`${JSON.stringify(text)} is read`);
 }
 
-/** The message where the fault has a place: the text, a caret below the character of this number, and the line. */
+/** The message where the fault has a place: the line, the text, and a caret below the character of this number. */
 function pointed(text, column, line) {
-    return `${text}\n${" ".repeat(column)}^\n${line}`;
+    return `${line}\n${text}\n${" ".repeat(column)}^`;
 }
 
-test("makes room for each message, also where the text just fits", () => {
+test("makes room for each line, also where the text just fits", () => {
     for (let count = 1; count < 22_000; count += 20) {
-        const text = `1s${" ".repeat(count)}x`;
-        assert.equal(errorOf(text).message, pointed(text, count + 2, VECTORS.lines.operators));
+        assert.equal(errorOf(`1s${" ".repeat(count)}x`).line, VECTORS.lines.operators);
     }
+});
+
+test("shows a long text around the place, and of lines the one that has it", () => {
+    const line = VECTORS.lines.operators;
+    const blanks = (count) => " ".repeat(count);
+    assert.equal(errorOf(`1s${blanks(197)}x`).message, pointed(`1s${blanks(197)}x`, 199, line));
+    assert.equal(errorOf(`1s${blanks(300)}x`).message, pointed(`…${blanks(80)}x`, 81, line));
+    assert.equal(errorOf(`1s x${blanks(300)}`).message, pointed(`1s x${blanks(79)}…`, 3, line));
+    assert.equal(errorOf(`1s${blanks(300)}x${"y".repeat(78)}😀z`).message, pointed(`…${blanks(80)}x${"y".repeat(78)}😀…`, 81, line));
+    assert.equal(errorOf("1s\n2s x\n3s").message, pointed("2s x", 3, line));
+    assert.equal(errorOf("1s \tx").message, `${line}\n1s \tx\n   \t^`);
 });
 
 test("tells the vectors' messages", () => {
@@ -113,19 +123,34 @@ test("refuses lone surrogates, wherever they stand", () => {
 test("is an Error of its own name", () => {
     const error = errorOf("600y");
     assert.ok(error instanceof Error);
-    assert.equal(String(error), "DurationError: 600y\n^\noverflow error");
-    assert.match(error.stack, /^DurationError: 600y/);
+    assert.equal(String(error), "DurationError: overflow error\n600y\n^");
+    assert.match(error.stack, /^DurationError: overflow error\n600y/);
     assert.ok(!Object.hasOwn(error, "name"));
+    error.name = "ConfigurationError";
+    assert.equal(String(error), "ConfigurationError: overflow error\n600y\n^");
 });
 
-test("tells the byte where the text has lines", () => {
-    assert.equal(errorOf("1µ\n2x").message, `byte 1: ${VECTORS.lines.units}`);
+test("survives a structured clone and JSON, with all that is wrong", () => {
+    const error = errorOf("1m 3-5");
+    const { fault } = tryParse("1m 3-5");
+    assert.deepEqual(structuredClone(error).cause, fault);
+    assert.deepEqual(JSON.parse(JSON.stringify(error)), { name: "DurationError", ...fault });
 });
 
-test("writes the message about 10 MB", () => {
+test("is told without an error by tryParse", () => {
+    assert.deepEqual(tryParse("1h 30m"), { ok: true, value: 5_400_000_000_000n });
+    for (const text of ["", "1m 3-5", "600y", "\ud800"]) {
+        const { ok, fault } = tryParse(text);
+        const { code, index, byte, column, found, expected, line, message } = errorOf(text);
+        assert.deepEqual([ok, fault], [false, { code, text, index, byte, column, found, expected, line, message }]);
+    }
+    assert.throws(() => tryParse(1), TypeError);
+});
+
+test("tells what is wrong in 10 MB", () => {
     const blanks = " ".repeat(10_000_000);
     const error = errorOf(`1µs${blanks}😀x`);
     assert.deepEqual([error.index, error.byte, error.found], [10_000_003, 10_000_004, "😀"]);
-    assert.equal(error.message, pointed(`1µs${blanks}😀x`, 10_000_003, VECTORS.lines.operators));
+    assert.equal(error.message, pointed(`…${" ".repeat(80)}😀x`, 81, VECTORS.lines.operators));
     assert.equal(parse("1s"), 1_000_000_000n);
 });

@@ -1,5 +1,6 @@
 import assert from "node:assert/strict";
 import test from "node:test";
+import { runInNewContext } from "node:vm";
 
 import { DurationError, parse, parseMs } from "duration-str";
 import { IS_UNDER, OPTIONS, VECTORS } from "./vectors.js";
@@ -32,8 +33,14 @@ test("reads as without options where they are left out or undefined", () => {
     }
 });
 
-test("takes options that are inherited", () => {
-    assert.equal(parse("1分", Object.create({ cnUnit: true })), 60_000_000_000n);
+test("takes a plain object's own options, of any realm", () => {
+    const other = runInNewContext("({ cnUnit: true })");
+    for (const options of [other, Object.assign(Object.create(null), { cnUnit: true })]) {
+        assert.equal(parse("1分", options), 60_000_000_000n);
+    }
+    for (const options of [Object.create({ cnUnit: true }), new (class { cnUnit = true; })(), [], () => {}]) {
+        assert.throws(() => parse("1分", options), { name: "TypeError", message: /^the options must be a plain object, not / });
+    }
 });
 
 test("refuses what is no option", () => {
@@ -43,9 +50,9 @@ test("refuses what is no option", () => {
         [{ noCalc: 1 }, "the option noCalc must be a boolean, not number"],
         [{ lowercase: "no" }, "the option lowercase must be a boolean, not string"],
         [{ cnUnit: null }, "the option cnUnit must be a boolean, not null"],
-        [null, "the options must be an object, not null"],
-        [0, "the options must be an object, not number"],
-        ["noCalc", "the options must be an object, not string"],
+        [null, "the options must be a plain object, not null"],
+        [0, "the options must be a plain object, not number"],
+        ["noCalc", "the options must be a plain object, not string"],
     ];
     for (const [options, message] of rows) {
         for (const call of [parse, parseMs]) assert.throws(() => call("1s", options), new TypeError(message));

@@ -1,21 +1,27 @@
 // The types of the package, by the compiler alone: what has to be wrong stands below a line that expects an error.
-import { after, before, type Code, DurationError, type Expected, format, type Options, parse, parseMs } from "duration-str";
+import {
+    after, before, DurationError, type Expected, type Fault, format, formatMs, type Options, parse, parseMs, tryParse,
+} from "duration-str";
 
 const options: Options = { noCalc: true, lowercase: false, cnUnit: undefined };
 const nanoseconds: bigint = parse("2h 37m", options);
 const milliseconds: number = parseMs("1m 30s", {});
-const texts: string[] = [format(nanoseconds), format(milliseconds)];
+const texts: string[] = [format(nanoseconds), formatMs(milliseconds)];
 const dates: Date[] = [after(new Date(), "90d"), before(new Date(), "1w", options)];
 
 try {
     parse(texts.join(" "));
 } catch (error) {
     if (!(error instanceof DurationError)) throw error;
-    const code: Code = error.code;
+    const fault: Fault = error.cause;
+    if (error.code === "SYNTAX") {
+        const place: number = error.index;
+        void place;
+    }
     const places: (number | null)[] = [error.index, error.byte, error.column];
     const expected: Expected = error.expected;
     const any: boolean = expected.number || expected.unit || expected.operator || expected.end;
-    const told: (string | null)[] = [error.found, error.line, error.text, error.message, code];
+    const told: (string | null)[] = [error.found, error.line, error.text, error.message, fault.code];
     // @ts-expect-error: without a place it is null
     const index: number = error.index;
     // @ts-expect-error: there is no such code
@@ -33,8 +39,10 @@ parse("1s", { no_calc: true });
 parse("1s", { noCalc: 1 });
 // @ts-expect-error: an index is no options
 ["1s"].map(parse);
+// @ts-expect-error: no bigint
+format(milliseconds);
 // @ts-expect-error: no number
-format("1s");
+formatMs(nanoseconds);
 // @ts-expect-error: no date
 after(0, "1s");
 // @ts-expect-error: nobody else makes one
@@ -42,4 +50,7 @@ new DurationError("1x");
 // @ts-expect-error: a bigint is no number
 const wrong: number = parse("1s");
 
-void [dates, wrong];
+const result = tryParse("1s");
+const read: bigint | string = result.ok ? result.value : result.fault.line;
+
+void [dates, wrong, read];

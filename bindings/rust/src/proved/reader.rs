@@ -19,7 +19,7 @@ pub(crate) fn read(tokens: &mut Tokens<'_>, no_calc: bool) -> Result<u64, Cause>
     }
 }
 
-/// ReadsItem the terms after the first one, and combines them by the operator before the second one. Their first fault is
+/// Reads the terms after the first one, and combines them by the operator before the second one. Their first fault is
 /// held back until the syntax is read to its end, except under `no_calc`.
 #[inline(always)]
 fn read_later(
@@ -50,7 +50,7 @@ fn expect_number(tokens: &mut Tokens<'_>) -> Result<(), Cause> {
     Err(Cause::syntax(tokens.place(), Expected::at_start()))
 }
 
-/// ReadsItem the unit after a number. Seconds if an operator or the end follows, which is not taken.
+/// Reads the unit after a number. Seconds if an operator or the end follows, which is not taken.
 #[inline(always)]
 fn read_unit(tokens: &mut Tokens<'_>, no_calc: bool) -> Result<TimeUnit, Cause> {
     let ahead = tokens.sort_after_number();
@@ -74,7 +74,7 @@ fn read_unit(tokens: &mut Tokens<'_>, no_calc: bool) -> Result<TimeUnit, Cause> 
     }
 }
 
-/// ReadsItem the operator after a unit, up to the number that must follow: a plus if it is left out, `None` at the end.
+/// Reads the operator after a unit, up to the number that must follow: a plus if it is left out, `None` at the end.
 #[inline(always)]
 fn read_operator(tokens: &mut Tokens<'_>, no_calc: bool) -> Result<Option<CondUnit>, Cause> {
     let ahead = tokens.sort_ahead();
