@@ -170,4 +170,4 @@ release:
 	@tools/release $(call quoted,$(dist))
 
 clean:
-	rm -rf out crates/*/out examples/out tests/fuzz/out bench/target bindings/rust/target bindings/js/dist
+	rm -rf out crates/*/out examples/out tests/fuzz/out bench/target bindings/c/target bindings/rust/target bindings/js/dist

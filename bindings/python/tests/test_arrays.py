@@ -7,8 +7,8 @@ import sys
 import unittest
 from array import array
 
-from duration_str import Cause, DurationError, format, format_many, to_timedelta
-from tests.columns import arrow_columns, value_columns
+from duration_str import Cause, DurationError, format, format_many, parse_many, to_timedelta
+from tests.columns import value_columns
 
 try:
     import numpy
@@ -43,7 +43,7 @@ class Reading(unittest.TestCase):
         for options, rows in value_columns():
             texts = [text for text, _ in rows]
             wanted = [value if value is not None and value < 2**63 else None for _, value in rows]
-            for values in [texts, numpy.array(texts, dtype=object), pandas.Series(texts), *arrow_columns(texts)]:
+            for values in [texts, numpy.array(texts, dtype=object), pandas.Series(texts)]:
                 with self.subTest(type=type(values), **options):
                     self.assertEqual(numbers(to_timedelta(values, errors="coerce", **options)), wanted)
 
@@ -84,8 +84,6 @@ class Reading(unittest.TestCase):
         for errors in ["raise", "coerce"]:
             for column in [values, pandas.Series(values), numpy.array(values, dtype=object)]:
                 self.assertEqual(numbers(to_timedelta(column, errors=errors)), wanted)
-            for arrow in arrow_columns(["1s", None, "1m"]):
-                self.assertEqual(numbers(to_timedelta(arrow, errors=errors)), [SECOND, None, MINUTE])
         self.assertEqual(numbers(to_timedelta(numpy.full(3, numpy.nan))), [None] * 3)
         self.assertEqual(numbers(to_timedelta(pandas.Series([pandas.NaT] * 3))), [None] * 3)
         masked = numpy.ma.array(["1s", "x", "1m"], mask=[False, True, False])
@@ -112,18 +110,47 @@ class Reading(unittest.TestCase):
                 self.assertEqual((told.exception.text, told.exception.place), (text, None))
 
     def test_raises_the_first_refusal(self):
-        for columns in [[["1s", None, "1m 3-5", "300y", "x"]], arrow_columns(["1s", None, "1m 3-5", "300y", "x"])]:
-            for column in columns:
-                with self.assertRaisesRegex(DurationError, "^1m 3-5\n    \\^\nexpected .*\nat index 2$") as told:
-                    to_timedelta(column)
-                self.assertEqual((told.exception.index, told.exception.found), (2, "-"))
+        with self.assertRaisesRegex(DurationError, "^1m 3-5\n    \\^\nexpected .*\nat index 2$") as told:
+            to_timedelta(["1s", None, "1m 3-5", "300y", "x"])
+        self.assertEqual((told.exception.index, told.exception.found), (2, "-"))
         labelled = pandas.Series(["1s", "x"], index=[10, 20])
         with self.assertRaises(DurationError) as told:
             to_timedelta(labelled)
         self.assertEqual(told.exception.index, 1)
 
+    def test_keeps_timedeltas(self):
+        lengths = [datetime.timedelta(days=-1), pandas.Timedelta(5, "ns"), numpy.timedelta64(3, "D"), pandas.NaT]
+        wanted = [SECOND, -86_400 * SECOND, 5, 3 * 86_400 * SECOND, None, 60 * SECOND]
+        for errors in ["raise", "coerce"]:
+            for column in [["1s", *lengths, "1m"], pandas.Series(["1s", *lengths, "1m"], dtype=object)]:
+                read = to_timedelta(column, errors=errors)
+                self.assertEqual(numbers(read), wanted)
+                again = to_timedelta(read, errors=errors)
+                self.assertEqual((type(again), numbers(again)), (type(read), wanted))
+            for unit, length in [("s", SECOND), ("ns", 1), ("W", 7 * 86_400 * SECOND), ("10ms", 10_000_000)]:
+                values = numpy.array([[1, -2], ["NaT", 3]], dtype=f"timedelta64[{unit}]")
+                read = to_timedelta(values, errors=errors)
+                self.assertEqual((read.shape, numbers(read)), ((2, 2), [length, -2 * length, None, 3 * length]))
+        for value in [datetime.timedelta.max, numpy.timedelta64(2**62, "s"), numpy.timedelta64(-(2**60), "W")]:
+            with self.assertRaisesRegex(OverflowError, "2\\*\\*63 nanoseconds or more: .*, at index 1$"):
+                to_timedelta(["1s", value])
+            self.assertEqual(numbers(to_timedelta(["1s", value], errors="coerce")), [SECOND, None])
+        with self.assertRaisesRegex(TypeError, "unit from weeks to nanoseconds"):
+            to_timedelta(numpy.array([1], dtype="timedelta64[Y]"))
+
+    def test_takes_one_column(self):
+        for table in [numpy.array("12"), numpy.array([["1s"]]), pandas.DataFrame({"1s": ["2s"]})]:
+            with self.assertRaises(TypeError):
+                parse_many(table)
+        self.assertEqual(parse_many(numpy.array(["1s", "2s"])).tolist(), [SECOND, 2 * SECOND])
+
+    def test_takes_no_labels_for_a_column_of_arrow(self):
+        series = pandas.Series(["1s", "2s"], index=["type", "null_count"])
+        self.assertEqual(parse_many(series).tolist(), [SECOND, 2 * SECOND])
+        self.assertEqual(numbers(to_timedelta(series)), [SECOND, 2 * SECOND])
+
     def test_wants_texts(self):
-        for value in [b"1s", 1, 1.5, True, ["1s"], datetime.timedelta(1), numpy.int64(1), pandas.Timedelta(1)]:
+        for value in [b"1s", 1, 1.5, True, ["1s"], numpy.int64(1), numpy.datetime64(1, "s")]:
             with self.subTest(value=value):
                 with self.assertRaisesRegex(TypeError, "must be a str, not .*, at index 2$"):
                     to_timedelta(["x", None, value])
@@ -171,6 +198,16 @@ class Printing(unittest.TestCase):
         self.assertEqual(format_many(masked).tolist(), [None, "2ns"])
         self.assertEqual(format_many(masked.astype("timedelta64[s]")).tolist(), [None, "2s"])
         self.assertEqual(format_many([]), [])
+
+    def test_prints_one_value_of_numpy(self):
+        self.assertEqual(format(numpy.int64(5)), "5ns")
+        self.assertEqual(format(numpy.uint8(5)), "5ns")
+        self.assertEqual(format(numpy.timedelta64(5, "s")), "5s")
+        with self.assertRaisesRegex(ValueError, "missing"):
+            format(numpy.timedelta64("NaT"))
+        for value in [numpy.bool_(True), numpy.float64(1), numpy.timedelta64(1, "Y"), numpy.timedelta64(1)]:
+            with self.assertRaises(TypeError):
+                format(value)
 
     def test_prints_units_beyond_nanoseconds(self):
         for unit, length in [("W", 604_800), ("D", 86_400), ("h", 3_600), ("m", 60), ("s", 1)]:

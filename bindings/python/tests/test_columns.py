@@ -9,7 +9,7 @@ from itertools import accumulate
 
 import duration_str
 from duration_str import Cause, DurationError, parse_buffers, parse_many, parse_ns
-from tests.columns import arrow_columns, refused_positions, value_columns
+from tests.columns import refused_positions, value_columns
 
 SECOND = 10**9
 # A call reads 8,192 texts.
@@ -55,8 +55,6 @@ class Columns(unittest.TestCase):
                 for code in "qQiI":
                     buffers = buffers_of([text.encode() for text in texts], code)
                     self.assertEqual(parse_buffers(*buffers, errors="coerce", **options), wanted)
-                for arrow in arrow_columns(list(texts)):
-                    self.assertEqual(parse_many(arrow, errors="coerce", **options), wanted)
 
     def test_raises_what_the_text_alone_raises(self):
         for options, rows in value_columns():
@@ -214,31 +212,10 @@ class Buffers(unittest.TestCase):
         for wrong in [[0, 2], array("d", [0, 2]), array("H", [0, 2]), b"\0\2", table, None]:
             with self.subTest(offsets=wrong), self.assertRaises(TypeError):
                 parse_buffers(b"1s", wrong)
-        with self.assertRaises(TypeError):
+        with self.assertRaises(BufferError):
             parse_buffers(memoryview(b"1.s.")[::2], offsets)
-
-
-class Arrow(unittest.TestCase):
-    def test_refuses_nulls_whatever_stands_there(self):
-        texts = ["1s", None, "x", "4s", *["1ns"] * 12, None]
-        wanted = (array("Q", [SECOND, 0, 0, 4 * SECOND, *[1] * 12, 0]), array("Q", [1, 2, 16]))
-        for column in arrow_columns(texts):
-            with self.subTest(type=column.type):
-                self.assertEqual(parse_many(column, errors="coerce"), wanted)
-                with self.assertRaisesRegex(TypeError, "not NoneType, at index 1$"):
-                    parse_many(column)
-
-    def test_counts_through_chunks(self):
-        for column in arrow_columns(["1s", "2s", "x", "4s"]):
-            self.assertEqual(error_of(parse_many, column).index, 2)
-        for column in arrow_columns([]):
-            self.assertEqual(parse_many(column), array("Q"))
-
-    def test_counts_bad_offsets_through_chunks(self):
-        column = list(arrow_columns(["1s", "2s", "4s"]))[3]
-        column.chunks[2].parts[1][2] = 100
-        with self.assertRaisesRegex(ValueError, "at index 2$"):
-            parse_many(column)
+        with self.assertRaises(BufferError):
+            parse_buffers(b"1s", memoryview(offsets)[::-1])
 
 
 if __name__ == "__main__":

@@ -32,11 +32,11 @@ class Documentation(unittest.TestCase):
         self.assertEqual({*duration_str.__all__, "__builtins__"}, set(names))
         self.assertNotIn("format", names)
 
-    def test_shows_the_units_and_nothing_of_ctypes(self):
-        told = pydoc.render_doc(duration_str)
-        self.assertIn("µs, µsec, µsecond", told)
-        self.assertNotIn("ctypes", told)
-        self.assertNotIn("libduration_str", told)
+    def test_shows_the_units_and_the_options(self):
+        self.assertIn("µs, µsec, µsecond", pydoc.render_doc(duration_str))
+        for name in ["parse", "parse_ns"]:
+            told = pydoc.plain(pydoc.render_doc(getattr(duration_str, name)))
+            self.assertIn(f"{name}(text, /, *, no_calc=False, lowercase=False, cn_unit=False)", told)
 
     def test_has_its_version_and_its_description(self):
         told = importlib.metadata.metadata("duration-str")

@@ -1,9 +1,6 @@
 """Why texts are refused."""
 
-import argparse
-import contextlib
 import copy
-import io
 import pickle
 import unittest
 
@@ -105,14 +102,6 @@ class Errors(unittest.TestCase):
             error.__notes__ = ["of the second job"]
             for other in [copy.copy(error), pickle.loads(pickle.dumps(error))]:
                 self.assertEqual((str(other), vars(other)), (str(error), vars(error)))
-
-    def test_shows_its_message_in_argparse(self):
-        parser = argparse.ArgumentParser(prog="job")
-        parser.add_argument("--timeout", type=parse)
-        self.assertEqual(parser.parse_args(["--timeout", "1m"]).timeout, parse("1m"))
-        with contextlib.redirect_stderr(io.StringIO()) as told, self.assertRaises(SystemExit):
-            parser.parse_args(["--timeout", "600y"])
-        self.assertIn("argument --timeout: 600y\n^\noverflow error\n", told.getvalue())
 
 
 if __name__ == "__main__":

@@ -27,27 +27,21 @@ The units, and their Chinese names, which are read with `cn_unit`:
 
 `parse` reads a text as a timedelta, `parse_ns` as a number of nanoseconds, and `format` prints either. `parse_many`
 reads a column of texts by few calls, `parse_buffers` one that stands in buffers, `to_timedelta` one for NumPy or pandas,
-and `format_many` prints a column.
+and `format_many` prints a column. `Duration` is a field of pydantic's models.
 """
 
 from __future__ import annotations
 
 from ._arrays import format_many, to_timedelta
 from ._columns import parse_buffers, parse_many
-from ._texts import Cause, DurationError, Expected, format, parse, parse_ns
+from ._models import Duration
+from ._native import format as format
+from ._native import parse, parse_ns
+from ._texts import Cause, DurationError, DurationTypeError, Expected
 
 # `format` is left out, so that `from duration_str import *` doesn't hide the builtin function.
-__all__ = [
-    "Cause",
-    "DurationError",
-    "Expected",
-    "format_many",
-    "parse",
-    "parse_buffers",
-    "parse_many",
-    "parse_ns",
-    "to_timedelta",
-]
+__all__ = ["Cause", "Duration", "DurationError", "DurationTypeError", "Expected", "format_many", "parse"]
+__all__ += ["parse_buffers", "parse_many", "parse_ns", "to_timedelta"]
 __version__ = "0.19.0"
 
 # Errors, pickles and documentation name what is public by this module.

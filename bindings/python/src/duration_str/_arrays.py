@@ -2,63 +2,46 @@
 
 from __future__ import annotations
 
+import datetime
 import sys
-from array import array
-from typing import TYPE_CHECKING, Any
+from importlib import import_module
+from typing import Any
 
-from ._columns import Column, Texts, as_text, checked, of_arrow, raise_refusal, read_column, values_of
-from ._texts import Cause, DurationError, format, option_bits
-
-if TYPE_CHECKING:
-    from types import ModuleType
-
-_NANOS = {
-    "W": 604_800 * 10**9,
-    "D": 86_400 * 10**9,
-    "h": 3_600 * 10**9,
-    "m": 60 * 10**9,
-    "s": 10**9,
-    "ms": 10**6,
-    "us": 1000,
-    "ns": 1,
-}
-
-
-def _imported(name: str) -> ModuleType | None:
-    """A module, if it is imported: else no value is of it."""
-    return sys.modules.get(name)
+from . import _native
+from ._columns import checked, values_of, zeros
+from ._texts import Cause, DurationError, DurationTypeError, nanos_a_step, nanos_of, option_bits
 
 
 def _is_missing(value: Any) -> bool:
     """Whether a value is None, NaN, or what pandas has for them."""
-    if value is None or isinstance(value, float):
-        return value is None or value != value
-    numpy, pandas = _imported("numpy"), _imported("pandas")
+    # No value is of a module that isn't imported.
+    numpy: Any = sys.modules.get("numpy")
+    pandas: Any = sys.modules.get("pandas")
     if pandas is not None:
-        return pandas.isna(value) is True
-    if numpy is None:
-        return False
-    return isinstance(value, (numpy.floating, numpy.datetime64, numpy.timedelta64)) and bool(value != value)
+        return value is None or pandas.isna(value) is True
+    kinds: Any = (float, numpy.floating, numpy.datetime64, numpy.timedelta64) if numpy else float
+    return value is None or (isinstance(value, kinds) and bool(value != value))
 
 
 def _flat(values: Any) -> list[Any]:
     """The values of a sequence, or of an array one after the other, with None where one is masked."""
-    import numpy
-
-    pandas = _imported("pandas")
+    numpy: Any = import_module("numpy")
+    pandas = sys.modules.get("pandas")
     if pandas is not None and isinstance(values, pandas.DataFrame):
         raise TypeError("a DataFrame is no column: take its columns one by one")
     if not hasattr(values, "__array__"):
         return values_of(values)
+    if getattr(getattr(values, "dtype", None), "kind", None) == "m":
+        return list(numpy.ma.filled(values, numpy.timedelta64("NaT")).ravel())
     flat = numpy.asarray(values, dtype=object)
     if isinstance(values, numpy.ma.MaskedArray):
         flat = numpy.where(numpy.ma.getmaskarray(values), None, flat)
-    return flat.ravel().tolist()
+    return list(flat.ravel())
 
 
 def _like(values: Any, result: Any) -> Any:
     """A flat array as what the values are: a Series or an Index, or an array of the same shape."""
-    pandas = _imported("pandas")
+    pandas = sys.modules.get("pandas")
     if pandas is not None and isinstance(values, pandas.Series):
         return pandas.Series(result, index=values.index, name=values.name)
     if pandas is not None and isinstance(values, pandas.Index):
@@ -66,22 +49,19 @@ def _like(values: Any, result: Any) -> Any:
     return result.reshape(values.shape) if hasattr(values, "shape") else result
 
 
-def _column_of(values: Any, errors: str) -> tuple[Column, list[int] | array[int]]:
-    """The column of the texts, and the positions of what is missing, where another text stands."""
-    arrow = of_arrow(values)
-    if arrow is not None:
-        return arrow
-    texts, missing = _flat(values), []
-    if not set(map(type, texts)) <= {str}:
-        for index, value in enumerate(texts):
-            if type(value) is str:
-                continue
-            if _is_missing(value):
-                missing.append(index)
-                texts[index] = ""
-            else:
-                texts[index] = as_text(value, index, errors)
-    return Texts(texts), missing
+def _kept(value: Any, index: int, raises: bool) -> int:
+    """What stands in timedelta64[ns] for a value that is no text: NaT where it is missing, or refused and not raised."""
+    numpy: Any = import_module("numpy")
+    if _is_missing(value):
+        return -(2**63)
+    is_kept = isinstance(value, (datetime.timedelta, numpy.timedelta64))
+    if is_kept and abs(nanos := nanos_of(value)) < 2**63:
+        return nanos
+    if raises and is_kept:
+        raise OverflowError(f"timedelta64 doesn't have 2**63 nanoseconds or more: {value!r}, at index {index}")
+    if raises:
+        raise DurationTypeError(f"a duration's text must be a str, not {type(value).__name__}, at index {index}")
+    return -(2**63)
 
 
 def to_timedelta(
@@ -91,67 +71,31 @@ def to_timedelta(
     Index an Index, and of a NumPy array or any other sequence an array of the same shape. It needs NumPy, and no
     pandas. The options are those of `parse_ns`.
 
-    What is missing stays missing: None, NaN, NaT, pandas' NA, a null of an Arrow array, and what an array masks become
-    NaT.
+    Timedeltas are kept. None, NaN, NaT, pandas' NA, and what an array masks become NaT.
 
     With `errors="raise"` the first text that is refused raises its DurationError, which has its position as `index`. So
     does a value of 2**63 nanoseconds or more, some 292 years, which timedelta64 does not have. Any other value, such as
-    a number or bytes, raises TypeError before any text is read. With `errors="coerce"` all of these become NaT.
-
-    `duration_str.to_timedelta(["1m 30s", None, "2h"])` is an array of 90,000,000,000 ns, NaT and 7,200,000,000,000 ns.
+    a number or bytes, raises DurationTypeError before any text is read. With `errors="coerce"` all of these become NaT.
     """
-    errors, options = checked(errors), option_bits(no_calc, lowercase, cn_unit)
-    import numpy
-
-    column, missing = _column_of(values, errors)
-    nanos, refused = read_column(column, options)
+    raises, options = checked(errors), option_bits(no_calc, lowercase, cn_unit)
+    numpy: Any = import_module("numpy")
+    texts = _flat(values)
+    nanos = zeros(len(texts))
+    refused = _native.read_list(texts, nanos, options, False, 0)
+    others = [index for index in refused if not issubclass(type(texts[index]), str)]
+    kept = [_kept(texts[index], index, raises) for index in others]
     signed = numpy.asarray(nanos).view("int64")
-    missing = numpy.asarray(missing, dtype="uint64")
-    faults = numpy.union1d(numpy.asarray(refused), numpy.flatnonzero(signed < 0).astype("uint64"))
-    faults = numpy.setdiff1d(faults, missing)
-    if errors == "raise" and faults.size > 0:
-        _raise_fault(column, int(faults[0]), options, nanos)
-    result = signed.view("timedelta64[ns]")
-    result[faults] = result[missing] = numpy.timedelta64("NaT")
-    return _like(values, result)
-
-
-def _raise_fault(column: Column, index: int, options: int, nanos: array[int]) -> None:
-    """Raises why there is no timedelta64 there."""
-    if nanos[index] >= 2**63:
-        text = column.text(index)
+    faults = numpy.union1d(numpy.setdiff1d(refused, others), numpy.flatnonzero(signed < 0)).astype("int64")
+    if raises and faults.size > 0:
+        first = int(faults[0])
+        # It is refused for what the text is, or else for what its value is.
+        text = str.__str__(texts[first])
+        _native.read_list([text], zeros(1), options, True, first)
         message = f"{text}\n2**63 nanoseconds or more, which timedelta64 doesn't have"
-        raise DurationError(message, text, Cause.OVERFLOW, index=index)
-    raise_refusal(column, index, options)
-
-
-def _durations(values: Any) -> list[Any]:
-    """The values of an array, one after the other: of timedelta64 ints of nanoseconds, or None where one is missing."""
-    import numpy
-
-    if values.dtype.kind != "m":
-        return _flat(values)
-    unit, count = numpy.datetime_data(values.dtype)
-    if unit not in _NANOS:
-        raise TypeError(f"a duration must be of a unit from weeks to nanoseconds, not of timedelta64[{unit}]")
-    # The product is an int of Python, since one of NumPy wraps around.
-    numbers = numpy.ma.filled(values, numpy.timedelta64("NaT")).astype("int64").ravel().tolist()
-    return [None if number == -(2**63) else number * count * _NANOS[unit] for number in numbers]
-
-
-def _printed(value: Any, index: int) -> str | None:
-    """A duration's text, or None where it is missing."""
-    if type(value) is not int:
-        if _is_missing(value):
-            return None
-        if hasattr(value, "__array__"):
-            import numpy
-
-            [value] = _durations(numpy.asarray(value))
-    try:
-        return format(value)
-    except (OverflowError, TypeError, ValueError) as error:
-        raise type(error)(f"{error}, at index {index}") from None
+        raise DurationError(message, text, Cause.OVERFLOW, index=first)
+    signed[faults] = -(2**63)
+    signed[others] = kept
+    return _like(values, signed.view("timedelta64[ns]"))
 
 
 def format_many(values: Any) -> Any:
@@ -165,12 +109,27 @@ def format_many(values: Any) -> Any:
     >>> duration_str.format_many([90 * 10**9, None])
     ['1min 30s', None]
     """
+    given = _durations(values) if hasattr(values, "__array__") else list(values)
+    texts: list[str | None] = []
+    try:
+        _native.format_list(given, lambda value: None if _is_missing(value) else nanos_of(value), texts)
+    except (OverflowError, TypeError, ValueError) as error:
+        raise type(error)(f"{error}, at index {len(texts)}") from None
     if not hasattr(values, "__array__"):
-        return [_printed(value, index) for index, value in enumerate(values)]
-    import numpy
-
-    flat = values if hasattr(values, "mask") else numpy.asarray(values)
-    texts = [_printed(value, index) for index, value in enumerate(_durations(flat))]
+        return texts
+    numpy: Any = import_module("numpy")
     result = numpy.empty(len(texts), dtype=object)
     result[:] = texts
     return _like(values, result)
+
+
+def _durations(values: Any) -> list[Any]:
+    """The values of an array, one after the other; of timedelta64 ints of nanoseconds, with None where one is missing."""
+    numpy: Any = import_module("numpy")
+    array = values if isinstance(values, numpy.ma.MaskedArray) else numpy.asarray(values)
+    if array.dtype.kind != "m":
+        return _flat(values)
+    step = nanos_a_step(array.dtype)
+    # The product is an int of Python, since one of NumPy wraps around.
+    numbers = numpy.ma.filled(array, numpy.timedelta64("NaT")).astype("int64").ravel().tolist()
+    return [None if number == -(2**63) else number * step for number in numbers]

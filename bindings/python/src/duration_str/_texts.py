@@ -1,14 +1,16 @@
-"""One text: read, or refused with an error that points at its place; and one duration printed."""
+"""Why a text is refused, as an error that points at its place; and what durations are in nanoseconds."""
 
 from __future__ import annotations
 
-import argparse
 import datetime
 import enum
+import sys
+from importlib import import_module
+from typing import Any
 
-from . import _library
-
-_NANOS_A_SECOND = 10**9
+#: The units of timedelta64 that have a length in nanoseconds
+_NANOS = {"W": 604_800 * 10**9, "D": 86_400 * 10**9, "h": 3_600 * 10**9, "m": 60 * 10**9}
+_NANOS |= {"s": 10**9, "ms": 10**6, "us": 1000, "ns": 1}
 
 
 class Cause(enum.IntEnum):
@@ -25,7 +27,7 @@ class Cause(enum.IntEnum):
     MIXED = 5
     """`+` and `*` are mixed."""
     NOT_TEXT = 7
-    """The string holds a lone surrogate, so it is no text."""
+    """The string holds a lone surrogate, or the bytes are not UTF-8, so it is no text."""
 
 
 class Expected(enum.Flag):
@@ -37,9 +39,13 @@ class Expected(enum.Flag):
     END = 8
 
 
-class DurationError(ValueError, argparse.ArgumentTypeError):
+class DurationTypeError(TypeError, ValueError):
+    """A value that is no text. It is a ValueError too, since pydantic takes only these for refusals."""
+
+
+class DurationError(ValueError):
     """A refused text. As a string it is the message for a person: the text, a caret below the place, and what is wrong;
-    and for a text of a column its index. `argparse` shows it where `parse` or `parse_ns` is the type of an argument.
+    and for a text of a column its index.
 
     >>> try:
     ...     duration_str.parse("3h 2 hurs")
@@ -60,22 +66,19 @@ class DurationError(ValueError, argparse.ArgumentTypeError):
     """What could stand at the place of a syntax fault; for other faults no flag is set."""
     found: str | None
     """The token that stands at the place of a syntax fault, or None at the end and for other faults."""
+    line: str
+    """The last line of the message alone, which says what is wrong."""
     index: int | None
     """The position of the text in the column that was read, or None where it was read by itself."""
 
     def __init__(
-        self,
-        message: str,
-        text: str,
-        cause: Cause,
-        place: int | None = None,
-        expected: Expected = Expected(0),
-        found: str | None = None,
-        index: int | None = None,
-    ) -> None:
+        self, message: str, text: str, cause: int, place: int | None = None, expected: int | Expected = 0,
+        found: str | None = None, index: int | None = None,
+    ) -> None:  # fmt: skip
         super().__init__(message if index is None else f"{message}\nat index {index}")
-        self.text, self.cause, self.place, self.expected, self.found = text, cause, place, expected, found
-        self.index = index
+        self.text, self.cause, self.place, self.expected = text, Cause(cause), place, Expected(expected)
+        self.found, self.index = found, index
+        self.line = message.rpartition("\n")[2].removeprefix(f"byte {place}: ")
         self.column = None if place is None else len(text.encode()[:place].decode())
 
     def __reduce__(self) -> tuple[type[DurationError], tuple[object, ...], dict[str, object]]:
@@ -83,82 +86,33 @@ class DurationError(ValueError, argparse.ArgumentTypeError):
         return type(self), made_of, self.__dict__
 
 
-def _error(
-    text: str, encoded: bytes, options: int, answer: _library.Answer, index: int | None
-) -> DurationError:
-    """The error that the library told of a text."""
-    place = answer.place if answer.has_place else None
-    found = None
-    if place is not None and answer.found_length > 0:
-        found = encoded[place : place + answer.found_length].decode()
-    message = _library.message(encoded, options)
-    return DurationError(message, text, Cause(answer.cause), place, Expected(answer.expected), found, index)
-
-
 def option_bits(no_calc: bool, lowercase: bool, cn_unit: bool) -> int:
     """The options as the library takes them."""
     return bool(no_calc) | bool(lowercase) << 1 | bool(cn_unit) << 2
 
 
-def read(text: str, options: int, index: int | None = None) -> int:
-    """The value of a text under these options. Raises DurationError, with this index if the text is one of a column."""
-    try:
-        encoded = text.encode()
-    except UnicodeEncodeError as error:
-        message = f"no text: character {error.start} is a lone surrogate"
-        raise DurationError(message, text, Cause.NOT_TEXT, index=index) from None
-    if options == 0:
-        # The call that knows its options is the faster one, but doesn't tell why it refuses.
-        nanos = _library.parse(encoded)
-        if nanos is not None:
-            return nanos
-    answer = _library.parse_with(encoded, options)
-    if answer.cause != 0:
-        raise _error(text, encoded, options, answer, index)
-    return int(answer.nanos)
+def nanos_a_step(dtype: Any) -> int:
+    """The nanoseconds of one step of a timedelta64's type. Raises TypeError where the unit has no fixed length."""
+    numpy: Any = import_module("numpy")
+    unit, count = numpy.datetime_data(dtype)
+    if unit not in _NANOS:
+        raise TypeError(f"a duration must be of a unit from weeks to nanoseconds, not of timedelta64[{unit}]")
+    return int(count) * _NANOS[unit]
 
 
-def parse_ns(text: str, *, no_calc: bool = False, lowercase: bool = False, cn_unit: bool = False) -> int:
-    """The value of a text in nanoseconds.
-
-    `no_calc`: `+` and `*` are not read; terms are added as they come. `lowercase`: words are compared as they stand; else
-    ASCII capitals are folded to small letters. `cn_unit`: the Chinese names of the units are read too.
-
-    Raises DurationError where the text is refused, and TypeError where it is no str.
-    """
-    if not isinstance(text, str):
-        raise TypeError(f"a duration's text must be a str, not {type(text).__name__}")
-    return read(text, option_bits(no_calc, lowercase, cn_unit))
-
-
-def parse(
-    text: str, *, no_calc: bool = False, lowercase: bool = False, cn_unit: bool = False
-) -> datetime.timedelta:
-    """The value of a text as a timedelta, which has whole microseconds: it is rounded down to them. `parse_ns` is exact.
-
-    The options and the errors are those of `parse_ns`.
-    """
-    nanos = parse_ns(text, no_calc=no_calc, lowercase=lowercase, cn_unit=cn_unit)
-    return datetime.timedelta(microseconds=nanos // 1000)
-
-
-def format(value: int | datetime.timedelta) -> str:
-    """A duration's text, such as `3min 13s 29ms`, of an int of nanoseconds or of a timedelta.
-
-    Raises ValueError where it is negative, OverflowError where it is 2**64 seconds or more, and TypeError where it is
-    neither an int nor a timedelta.
-    """
+def nanos_of(value: Any) -> int:
+    """The nanoseconds of a timedelta or an int, also of pandas or NumPy. Raises TypeError where it is neither."""
+    numpy: Any = sys.modules.get("numpy")
     if isinstance(value, datetime.timedelta):
         nanos = ((value.days * 86_400 + value.seconds) * 10**6 + value.microseconds) * 1000
         # pandas' Timedelta is a timedelta that has them, too.
-        nanos += getattr(value, "nanoseconds", 0)
-    elif isinstance(value, int) and not isinstance(value, bool):
-        nanos = value
-    else:
-        raise TypeError(f"a duration must be an int of nanoseconds or a timedelta, not {type(value).__name__}")
-    if nanos < 0:
-        raise ValueError(f"a negative duration has no text: {value!r}")
-    secs, rest = divmod(nanos, _NANOS_A_SECOND)
-    if secs >= 2**64:
-        raise OverflowError("a duration of 2**64 seconds or more has no text")
-    return _library.printed(secs, rest)
+        return nanos + getattr(value, "nanoseconds", 0)
+    if numpy and isinstance(value, numpy.timedelta64):
+        if numpy.isnat(value):
+            raise ValueError("a missing duration has no text: NaT")
+        return int(value.astype("int64")) * nanos_a_step(value.dtype)
+    if isinstance(value, int) and not isinstance(value, bool):
+        return int.__index__(value)
+    if numpy and isinstance(value, numpy.integer):
+        return int(value)
+    raise TypeError(f"a duration must be an int of nanoseconds or a timedelta, not {type(value).__name__}")

@@ -1,0 +1,34 @@
+"""A field of pydantic's models. pydantic is imported by who uses it, and not here."""
+
+from __future__ import annotations
+
+import datetime
+from importlib import import_module
+from typing import Annotated, Any
+
+from ._native import format, parse
+
+
+def _read(value: Any) -> datetime.timedelta:
+    """The value of a text, or a timedelta as it is. Raises ValueError of a negative one, which has no text."""
+    if isinstance(value, datetime.timedelta):
+        format(value)
+        return value
+    return parse(value)
+
+
+class _Texts:
+    """How pydantic reads and writes a timedelta as a text."""
+
+    def __get_pydantic_core_schema__(self, source: Any, handler: Any) -> Any:
+        schema: Any = import_module("pydantic_core.core_schema")
+        text = schema.str_schema()
+        return schema.json_or_python_schema(
+            json_schema=schema.no_info_after_validator_function(parse, text),
+            python_schema=schema.no_info_plain_validator_function(_read),
+            serialization=schema.plain_serializer_function_ser_schema(format, return_schema=text, when_used="json"),
+        )
+
+
+Duration = Annotated[datetime.timedelta, _Texts()]
+"""A timedelta in a model of pydantic: a text is read, a timedelta is kept, and the JSON has the printed text."""

@@ -1,0 +1,373 @@
+/* The calls of duration_str.h for Python, by the limited API: one module serves CPython from 3.11 on. */
+#define Py_LIMITED_API 0x030b0000
+#define PY_SSIZE_T_CLEAN
+#include <Python.h>
+#include <duration_str.h>
+#include <string.h>
+
+#define SECOND 1000000000u
+
+/* What the module keeps of Python: the names of the options, in the order of their bits, and what it makes and calls. */
+enum kept { NO_CALC, LOWERCASE, CN_UNIT, OPTIONS, ERROR = OPTIONS, TYPE_ERROR, NANOS_OF, TIMEDELTA, A_SECOND, KEPT };
+
+struct state {
+    PyObject *kept[KEPT];
+};
+
+/* A text as UTF-8, which the str keeps. */
+struct text {
+    const uint8_t *bytes;
+    size_t length;
+};
+
+/* A number, or None where there is none. */
+static PyObject *size_or_none(bool is_there, size_t size) {
+    return is_there ? PyLong_FromSize_t(size) : Py_NewRef(Py_None);
+}
+
+/* Raises the package's error with this message about the text, references that it takes; index -1 is none. */
+static void raise_error(struct state *state, PyObject *message, PyObject *text, const struct duration_str_answer *answer,
+                        const uint8_t *bytes, Py_ssize_t index) {
+    const char *found = answer->found_length ? (const char *)bytes + answer->place : NULL;
+    PyObject *error = PyObject_CallFunction(state->kept[ERROR], "NNINIz#N", message, text, answer->cause,
+                                            size_or_none(answer->has_place, answer->place), answer->expected, found,
+                                            (Py_ssize_t)answer->found_length, size_or_none(index >= 0, (size_t)index));
+    if (error)
+        PyErr_SetObject(state->kept[ERROR], error);
+    Py_XDECREF(error);
+}
+
+/* Raises the package's error of a value that is no str; index -1 is none. */
+static void raise_type_error(struct state *state, PyObject *value, Py_ssize_t index) {
+    const char *format = index < 0 ? "a duration's text must be a str, not %U"
+                                   : "a duration's text must be a str, not %U, at index %zd";
+    PyObject *name = PyType_GetName(Py_TYPE(value));
+    if (name)
+        PyErr_Format(state->kept[TYPE_ERROR], format, name, index);
+    Py_XDECREF(name);
+}
+
+/* The message about a text that is refused. */
+static PyObject *message_of(struct text text, uint32_t options) {
+    const size_t length = duration_str_message(text.bytes, text.length, options, NULL, 0);
+    PyObject *bytes = length > PY_SSIZE_T_MAX ? PyErr_NoMemory() : PyBytes_FromStringAndSize(NULL, (Py_ssize_t)length);
+    if (!bytes)
+        return NULL;
+    duration_str_message(text.bytes, text.length, options, (uint8_t *)PyBytes_AsString(bytes), length);
+    PyObject *message = PyUnicode_FromEncodedObject(bytes, "utf-8", NULL);
+    Py_DECREF(bytes);
+    return message;
+}
+
+/* Turns the pending error of a str that is no text into the package's. */
+static void raise_surrogate(struct state *state, PyObject *text, Py_ssize_t index) {
+    const struct duration_str_answer answer = {.cause = DURATION_STR_NOT_TEXT};
+    PyObject *type, *error, *traceback, *message = NULL;
+    Py_ssize_t start = 0;
+    PyErr_Fetch(&type, &error, &traceback);
+    PyErr_NormalizeException(&type, &error, &traceback);
+    if (!PyUnicodeEncodeError_GetStart(error, &start))
+        message = PyUnicode_FromFormat("no text: character %zd is a lone surrogate", start);
+    raise_error(state, message, PyUnicode_FromObject(text), &answer, NULL, index);
+    Py_XDECREF(type);
+    Py_XDECREF(error);
+    Py_XDECREF(traceback);
+}
+
+/* Reads the text of a str, whatever a subclass says of itself. Returns 1 if it is read, 0 if it is refused, and -1 with an
+ * error: for other faults than the text's, and where it is to be raised, for these. */
+static int read_str(struct state *state, PyObject *given, uint32_t options, uint64_t *nanos, bool raises, Py_ssize_t index) {
+    Py_ssize_t length;
+    struct duration_str_answer answer;
+    struct text text = {.bytes = (const uint8_t *)PyUnicode_AsUTF8AndSize(given, &length)};
+    if (!text.bytes) {
+        if (!PyErr_ExceptionMatches(PyExc_UnicodeEncodeError))
+            return -1;
+        raises ? raise_surrogate(state, given, index) : PyErr_Clear();
+        return raises ? -1 : 0;
+    }
+    text.length = (size_t)length;
+    /* The call that knows its options is the faster one, but doesn't tell why it refuses. */
+    if (!options && duration_str_parse(text.bytes, text.length, nanos))
+        return 1;
+    if (!options && !raises)
+        return 0;
+    if (duration_str_parse_with(text.bytes, text.length, options, &answer)) {
+        *nanos = answer.nanos;
+        return 1;
+    }
+    if (!raises)
+        return 0;
+    raise_error(state, message_of(text, options), PyUnicode_FromObject(given), &answer, text.bytes, index);
+    return -1;
+}
+
+/* Reads the text of a call, whose arguments METH_FASTCALL | METH_KEYWORDS gives. Returns -1 with an error if it is refused. */
+static int read_call(struct state *state, PyObject *const *arguments, Py_ssize_t count, PyObject *keywords, uint64_t *nanos) {
+    uint32_t options = 0;
+    if (count != 1) {
+        PyErr_Format(PyExc_TypeError, "one text is wanted as a positional argument, not %zd", count);
+        return -1;
+    }
+    for (Py_ssize_t at = 0; keywords && at < PyTuple_Size(keywords); at++) {
+        PyObject *name = PyTuple_GetItem(keywords, at);
+        int option = 0;
+        while (option < OPTIONS && name != state->kept[option] && PyUnicode_Compare(name, state->kept[option]))
+            option++;
+        const int is_on = PyObject_IsTrue(arguments[count + at]);
+        if (option == OPTIONS)
+            PyErr_Format(PyExc_TypeError, "unexpected keyword argument %R", name);
+        if (option == OPTIONS || is_on < 0)
+            return -1;
+        options |= (uint32_t)is_on << option;
+    }
+    if (PyUnicode_Check(arguments[0]))
+        return read_str(state, arguments[0], options, nanos, true, -1) == 1 ? 0 : -1;
+    raise_type_error(state, arguments[0], -1);
+    return -1;
+}
+
+static PyObject *parse_ns(PyObject *self, PyObject *const *arguments, Py_ssize_t count, PyObject *keywords) {
+    uint64_t nanos;
+    if (read_call(PyModule_GetState(self), arguments, count, keywords, &nanos))
+        return NULL;
+    return PyLong_FromUnsignedLongLong(nanos);
+}
+
+static PyObject *parse(PyObject *self, PyObject *const *arguments, Py_ssize_t count, PyObject *keywords) {
+    struct state *state = PyModule_GetState(self);
+    uint64_t nanos;
+    if (read_call(state, arguments, count, keywords, &nanos))
+        return NULL;
+    const uint64_t secs = nanos / SECOND;
+    return PyObject_CallFunction(state->kept[TIMEDELTA], "iii", (int)(secs / 86400), (int)(secs % 86400),
+                                 (int)(nanos % SECOND / 1000));
+}
+
+/* The text of an int of nanoseconds. */
+static PyObject *printed(struct state *state, PyObject *nanos) {
+    int overflow;
+    const long long few = PyLong_AsLongLongAndOverflow(nanos, &overflow);
+    if (overflow < 0 || (!overflow && few < 0))
+        return PyErr_Format(PyExc_ValueError, "a negative duration has no text: %R", nanos);
+    unsigned long long secs = (unsigned long long)few / SECOND, rest = (unsigned long long)few % SECOND;
+    PyObject *both = overflow ? PyNumber_Divmod(nanos, state->kept[A_SECOND]) : NULL;
+    if (both) {
+        secs = PyLong_AsUnsignedLongLong(PyTuple_GetItem(both, 0));
+        rest = PyLong_AsUnsignedLongLong(PyTuple_GetItem(both, 1));
+        Py_DECREF(both);
+    }
+    if (overflow && PyErr_Occurred())
+        return PyErr_Format(PyExc_OverflowError, "a duration of 2**64 seconds or more has no text");
+    uint8_t buffer[DURATION_STR_FORMAT_BUFFER_SIZE];
+    const size_t length = duration_str_format(secs, (uint32_t)rest, buffer);
+    return PyUnicode_FromStringAndSize((const char *)buffer, (Py_ssize_t)length);
+}
+
+/* The text of a duration, or None where the function that takes what is no int says that it is missing. */
+static PyObject *printed_value(struct state *state, PyObject *value, PyObject *function) {
+    if (PyLong_CheckExact(value))
+        return printed(state, value);
+    PyObject *nanos = PyObject_CallFunctionObjArgs(function, value, NULL);
+    PyObject *text = !nanos ? NULL : Py_IsNone(nanos) ? Py_NewRef(nanos) : printed(state, nanos);
+    Py_XDECREF(nanos);
+    return text;
+}
+
+static PyObject *format(PyObject *self, PyObject *value) {
+    struct state *state = PyModule_GetState(self);
+    return printed_value(state, value, state->kept[NANOS_OF]);
+}
+
+/* format_list(values, function, texts): appends to `texts` the text of each value, so that its length tells where an error
+ * stands. The function is called with what is no int. */
+static PyObject *format_list(PyObject *self, PyObject *arguments) {
+    PyObject *values, *function, *texts;
+    if (!PyArg_ParseTuple(arguments, "O!OO!", &PyList_Type, &values, &function, &PyList_Type, &texts))
+        return NULL;
+    for (Py_ssize_t at = 0; at < PyList_Size(values); at++) {
+        PyObject *value = Py_NewRef(PyList_GetItem(values, at));
+        PyObject *text = printed_value(PyModule_GetState(self), value, function);
+        const int failed = !text || PyList_Append(texts, text);
+        Py_DECREF(value);
+        Py_XDECREF(text);
+        if (failed)
+            return NULL;
+    }
+    Py_RETURN_NONE;
+}
+
+/* Adds a position to a list. Returns -1 with an error if there is no memory. */
+static int add_position(PyObject *list, Py_ssize_t position) {
+    PyObject *number = PyLong_FromSsize_t(position);
+    const int failed = !number || PyList_Append(list, number);
+    Py_XDECREF(number);
+    return failed ? -1 : 0;
+}
+
+/* read_list(texts, nanos, options, raises, first): puts the values of a list's texts into a buffer of zeros, and returns a list of
+ * the positions of what is refused, or is no str by its type. If it raises, it raises of the first value that is no str,
+ * before any text is read, or else of the first text that is refused. The first text has the index `first`. */
+static PyObject *read_list(PyObject *self, PyObject *arguments) {
+    PyObject *texts;
+    Py_buffer nanos;
+    Py_ssize_t first;
+    unsigned int options;
+    int raises;
+    if (!PyArg_ParseTuple(arguments, "O!w*Ipn", &PyList_Type, &texts, &nanos, &options, &raises, &first))
+        return NULL;
+    struct state *state = PyModule_GetState(self);
+    PyObject *refused = PyList_New(0);
+    for (Py_ssize_t at = 0; raises && refused && at < PyList_Size(texts); at++)
+        if (!PyUnicode_Check(PyList_GetItem(texts, at))) {
+            raise_type_error(state, PyList_GetItem(texts, at), first + at);
+            Py_CLEAR(refused);
+        }
+    for (Py_ssize_t at = 0; refused && at < PyList_Size(texts) && at < nanos.len / 8; at++) {
+        PyObject *text = Py_NewRef(PyList_GetItem(texts, at));
+        uint64_t *value = (uint64_t *)nanos.buf + at;
+        const int is_read = PyUnicode_Check(text) ? read_str(state, text, options, value, raises, first + at) : 0;
+        Py_DECREF(text);
+        if (is_read < 0 || (!is_read && add_position(refused, first + at)))
+            Py_CLEAR(refused);
+    }
+    PyBuffer_Release(&nanos);
+    return refused;
+}
+
+/* Copies one offset more than there are texts. A negative one becomes a very large one, which lies beyond all bytes. Returns
+ * whether they are signed, or -1 with an error if the buffer has something else. */
+static int copy_offsets(PyObject *given, size_t *offsets, Py_ssize_t texts) {
+    Py_buffer row;
+    if (PyObject_GetBuffer(given, &row, PyBUF_ND | PyBUF_FORMAT))
+        return -1;
+    const char *format = row.format ? row.format : "B";
+    const char *letter = format + (*format && strchr(PY_BIG_ENDIAN ? "@=>" : "@=<", *format));
+    int are_signed = *letter && strchr("ilqnILQN", *letter) && !letter[1] ? *letter >= 'a' : -1;
+    if (row.ndim != 1 || (row.itemsize != 4 && row.itemsize != 8))
+        are_signed = -1;
+    if (are_signed < 0)
+        PyErr_Format(PyExc_TypeError, "offsets must be a row of integers of 4 or 8 bytes, not '%s'", format);
+    for (Py_ssize_t at = 0; are_signed >= 0 && at <= texts && at < row.len / row.itemsize; at++) {
+        uint32_t narrow = 0;
+        uint64_t wide = 0;
+        memcpy(row.itemsize == 4 ? (void *)&narrow : (void *)&wide, (char *)row.buf + at * row.itemsize, (size_t)row.itemsize);
+        if (row.itemsize == 4)
+            wide = are_signed ? (uint64_t)(int64_t)(int32_t)narrow : narrow;
+        offsets[at] = wide > SIZE_MAX ? SIZE_MAX : (size_t)wide;
+    }
+    PyBuffer_Release(&row);
+    return are_signed;
+}
+
+/* Raises why the text between two offsets is refused. */
+static void raise_between(struct state *state, const Py_buffer *data, const size_t *offsets, int are_signed,
+                          uint32_t options, Py_ssize_t index) {
+    const size_t start = offsets[0], end = offsets[1];
+    if (start > end || end > (size_t)data->len) {
+        const char *format = are_signed ? "the offsets %zd and %zd decrease or lie beyond %zd bytes, at index %zd"
+                                        : "the offsets %zu and %zu decrease or lie beyond %zd bytes, at index %zd";
+        PyErr_Format(PyExc_ValueError, format, start, end, data->len, index);
+        return;
+    }
+    struct duration_str_answer answer;
+    const struct text text = {(const uint8_t *)data->buf + start, end - start};
+    if (duration_str_parse_with(text.bytes, text.length, options, &answer)) {
+        PyErr_Format(PyExc_RuntimeError, "the text changed while it was read, at index %zd", index);
+        return;
+    }
+    PyObject *given = PyUnicode_DecodeUTF8((const char *)text.bytes, (Py_ssize_t)text.length, "surrogateescape");
+    raise_error(state, message_of(text, options), given, &answer, text.bytes, index);
+}
+
+/* read_buffers(data, offsets, nanos, options, raises): as read_list, of the texts between the offsets into the data. */
+static PyObject *read_buffers(PyObject *self, PyObject *arguments) {
+    PyObject *given, *refused = NULL;
+    Py_buffer data, nanos;
+    unsigned int options;
+    int raises;
+    if (!PyArg_ParseTuple(arguments, "y*Ow*Ip", &data, &given, &nanos, &options, &raises))
+        return NULL;
+    const size_t texts = (size_t)nanos.len / 8;
+    size_t *offsets = PyMem_Calloc(texts + 1, sizeof *offsets);
+    uint32_t *causes = PyMem_Calloc(texts + 1, sizeof *causes);
+    const int are_signed = offsets && causes ? copy_offsets(given, offsets, (Py_ssize_t)texts) : (PyErr_NoMemory(), -1);
+    if (are_signed >= 0) {
+        /* Other threads may run where none of them can change the bytes. */
+        PyThreadState *paused = data.readonly ? PyEval_SaveThread() : NULL;
+        duration_str_parse_column(data.buf, (size_t)data.len, offsets, texts + 1, options, nanos.buf, texts, causes, texts);
+        if (paused)
+            PyEval_RestoreThread(paused);
+        refused = PyList_New(0);
+    }
+    for (size_t at = 0; refused && at < texts; at++) {
+        if (causes[at] && raises)
+            raise_between(PyModule_GetState(self), &data, offsets + at, are_signed, options, (Py_ssize_t)at);
+        if (causes[at] && (raises || add_position(refused, (Py_ssize_t)at)))
+            Py_CLEAR(refused);
+    }
+    PyMem_Free(causes);
+    PyMem_Free(offsets);
+    PyBuffer_Release(&data);
+    PyBuffer_Release(&nanos);
+    return refused;
+}
+
+#define OPTIONS_DOC "($module, text, /, *, no_calc=False, lowercase=False, cn_unit=False)\n--\n\n"
+PyDoc_STRVAR(parse_ns_doc, "parse_ns" OPTIONS_DOC "The value of a text in nanoseconds.\n\n"
+"`no_calc`: `+` and `*` are not read; terms are added as they come. `lowercase`: words are compared as they stand; else\n"
+"ASCII capitals are folded to small letters. `cn_unit`: the Chinese names of the units are read too.\n\n"
+"Raises DurationError where the text is refused, and DurationTypeError where it is no str.");
+PyDoc_STRVAR(parse_doc, "parse" OPTIONS_DOC
+"The value of a text as a timedelta, rounded down to whole microseconds; `parse_ns`, which has the same options and\n"
+"errors, is exact.");
+PyDoc_STRVAR(format_doc, "format($module, value, /)\n--\n\n"
+"A duration's text, such as `3min 13s 29ms`, of an int of nanoseconds or of a timedelta, also of NumPy. Raises\n"
+"ValueError where it is negative, OverflowError where it is 2**64 seconds or more, and TypeError where it is neither.");
+
+#define FAST(call) (PyCFunction)(void (*)(void))call, METH_FASTCALL | METH_KEYWORDS
+static PyMethodDef methods[] = {
+    {"parse_ns", FAST(parse_ns), parse_ns_doc},
+    {"parse", FAST(parse), parse_doc},
+    {"format", format, METH_O, format_doc},
+    {"format_list", format_list, METH_VARARGS, NULL},
+    {"read_list", read_list, METH_VARARGS, NULL},
+    {"read_buffers", read_buffers, METH_VARARGS, NULL},
+    {NULL, NULL, 0, NULL},
+};
+
+/* Takes a member of a module. Returns NULL with an error if there is none. */
+static PyObject *member(const char *module, const char *name) {
+    PyObject *imported = PyImport_ImportModule(module);
+    PyObject *taken = imported ? PyObject_GetAttrString(imported, name) : NULL;
+    Py_XDECREF(imported);
+    return taken;
+}
+
+static int begin(PyObject *module) {
+    struct state *state = PyModule_GetState(module);
+    int is_there = 1;
+    state->kept[NO_CALC] = PyUnicode_InternFromString("no_calc");
+    state->kept[LOWERCASE] = PyUnicode_InternFromString("lowercase");
+    state->kept[CN_UNIT] = PyUnicode_InternFromString("cn_unit");
+    state->kept[ERROR] = member("duration_str._texts", "DurationError");
+    state->kept[TYPE_ERROR] = member("duration_str._texts", "DurationTypeError");
+    state->kept[NANOS_OF] = member("duration_str._texts", "nanos_of");
+    state->kept[TIMEDELTA] = member("datetime", "timedelta");
+    state->kept[A_SECOND] = PyLong_FromLong(SECOND);
+    for (int at = 0; at < KEPT; at++)
+        is_there = is_there && state->kept[at];
+    return is_there ? 0 : -1;
+}
+
+static void end(void *module) {
+    struct state *state = PyModule_GetState(module);
+    for (int at = 0; state && at < KEPT; at++)
+        Py_CLEAR(state->kept[at]);
+}
+
+static PyModuleDef_Slot slots[] = {{Py_mod_exec, begin}, {0, NULL}};
+static struct PyModuleDef definition = {
+    PyModuleDef_HEAD_INIT, "_native", NULL, sizeof(struct state), methods, slots, NULL, NULL, end};
+
+PyMODINIT_FUNC PyInit__native(void) { return PyModuleDef_Init(&definition); }

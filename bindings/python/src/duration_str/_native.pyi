@@ -1,0 +1,19 @@
+from array import array
+from collections.abc import Callable
+from datetime import timedelta
+from typing import Any
+
+def parse_ns(
+    text: str, /, *, no_calc: bool = False, lowercase: bool = False, cn_unit: bool = False
+) -> int: ...
+def parse(
+    text: str, /, *, no_calc: bool = False, lowercase: bool = False, cn_unit: bool = False
+) -> timedelta: ...
+def format(value: int | timedelta | Any, /) -> str: ...
+def format_list(values: list[Any], function: Callable[[Any], int | None], texts: list[str | None], /) -> None: ...
+def read_list(
+    texts: list[Any], nanos: array[int], options: int, raises: bool, first: int, /
+) -> list[int]: ...
+def read_buffers(
+    data: Any, offsets: memoryview, nanos: array[int], options: int, raises: bool, /
+) -> list[int]: ...

@@ -1,0 +1,128 @@
+"""Durations as pydantic, argparse and Click read them, by the recipes of README.md."""
+
+import datetime
+import importlib.metadata
+import importlib.util
+import json
+import pathlib
+import re
+import subprocess
+import sys
+import tempfile
+import unittest
+
+import duration_str
+from duration_str import parse
+
+MINUTE = datetime.timedelta(minutes=1)
+
+
+def has(name):
+    return importlib.util.find_spec(name) is not None
+
+
+def recipe(name):
+    """The program in README.md whose first line is its name."""
+    told = importlib.metadata.metadata("duration-str").get_payload()
+    return re.search(rf"^```python\n(# {name}\n.*?)^```$", told, re.M | re.S)[1]
+
+
+def run(name, *words):
+    """The status, output and last line of standard error of a recipe."""
+    with tempfile.TemporaryDirectory() as room:
+        file = pathlib.Path(room, name)
+        file.write_text(recipe(name), encoding="utf-8")
+        ended = subprocess.run([sys.executable, file, *words], capture_output=True, text=True, encoding="utf-8")
+    return ended.returncode, ended.stdout, ended.stderr.rstrip("\n").rpartition("\n")[2]
+
+
+class Lines(unittest.TestCase):
+    def test_is_one_line_without_the_text(self):
+        for text in ["", "1x", "1m 3-5", "600y", "1s+2*3", "1µ\n2x", "\ud800", "x\r"]:
+            with self.subTest(text=text), self.assertRaises(duration_str.DurationError) as told:
+                parse(text)
+            error = told.exception
+            self.assertNotIn("\n", error.line)
+            self.assertTrue(str(error).endswith(error.line))
+        with self.assertRaises(duration_str.DurationError) as told:
+            duration_str.parse_many(["1µ\n2x"])
+        self.assertEqual(told.exception.line, LINE)
+
+    def test_argparse(self):
+        self.assertEqual(run("job.py", "--timeout", "1m"), (0, "0:01:00\n", ""))
+        status, output, told = run("job.py", "--timeout", "1m 3-5")
+        self.assertEqual((status, output), (2, ""))
+        self.assertEqual(told, f"job.py: error: argument --timeout: {LINE}")
+
+    @unittest.skipUnless(has("click"), "Click is missing")
+    def test_click(self):
+        self.assertEqual(run("wait.py", "--timeout", "1m"), (0, "0:01:00\n", ""))
+        status, output, told = run("wait.py", "--timeout", "1m 3-5")
+        self.assertEqual((status, output), (2, ""))
+        self.assertEqual(told, f"Error: Invalid value for '--timeout': {LINE}")
+
+
+LINE = 'expected ["y", "q", "mon", "w", "d", "h", "m", "s", "ms", "µs", "us", "ns"]'
+
+
+@unittest.skipUnless(has("pydantic"), "pydantic is missing")
+class Models(unittest.TestCase):
+    def setUp(self):
+        import pydantic
+
+        self.pydantic = pydantic
+
+        class Job(pydantic.BaseModel):
+            timeout: duration_str.Duration
+
+        self.model = Job
+
+    def test_reads_texts_and_keeps_timedeltas(self):
+        for value in ["1m", MINUTE]:
+            self.assertEqual(self.model(timeout=value).timeout, MINUTE)
+        self.assertEqual(self.model.model_validate_json('{"timeout": "1m"}').timeout, MINUTE)
+
+    def test_writes_the_printed_text(self):
+        job = self.model(timeout=90 * MINUTE)
+        self.assertEqual(job.model_dump_json(), '{"timeout":"1h 30min"}')
+        self.assertEqual(job.model_dump(mode="json"), {"timeout": "1h 30min"})
+        self.assertEqual(job.model_dump(), {"timeout": 90 * MINUTE})
+        self.assertEqual(self.model.model_validate_json(job.model_dump_json()), job)
+        self.assertEqual(self.model.model_validate(job.model_dump()), job)
+
+    def test_has_the_schema_of_its_json(self):
+        for mode in ["validation", "serialization"]:
+            schema = self.model.model_json_schema(mode=mode)
+            self.assertEqual(schema["properties"], {"timeout": {"title": "Timeout", "type": "string"}})
+
+    def test_refuses_what_json_does_not_read_back(self):
+        for value in ["1x", "", "PT1M", 60, 1.5, None, b"1m", -MINUTE, datetime.time(1)]:
+            with self.subTest(value=value), self.assertRaises(self.pydantic.ValidationError):
+                self.model(timeout=value)
+            if not isinstance(value, (bytes, datetime.timedelta, datetime.time)):
+                with self.subTest(json=value), self.assertRaises(self.pydantic.ValidationError):
+                    self.model.model_validate_json(json.dumps({"timeout": value}))
+        with self.assertRaises(self.pydantic.ValidationError) as told:
+            self.model(timeout="600y")
+        self.assertEqual([error["msg"] for error in told.exception.errors()], ["Value error, 600y\n^\noverflow error"])
+
+    def test_runs_the_recipe(self):
+        self.assertEqual(run("model.py"), (0, '{"timeout":"1h 30min"}\n', ""))
+
+    def test_reads_before_other_validators(self):
+        from typing import Annotated
+
+        adapter = self.pydantic.TypeAdapter(Annotated[datetime.timedelta, self.pydantic.BeforeValidator(parse)])
+        self.assertEqual(adapter.validate_python("1m"), MINUTE)
+        for value in [5, None, b"1m", "1x"]:
+            with self.subTest(value=value), self.assertRaises(self.pydantic.ValidationError):
+                adapter.validate_python(value)
+
+    def test_is_imported_by_who_uses_it(self):
+        program = "import sys, duration_str; print(*{'pydantic', 'click', 'argparse', 'numpy'} & {*sys.modules})"
+        told = subprocess.run([sys.executable, "-c", program], capture_output=True, text=True, check=True)
+        self.assertEqual(told.stdout, "\n")
+
+
+if __name__ == "__main__":
+    unittest.main()

@@ -1,0 +1,22 @@
+"""A caller, which mypy checks by what the package says of its types."""
+
+import datetime
+from array import array
+from typing import assert_type
+
+import duration_str
+
+assert_type(duration_str.parse("1m", no_calc=True), datetime.timedelta)
+assert_type(duration_str.parse_ns("1m"), int)
+assert_type(duration_str.format(5), str)
+assert_type(duration_str.format(datetime.timedelta(1)), str)
+assert_type(duration_str.parse_many(["1m"]), "array[int]")
+assert_type(duration_str.parse_many(["1m", None], errors="coerce"), "tuple[array[int], array[int]]")
+assert_type(duration_str.parse_buffers(b"1m", array("q", [0, 2])), "array[int]")
+timeout: duration_str.Duration = datetime.timedelta(1)
+try:
+    duration_str.parse("1x")
+except duration_str.DurationError as error:
+    assert_type(error.line, str)
+    assert_type(error.cause, duration_str.Cause)
+    assert_type(error.column, "int | None")
