@@ -1,8 +1,10 @@
 """page.py FILE [--pictures]: tries the page in this file in Chromium, or takes its pictures; called by tests/page."""
+import ast
 import json
 import pathlib
 import subprocess
 import sys
+import tempfile
 import time
 import urllib.parse
 
@@ -127,9 +129,12 @@ OFFERED = [
     ('"30m"', "30m", "30min"),
     ("timeout: 30m", "30m", "30min"),
     ("30m;", "30m", "30min"),
+    ('"timeout": "30m",', "30m", "30min"),
+    ("(1h 30m)", "1h 30m", "1h 30min"),
     ("1m+-", "1m+", "a number is next"),
     ("1m+2*3", "1m + 6s", "1min 6s"),
     ("hours", "1hours", "1h"),
+    ("2h × 3", "2h * 3", "6h"),
 ]
 # Texts with an option, the button, and the options that it leaves
 SWITCHED = [
@@ -410,22 +415,37 @@ def try_units(page):
 
 
 def try_code(page):
-    page.open("#text=1m%20%22%5C%0A%C2%B5%3F&no_calc&cn_unit")
+    """The code has the options, and its literals are the text."""
+    page.open("#text=1m%20%22%0A%C2%B5&no_calc&cn_unit")
     taken = {
-        "rust": r'parse_with("1m \"\\\u{a}µ?", Options { no_calc: true, cn_unit: true, ..Options::off() })?;',
-        "python": r'duration_str.parse("1m \"\\\U0000000aµ?", no_calc=True, cn_unit=True)',
-        "javascript": r'parse("1m \"\\\u{a}µ?", { noCalc: true, cnUnit: true });',
-        "c": r'(const uint8_t *)"1m \042\134\012\302\265\077", 9, DURATION_STR_NO_CALC | DURATION_STR_CN_UNIT, &answer);',
+        "rust": r'parse_with("1m \"\u{a}µ", Options { no_calc: true, cn_unit: true, ..Options::off() })?;',
+        "python": r'duration_str.parse("1m \"\U0000000aµ", no_calc=True, cn_unit=True)',
+        "javascript": r'parse("1m \"\u{a}µ", { noCalc: true, cnUnit: true });',
+        "c": "sizeof text - 1, DURATION_STR_NO_CALC | DURATION_STR_CN_UNIT, &answer);",
     }
     for name, end in taken.items():
         page.same(f"the code in {name}", end, page.shown(name)[-len(end) :])
-    page.open("#text=1h")
-    taken = {"rust": 'parse_with("1h", Options::off())?;', "python": 'parse("1h")', "javascript": 'parse("1h");',
-             "c": '"1h", 2, 0, &answer);'}
-    for name, end in taken.items():
-        page.same(f"the code in {name} without options", end, page.shown(name)[-len(end) :])
+    page.choose()
+    for text in ("1h", '"\\n ${x}', "\t\n\0009", "??/µ 分秒é\u202e\U0001f600"):
+        page.put(text)
+        call = ast.parse(page.shown("python")).body[-1].value
+        page.same(f"Python's literal of {text!r}", [text, 1, 0], [call.args[0].value, len(call.args), len(call.keywords)])
+        literal = page.shown("javascript").split("parse(")[1].removesuffix(");")
+        page.same(f"JavaScript's literal of {text!r}", text, page.run(f"return {literal}"))
+        page.same(f"Rust's options of {text!r}", True, page.shown("rust").endswith(", Options::off())?;"))
+        page.same(f"C's literal of {text!r}", text.encode(), literal_of_c(page.shown("c")))
     page.put("1m \ud800")
     page.same("no code of a lone surrogate", [None, True], [page.shown("rust"), page.shown("no-code") is not None])
+
+
+def literal_of_c(code):
+    """The bytes that the compiler makes of the code's literal."""
+    line = next(line for line in code.splitlines() if line.startswith("const char text[]"))
+    program = f"#include <stdio.h>\n{line}\nint main(void) {{ fwrite(text, 1, sizeof text - 1, stdout); }}\n"
+    with tempfile.TemporaryDirectory() as room:
+        words = ["cc", "-std=c99", "-Wall", "-Werror", "-x", "c", "-", "-o", f"{room}/printed"]
+        subprocess.run(words, input=program, text=True, check=True)
+        return subprocess.run([f"{room}/printed"], stdout=subprocess.PIPE, check=True).stdout
 
 
 def try_copying(page):
@@ -675,7 +695,9 @@ def main(file, *words):
             try_values, try_faults, try_offering, try_undoing, try_examples, try_units, try_code, try_copying, try_link,
             try_moments, try_printing, try_hostile, try_keyboard, try_readers, try_rules, try_place, try_looks, try_outside,
         ):
+            start = time.time()
             test(page)
+            print(test.__name__, round(time.time() - start, 1), file=sys.stderr)
     finally:
         page.driver.quit()
     if page.wrong == 0:

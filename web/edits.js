@@ -9,8 +9,10 @@ const OFFERED = 6;
 const MENDED = 8;
 const COMMON_UNITS = ["s", "m", "h", "d", "ms"];
 
-const QUOTES = `["'\`“”‘’«»]`;
-const WRAPPED = new RegExp(`^\\s*(?:${QUOTES}?[A-Za-z_][\\w.-]*${QUOTES}?\\s*[:=]\\s*)?${QUOTES}?([^"'\`“”‘’«»]*?)${QUOTES}?\\s*[;,.]?\\s*$`);
+const QUOTES = "\"'`“”‘’«»()[\\]";
+const QUOTE = `[${QUOTES}]?`;
+const KEY = `(?:${QUOTE}[A-Za-z_][\\w.-]*${QUOTE}\\s*[:=]\\s*)?`;
+const WRAPPED = new RegExp(`^\\s*${KEY}${QUOTE}([^${QUOTES}]*?)${QUOTE}\\s*[;,.]?\\s*$`);
 
 /** The duration inside quotes, after a key, or before a semicolon; nothing where there is none. */
 export function inside(text, options) {
@@ -84,10 +86,13 @@ function without(text, from, to) {
     return replaced(head.trimEnd() === head ? head + tail : head + tail.trimStart(), from, from, "");
 }
 
+/** The operator that the text continues with. */
+const operatorIn = (text) => /[*×·]/.test(text) ? "*" : "+";
+
 /** Texts in which a number has what is missing before it, a unit or an operator. */
 function mendedBeforeNumber(text, index, expected) {
     const end = text.slice(0, index).trimEnd().length;
-    const words = [...(expected.unit ? COMMON_UNITS : []), ...(expected.operator ? [" +", " *"] : [])];
+    const words = [...(expected.unit ? COMMON_UNITS : []), ...(expected.operator ? [` ${operatorIn(text)}`] : [])];
     return words.map((each) => `${text.slice(0, end)}${each} ${text.slice(index)}`);
 }
 
@@ -108,8 +113,11 @@ function mendedAt(text, { index, found, expected }, options) {
     if (/^[0-9]/.test(found)) return mendedBeforeNumber(text, index, expected);
     if (/^\p{L}/u.test(found)) return mendedAtWord(text, index, expected, options);
     const to = index + found.length;
-    const words = [...(expected.operator ? ["+", "*"] : []), ...(expected.unit ? COMMON_UNITS : [])];
-    return [without(text, index, to), ...words.map((each) => replaced(text, index, to, each)), text.slice(0, index).trimEnd()];
+    const put = (words) => replaced(text, index, to, words);
+    const operator = expected.operator ? [put(operatorIn(text))] : [];
+    const units = expected.unit ? COMMON_UNITS.map(put) : [];
+    const first = /[×·]/.test(found) ? [...operator, without(text, index, to)] : [without(text, index, to), ...operator];
+    return [...first, ...units, text.slice(0, index).trimEnd()];
 }
 
 /** The text of a sum of products, with each product worked out; nothing where one of them is not read. */

@@ -22,7 +22,8 @@ before(() => {
     writeFileSync(join(room, "module.mjs"), `${MODULE}\nconsole.log(said);`);
     writeFileSync(join(room, "required.cjs"), `const { parse } = require("duration-str");\n${USE}\nconsole.log(said);`);
 });
-after(() => rmSync(room, { recursive: true }));
+// A browser that ends may still write into its profile.
+after(() => rmSync(room, { recursive: true, maxRetries: 10 }));
 
 const runs = (...words) => execFileSync(words[0], words.slice(1), { cwd: room, encoding: "utf8" }).trim();
 
