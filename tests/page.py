@@ -157,7 +157,13 @@ HOSTILE = [
 ]
 MEGABYTE = 1 << 20
 # Texts of 1 MiB, and what is printed of them, or None; 349,525 s are 4 d 1 h 5 min 25 s.
-LONG = [("1s " * 349_525 + " ", "4d 1h 5min 25s"), ("x" * MEGABYTE, None), ("1m " + "<b>" * 349_524, None)]
+LONG = [
+    ("1s " * 349_525 + " ", "4d 1h 5min 25s"),
+    ("x" * MEGABYTE, None),
+    ("1m " + "<b>" * 349_524, None),
+    (" " * (MEGABYTE - 1) + "x", None),
+    ("1m " + "1" * (MEGABYTE - 6) + "m .5", None),
+]
 
 SETTLED = """
 const done = arguments[arguments.length - 1];

@@ -2,7 +2,8 @@
 import { format, tryParse } from "../bindings/js/dist/duration-str.js";
 import { LANGUAGES } from "./code.js";
 import { suggestions } from "./edits.js";
-import { AROUND, button, choose, chosenOptions, element, LONE_SURROGATE, LONG, made, quotation, switches, text, write } from "./elements.js";
+import { AROUND, button, choose, chosenOptions, element, LONE_SURROGATE, LONG, made } from "./elements.js";
+import { quotation, switches, text, write } from "./elements.js";
 import { terms } from "./grammar.js";
 import { termRows } from "./meaning.js";
 import { sentence } from "./sentence.js";

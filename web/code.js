@@ -32,8 +32,9 @@ function javascript(text, options) {
 
 function c(text, options) {
     const bytes = new TextEncoder().encode(text);
-    const written = (byte) => byte >= 0x20 && byte < 0x7f && !/["\\?]/.test(String.fromCharCode(byte));
-    const words = Array.from(bytes, (byte) => written(byte) ? String.fromCharCode(byte) : `\\${byte.toString(8).padStart(3, "0")}`);
+    const escaped = (byte) => `\\${byte.toString(8).padStart(3, "0")}`;
+    const isPlain = (byte) => byte >= 0x20 && byte < 0x7f && !/["\\?]/.test(String.fromCharCode(byte));
+    const words = Array.from(bytes, (byte) => isPlain(byte) ? String.fromCharCode(byte) : escaped(byte));
     const taken = chosen(options).map((name) => `DURATION_STR_${NAMES[name].toUpperCase()}`).join(" | ") || "0";
     return `#include <duration_str.h>\n\nconst char text[] = "${words.join("")}";\nstruct duration_str_answer answer;\n`
         + `bool is_read = duration_str_parse_with(\n    (const uint8_t *)text, sizeof text - 1, ${taken}, &answer);`;

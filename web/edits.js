@@ -9,15 +9,16 @@ const OFFERED = 6;
 const MENDED = 8;
 const COMMON_UNITS = ["s", "m", "h", "d", "ms"];
 
-const QUOTES = "\"'`“”‘’«»()[\\]";
-const QUOTE = `[${QUOTES}]?`;
-const KEY = `(?:${QUOTE}[A-Za-z_][\\w.-]*${QUOTE}\\s*[:=]\\s*)?`;
-const WRAPPED = new RegExp(`^\\s*${KEY}${QUOTE}([^${QUOTES}]*?)${QUOTE}\\s*[;,.]?\\s*$`);
+/** How many digits a number has that is looked at as part of a fraction. */
+const DIGITS = 30;
 
-/** The duration inside quotes, after a key, or before a semicolon; nothing where there is none. */
+const QUOTE = /^["'`“”‘’«»([]|["'`“”‘’«»)\]]$/g;
+const KEY = /^["']?[A-Za-z_][\w.-]*["']?\s*[:=]/;
+
+/** The duration inside quotes or brackets, after a key, or before a semicolon; nothing where there is none. */
 export function inside(text, options) {
-    const found = WRAPPED.exec(text)?.[1].trim();
-    return found && found !== text.trim() && tryParse(found, options).ok ? found : null;
+    const found = text.trim().replace(/[;,.]$/, "").replace(KEY, "").trim().replace(QUOTE, "").trim();
+    return found !== "" && found !== text.trim() && tryParse(found, options).ok ? found : null;
 }
 
 /** How many letters have to be put in, left out or replaced to make one word the other. */
@@ -58,13 +59,15 @@ export function chineseAt(text, index, { cnUnit }) {
  * words to write instead, if it is whole nanoseconds. */
 export function fractionAt(text, index, options) {
     const sign = text.charAt(index);
-    const before = /[0-9]*$/.exec(text.slice(0, index))[0];
+    if (!/[.,_'’]/.test(sign)) return null;
+    const before = /[0-9]*$/.exec(text.slice(Math.max(0, index - DIGITS), index))[0];
     const [after, digits, name] = /^([0-9]+)[ \t]*(\p{L}*)/u.exec(text.slice(index + 1)) ?? [];
-    if (!/[.,_'’]/.test(sign) || !after || before === "" && sign !== ".") return null;
+    if (!after || before === "" && sign !== ".") return null;
     const part = { from: index - before.length, to: index + 1 + after.length };
+    if (before.length === DIGITS || digits.length > DIGITS) return part;
     if (sign !== "." && digits.length % 3 === 0) return { ...part, isGrouped: true, words: before + after };
     const unit = unitOf(name || "s", options) ?? unitOf(nearestUnit(name, options) ?? "", options);
-    if (!unit || digits.length > 30) return part;
+    if (!unit) return part;
     const scale = 10n ** BigInt(digits.length);
     const nanos = BigInt(before + digits) * unit.nanos;
     if (nanos % scale !== 0n || nanos / scale >= 2n ** 64n) return part;
@@ -74,7 +77,7 @@ export function fractionAt(text, index, options) {
 
 /** The text with the words in place of what stands from and to there, kept apart from what they would run into. */
 function replaced(text, from, to, words) {
-    const runsOn = (one, other) => /[0-9]$/.test(one) && /^[0-9]/.test(other) || /\p{L}$/u.test(one) && /^\p{L}/u.test(other);
+    const runsOn = (one, other) => [/[0-9]/, /\p{L}/u].some((sort) => sort.test(one.slice(-1)) && sort.test(other.slice(0, 1)));
     const joined = (one, other) => runsOn(one, other) ? `${one} ${other}` : one + other;
     return joined(joined(text.slice(0, from), words), text.slice(to));
 }
@@ -100,7 +103,8 @@ function mendedBeforeNumber(text, index, expected) {
 function mendedAtWord(text, index, expected, options) {
     const word = wordAt(text, index);
     const put = (words) => replaced(text, index, index + word.length, words);
-    if (!expected.unit) return [...(unitOf(word, options) ? [put(`1${word}`)] : []), without(text, index, index + word.length)];
+    const numbered = unitOf(word, options) ? [put(`1${word}`)] : [];
+    if (!expected.unit) return [...numbered, without(text, index, index + word.length)];
     const near = nearestUnit(word, options);
     return (near ? [near] : COMMON_UNITS).map(put);
 }

@@ -39,5 +39,6 @@ export function termRows(text, options) {
     if (found.length < 2) return [];
     const values = found.map(({ from, to }) => parse(text.slice(from, to), options));
     const isProduct = found[1].operator === "*";
-    return [...termRowsOf(text, found, options), ...(isProduct ? steps(values) : [["together", inSeconds(values.reduce((a, b) => a + b))]])];
+    const last = isProduct ? steps(values) : [["together", inSeconds(values.reduce((a, b) => a + b))]];
+    return [...termRowsOf(text, found, options), ...last];
 }

@@ -49,7 +49,8 @@ function fractionSentence({ isGrouped, words }) {
 function unitSentence(word, options) {
     const other = { ...options, lowercase: false };
     if (options.lowercase && unitOf(word, other)) {
-        return ["Capitals aren't read under ", quoted("lowercase"), ": write ", quoted(word.toLowerCase()), ", not ", quoted(word), "."];
+        const small = quoted(word.toLowerCase());
+        return ["Capitals aren't read under ", quoted("lowercase"), ": write ", small, ", not ", quoted(word), "."];
     }
     const near = nearestUnit(word, options);
     return ["There is no unit ", quoted(word), ".", ...(near ? [" Did you mean ", quoted(near), "?"] : [])];
