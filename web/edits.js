@@ -77,8 +77,10 @@ export function fractionAt(text, index, options) {
 
 /** The text with the words in place of what stands from and to there, kept apart from what they would run into. */
 function replaced(text, from, to, words) {
-    const runsOn = (one, other) => [/[0-9]/, /\p{L}/u].some((sort) => sort.test(one.slice(-1)) && sort.test(other.slice(0, 1)));
-    const joined = (one, other) => runsOn(one, other) ? `${one} ${other}` : one + other;
+    const joined = (one, other) => {
+        const runsOn = [/[0-9]/, /\p{L}/u].some((sort) => sort.test(one.slice(-1)) && sort.test(other.slice(0, 1)));
+        return runsOn ? `${one} ${other}` : one + other;
+    };
     return joined(joined(text.slice(0, from), words), text.slice(to));
 }
 

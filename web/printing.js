@@ -16,10 +16,12 @@ const DIGITS = 30;
 
 /** How many nanoseconds the fields make together; nothing where all are empty. */
 function nanosOfFields() {
-    const given = Object.entries(FIELDS).map(([id, length]) => [element(id).value.trim(), length]).filter(([digits]) => digits);
+    const fields = Object.entries(FIELDS).map(([id, length]) => [element(id).value.trim(), length]);
+    const given = fields.filter(([digits]) => digits);
     if (given.some(([digits]) => !/^[0-9]+$/.test(digits))) throw new RangeError("only whole numbers, 0 or more");
     if (given.some(([digits]) => digits.length > DIGITS)) throw new RangeError(`at most ${DIGITS} digits`);
-    return given.length === 0 ? null : given.reduce((sum, [digits, length]) => sum + BigInt(digits) * length, 0n);
+    if (given.length === 0) return null;
+    return given.reduce((sum, [digits, length]) => sum + BigInt(digits) * length, 0n);
 }
 
 /** Shows the text of the fields' duration, or what is wrong with them, and returns it. */
