@@ -22,8 +22,7 @@ before(() => {
     writeFileSync(join(room, "module.mjs"), `${MODULE}\nconsole.log(said);`);
     writeFileSync(join(room, "required.cjs"), `const { parse } = require("duration-str");\n${USE}\nconsole.log(said);`);
 });
-// A browser that ends may still write into its profile.
-after(() => rmSync(room, { recursive: true, maxRetries: 10 }));
+after(() => rmSync(room, { recursive: true }));
 
 const runs = (...words) => execFileSync(words[0], words.slice(1), { cwd: room, encoding: "utf8" }).trim();
 
@@ -95,6 +94,10 @@ test("works in a service worker", skippedWithout("chromium"), async () => {
             browser.on("error", reject);
         });
         setTimeout(() => reject(new Error("the worker says nothing for a minute")), 60_000).unref();
-    }).finally(() => browser?.kill());
+    }).finally(() => new Promise((resolve) => {
+        // Until it has ended, the browser writes into its profile.
+        browser.on("close", resolve);
+        browser.kill();
+    }));
     assert.equal(said, SAID);
 });
