@@ -94,6 +94,10 @@ test("works in a service worker", skippedWithout("chromium"), async () => {
             browser.on("error", reject);
         });
         setTimeout(() => reject(new Error("the worker says nothing for a minute")), 60_000).unref();
-    }).finally(() => browser?.kill());
+    }).finally(() => new Promise((resolve) => {
+        // Until it has ended, the browser writes into its profile.
+        browser.on("close", resolve);
+        browser.kill();
+    }));
     assert.equal(said, SAID);
 });

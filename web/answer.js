@@ -1,0 +1,143 @@
+// The answer below the text: its value in all notations, or its fault with what could be written.
+import { format, tryParse } from "../bindings/js/dist/duration-str.js";
+import { LANGUAGES } from "./code.js";
+import { suggestions } from "./edits.js";
+import { AROUND, button, choose, chosenOptions, element, LONE_SURROGATE, LONG, made } from "./elements.js";
+import { quotation, switches, text, write } from "./elements.js";
+import { terms } from "./grammar.js";
+import { termRows } from "./meaning.js";
+import { sentence } from "./sentence.js";
+import { decimal, grouped, iso, seconds } from "./values.js";
+
+/** What a copy button copies, by the name of the element that shows it. */
+export const copied = {};
+
+function show(id, words, shown = words) {
+    copied[id] = words;
+    element(id).textContent = shown;
+}
+
+// ---- Marks
+
+/** The part of the text that a fault is about, from and to as UTF-16 units; nothing where the fault has no place. */
+function markedPart({ code, index, found }) {
+    if (code === "NOT_TEXT") {
+        const lone = text.value.search(LONE_SURROGATE);
+        return { from: lone, to: lone + 1 };
+    }
+    if (index === null) return null;
+    if (code === "SYNTAX") return { from: index, to: index + (found ?? "").length };
+    const [{ to }] = terms(text.value, chosenOptions());
+    return { from: 0, to };
+}
+
+/** Shows a text in the element, with a mark from and to there. */
+function putMarked(target, shown, from, to) {
+    // At the end of the text a blank is marked.
+    const mark = made("mark", from === to ? "\u00a0" : shown.slice(from, to));
+    target.replaceChildren(shown.slice(0, from), mark, shown.slice(to));
+}
+
+/** The pair of a surrogate is never cut: the nearest place from there on that is in no pair. */
+function whole(shown, place) {
+    return /[\udc00-\udfff]/.test(shown.charAt(place)) ? place + 1 : place;
+}
+
+function showMarks(part) {
+    const long = text.value.length > LONG;
+    text.parentElement.classList.toggle("long", long);
+    const excerpt = element("excerpt");
+    excerpt.hidden = !long || !part;
+    if (long) element("mirror").replaceChildren();
+    else if (part) putMarked(element("mirror"), text.value, part.from, part.to);
+    else element("mirror").textContent = text.value;
+    if (excerpt.hidden) return;
+    const start = whole(text.value, Math.max(0, part.from - AROUND));
+    const stop = whole(text.value, Math.min(part.to, part.from + AROUND));
+    const shown = text.value.slice(start, whole(text.value, stop + AROUND));
+    putMarked(excerpt, shown, part.from - start, stop - start);
+}
+
+// ---- A fault
+
+/** The names of the options that differ from those that are chosen, with how they are to be. */
+function switched(options) {
+    const changed = Object.entries(switches).filter(([name, box]) => box.checked !== options[name]);
+    return changed.map(([, box]) => ` ${box.checked ? "without" : "with"} ${box.id}`).join("");
+}
+
+function showSuggestions(fault) {
+    const offered = text.value.length > LONG ? [] : suggestions(text.value, fault, chosenOptions());
+    element("suggestions").hidden = offered.length === 0;
+    element("offered").replaceChildren(...offered.map(({ text: words, options, meaning }) => {
+        const press = () => {
+            choose(options);
+            write(words);
+        };
+        return button(press, made("code", made("bdi", words)), made("span", `${switched(options)} `, meaning));
+    }));
+}
+
+/** Where a fault stands, for people. */
+function place({ column, code }) {
+    if (column === null) return "The library says:";
+    return `Column ${code === "SYNTAX" ? column + 1 : 1}. The library says:`;
+}
+
+function showFault(fault) {
+    const parts = sentence(text.value, fault, chosenOptions());
+    element("sentence").replaceChildren(...parts.map((part) => typeof part === "string" ? part : quotation(part.quoted)));
+    element("sentence").classList.toggle("hint", text.value === "");
+    element("where").textContent = place(fault);
+    element("line").textContent = fault.line;
+    showSuggestions(fault);
+}
+
+// ---- A value
+
+function showTerms(rows) {
+    element("terms").hidden = rows.length === 0;
+    const cells = ([words, value]) => {
+        const heading = made("th", words);
+        heading.scope = "row";
+        return made("tr", heading, made("td", value));
+    };
+    element("terms").querySelector("tbody").replaceChildren(...rows.map(cells));
+}
+
+function showValue(value) {
+    show("printed", format(value));
+    for (const [id, length] of [["nanoseconds", 1n], ["milliseconds", 1_000_000n]]) {
+        show(id, decimal(value, length), grouped(decimal(value, length)));
+    }
+    show("seconds", seconds(value), grouped(seconds(value)));
+    show("iso", iso(value));
+    showTerms(termRows(text.value, chosenOptions()));
+}
+
+function showCode() {
+    const unfit = text.value.length > LONG || LONE_SURROGATE.test(text.value);
+    element("no-code").hidden = !unfit;
+    element("codes").hidden = unfit;
+    if (unfit) return;
+    for (const [id, written] of Object.entries(LANGUAGES)) show(id, written(text.value, chosenOptions()));
+}
+
+/** Reads the text, shows its value or its fault, and returns what a screen reader is told of it. */
+export function showAnswer() {
+    const { ok, value, fault } = tryParse(text.value, chosenOptions());
+    element("value").hidden = !ok;
+    element("fault").hidden = ok;
+    text.setAttribute("aria-invalid", String(!ok && text.value !== ""));
+    showMarks(ok || text.value === "" ? null : markedPart(fault));
+    showCode();
+    if (ok) {
+        text.removeAttribute("aria-describedby");
+        for (const id of ["sentence", "where", "line", "offered"]) element(id).replaceChildren();
+        showValue(value);
+        return copied.printed;
+    }
+    showFault(fault);
+    text.setAttribute("aria-describedby", "sentence");
+    return element("sentence").textContent;
+}
