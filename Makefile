@@ -29,7 +29,7 @@ endif
 has_program := $(filter x86_64,$(target))
 quoted = '$(subst ','\'',$(1))'
 crate := crates/duration_str_c
-header := $(crate)/include/duration_str.h
+header := c/include/duration_str.h
 version = $(shell sed -n 's/^\#define DURATION_STR_VERSION_\(MAJOR\|MINOR\|PATCH\) //p' $(header) | paste -sd .)
 major = $(firstword $(subst ., ,$(version)))
 
@@ -68,8 +68,8 @@ out/x86_64/libduration_str.a out/aarch64/libduration_str.a out/wasm64/libduratio
 	    $(call by_rt,duration_str_c,libduration_str_c.a,lib $(words))
 
 out/x86_64/libduration_str.so out/aarch64/libduration_str.so: %.so: %.a FORCE
-	@tools/if-changed $(linker) $@ $< $(crate)/exports.map -- $(linker) -shared -o $@.new \
-	    -s -Wl,-z,now,-soname,libduration_str.so.$(major),--version-script,$(crate)/exports.map,--no-undefined \
+	@tools/if-changed $(linker) $@ $< c/exports.map -- $(linker) -shared -o $@.new \
+	    -s -Wl,-z,now,-soname,libduration_str.so.$(major),--version-script,c/exports.map,--no-undefined \
 	    -Wl,--whole-archive $< -Wl,--no-whole-archive
 
 out/wasm64/duration_str.wasm: out/wasm64/libduration_str.a FORCE
@@ -98,7 +98,7 @@ INSTALL_PROGRAM = $(INSTALL)
 INSTALL_DATA = $(INSTALL) -m 644
 export DESTDIR
 
-calls = $(shell sed -n 's/^ *\(duration_str_[a-z_]*\);$$/\1/p' $(crate)/exports.map)
+calls = $(shell sed -n 's/^ *\(duration_str_[a-z_]*\);$$/\1/p' c/exports.map)
 shared = libduration_str.so libduration_str.so.$(major) libduration_str.so.$(version)
 cmake_files = $(addprefix cmake/duration_str/duration_str-config,.cmake -version.cmake)
 installed = $(if $(has_program),$(bindir)/durstr $(mandir)/man1/durstr.1) $(includedir)/duration_str.h \
@@ -113,13 +113,13 @@ units = sed -n '/^ \* Units: /,/^ \*\//s|^ \*/\{0,1\} \{0,1\}||p' $(header) | pa
     sed 's/ Numbers are .*//; s/\. /.\n/g' | fold -s -w 40 | sed 's/ *$$//'
 
 # The manual page in that file, for what is installed
-page = sed -e '/^@TEXTS@$$/{r docs/man/texts.in' -e 'd}' docs/man/$(1) | \
+page = sed -e '/^@TEXTS@$$/{r docs/man/texts.in' -e 'd}' $(1) | \
     sed -e '/^@UNITS@$$/{r '<($(units)) -e 'd}' -e 's/@VERSION@/$(version)/' \
     $(if $(has_program),,-e '/^\.Sh SEE ALSO$$/,/^\.Xr/d')
 
 # The template in that file, for what is installed; VARIABLE stands for the prefix: $(call filled,FILE,VARIABLE)
 filled = sed 's|@PREFIX@|$(prefix)|; s|@VERSION@|$(version)|; s|@LIBDIR@|$(call below,$(libdir),$(2))|; \
-    s|@INCLUDEDIR@|$(call below,$(includedir),$(2))|' $(crate)/$(1).in
+    s|@INCLUDEDIR@|$(call below,$(includedir),$(2))|' c/$(1).in
 below = $(patsubst $(prefix)/%,$${$(2)}/%,$(1))
 
 # Some characters pkg-config takes for something else, and others it quotes, so that compilers misread them.
@@ -137,7 +137,7 @@ install: installable all
 	@$(put)
 	if [ -n '$(has_program)' ]; then
 	    $(INSTALL_PROGRAM) -v -D out/durstr "$$DESTDIR$(bindir)/durstr"
-	    $(call page,durstr.1.in) | put /dev/stdin $(mandir)/man1/durstr.1
+	    $(call page,docs/man/durstr.1.in) | put /dev/stdin $(mandir)/man1/durstr.1
 	fi
 	put $(header) $(includedir)/duration_str.h
 	put out/$(target)/libduration_str.a $(libdir)/libduration_str.a
@@ -146,7 +146,7 @@ install: installable all
 	ln -sf libduration_str.so.$(major) "$$DESTDIR$(libdir)/libduration_str.so"
 	$(call filled,duration_str.pc,prefix) | put /dev/stdin $(libdir)/pkgconfig/duration_str.pc
 	$(foreach file,$(cmake_files),$(call filled,$(notdir $(file)),duration_str_prefix) | put /dev/stdin $(libdir)/$(file);)
-	$(call page,duration_str.3.in) | put /dev/stdin $(mandir)/man3/duration_str.3
+	$(call page,c/duration_str.3.in) | put /dev/stdin $(mandir)/man3/duration_str.3
 	for call in $(calls); do echo '.so man3/duration_str.3' | put /dev/stdin "$(mandir)/man3/$$call.3"; done
 	for file in LICENSE NOTICE; do put "$$file" "$(docdir)/$$file"; done
 	[ -n "$$DESTDIR" ] || echo 'install: programs find the shared library once ldconfig knows $(libdir)'
@@ -161,13 +161,13 @@ uninstall: installable
 
 dist = dist
 check:
-	@./check
+	@tests/check
 
 quick:
-	@./check --quick
+	@tests/check --quick
 
 release:
 	@tools/release $(call quoted,$(dist))
 
 clean:
-	rm -rf out crates/*/out examples/out tests/fuzz/out bench/target bindings/c/target bindings/rust/target bindings/js/dist
+	rm -rf out crates/*/out tests/fuzz/out bench/target c/target rust/target rust/examples/*/target js/dist

@@ -2,7 +2,7 @@
 // the nanoseconds a call, the least of the rounds.
 import { readFileSync } from "node:fs";
 
-import { DurationError, format, parse, parseMs } from "../bindings/js/dist/duration-str.js";
+import { DurationError, format, parse, parseMs } from "../js/dist/duration-str.js";
 
 const ROUNDS = 25;
 const TIMES = 100;

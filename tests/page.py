@@ -25,7 +25,7 @@ OPERATORS = "expected ['+', '*']"
 SPACE_MARK = "\u00a0"
 OPTIONS = ("no_calc", "lowercase", "cn_unit")
 
-# Texts, options, and their values, of which printed and nanoseconds stand in README.md or bindings/rust/vectors.json;
+# Texts, options, and their values, of which printed and nanoseconds stand in README.md or rust/vectors.json;
 # the other notations are worked out by hand: nanoseconds, milliseconds, seconds and ISO 8601.
 VALUES = [
     ("3m + 13s + 29ms", [], "3min 13s 29ms", "193,029,000,000", "193,029", "193.029", "PT3M13.029S"),
@@ -63,7 +63,7 @@ TERMS = [
 ]
 
 # Texts, options, and why they are refused: the library's line, what is marked, and the sentence. The lines and places stand
-# in docs/GRAMMAR.md or in bindings/rust/vectors.json, what can follow in GRAMMAR's table.
+# in docs/GRAMMAR.md or in rust/vectors.json, what can follow in GRAMMAR's table.
 LONGEST = "longer than 584 years, the longest duration that can be read."
 TOO_LARGE = "number too large to fit in target type"
 FAULTS = [

@@ -1,5 +1,5 @@
 // The answer below the text: its value in all notations, or its fault with what could be written.
-import { format, tryParse } from "../bindings/js/dist/duration-str.js";
+import { format, tryParse } from "../js/dist/duration-str.js";
 import { LANGUAGES } from "./code.js";
 import { suggestions } from "./edits.js";
 import { AROUND, button, choose, chosenOptions, element, LONE_SURROGATE, LONG, made } from "./elements.js";

@@ -1,5 +1,5 @@
 // What could be written in place of a refused text: whole texts, which are read or begin one that is.
-import { format, tryParse } from "../bindings/js/dist/duration-str.js";
+import { format, tryParse } from "../js/dist/duration-str.js";
 import { folded, terms, UNITS, unitNames, unitOf } from "./grammar.js";
 import { asTerm } from "./values.js";
 

@@ -1,5 +1,5 @@
 // What a text means, term by term.
-import { parse } from "../bindings/js/dist/duration-str.js";
+import { parse } from "../js/dist/duration-str.js";
 import { terms } from "./grammar.js";
 import { grouped, SECOND, seconds } from "./values.js";
 

@@ -1,5 +1,5 @@
 // The moments before and after one.
-import { after, before, DurationError } from "../bindings/js/dist/duration-str.js";
+import { after, before, DurationError } from "../js/dist/duration-str.js";
 import { chosenOptions, element, text } from "./elements.js";
 
 /** A moment, to whole seconds where it has no more. */

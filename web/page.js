@@ -1,5 +1,5 @@
 // The page's behaviour: what is typed, pressed and chosen.
-import { tryParse } from "../bindings/js/dist/duration-str.js";
+import { tryParse } from "../js/dist/duration-str.js";
 import { copied, showAnswer } from "./answer.js";
 import { button, choose, chosenOptions, element, made, switches, text, write } from "./elements.js";
 import { UNITS } from "./grammar.js";

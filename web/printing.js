@@ -1,5 +1,5 @@
 // The text of a duration that is given in numbers.
-import { format } from "../bindings/js/dist/duration-str.js";
+import { format } from "../js/dist/duration-str.js";
 import { element } from "./elements.js";
 import { SECOND } from "./values.js";
 

@@ -1,5 +1,5 @@
 // What is wrong with a refused text, in a sentence for people. A sentence is a list of strings and of quoted texts.
-import { tryParse } from "../bindings/js/dist/duration-str.js";
+import { tryParse } from "../js/dist/duration-str.js";
 import { chineseAt, fractionAt, inside, nearestUnit, wordAt } from "./edits.js";
 import { terms, tokens, UNITS, unitOf } from "./grammar.js";
 

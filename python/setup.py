@@ -14,10 +14,10 @@ from setuptools.command.build_ext import build_ext
 from setuptools.command.sdist import sdist
 
 HERE = pathlib.Path(__file__).resolve().parent
-CHECKOUT = HERE.parent.parent
+CHECKOUT = HERE.parent
 IS_CHECKOUT = (CHECKOUT / "crates/duration_str_c").is_dir()
 CRATES = HERE.parent if IS_CHECKOUT else HERE
-INCLUDE = CHECKOUT / "crates/duration_str_c/include" if IS_CHECKOUT else HERE / "include"
+INCLUDE = CHECKOUT / "c/include" if IS_CHECKOUT else HERE / "include"
 
 
 def archive(room):
