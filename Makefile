@@ -1,4 +1,4 @@
-# make                 proves and builds the program, out/durstr, and the library for C, in out/x86_64
+# make                 builds the program and the library for C, and says where they lie
 # make program         the program alone
 # make library         the library alone, for target=TARGET, in out/TARGET: on Linux x86_64 and aarch64 (an archive and
 #                      a shared library), as WebAssembly wasm64 and wasm32 (a module with addresses of so many bits)
@@ -12,14 +12,15 @@
 # make page            writes out/duration_str.html, a page to try texts on
 # make clean           removes what was built and proved here, except dist/
 #
-# Proving and building needs the Rattle toolchain's command rt on the path. What is current is decided by
-# tools/if-changed, from the contents of the sources and the toolchain's version.
+# With the Rattle toolchain's command rt on the path, what is built is proved first. Without it, what was proved and built
+# of the same sources serves; else rustc and cargo, from 1.85 on, build the Rust crate's sources, which are the proved ones
+# without their contracts. tools/if-changed decides by contents what is current.
 SHELL := bash
 .SHELLFLAGS := -euo pipefail -c
 .ONESHELL:
 .NOTPARALLEL:
 .PHONY: all program library check quick install uninstall release page clean help installable FORCE
-unexport MAKEFLAGS
+unexport MAKEFLAGS CDPATH
 MAKEFLAGS += --no-builtin-rules --no-print-directory
 
 target = x86_64
@@ -28,10 +29,9 @@ $(error target is x86_64, aarch64, wasm64 or wasm32, and not $(target))
 endif
 has_program := $(filter x86_64,$(target))
 quoted = '$(subst ','\'',$(1))'
-crate := crates/duration_str_c
 header := c/include/duration_str.h
 version = $(shell sed -n 's/^\#define DURATION_STR_VERSION_\(MAJOR\|MINOR\|PATCH\) //p' $(header) | paste -sd .)
-major = $(firstword $(subst ., ,$(version)))
+soname = $(shell sed -n 's/.*-soname,\(libduration_str\.so\.[0-9]*\).*/\1/p' c/build.rs)
 
 all: $(if $(has_program),program) library
 
@@ -40,9 +40,29 @@ help:
 
 # ---- What is built
 
-program: out/durstr
+# proved FILE: whether rt is here to make the file, or it is current
+proved = proved() { type -P rt >/dev/null || $(MAKE) --silent "$$1" 2>/dev/null; }
 
-library: out/$(target)/$(if $(filter wasm%,$(target)),duration_str.wasm,libduration_str.so)
+program:
+	@$(proved)
+	made=out/durstr
+	proved $$made || made=out/rustc/durstr
+	$(MAKE) --silent $$made
+	echo $$made
+
+library:
+	@$(proved)
+	made=out/$(target)/$(if $(filter wasm%,$(target)),duration_str.wasm,libduration_str.so)
+	if [ $(target) != x86_64 ] || proved $$made; then
+	    $(MAKE) --silent $$made
+	elif type -P cargo >/dev/null; then
+	    made=out/cargo/libduration_str.so
+	    $(MAKE) --silent $$made
+	else
+	    echo "library: needs the Rattle toolchain's command rt, or cargo with Rust 1.85 or later (see README.md)" >&2
+	    exit 1
+	fi
+	dirname $$made
 
 # The sources of these crates
 sources = crates.txt $(wildcard $(foreach name,$(1),$(addprefix crates/$(name)/,src specs proofs)))
@@ -54,7 +74,24 @@ out/durstr: FORCE
 	@tools/if-changed rt $@ $(call sources,duration_str durstr_run durstr) -- \
 	    $(call by_rt,durstr,durstr,run --cpu x86-64)
 
-# It has to be there before a proof begins. What the module with 32-bit addresses is made of takes its linker over.
+# The Rust crate's sources, the proved ones without their contracts, by rustc alone and without a network
+out/rustc/durstr: FORCE
+	@tools/if-changed rustc $@ rust/core/src rust/src -- bash -c 'made=$$(mktemp -d) && trap "rm -r $$made" EXIT && \
+	    echo "tell: the proved source without its contracts, compiled by rustc; nothing was proved here" && \
+	    rustc="rustc --edition 2024 -O -C panic=abort -L $$made" && library="--crate-type rlib --out-dir $$made" && \
+	    $$rustc $$library --crate-name duration_str_core rust/core/src/lib.rs && \
+	    $$rustc $$library --crate-name duration_str --extern duration_str_core rust/src/lib.rs && \
+	    $$rustc -C strip=symbols --extern duration_str -o $@.new rust/src/main.rs'
+
+# The library for C of the same sources, by cargo. Of rustc's own archive 4.3 MB are helpers that nothing calls; the object
+# has all that is needed.
+out/cargo/libduration_str.so: FORCE
+	@cargo rustc --quiet --release --offline --manifest-path c/Cargo.toml --target-dir out/cargo -- \
+	    --emit "obj=$(CURDIR)/out/cargo/duration_str.o"
+	ar rcs out/cargo/libduration_str.a out/cargo/duration_str.o
+	cp out/cargo/release/libduration_str.so $@
+
+# It has to be there before a proof begins. What the module with 32-bit addresses is made of inherits its linker.
 out/x86_64/%: linker = cc
 out/aarch64/%: linker = aarch64-linux-gnu-gcc
 out/wasm32/%: linker = wasm-opt
@@ -69,7 +106,7 @@ out/x86_64/libduration_str.a out/aarch64/libduration_str.a out/wasm64/libduratio
 
 out/x86_64/libduration_str.so out/aarch64/libduration_str.so: %.so: %.a FORCE
 	@tools/if-changed $(linker) $@ $< c/exports.map -- $(linker) -shared -o $@.new \
-	    -s -Wl,-z,now,-soname,libduration_str.so.$(major),--version-script,c/exports.map,--no-undefined \
+	    -s -Wl,-z,now,-soname,$(soname),--version-script,c/exports.map,--no-undefined \
 	    -Wl,--whole-archive $< -Wl,--no-whole-archive
 
 out/wasm64/duration_str.wasm: out/wasm64/libduration_str.a FORCE
@@ -99,7 +136,7 @@ INSTALL_DATA = $(INSTALL) -m 644
 export DESTDIR
 
 calls = $(shell sed -n 's/^ *\(duration_str_[a-z_]*\);$$/\1/p' c/exports.map)
-shared = libduration_str.so libduration_str.so.$(major) libduration_str.so.$(version)
+shared = libduration_str.so $(soname) libduration_str.so.$(version)
 cmake_files = $(addprefix cmake/duration_str/duration_str-config,.cmake -version.cmake)
 installed = $(if $(has_program),$(bindir)/durstr $(mandir)/man1/durstr.1) $(includedir)/duration_str.h \
     $(addprefix $(libdir)/,libduration_str.a $(shared) pkgconfig/duration_str.pc $(cmake_files)) \
@@ -133,26 +170,31 @@ installable:
 	done
 	case $(target) in wasm*) echo 'install: WebAssembly modules are not installed' >&2; exit 1 ;; esac
 
-install: installable all
+install: installable
 	@$(put)
-	if [ -n '$(has_program)' ]; then
-	    $(INSTALL_PROGRAM) -v -D out/durstr "$$DESTDIR$(bindir)/durstr"
+	program=$(if $(has_program),$$($(MAKE) --silent program))
+	libraries=$$($(MAKE) --silent library target=$(target))
+	if [ -n "$$program" ]; then
+	    $(INSTALL_PROGRAM) -v -D "$$program" "$$DESTDIR$(bindir)/durstr"
 	    $(call page,docs/man/durstr.1.in) | put /dev/stdin $(mandir)/man1/durstr.1
 	fi
 	put $(header) $(includedir)/duration_str.h
-	put out/$(target)/libduration_str.a $(libdir)/libduration_str.a
-	put out/$(target)/libduration_str.so $(libdir)/libduration_str.so.$(version)
-	ln -sf libduration_str.so.$(version) "$$DESTDIR$(libdir)/libduration_str.so.$(major)"
-	ln -sf libduration_str.so.$(major) "$$DESTDIR$(libdir)/libduration_str.so"
+	put "$$libraries/libduration_str.a" $(libdir)/libduration_str.a
+	put "$$libraries/libduration_str.so" $(libdir)/libduration_str.so.$(version)
+	ln -sf libduration_str.so.$(version) "$$DESTDIR$(libdir)/$(soname)"
+	ln -sf $(soname) "$$DESTDIR$(libdir)/libduration_str.so"
 	$(call filled,duration_str.pc,prefix) | put /dev/stdin $(libdir)/pkgconfig/duration_str.pc
 	$(foreach file,$(cmake_files),$(call filled,$(notdir $(file)),duration_str_prefix) | put /dev/stdin $(libdir)/$(file);)
 	$(call page,c/duration_str.3.in) | put /dev/stdin $(mandir)/man3/duration_str.3
 	for call in $(calls); do echo '.so man3/duration_str.3' | put /dev/stdin "$(mandir)/man3/$$call.3"; done
 	for file in LICENSE NOTICE; do put "$$file" "$(docdir)/$$file"; done
+	[ "$$libraries" = out/$(target) ] || echo 'install: both are the proved source without its contracts, compiled by' \
+	    'rustc; nothing was proved here'
 	[ -n "$$DESTDIR" ] || echo 'install: programs find the shared library once ldconfig knows $(libdir)'
 
 uninstall: installable
 	@for file in $(installed); do rm -fv "$$DESTDIR$$file"; done
+	rm -fv "$$DESTDIR$(libdir)"/libduration_str.so.[0-9]* # those of older versions too
 	for folder in $(docdir) $(libdir)/cmake/duration_str; do
 	    [ ! -d "$$DESTDIR$$folder" ] || rmdir --ignore-fail-on-non-empty "$$DESTDIR$$folder"
 	done
@@ -170,4 +212,4 @@ release:
 	@tools/release $(call quoted,$(dist))
 
 clean:
-	rm -rf out crates/*/out tests/fuzz/out bench/target c/target rust/target rust/examples/*/target js/dist
+	rm -rf out crates/*/out tests/fuzz/out target */target js/dist

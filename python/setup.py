@@ -16,7 +16,7 @@ from setuptools.command.sdist import sdist
 HERE = pathlib.Path(__file__).resolve().parent
 CHECKOUT = HERE.parent
 IS_CHECKOUT = (CHECKOUT / "crates/duration_str_c").is_dir()
-CRATES = HERE.parent if IS_CHECKOUT else HERE
+CRATES = CHECKOUT if IS_CHECKOUT else HERE
 INCLUDE = CHECKOUT / "c/include" if IS_CHECKOUT else HERE / "include"
 
 
@@ -27,8 +27,8 @@ def archive(room):
         return os.path.abspath(named)
     if IS_CHECKOUT and shutil.which("rt"):
         words = ["make", "--silent", "--directory", CHECKOUT, "library"]
-        subprocess.run(words, env={**os.environ, "MAKEFLAGS": ""}, check=True)
-        return str(CHECKOUT / "out/x86_64/libduration_str.a")
+        folder = subprocess.check_output(words, env={**os.environ, "MAKEFLAGS": ""}, text=True).strip()
+        return str(CHECKOUT / folder / "libduration_str.a")
     if not shutil.which("cargo"):
         raise SystemExit("to build duration-str, put cargo (Rust 1.85 or later) on the path, or set DURATION_STR_LIB")
     words = ["cargo", "build", "--quiet", "--release", "--manifest-path", CRATES / "c/Cargo.toml", "--target-dir", room]
@@ -53,9 +53,10 @@ class Sources(sdist):
 
     def make_release_tree(self, base_dir, files):
         super().make_release_tree(base_dir, files)
-        for folder in ["c/src", "rust/src/proved"]:
-            shutil.copytree(CRATES / folder, pathlib.Path(base_dir, folder))
-        shutil.copy(CRATES / "c/Cargo.toml", pathlib.Path(base_dir, "c"))
+        for name in ["c/src", "rust/core/src"]:
+            shutil.copytree(CRATES / name, pathlib.Path(base_dir, name))
+        for name in ["c/Cargo.toml", "c/build.rs", "rust/core/Cargo.toml"]:
+            shutil.copy(CRATES / name, pathlib.Path(base_dir, name))
         shutil.copytree(INCLUDE, pathlib.Path(base_dir, "include"))
         top = CHECKOUT if IS_CHECKOUT else HERE
         for name in ["LICENSE", "NOTICE"]:

@@ -1,10 +1,10 @@
 """What a text means, as docs/GRAMMAR.md and the table of README.md say it, computed the naive way.
 
 This is the parser against which `compare` holds the program, the library and the packages. It was written from the
-documents, not from the Rattle code, and works in another manner: it tries all the ways to split a text into tokens, and
-keeps those that are sentences; it tries which tokens go on after a beginning; and its numbers are whole numbers without
-bound. Where the documents say that there is only one of something, it looks for all of them and fails where it finds
-another.
+documents, not from the Rattle code, and works in another manner: it tries all the ways to split a text into terminals,
+and keeps those that are sentences; it tries which terminals go on after a beginning; and its numbers are whole numbers
+without bound. Where the documents say that there is only one of something, it looks for all of them and fails where it
+finds another.
 """
 import functools
 import typing
@@ -71,7 +71,7 @@ class Options(typing.NamedTuple):
 CHOICES = [Options(*(bool(bits >> bit & 1) for bit in range(3))) for bits in range(8)]
 
 
-class Token(typing.NamedTuple):
+class Terminal(typing.NamedTuple):
     """A number with its digits, a unit with its length, or an operator with its sign."""
 
     kind: str
@@ -89,7 +89,7 @@ class Answer(typing.NamedTuple):
     operators: str = ""
 
 
-# ---- Characters, words and tokens
+# ---- Characters, words and terminals
 
 def is_letter(character, options):
     return character in LETTERS or options.cn_unit and character in CHINESE
@@ -109,34 +109,34 @@ def unit_of(word, options):
 
 
 @functools.lru_cache(1 << 16)
-def sort_of(piece, options):
-    """What a piece is made of: digits, letters, one operator, one other character; None for anything else."""
-    if piece and all(character in DIGITS for character in piece):
+def sort_of(token, options):
+    """What a token is made of: digits, letters, one operator, one other character; None for anything else."""
+    if token and all(character in DIGITS for character in token):
         return "digits"
-    if piece and all(is_letter(character, options) for character in piece):
+    if token and all(is_letter(character, options) for character in token):
         return "letters"
-    if len(piece) == 1 and piece not in BLANKS:
-        return "operator" if piece in OPERATORS else "other"
+    if len(token) == 1 and token not in BLANKS:
+        return "operator" if token in OPERATORS else "other"
     return None
 
 
 @functools.lru_cache(1 << 16)
-def token_of(piece, options):
-    """The token that a piece is, if it is one."""
-    match sort_of(piece, options):
+def terminal_of(token, options):
+    """The terminal that a token is, if it is one."""
+    match sort_of(token, options):
         case "digits":
-            return Token("number", piece)
-        case "letters" if unit_of(piece, options) is not None:
-            return Token("unit", unit_of(piece, options))
+            return Terminal("number", token)
+        case "letters" if unit_of(token, options) is not None:
+            return Terminal("unit", unit_of(token, options))
         case "operator":
-            return Token("operator", piece)
+            return Terminal("operator", token)
     return None
 
 
 # ---- Sentences
 
 def is_sentence(kinds, options):
-    """Whether these kinds of tokens, in order, are a sentence, by the rules of the grammar."""
+    """Whether these kinds of terminals, in order, are a sentence, by the rules of the grammar."""
     match kinds:
         case ["number"] | ["number", "unit"]:
             return True
@@ -154,32 +154,32 @@ KINDS = ("number", "unit", "operator")
 
 @functools.lru_cache(1 << 20)
 def begins_sentence(kinds, options):
-    """Whether some sentence has these kinds of tokens in front.
+    """Whether some sentence has these kinds of terminals in front.
 
     A rule of the grammar asks for at most a number after what it has read, so if any sentence goes on after them, one
-    does with a single token.
+    does with a single terminal.
     """
     return is_sentence(list(kinds), options) or any(is_sentence([*kinds, kind], options) for kind in KINDS)
 
 
 def with_calc(options):
-    """The options with `no_calc` off, which tells sentences apart, but neither tokens nor pieces."""
+    """The options with `no_calc` off, which tells sentences apart, but neither terminals nor tokens."""
     return Options(False, options.lowercase, options.cn_unit)
 
 
 @functools.lru_cache(1 << 10)
-def tokens_at_each_place(text, options):
-    """For each place, each token that begins there, with its end."""
+def terminals_at_each_place(text, options):
+    """For each place, each terminal that begins there, with its end."""
     places = []
     for at in range(len(text)):
-        tokens = []
+        terminals = []
         for end in range(at + 1, len(text) + 1):
-            piece = text[at:end]
-            if sort_of(piece, options) is None:
+            token = text[at:end]
+            if sort_of(token, options) is None:
                 break
-            if token := token_of(piece, options):
-                tokens.append((token, end))
-        places.append(tokens)
+            if terminal := terminal_of(token, options):
+                terminals.append((terminal, end))
+        places.append(terminals)
     return places
 
 
@@ -193,36 +193,36 @@ def listed(pairs):
 
 
 def sentences(text, options):
-    """All sentences that spell the text: each way to split it into blanks and tokens that the grammar allows.
+    """All sentences that spell the text: each way to split it into blanks and terminals that the grammar allows.
 
     The rests of the text are gone through from the shortest on. For each stands what it can be split into: a sentence;
     what is left of one after a number; what is left of one after a number and a unit.
     """
     whole, after_number, after_unit = [()] * len(text) + [[]], [()] * len(text) + [[()]], [()] * len(text) + [[()]]
-    places = tokens_at_each_place(text, with_calc(options))
+    places = terminals_at_each_place(text, with_calc(options))
     for at in reversed(range(len(text))):
         if text[at] in BLANKS:
             whole[at], after_number[at], after_unit[at] = whole[at + 1], after_number[at + 1], after_unit[at + 1]
             continue
         numbers, units, signs = [], [], []
-        for token, end in places[at]:
-            if token.kind == "number":
-                numbers += [(token, rest) for rest in after_number[end]]
-            elif token.kind == "unit":
-                units += [(token, rest) for rest in after_unit[end]]
+        for terminal, end in places[at]:
+            if terminal.kind == "number":
+                numbers += [(terminal, rest) for rest in after_number[end]]
+            elif terminal.kind == "unit":
+                units += [(terminal, rest) for rest in after_unit[end]]
             elif not options.no_calc:
-                signs += [(token, rest) for rest in whole[end]]
+                signs += [(terminal, rest) for rest in whole[end]]
         whole[at], after_number[at], after_unit[at] = numbers, units + signs, numbers + signs
     return [tuple(listed(pairs)) for pairs in whole[0]]
 
 
-# ---- Pieces and the place of a syntax fault
+# ---- Tokens and the place of a syntax fault
 
 @functools.lru_cache(1 << 10)
-def piece_lists(text, options):
-    """All ways to cut the text into blanks and pieces, where no two pieces of digits or of letters touch each other.
+def token_lists(text, options):
+    """All ways to cut the text into blanks and tokens, where no two tokens of digits or of letters touch each other.
 
-    A piece is given with the place of its first character. The rests of the text are gone through from the shortest on.
+    A token is given with the place of its first character. The rests of the text are gone through from the shortest on.
     """
     lists = [()] * len(text) + [[()]]
     for at in reversed(range(len(text))):
@@ -231,42 +231,42 @@ def piece_lists(text, options):
             continue
         found = []
         for end in range(at + 1, len(text) + 1):
-            piece = text[at:end]
-            sort = sort_of(piece, options)
+            token = text[at:end]
+            sort = sort_of(token, options)
             if sort is None:
                 break
             for rest in lists[end]:
                 if not (rest and rest[0][0] == end and touches(sort, sort_of(rest[0][1], options))):
-                    found.append(((at, piece), rest))
+                    found.append(((at, token), rest))
         lists[at] = found
     return [listed(pairs) for pairs in lists[0]]
 
 
 def touches(sort, other):
-    """Whether pieces of these sorts are cut apart only where a blank is between them."""
+    """Whether tokens of these sorts are cut apart only where a blank is between them."""
     return sort == other and sort in ("digits", "letters")
 
 
 class Front(typing.NamedTuple):
-    """The longest list of first pieces that begins a sentence, and the piece that comes next, if there is one."""
+    """The longest list of first tokens that begins a sentence, and the token that comes next, if there is one."""
 
-    tokens: tuple
+    terminals: tuple
     next: typing.Optional[tuple]
 
     def kinds(self):
-        return tuple(token.kind for token in self.tokens)
+        return tuple(terminal.kind for terminal in self.terminals)
 
 
 def front_of(text, options):
-    (pieces,) = piece_lists(text, with_calc(options))
-    tokens = ()
-    for piece in pieces:
-        token = token_of(piece[1], options)
-        kinds = (*(token.kind for token in tokens), token.kind) if token else ()
-        if token is None or not begins_sentence(kinds, options):
-            return Front(tokens, piece)
-        tokens = (*tokens, token)
-    return Front(tokens, None)
+    (tokens,) = token_lists(text, with_calc(options))
+    terminals = ()
+    for token in tokens:
+        terminal = terminal_of(token[1], options)
+        kinds = (*(terminal.kind for terminal in terminals), terminal.kind) if terminal else ()
+        if terminal is None or not begins_sentence(kinds, options):
+            return Front(terminals, token)
+        terminals = (*terminals, terminal)
+    return Front(terminals, None)
 
 
 def syntax_fault(text, front, options):
@@ -297,18 +297,18 @@ class Term(typing.NamedTuple):
         return "overflow" if self.value() >= LIMIT else None
 
 
-def terms_of(tokens):
+def terms_of(terminals):
     """The terms of a sentence, or of the beginning of one; a number without unit is in seconds."""
     terms = []
     operator = "+"
-    for at, token in enumerate(tokens):
-        if token.kind == "number":
-            unit = tokens[at + 1 : at + 2]
+    for at, terminal in enumerate(terminals):
+        if terminal.kind == "number":
+            unit = terminals[at + 1 : at + 2]
             length = unit[0].what if unit and unit[0].kind == "unit" else SECOND
-            terms.append(Term(int(token.what), length, operator))
+            terms.append(Term(int(terminal.what), length, operator))
             operator = "+"
-        elif token.kind == "operator":
-            operator = token.what
+        elif terminal.kind == "operator":
+            operator = terminal.what
     return terms
 
 
@@ -345,7 +345,7 @@ def first_term_fault(front):
     """The fault of the first term, where that stands: with its unit, or before an operator, or before the end."""
     kinds = front.kinds()
     if kinds[:2] in (("number", "unit"), ("number", "operator")) or kinds == ("number",) and front.next is None:
-        fault = terms_of(front.tokens)[0].fault()
+        fault = terms_of(front.terminals)[0].fault()
         return Answer(fault, place=0) if fault else None
     return None
 
@@ -353,7 +353,7 @@ def first_term_fault(front):
 def standing_fault(front):
     """Under `no_calc`: the first fault of the terms that stand: with their unit, or, the last one, before the end."""
     kinds = front.kinds()
-    terms = terms_of(front.tokens)
+    terms = terms_of(front.terminals)
     if kinds[-1:] == ("number",) and front.next is not None:
         terms.pop()
     for count, term in enumerate(terms, 1):
@@ -390,7 +390,7 @@ def computed_answer(text, options):
     early = standing_fault(front) if options.no_calc else first_term_fault(front)
     if early or fault:
         return early or fault
-    assert spelled[0] == front.tokens, text
+    assert spelled[0] == front.terminals, text
     terms = terms_of(spelled[0])
     return (None if options.no_calc else evaluation_fault(terms)) or Answer("read", value=value_of(terms))
 
@@ -429,7 +429,7 @@ def line_of(answer):
     return LINES[answer.cause]
 
 
-def fault_text(text, answer):
+def message(text, answer):
     """What is told of a refused text."""
     line = line_of(answer)
     if answer.place is None:
@@ -447,7 +447,7 @@ def output_of(line, options):
         return b"not UTF-8", False
     answer = answer_of(text, options)
     if answer.cause != "read":
-        return fault_text(text, answer).encode(), False
+        return message(text, answer).encode(), False
     human = printed(answer.value)
     assert len(human.encode()) <= LONGEST_PRINTED
     return f"{answer.value} {human}".encode(), True

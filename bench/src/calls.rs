@@ -8,6 +8,10 @@
 //! - `calls SIDE with OPTIONS TEXT COUNT`: reads a text under the options, the bits of `duration_str.h`.
 //! - `calls SIDE text BYTES COUNT`: reads a text of so many bytes.
 //! - `calls SIDE refuse NAME COUNT`: a refused text, and its message written into a buffer. `texts.rs` has the names.
+//! - `calls crate error NAME COUNT`: a text refused by `parse_duration`, and the error printed into a `String`.
+#[allow(dead_code)] // for the other program
+mod counting;
+#[allow(dead_code)]
 mod ours;
 mod texts;
 

@@ -6,10 +6,14 @@
 //!   these lines a tab stands between the words.
 //! - `bench archive-times`: the same of the archive through C, beside the crate.
 //! - `bench calls WORDS COUNT`: humantime's calls, by the words of `calls.rs` after SIDE.
+//! - `bench count`, under callgrind: a part of its output for each way to read each text of `texts.rs`, by both sides. It
+//!   writes a line for each text: its number, whether each side reads it, and the text.
+mod counting;
 mod ours;
 mod texts;
 
-use ours::{Archive, Crate, Library, ROOM, calls};
+use counting::counted;
+use ours::{Archive, Crate, Library, ROOM, calls, count_ways};
 use std::hint::black_box;
 use std::io::Write;
 use std::time::{Duration, Instant};
@@ -43,6 +47,26 @@ impl Library for Humantime {
         let mut room = &mut buffer[..];
         write!(room, "{fault}").expect("a message that fits");
         ROOM - room.len()
+    }
+
+    fn error(text: &str) -> String {
+        humantime::parse_duration(text).expect_err("a text that humantime refuses").to_string()
+    }
+}
+
+/// Counts the instructions of each way to read each text, of both sides.
+fn count() {
+    counted(0, "nothing", || { black_box(black_box(texts::EXPRESSION)); });
+    for (number, text) in texts::table().iter().enumerate() {
+        let reads = |reads| if reads { "reads" } else { "refuses" };
+        let (ours, theirs) = (duration_str::parse(text).is_ok(), humantime::parse_duration(text).is_ok());
+        println!("{number}\t{}\t{}\t{}", reads(ours), reads(theirs), texts::label(text));
+        count_ways(number, text);
+        let read = || humantime::parse_duration(black_box(text));
+        counted(number, "humantime", || { black_box(&read()); });
+        if !theirs {
+            counted(number, "humantime printed", || { black_box(&read().map_err(|error| error.to_string())); });
+        }
     }
 }
 
@@ -93,6 +117,7 @@ fn main() {
     match words.as_slice() {
         ["expressions"] => println!("{}", texts::expressions().join("\n")),
         ["times"] => times::<Crate, Humantime>(true),
+        ["count"] => count(),
         ["archive-times"] => times::<Archive, Crate>(false),
         ["calls", words @ .., count] => calls::<Humantime>(words, count.parse().expect("a count")),
         _ => panic!("see the first lines of src/main.rs"),

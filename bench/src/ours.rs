@@ -1,6 +1,7 @@
 //! The calls that are measured: those of the Rust crate, and those of the archive through C.
+use crate::counting::counted;
 use crate::texts::{EXPRESSION, long_text, refused, repeat};
-use duration_str::{HumanFormat, Options, parse, parse_with, write_human};
+use duration_str::{HumanFormat, Options, parse, parse_duration, parse_with, write_human};
 use std::hint::black_box;
 use std::time::Duration;
 
@@ -23,6 +24,10 @@ pub trait Library {
     }
     /// Writes the message of a refused text into the buffer, and returns its length.
     fn refusing(text: &str, buffer: &mut [u8; ROOM]) -> usize;
+    /// The printed error of a refused text, as a service gets it, where the library does so.
+    fn error(_: &str) -> String {
+        unimplemented!()
+    }
 }
 
 /// The Rust crate.
@@ -58,6 +63,25 @@ impl Library for Crate {
     fn refusing(text: &str, buffer: &mut [u8; ROOM]) -> usize {
         let fault = parse_with(text, Options::off()).expect_err("a text that is refused");
         fault.write_message(buffer).expect("a message that fits")
+    }
+
+    #[inline(always)]
+    fn error(text: &str) -> String {
+        parse_duration(text).expect_err("a text that is refused").to_string()
+    }
+}
+
+/// Counts the instructions of each way to read a text, and to print why it is refused.
+pub fn count_ways(number: usize, text: &str) {
+    let text = || black_box(text);
+    counted(number, "parse", || { black_box(&parse(text())); });
+    counted(number, "parse_with", || { black_box(&parse_with(text(), Options::off())); });
+    counted(number, "parse_duration", || { black_box(&parse_duration(text())); });
+    if parse(text()).is_err() {
+        let printed = || parse_with(text(), Options::off()).map_err(|fault| fault.to_string());
+        counted(number, "parse_with printed", || { black_box(&printed()); });
+        let printed = || parse_duration(text()).map_err(|fault| fault.to_string());
+        counted(number, "parse_duration printed", || { black_box(&printed()); });
     }
 }
 
@@ -157,6 +181,10 @@ pub fn calls<L: Library>(words: &[&str], count: u64) {
             let mut buffer = [0; ROOM];
             repeat(count, || { black_box(L::refusing(black_box(&text), &mut buffer)); });
             black_box(&buffer);
+        }
+        ["error", name] => {
+            let text = refused(name);
+            repeat(count, || { black_box(&L::error(black_box(&text))); });
         }
         _ => panic!("see the first lines of src/calls.rs"),
     }

@@ -2,8 +2,8 @@
  *
  * No function allocates memory or keeps state, and all may be called from several threads at once. A text is passed as
  * a pointer and a length in bytes; it need not end with a zero byte, and must not overlap what a function writes. A
- * null text of length 0 is the empty text, a null buffer with room for 0 bytes is one into which nothing fits, and an
- * array of 0 numbers may be null; no other pointer may be. Texts are UTF-8; other bytes are refused. No zero byte is
+ * pointer may be null only if its length is 0: as the empty text, a buffer into which nothing fits, or an array of no
+ * numbers. Texts are UTF-8; other bytes are refused. No zero byte is
  * written at the end of a text. No function calls back or throws. The functions have no frames for an unwinder (no
  * `.eh_frame`), so a backtrace taken inside one ends there.
  *
@@ -114,7 +114,7 @@ bool duration_str_parse_with(const uint8_t *text, size_t length, uint32_t option
 
 /* Reads the texts of a column under these options, and returns how many are read. Text `k` is the bytes from
  * `offsets[k]` to `offsets[k + 1]`, so there is one text less than `count` offsets, and bytes before the first offset
- * and after the last are no text's. An Arrow large string array has its texts in this form where a `size_t` has 64 bits.
+ * and after the last are ignored. An Arrow large string array has its texts in this form where a `size_t` has 64 bits.
  *
  * `nanos[k]` becomes the value of text `k` in nanoseconds, or 0 if it is refused, and `causes[k]` why it is refused, as
  * an `enum duration_str_cause`: that of duration_str_parse_with, or DURATION_STR_BAD_OFFSETS if `offsets[k]` is above

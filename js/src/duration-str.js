@@ -20,17 +20,21 @@ const AROUND = 80;
 
 const { memory, __heap_base: heap, ...calls } = new WebAssembly.Instance(new WebAssembly.Module(bytes)).exports;
 
+// Pointers and lengths are bigints at the border of the module that was made of one with 64-bit addresses, and numbers at
+// that of cargo's; in the memory such a field has 8 bytes or 4.
+const [size, SIZE] = typeof heap.value === "bigint" ? [BigInt, 8] : [Number, 4];
+
 // In the memory above the module's own stands a `struct duration_str_answer`, whose fields have the offsets below, and
-// after it the text; what is written about the text comes last. Pointers and lengths are bigints at the border.
+// after it the text; what is written about the text comes last.
 const ANSWER = Math.ceil(Number(heap.value) / 8) * 8;
 const PLACE = ANSWER + 8;
-const FOUND_LENGTH = ANSWER + 16;
-const CAUSE = ANSWER + 24;
-const EXPECTED = ANSWER + 28;
-const HAS_PLACE = ANSWER + 32;
+const FOUND_LENGTH = PLACE + SIZE;
+const CAUSE = FOUND_LENGTH + SIZE;
+const EXPECTED = CAUSE + 4;
+const HAS_PLACE = EXPECTED + 4;
 const TEXT = ANSWER + 40;
-const ANSWER_POINTER = BigInt(ANSWER);
-const TEXT_POINTER = BigInt(TEXT);
+const ANSWER_POINTER = size(ANSWER);
+const TEXT_POINTER = size(TEXT);
 /** The bytes of the buffer that `duration_str_format` takes. */
 const PRINTED = 64;
 
@@ -63,9 +67,9 @@ function decoded(start, length) {
 
 /** What a call writes into a buffer, of which it is given the pointer and the size; the buffer is `start` bytes after TEXT. */
 function written(start, call) {
-    const length = call(0n, 0n);
+    const length = call(size(0), size(0));
     reserve(start + Number(length));
-    call(BigInt(TEXT + start), length);
+    call(size(TEXT + start), length);
     return decoded(start, Number(length));
 }
 
@@ -126,15 +130,15 @@ function withMessage(fault) {
 
 /** Why the text at TEXT is refused, after the call that refused it. */
 function faultOf(text, length, bits) {
-    const foundLength = Number(fields.getBigUint64(FOUND_LENGTH, true));
-    const place = fields.getUint8(HAS_PLACE) ? placeOf(Number(fields.getBigUint64(PLACE, true))) : NO_PLACE;
+    const foundLength = fields.getUint32(FOUND_LENGTH, true);
+    const place = fields.getUint8(HAS_PLACE) ? placeOf(fields.getUint32(PLACE, true)) : NO_PLACE;
     return withMessage({
         code: CODES[fields.getUint32(CAUSE, true)],
         text,
         ...place,
         found: foundLength ? decoded(place.byte, foundLength) : null,
         expected: expectedOf(fields.getUint32(EXPECTED, true)),
-        line: written(length, (buffer, room) => calls.duration_str_line(TEXT_POINTER, BigInt(length), bits, buffer, room)),
+        line: written(length, (buffer, room) => calls.duration_str_line(TEXT_POINTER, size(length), bits, buffer, room)),
     });
 }
 
@@ -186,7 +190,7 @@ export function tryParse(text, options) {
     const bits = bitsOf(options);
     const { length, lone } = write(text);
     if (lone >= 0) return { ok: false, fault: noText(text, lone) };
-    if (!calls.duration_str_parse_with(TEXT_POINTER, BigInt(length), bits, ANSWER_POINTER)) {
+    if (!calls.duration_str_parse_with(TEXT_POINTER, size(length), bits, ANSWER_POINTER)) {
         return { ok: false, fault: faultOf(text, length, bits) };
     }
     return { ok: true, value: fields.getBigUint64(ANSWER, true) };

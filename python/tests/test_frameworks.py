@@ -4,11 +4,13 @@ import datetime
 import importlib.metadata
 import importlib.util
 import json
+import os
 import pathlib
 import re
 import subprocess
 import sys
 import tempfile
+import time
 import unittest
 
 import duration_str
@@ -122,6 +124,32 @@ class Models(unittest.TestCase):
         program = "import sys, duration_str; print(*{'pydantic', 'click', 'argparse', 'numpy'} & {*sys.modules})"
         told = subprocess.run([sys.executable, "-c", program], capture_output=True, text=True, check=True)
         self.assertEqual(told.stdout, "\n")
+
+
+@unittest.skipUnless(has("yaml"), "PyYAML is missing")
+class Retention(unittest.TestCase):
+    EXAMPLE = pathlib.Path(__file__).parents[1] / "examples/retention.py"
+
+    def run_over(self, configuration):
+        with tempfile.TemporaryDirectory() as name:
+            folder = pathlib.Path(name, "logs")
+            folder.mkdir()
+            for file, days in [("old", 15), ("new", 13)]:
+                moment = time.time() - days * 86_400
+                (folder / file).touch()
+                os.utime(folder / file, (moment, moment))
+            settings = pathlib.Path(name, "keep.yaml")
+            settings.write_text(configuration, encoding="utf-8")
+            words = [sys.executable, self.EXAMPLE, settings]
+            ran = subprocess.run(words, capture_output=True, text=True)
+            return ran.returncode, (ran.stdout + ran.stderr).replace(name, "")
+
+    def test_lists_what_is_older(self):
+        self.assertEqual(self.run_over("logs: 2w\n"), (0, "/logs/old: older than 2w\n"))
+
+    def test_names_the_folder_whose_period_is_refused(self):
+        line = 'expected ["y", "q", "mon", "w", "d", "h", "m", "s", "ms", "µs", "us", "ns"]'
+        self.assertEqual(self.run_over("logs: 2 fortnights\n"), (1, f"/keep.yaml: logs: {line}\n"))
 
 
 if __name__ == "__main__":

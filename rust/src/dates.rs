@@ -1,9 +1,9 @@
 //! Moments after and before another, by chrono's own checked arithmetic.
 use crate::fault::Fault;
-use crate::options::Options;
-use crate::parser::{parse_with, signed};
-use alloc::string::String;
+use crate::parser::{chrono_of, parse_with};
+use alloc::string::{String, ToString};
 use chrono::{NaiveDate, NaiveDateTime, Utc};
+use duration_str_core::{Cause, Options};
 
 /// The moment that comes after this one by the value of a text. Both are in the same zone, such as UTC.
 ///
@@ -11,6 +11,10 @@ use chrono::{NaiveDate, NaiveDateTime, Utc};
 ///
 /// The text is read first, and its fault comes first. The cause is [`Cause::OutOfRange`](crate::Cause::OutOfRange) where
 /// chrono has no such moment.
+///
+/// # Errors
+///
+/// The fault of the text, or [`Cause::OutOfRange`](crate::Cause::OutOfRange).
 ///
 /// ```
 /// use chrono::NaiveDate;
@@ -25,15 +29,19 @@ pub fn moment_after(
     input: &str,
     options: Options,
 ) -> Result<NaiveDateTime, Fault<'_>> {
-    let length = signed(parse_with(input, options)?);
+    let length = chrono_of(parse_with(input, options)?);
     moment
         .checked_add_signed(length)
-        .ok_or(Fault::out_of_range(input, options))
+        .ok_or(Fault::of(input, Cause::OutOfRange, options))
 }
 
 /// The moment that comes before this one by the value of a text. All else is as with [`moment_after`].
 ///
 /// Needs the feature `chrono`.
+///
+/// # Errors
+///
+/// The fault of the text, or [`Cause::OutOfRange`](crate::Cause::OutOfRange).
 ///
 /// ```
 /// use chrono::NaiveDate;
@@ -48,15 +56,19 @@ pub fn moment_before(
     input: &str,
     options: Options,
 ) -> Result<NaiveDateTime, Fault<'_>> {
-    let length = signed(parse_with(input, options)?);
+    let length = chrono_of(parse_with(input, options)?);
     moment
         .checked_sub_signed(length)
-        .ok_or(Fault::out_of_range(input, options))
+        .ok_or(Fault::of(input, Cause::OutOfRange, options))
 }
 
 /// The moment, in UTC, that comes after now by the value of a text, which is read as [`parse`](crate::parse) reads it.
 ///
 /// Needs the feature `chrono`.
+///
+/// # Errors
+///
+/// The message of the fault of the text, or of a date out of range.
 ///
 /// ```
 /// use chrono::{Duration, Utc};
@@ -65,12 +77,16 @@ pub fn moment_before(
 /// assert!(due <= Utc::now().naive_utc() + Duration::days(180));
 /// ```
 pub fn after_naive_date_time(input: impl AsRef<str>) -> Result<NaiveDateTime, String> {
-    moment_after(now(), input.as_ref(), Options::of_features()).map_err(|fault| fault.message())
+    moment_after(now(), input.as_ref(), Options::of_features()).map_err(|fault| fault.to_string())
 }
 
 /// The moment, in UTC, that comes before now by the value of a text, which is read as [`parse`](crate::parse) reads it.
 ///
 /// Needs the feature `chrono`.
+///
+/// # Errors
+///
+/// The message of the fault of the text, or of a date out of range.
 ///
 /// ```
 /// use chrono::{Duration, Utc};
@@ -79,12 +95,16 @@ pub fn after_naive_date_time(input: impl AsRef<str>) -> Result<NaiveDateTime, St
 /// assert!(past <= Utc::now().naive_utc() - Duration::days(180));
 /// ```
 pub fn before_naive_date_time(input: impl AsRef<str>) -> Result<NaiveDateTime, String> {
-    moment_before(now(), input.as_ref(), Options::of_features()).map_err(|fault| fault.message())
+    moment_before(now(), input.as_ref(), Options::of_features()).map_err(|fault| fault.to_string())
 }
 
 /// The date of [`after_naive_date_time`].
 ///
 /// Needs the feature `chrono`.
+///
+/// # Errors
+///
+/// The message of the fault of the text, or of a date out of range.
 ///
 /// ```
 /// assert!(duration_str::after_naive_date("180d").unwrap() > chrono::Utc::now().date_naive());
@@ -96,6 +116,10 @@ pub fn after_naive_date(input: impl AsRef<str>) -> Result<NaiveDate, String> {
 /// The date of [`before_naive_date_time`].
 ///
 /// Needs the feature `chrono`.
+///
+/// # Errors
+///
+/// The message of the fault of the text, or of a date out of range.
 ///
 /// ```
 /// assert!(duration_str::before_naive_date("180d").unwrap() < chrono::Utc::now().date_naive());

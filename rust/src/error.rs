@@ -16,7 +16,7 @@ use core::fmt;
 /// assert_eq!(timeout("600y"), Err(DError::OverflowError));
 /// assert_eq!(timeout(""), Err(DError::ParseError("Empty input".to_string())));
 /// ```
-#[derive(Debug, PartialEq)]
+#[derive(Clone, Debug, PartialEq, Eq)]
 pub enum DError {
     /// Any fault but an overflow, by the last line of its message.
     ParseError(String),

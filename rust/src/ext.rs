@@ -1,7 +1,7 @@
 //! Printing.
-pub use crate::proved::ext::{MAX_PRINTED_LEN, write_human};
 use alloc::string::String;
 use core::time::Duration;
+use duration_str_core::write_human;
 
 /// Durations that can be printed for people.
 ///

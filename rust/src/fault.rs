@@ -1,12 +1,9 @@
 //! A refused text, with the options under which it was read.
 use crate::error::DError;
-use crate::one_line::write_one_line;
-use crate::options::Options;
-use crate::proved::parser as proved;
-pub use crate::proved::parser::{Cause, Expected};
+use crate::one_line::OneLine;
 use alloc::string::{String, ToString};
 use core::fmt;
-use core::hash::{Hash, Hasher};
+use duration_str_core::{self as proved, Cause, Expected, Options};
 
 /// A refused text: why and where. Its `Display` is the message for a person, with the text and a caret below the place.
 ///
@@ -20,39 +17,23 @@ use core::hash::{Hash, Hasher};
 /// assert!(fault.to_string().starts_with("3h 2 hurs\n     ^\nexpected "));
 /// ```
 ///
-/// `{:#}` is one line for a log: what is wrong, at which column, and at most 40 characters of the text, with control
-/// characters escaped. The column counts characters from 1.
-///
-/// ```
-/// use duration_str::{Options, parse_with};
-///
-/// let fault = parse_with("1m 3-5", Options::off()).unwrap_err();
-/// assert_eq!(format!("{fault:#}"), r#"expected a unit, '+', '*' or the end at column 5, found "-""#);
-/// ```
-///
 /// It borrows the text; [`Fault::into_owned`] gives a fault that outlives it.
 #[derive(Clone, Copy, PartialEq, Eq)]
 pub struct Fault<'a> {
-    // Private, since the place must be a character's border within the text.
     fault: proved::Fault<'a>,
     options: Options,
 }
 
 impl<'a> Fault<'a> {
+    #[inline]
     pub(crate) fn new(fault: proved::Fault<'a>, options: Options) -> Fault<'a> {
         Fault { fault, options }
     }
 
-    /// The fault of a text whose moment is out of range.
-    #[cfg(feature = "chrono")]
-    pub(crate) fn out_of_range(text: &'a str, options: Options) -> Fault<'a> {
-        Fault::new(
-            proved::Fault {
-                text,
-                cause: Cause::OutOfRange,
-            },
-            options,
-        )
+    /// The fault of a text for a cause that is known to have its place there.
+    pub(crate) fn of(text: &'a str, cause: Cause, options: Options) -> Fault<'a> {
+        let fault = proved::Fault::new(text, cause).expect("the place is one of this text");
+        Fault::new(fault, options)
     }
 
     /// The whole text that was read.
@@ -79,7 +60,7 @@ impl<'a> Fault<'a> {
         self.fault.cause()
     }
 
-    /// Where the fault stands: the byte of the text, or `None` where the fault is none of a place.
+    /// Where the fault stands: the byte of the text, or `None` for a fault without a position.
     ///
     /// ```
     /// use duration_str::{Options, parse_with};
@@ -128,6 +109,20 @@ impl<'a> Fault<'a> {
     #[must_use]
     pub fn line(&self) -> &'static str {
         self.cause().line()
+    }
+
+    /// One line for a log: what is wrong, at which column, and at most 40 characters of the text, with control characters
+    /// escaped. The column counts characters from 1.
+    ///
+    /// ```
+    /// use duration_str::{Options, parse_with};
+    ///
+    /// let line = parse_with("1m 3-5", Options::off()).unwrap_err().one_line().to_string();
+    /// assert_eq!(line, r#"expected a unit, '+', '*' or the end at column 5, found "-""#);
+    /// ```
+    #[must_use]
+    pub fn one_line(&self) -> OneLine<'a> {
+        OneLine(*self)
     }
 
     /// The length of the message in bytes.
@@ -191,37 +186,11 @@ impl<'a> Fault<'a> {
             options: self.options,
         }
     }
-
-    /// The message. Unless the text has a line feed it is one allocation of its length; joining texts takes no test for
-    /// UTF-8.
-    pub(crate) fn message(&self) -> String {
-        let (text, line) = (self.text(), self.line());
-        let Some(place) = self.place() else {
-            return line.to_string();
-        };
-        if text.as_bytes().contains(&b'\n') {
-            return self.to_string();
-        }
-        let spaces = text[..place].chars().count();
-        let mut message = String::with_capacity(text.len() + spaces + line.len() + 3);
-        message.push_str(text);
-        message.push('\n');
-        for _ in 0..spaces {
-            message.push(' ');
-        }
-        message.push_str("^\n");
-        message.push_str(line);
-        message
-    }
 }
 
 impl fmt::Display for Fault<'_> {
     fn fmt(&self, f: &mut fmt::Formatter<'_>) -> fmt::Result {
-        if f.alternate() {
-            write_one_line(self, f)
-        } else {
-            self.fault.fmt(f)
-        }
+        self.fault.fmt(f)
     }
 }
 
@@ -254,6 +223,9 @@ pub struct OwnedFault {
     options: Options,
 }
 
+/// The name that humantime gives the error of [`parse_duration`](crate::parse_duration).
+pub type DurationError = OwnedFault;
+
 impl OwnedFault {
     /// The fault, which borrows the text.
     ///
@@ -265,13 +237,7 @@ impl OwnedFault {
     /// ```
     #[must_use]
     pub fn as_fault(&self) -> Fault<'_> {
-        Fault::new(
-            proved::Fault {
-                text: &self.text,
-                cause: self.cause,
-            },
-            self.options,
-        )
+        Fault::of(&self.text, self.cause, self.options)
     }
 
     /// The whole text that was read.
@@ -337,6 +303,17 @@ impl OwnedFault {
         self.cause.line()
     }
 
+    /// One line for a log, as [`Fault::one_line`] has it.
+    ///
+    /// ```
+    /// let line = duration_str::parse_duration("600y").unwrap_err().one_line().to_string();
+    /// assert_eq!(line, r#"duration of 2^64 nanoseconds or more at column 1, found "600y""#);
+    /// ```
+    #[must_use]
+    pub fn one_line(&self) -> OneLine<'_> {
+        OneLine(self.as_fault())
+    }
+
     /// The length of the message in bytes.
     ///
     /// ```
@@ -389,31 +366,5 @@ impl core::error::Error for OwnedFault {}
 impl From<Fault<'_>> for OwnedFault {
     fn from(fault: Fault<'_>) -> OwnedFault {
         fault.into_owned()
-    }
-}
-
-/// The last line of a message, as [`Fault::line`] says it.
-impl fmt::Display for Cause {
-    fn fmt(&self, f: &mut fmt::Formatter<'_>) -> fmt::Result {
-        f.pad(self.line())
-    }
-}
-
-impl Hash for Expected {
-    fn hash<H: Hasher>(&self, state: &mut H) {
-        (self.number, self.unit_word, self.operator, self.text_end).hash(state);
-    }
-}
-
-impl Hash for Cause {
-    fn hash<H: Hasher>(&self, state: &mut H) {
-        core::mem::discriminant(self).hash(state);
-        match *self {
-            Cause::Syntax { place, expected } => (place, expected).hash(state),
-            Cause::NumberTooLarge { place } | Cause::Overflow { place } => place.hash(state),
-            Cause::Mixed { first, later } => (first as u8, later as u8).hash(state),
-            Cause::NotText { optional } => optional.hash(state),
-            Cause::Empty | Cause::OutOfRange => {}
-        }
     }
 }

@@ -4,7 +4,7 @@
 //! The field is a duration of `std`, `chrono` or `time`, or an `Option` or a `Vec` of what can be such a field. One rule
 //! holds for all of them, and for [`HumanDuration`]: the format is asked for a text, and the empty
 //! one is refused. So YAML's `90` is 90 seconds, and formats that don't tell their values' types, such as bincode, are
-//! read too. `None` is null, and with `#[serde(default)]` a missing field.
+//! read too. `None` is null, and with `#[serde(default)]` a missing field. A refusal is the fault in one line.
 //!
 //! What is written can be read: a negative duration, and one of 2^64 nanoseconds or more, is an error of the format.
 //!
@@ -29,9 +29,9 @@
 //! let text = serde_json::to_string(&settings).unwrap();
 //! assert_eq!(text, r#"{"timeout":"1min 30s","keep_alive":null,"pauses":["1s","5s"]}"#);
 //! ```
-use crate::ext::write_human;
 use crate::human_duration::HumanDuration;
 use crate::serde_texts::Length;
+use crate::{Options, parse_with, write_human};
 use alloc::vec::Vec;
 use core::fmt;
 use core::marker::PhantomData;
@@ -43,13 +43,25 @@ use serde::ser::{self, Serialize, Serializer};
 /// The types of the fields that this module writes and reads.
 pub trait HumanText: Sized {
     /// Writes the value. [`serialize`] does the same.
+    ///
+    /// # Errors
+    ///
+    /// That of [`serialize`].
     fn serialize_human<S: Serializer>(&self, serializer: S) -> Result<S::Ok, S::Error>;
 
     /// Reads a value. [`deserialize`] does the same.
+    ///
+    /// # Errors
+    ///
+    /// That of [`deserialize`].
     fn deserialize_human<'de, D: Deserializer<'de>>(deserializer: D) -> Result<Self, D::Error>;
 }
 
 /// Prints durations as text.
+///
+/// # Errors
+///
+/// That of the format, also where the value can't be read back.
 ///
 /// ```
 /// use serde_json::value::Serializer;
@@ -64,6 +76,10 @@ pub fn serialize<T: HumanText, S: Serializer>(value: &T, serializer: S) -> Resul
 }
 
 /// Reads durations, which must be texts.
+///
+/// # Errors
+///
+/// That of the format, also for a text that is refused.
 ///
 /// ```
 /// use std::time::Duration;
@@ -92,6 +108,10 @@ pub mod option {
 
     /// Prints the duration as text, or null.
     ///
+    /// # Errors
+    ///
+    /// That of the format, also where the value can't be read back.
+    ///
     /// ```
     /// let minute = Some(std::time::Duration::from_secs(60));
     /// let text = duration_str::human::option::serialize(&minute, serde_json::value::Serializer);
@@ -106,11 +126,15 @@ pub mod option {
 
     /// Reads a text as a duration, and null as `None`.
     ///
+    /// # Errors
+    ///
+    /// That of the format, also for a text that is refused.
+    ///
     /// ```
     /// use std::time::Duration;
     ///
     /// let read: Result<Option<Duration>, _> = duration_str::human::option::deserialize(serde_json::json!(""));
-    /// assert_eq!(read.unwrap_err().to_string(), "Empty input");
+    /// assert_eq!(read.unwrap_err().to_string(), "empty text");
     /// ```
     pub fn deserialize<'de, T: HumanText, D: Deserializer<'de>>(
         deserializer: D,
@@ -130,7 +154,10 @@ impl<T: Length> Visitor<'_> for Text<T> {
     }
 
     fn visit_str<E: de::Error>(self, text: &str) -> Result<T, E> {
-        T::of_text(text).map_err(E::custom)
+        match parse_with(text, Options::of_features()) {
+            Ok(length) => Ok(T::of_std(length)),
+            Err(fault) => Err(E::custom(fault.one_line())),
+        }
     }
 
     fn visit_bytes<E: de::Error>(self, bytes: &[u8]) -> Result<T, E> {

@@ -4,11 +4,11 @@
 //! This crate has the public interface of `duration-str` 0.19.0 from crates.io. What reads and prints is proved: it is the
 //! source of a proved library with its contracts taken out. What it adds: [`parse_with`], whose options are chosen at each
 //! call and whose [`Fault`] says why and where; [`parse_duration`], whose [`OwnedFault`] outlives the text, and
-//! [`format_duration`]; [`HumanDuration`], for command lines and serde; [`write_human`], which takes no memory; [`Tokens`];
+//! [`format_duration`]; [`HumanDuration`], for command lines and serde; [`write_human`], which allocates nothing; [`Tokens`];
 //! and `moment_after` and `moment_before` for any moment. A message's caret stands at the first token with which no
 //! expression continues.
 //!
-//! There is one `unsafe` block, in [`write_human`], which is proved with the rest of it.
+//! There are two `unsafe` blocks, in [`write_human`] and where a message is printed, proved with the rest of it.
 //!
 //! ```
 //! use duration_str::{parse, HumanFormat};
@@ -43,66 +43,51 @@
 //!
 //! # Features
 //!
-//! `serde`, `chrono` and `time`, which are on by default, have the calls for these crates. `no_calc` (no operators),
+//! `serde`, `chrono` and `time`, which are on by default, have the calls for these crates, and `macros` has `duration!`. `no_calc` (no operators),
 //! `lowercase` (capitals are not folded) and `cn_unit` (Chinese names) turn the option of their name on for every call that
 //! takes no options. Cargo joins the features that all crates of a program ask for, so a library that needs an option asks
 //! for it by [`parse_with`].
 #![no_std]
-#![deny(unsafe_code, missing_docs)]
+#![cfg_attr(docsrs, feature(doc_cfg))]
+#![forbid(unsafe_code)]
+#![deny(missing_docs)]
 
 extern crate alloc;
 
 #[cfg(feature = "chrono")]
-#[forbid(unsafe_code)]
 mod dates;
-#[forbid(unsafe_code)]
 mod error;
-#[forbid(unsafe_code)]
 mod ext;
-#[forbid(unsafe_code)]
 mod fault;
 #[cfg(feature = "serde")]
-#[forbid(unsafe_code)]
 pub mod human;
-#[forbid(unsafe_code)]
 mod human_duration;
-#[forbid(unsafe_code)]
 mod one_line;
-#[forbid(unsafe_code)]
-mod options;
-#[forbid(unsafe_code)]
 mod parser;
-// `parse_std` is not used, since the features choose the options here. The toolchain writes some things otherwise.
-#[allow(dead_code)]
-#[allow(
-    clippy::precedence,
-    clippy::question_mark,
-    clippy::while_let_on_iterator
-)]
-mod proved;
 #[cfg(feature = "serde")]
-#[forbid(unsafe_code)]
 mod serde_texts;
-#[forbid(unsafe_code)]
-mod tokens;
 
 #[cfg(feature = "chrono")]
 pub use dates::{
     after_naive_date, after_naive_date_time, before_naive_date, before_naive_date_time,
     moment_after, moment_before,
 };
+#[doc(inline)]
+pub use duration_str_core::{
+    Cause, CondUnit, Expected, MAX_PRINTED_LEN, Options, TimeUnit, Token, Tokens, What, write_human,
+};
+#[cfg(feature = "macros")]
+pub use duration_str_macros::duration;
 pub use error::{DError, DResult};
-pub use ext::{HumanFormat, MAX_PRINTED_LEN, write_human};
-pub use fault::{Cause, Expected, Fault, OwnedFault};
-pub use human_duration::{HumanDuration, format_duration};
-pub use options::Options;
+pub use ext::HumanFormat;
+pub use fault::{DurationError, Fault, OwnedFault};
+pub use human_duration::{FormattedDuration, HumanDuration, format_duration};
+pub use one_line::OneLine;
 #[cfg(feature = "chrono")]
 pub use parser::parse_chrono;
 #[cfg(feature = "time")]
 pub use parser::parse_time;
 pub use parser::{parse, parse_duration, parse_std, parse_with};
-pub use proved::token::{Token, Tokens, What};
-pub use proved::unit::{CondUnit, TimeUnit};
 #[cfg(feature = "serde")]
 #[allow(deprecated)]
 pub use serde_texts::{DeserializeDuration, deserialize_duration, deserialize_option_duration};

@@ -1,12 +1,12 @@
 //! A fault in one line, for logs.
-use crate::CondUnit;
-use crate::fault::{Cause, Fault};
+use crate::fault::Fault;
+use crate::{Cause, CondUnit};
 use core::fmt::{self, Write};
 
 /// The most characters of a text that the line quotes.
 const MOST_QUOTED: usize = 40;
 
-/// Whether a character changes nothing but its own place in a line. Those that do are the control characters, and in
+/// Whether a character is safe within one line. Those that aren't are the control characters, and in
 /// Unicode's General Punctuation the ends of lines and the marks of direction.
 fn is_plain(c: char) -> bool {
     matches!(c, ' '..='~' | '\u{a0}'..='\u{1fff}' | '\u{2070}'..)
@@ -55,14 +55,22 @@ fn problem(cause: Cause) -> &'static str {
             later: CondUnit::Plus,
             ..
         } => "'+' after '*'",
-        Cause::OutOfRange | Cause::NotText { .. } => cause.line(),
+        _ => cause.line(),
+    }
+}
+
+/// What prints a fault in one line.
+#[derive(Clone, Copy, Debug)]
+pub struct OneLine<'a>(pub(crate) Fault<'a>);
+
+impl fmt::Display for OneLine<'_> {
+    fn fmt(&self, f: &mut fmt::Formatter<'_>) -> fmt::Result {
+        write_one_line(&self.0, f)
     }
 }
 
 /// Writes what is wrong, at which column, and what stands there; or, without a place, in which text.
-#[cold]
-#[inline(never)]
-pub(crate) fn write_one_line(fault: &Fault<'_>, f: &mut fmt::Formatter<'_>) -> fmt::Result {
+fn write_one_line(fault: &Fault<'_>, f: &mut fmt::Formatter<'_>) -> fmt::Result {
     let text = fault.text();
     f.write_str(problem(fault.cause()))?;
     let Some(place) = fault.place() else {

@@ -1,11 +1,14 @@
 //! Reading.
 use crate::fault::{Fault, OwnedFault};
-use crate::options::Options;
-use crate::proved::parser;
-use alloc::string::String;
+use alloc::string::{String, ToString};
 use core::time::Duration;
+use duration_str_core::{self as proved, Options};
 
 /// Reads a text under these options. The fault, where it is refused, says why and where.
+///
+/// # Errors
+///
+/// The [`Fault`], if the text means no duration.
 ///
 /// ```
 /// use duration_str::{Options, parse_with};
@@ -15,27 +18,19 @@ use core::time::Duration;
 /// let no_calc = Options { no_calc: true, ..Options::off() };
 /// assert_eq!(parse_with("1m*10", no_calc).unwrap_err().found(), Some("*"));
 /// ```
+#[inline]
 pub fn parse_with(input: &str, options: Options) -> Result<Duration, Fault<'_>> {
-    match answer(input, options) {
+    match proved::parse_with(input, options) {
         Ok(duration) => Ok(duration),
         Err(fault) => Err(Fault::new(fault, options)),
     }
 }
 
-/// What the proved source answers. Where all options are off the compiler knows them, and leaves the tests of them out.
-#[inline(always)]
-fn answer(text: &str, options: Options) -> Result<Duration, parser::Fault<'_>> {
-    if options.are_off() {
-        parser::parse(text)
-    } else {
-        parser::parse_with(text, options)
-    }
-}
-
 /// Reads a text, as [`parse`] does.
+#[inline]
 fn read(text: &str) -> Result<Duration, String> {
     const OPTIONS: Options = Options::of_features();
-    match answer(text, OPTIONS) {
+    match proved::parse_with(text, OPTIONS) {
         Ok(duration) => Ok(duration),
         Err(fault) => Err(message(fault)),
     }
@@ -43,11 +38,12 @@ fn read(text: &str) -> Result<Duration, String> {
 
 /// A fault's message.
 #[cold]
-fn message(fault: parser::Fault<'_>) -> String {
-    Fault::new(fault, Options::of_features()).message()
+#[inline(never)]
+fn message(fault: proved::Fault<'_>) -> String {
+    fault.to_string()
 }
 
-/// Reads a text under the options that the features turn on. The error is the message of the fault.
+/// Reads a text under the options that the features turn on.
 ///
 /// ```
 /// use duration_str::parse;
@@ -70,12 +66,20 @@ fn message(fault: parser::Fault<'_>) -> String {
 /// assert_eq!(parse("1m * 10ms"), Ok(Duration::from_millis(600)));
 /// assert!(parse("1m + 2 * 3").is_err());
 /// ```
+///
+/// # Errors
+///
+/// The message of the fault.
 pub fn parse(input: impl AsRef<str>) -> Result<Duration, String> {
     read(input.as_ref())
 }
 
 /// Reads a text as [`parse`] does, with a fault that owns its text. It has the name of humantime's function, and can be
 /// handed on as it is, such as to `value_parser` of clap.
+///
+/// # Errors
+///
+/// The fault, with a copy of the text.
 ///
 /// ```
 /// use duration_str::parse_duration;
@@ -95,6 +99,10 @@ pub fn parse_duration(input: &str) -> Result<Duration, OwnedFault> {
 
 /// Reads a text as [`parse`] does.
 ///
+/// # Errors
+///
+/// The message of the fault.
+///
 /// ```
 /// assert_eq!(duration_str::parse_std("2h 37m"), Ok(std::time::Duration::from_secs(9_420)));
 /// ```
@@ -106,17 +114,21 @@ pub fn parse_std(input: impl AsRef<str>) -> Result<Duration, String> {
 ///
 /// Needs the feature `chrono`.
 ///
+/// # Errors
+///
+/// The message of the fault.
+///
 /// ```
 /// assert_eq!(duration_str::parse_chrono("2h 37m"), Ok(chrono::Duration::minutes(157)));
 /// ```
 #[cfg(feature = "chrono")]
 pub fn parse_chrono(input: impl AsRef<str>) -> Result<chrono::Duration, String> {
-    read(input.as_ref()).map(signed)
+    read(input.as_ref()).map(chrono_of)
 }
 
 /// The value of a text as a duration of `chrono`.
 #[cfg(feature = "chrono")]
-pub(crate) fn signed(length: Duration) -> chrono::Duration {
+pub(crate) fn chrono_of(length: Duration) -> chrono::Duration {
     chrono::Duration::from_std(length)
         .expect("a value is below 2^64 nanoseconds, 584 years, and chrono's durations go beyond")
 }
@@ -125,13 +137,21 @@ pub(crate) fn signed(length: Duration) -> chrono::Duration {
 ///
 /// Needs the feature `time`.
 ///
+/// # Errors
+///
+/// The message of the fault.
+///
 /// ```
 /// assert_eq!(duration_str::parse_time("2h 37m"), Ok(time::Duration::minutes(157)));
 /// ```
 #[cfg(feature = "time")]
 pub fn parse_time(input: impl AsRef<str>) -> Result<time::Duration, String> {
-    read(input.as_ref()).map(|length| {
-        time::Duration::try_from(length)
-            .expect("2^64 nanoseconds are 584 years, and time's durations go beyond")
-    })
+    read(input.as_ref()).map(time_of)
+}
+
+/// The value of a text as a duration of `time`.
+#[cfg(feature = "time")]
+pub(crate) fn time_of(length: Duration) -> time::Duration {
+    time::Duration::try_from(length)
+        .expect("2^64 nanoseconds are 584 years, and time's durations go beyond")
 }

@@ -1,6 +1,5 @@
 //! Durations in what serde reads.
 use crate::parser::parse;
-use alloc::string::String;
 use core::fmt;
 use core::marker::PhantomData;
 use core::time::Duration;
@@ -10,12 +9,17 @@ use serde::de::{Deserializer, Error, Unexpected, Visitor};
 /// `Option`.
 pub trait DeserializeDuration<'de>: Sized {
     /// Reads a value of the type. [`deserialize_duration`] says what is read.
+    ///
+    /// # Errors
+    ///
+    /// That of the format, also for a text that is refused.
     fn deserialize_duration<D: Deserializer<'de>>(deserializer: D) -> Result<Self, D::Error>;
 }
 
 /// Durations that are read from a text.
 pub trait Length: Sized {
-    fn of_text(text: &str) -> Result<Self, String>;
+    /// The value of a text.
+    fn of_std(length: Duration) -> Self;
 
     /// The duration of `std`, which is never negative.
     fn to_std(&self) -> Option<Duration>;
@@ -32,7 +36,7 @@ impl<T: Length> Visitor<'_> for Required<T> {
     }
 
     fn visit_str<E: Error>(self, text: &str) -> Result<T, E> {
-        T::of_text(text).map_err(E::custom)
+        parse(text).map(T::of_std).map_err(E::custom)
     }
 }
 
@@ -50,7 +54,9 @@ impl<'de, T: Length> Visitor<'de> for Optional<T> {
         if text.is_empty() {
             return Ok(None);
         }
-        T::of_text(text).map(Some).map_err(E::custom)
+        parse(text)
+            .map(|length| Some(T::of_std(length)))
+            .map_err(E::custom)
     }
 
     fn visit_bytes<E: Error>(self, bytes: &[u8]) -> Result<Option<T>, E> {
@@ -83,6 +89,10 @@ impl<'de, T: Length> Visitor<'de> for Optional<T> {
 /// formats that don't tell their values' types, such as bincode, can't have a required one. [`human`](crate::human) has
 /// one rule for both.
 ///
+/// # Errors
+///
+/// That of the format, also for a text that is refused.
+///
 /// ```
 /// use duration_str::deserialize_duration;
 /// use serde::Deserialize;
@@ -110,10 +120,10 @@ where
 
 /// Implements the traits for a type and its `Option`, and makes the function that reads the `Option` alone.
 macro_rules! deserializes {
-    ($length:ty, $parse:path, $to_std:expr, $option_name:ident, $instead:literal) => {
+    ($length:ty, $of_std:path, $to_std:expr, $option_name:ident, $instead:literal) => {
         impl Length for $length {
-            fn of_text(text: &str) -> Result<Self, String> {
-                $parse(text)
+            fn of_std(length: Duration) -> Self {
+                $of_std(length)
             }
 
             fn to_std(&self) -> Option<Duration> {
@@ -138,6 +148,10 @@ macro_rules! deserializes {
         }
 
         #[doc = concat!("Reads an optional duration as [`", $instead, "`] does.")]
+        ///
+        /// # Errors
+        ///
+        /// That of the format, also for a text that is refused.
         #[deprecated(
             since = "0.19.0",
             note = "[`deserialize_duration`] reads optional durations too"
@@ -152,7 +166,7 @@ macro_rules! deserializes {
 
 deserializes!(
     Duration,
-    parse,
+    core::convert::identity,
     Some,
     deserialize_option_duration,
     "deserialize_duration"
@@ -160,7 +174,7 @@ deserializes!(
 #[cfg(feature = "chrono")]
 deserializes!(
     chrono::Duration,
-    crate::parse_chrono,
+    crate::parser::chrono_of,
     |length: chrono::Duration| length.to_std().ok(),
     deserialize_option_duration_chrono,
     "deserialize_duration"
@@ -168,7 +182,7 @@ deserializes!(
 #[cfg(feature = "time")]
 deserializes!(
     time::Duration,
-    crate::parse_time,
+    crate::parser::time_of,
     |length: time::Duration| length.try_into().ok(),
     deserialize_option_duration_time,
     "deserialize_duration"
@@ -177,6 +191,10 @@ deserializes!(
 /// Reads a duration of `chrono`, as [`deserialize_duration`] does.
 ///
 /// Needs the features `serde` and `chrono`.
+///
+/// # Errors
+///
+/// That of [`deserialize_duration`].
 #[cfg(feature = "chrono")]
 pub fn deserialize_duration_chrono<'de, D: Deserializer<'de>>(
     deserializer: D,
@@ -187,6 +205,10 @@ pub fn deserialize_duration_chrono<'de, D: Deserializer<'de>>(
 /// Reads a duration of `time`, as [`deserialize_duration`] does.
 ///
 /// Needs the features `serde` and `time`.
+///
+/// # Errors
+///
+/// That of [`deserialize_duration`].
 #[cfg(feature = "time")]
 pub fn deserialize_duration_time<'de, D: Deserializer<'de>>(
     deserializer: D,

@@ -1,4 +1,4 @@
-// Long texts, look-alikes, calls that have no allocator, and a run in a heap that is too small.
+// Long texts, look-alikes, calls that have no allocator, and a run that is refused memory.
 use arrayvec::ArrayString;
 use duration_str::{
     Cause, Expected, Fault, Options, after_naive_date, after_naive_date_time, before_naive_date,
@@ -12,10 +12,12 @@ use duration_str_tests::vectors::{
 use durstr_run::{RunFault, run};
 use jiff::civil::Date;
 use jiff::{SignedDuration, Timestamp};
-use linked_list_allocator::LocalHeap;
+use refusing::Refusing;
 use serde_json::{Value, json};
 use std::alloc::{AllocError, Global};
 use std::fmt::Write;
+use std::io;
+use std::io::Read;
 use std::process::Abort;
 use std::test::Fail;
 use std::time::Duration;
@@ -218,31 +220,40 @@ fn runs_over_long_lines(rt: HostRuntime) -> Result<(), Fail> {
     Ok(())
 }
 
-/// Runs in a heap of so many bytes, of which the first block of 16 is held, and writes into a fixed buffer. Whether the
-/// memory was enough: if it was, the buffer is full of the output, else it is as before.
-fn runs_in(rt: &impl Abort, alloc: Global, size: usize) -> Result<bool, AllocError> {
-    let heap = LocalHeap::new(alloc, size)?;
-    let _first = Box::new(&heap, 0u8)?;
-    let mut input: &[u8] = b"3m31\n\n580y*2";
-    let mut held = [0; 49];
-    let mut room: &mut [u8] = &mut held;
-    let answer = run(&heap, &mut input, &mut room, OFF);
-    let wanted: &[u8; 49] = b"211000000000 3min 31s\nEmpty input\noverflow error\n";
-    let is_wanted = match answer {
-        Ok(all_accepted) => !all_accepted && held == *wanted,
-        Err(fault) => fault == RunFault::Memory && held == [0; 49],
-    };
-    assert!(rt; is_wanted, "{size}");
-    Ok(answer.is_ok())
+/// Gives three bytes in each read.
+#[derive(Drop)]
+struct InThrees<'a>(&'a [u8]);
+
+impl Read for InThrees<'_> {
+    fn read(&mut self, buf: &mut [u8]) -> io::Result<usize> {
+        let count = buf.len().min(3).min(self.0.len());
+        buf[..count].copy_from_slice(&self.0[..count]);
+        self.0 = &self.0[count..];
+        Ok(count)
+    }
 }
 
-/// The run makes five requests: for the input of 12 bytes, and for an output of 12, 24, 48 and 96. Each needs a block that
-/// begins after those that are still held, so it is refused where fewer than 1, 2, 4, 7 and 13 blocks are left.
+/// Runs with one request for memory refused, and writes into a fixed buffer. How many requests were made: if it was one of
+/// these it was the last, and the buffer is as before, else the buffer is full of the output.
+fn requests(rt: &impl Abort, alloc: Global, refused: u64) -> u64 {
+    let heap = Refusing::nth(alloc, refused);
+    let mut held = [0; 49];
+    let mut room: &mut [u8] = &mut held;
+    let answer = run(&heap, &mut InThrees(b"3m31\n\n580y*2"), &mut room, OFF);
+    let made = heap.made();
+    let wanted: &[u8; 49] = b"211000000000 3min 31s\nEmpty input\noverflow error\n";
+    let is_wanted = match answer {
+        Ok(all_accepted) => made < refused && !all_accepted && held == *wanted,
+        Err(fault) => made == refused && fault == RunFault::Memory && held == [0; 49],
+    };
+    assert!(rt; is_wanted, "{refused}");
+    made
+}
+
+/// The run makes six requests: for an input of 8 and of 16 bytes, and for an output of 12, 24, 48 and 96.
 #[test]
-fn fails_wherever_a_request_is_refused(rt: HostRuntime) -> Result<(), Fail> {
-    for left in 0..20usize {
-        let size = 16 * (1 + left);
-        assert_eq!(rt; runs_in(&rt, rt.alloc(), size)?, left >= 13, "{left}");
+fn fails_wherever_a_request_is_refused(rt: HostRuntime) {
+    for refused in 1..=7u64 {
+        assert_eq!(rt; requests(&rt, rt.alloc(), refused), refused.min(6));
     }
-    Ok(())
 }

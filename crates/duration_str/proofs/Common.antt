@@ -23,15 +23,15 @@ pub use Rattle.duration_str.specs.declared.fault.Fault.{Fault}
 pub use Rattle.duration_str.specs.declared.operator.CondUnit.{CondUnit}
 pub use Rattle.duration_str.specs.declared.operator.CondUnit.TheVariants.{Plus, Star}
 pub use Rattle.duration_str.specs.declared.options.Options.{Options}
-pub use Rattle.duration_str.specs.declared.packed.TheConstants.{SLOTS, SPREAD}
+pub use Rattle.duration_str.specs.declared.packed.TheConstants.{NAMES, SPREAD, UNITS}
 pub use Rattle.duration_str.specs.declared.token.TheConstants.{BLANKS}
 pub use Rattle.duration_str.specs.declared.token.Sort.{Sort}
 pub use Rattle.duration_str.specs.declared.token.Sort.TheVariants.{Number, Operator, Other, Word}
 pub use Rattle.duration_str.specs.declared.token.Tokens.{Tokens}
 pub use Rattle.duration_str.specs.declared.unit.TimeUnit.{TimeUnit}
 pub use Rattle.duration_str.specs.declared.unit.TimeUnit.TheVariants.{Day, Hour, MicroSecond, MilliSecond, Minute, Month, NanoSecond, Quarter, Second, Week, Year}
-pub use Rattle.duration_str.specs.Answer.{allows, answer, answer_at, front_after, front_of, is_whole, kinds_after, kinds_at_start, last_of, late_answer}
-pub use Rattle.duration_str.specs.FaultText.{EndsInsideLine, byte_text, caret_text, fault_text, has_line_feed, line_of, placed_text}
+pub use Rattle.duration_str.specs.Answer.{allows, answer, answer_at, front_after, front_of, is_whole, expected_after, expected_at_start, last_of, late_answer}
+pub use Rattle.duration_str.specs.Messages.{EndsInsideLine, byte_text, caret_text, message_of, has_line_feed, line_of, placed_text}
 pub use Rattle.duration_str.specs.Faults.{IsMissingAtEnd, IsSliceOf, found_token, token_at}
 pub use Rattle.duration_str.specs.Grammar.{BeginsWith, IsSentence, IsSentenceOf, Spells, Terminal, number, operator, operator_or_other, other, sign_terminal, terminal_by, terminal_of, word}
 pub use Rattle.duration_str.specs.Laws.{BlanksFree, EqualTexts, GreatestBreakdown, HasNoCapital, HasNoChinese, HasNoOperator, HasNoStar, AnswerIsReading, IsIdle, NoCalcAgrees, OlderTexts, OneReading, OneCut, OneSentence, OptionsIdle, PlaceAndKinds, ReadsBack, Reorder, SumOfTexts, TwoFactors, is_operator, times_in}
@@ -40,17 +40,15 @@ pub use Rattle.duration_str.specs.Place.{BeginsSentence, CanFollow, IsFront, sta
 pub use Rattle.duration_str.specs.Printing.{IsBefore, IsGreatestBreakdown, IsPrinted, counts_of, printed_counts, printed_parts, spaced_parts, weighted_sum}
 pub use Rattle.duration_str.specs.Reading.{IsRead, IsRefused, IsRefusedAt, complete_terminals, complete_terms, early, early_fault, first_fault, late, late_fault, place_after, running_fault, syntax_fault, without_last_number}
 pub use Rattle.duration_str.specs.Results.{ParsesText}
-pub use Rattle.duration_str.specs.Terms.{fault_or, term_of}
+pub use Rattle.duration_str.specs.Value.{fault_or, term_of, AllPlus, Evaluates, Term, combination, evaluation_fault, fits, is_same_operator, fault_of_terms, later_total, or_else, second, sum_of, term_fault, terms_after, terms_by, terms_of, unless, value_of, value_of_term}
 pub use Rattle.duration_str.specs.Text.{ahead, IsBlank, IsNumber, byte_len, chinese_letters, is_blank, is_chinese, is_digit, is_unit_letter, number_after, number_of, operator_of, width}
 pub use Rattle.duration_str.specs.Iteration.{KeepsInput, YieldsNextToken, tokens_left, options_of, cut_place, source, what_of}
 pub use Rattle.duration_str.specs.Tokens.{AreTokens, EndsRun, IsLexeme, Token, are_of_one_run, goes_on, with_first_character, lexemes_of, tokens_from, tokens_of}
 pub use Rattle.duration_str.specs.Units.{UnitRow, comparison_form, is_named, nanos_of, off, row_of, unit_lengths, unit_of_word, units}
-pub use Rattle.duration_str.specs.Value.{AllPlus, Evaluates, Term, combination, evaluation_fault, fits, is_same_operator, later_fault, later_total, or_else, second, sum_of, term_fault, terms_after, terms_by, terms_of, unless, value_of, value_of_term}
 pub use Rattle.duration_str.specs.Internal.Positions.{Between, Passes, StandsAt, Stops, TakesDigits, TakesLetters, letter_number, number_in, packed_number, packed_number_after, wide_number}
 pub use Rattle.duration_str.specs.Internal.Numbers.{checked_term, u64_from}
 pub use Rattle.duration_str.specs.Internal.Packed.{all_names, packs_to, unit_of_packed}
 pub use Rattle.duration_str.specs.Internal.PrintedBytes.{greatest_count, max_printed_len, units_below_year, with_part, with_parts, with_space}
-pub use Rattle.duration_str.specs.Internal.Rest.{Later, ReadItem, Rest, ReturnsAnswer, answer_left, immediate_fault, check_operator, checked_combination, end_at, first_term, number_fault, leaving, identity_of, no_later, with_first, operator_read, rest_from, rest_of, start_left, terminal_at, terminals_in, unit_read}
-pub use Rattle.duration_str.specs.Internal.Sorts.{sign_sort, sort_at, sort_of}
-pub use Rattle.duration_str.specs.Internal.Steps.{IsAhead, IsSign, LooksAhead, TakesNumber, TakesSign, TakesToken, TakesTokenWith, is_number}
+pub use Rattle.duration_str.specs.Internal.Rest.{ReadItem, Rest, ReturnsAnswer, answer_left, checked_combination, end_at, fault_at, fault_in_order, fault_left, first_term, number_fault, leaving, identity_of, operator_read, rest_from, rest_of, start_left, sum_fault, terminal_at, terminals_in, unit_read, with_term}
+pub use Rattle.duration_str.specs.Internal.Steps.{sign_sort, sort_at, sort_of, IsAhead, IsSign, LooksAhead, TakesNumber, TakesSign, TakesToken, TakesTokenWith, is_number}
 pub use Rattle.duration_str.specs.Internal.UnitTable.{AreEncoded}

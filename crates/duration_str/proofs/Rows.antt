@@ -1,5 +1,5 @@
 -- Worked examples, computed: what texts are read as, why others are refused, and what durations print as.
-use Rattle.duration_str.proofs.Common.{◌≡◌, ℕ, Bool, true, false, List, [], ◌∷◌, ◌++◌, Some, None, Ok, Err, refl, length, flat_map, map, encode_utf8_all, codes, Options, TimeUnit, Quarter, Plus, Star, Empty, Syntax, NumberTooLarge, Overflow, Mixed, Expected, off, row_of, units, unit_of_word, unit_lengths, older_units, older_unit_of_word, printed_counts, counts_of, max_printed_len, answer, fault_text}
+use Rattle.duration_str.proofs.Common.{◌≡◌, ℕ, Bool, true, false, List, [], ◌∷◌, ◌++◌, Some, None, Ok, Err, refl, length, flat_map, map, encode_utf8_all, codes, Options, TimeUnit, Quarter, Plus, Star, Empty, Syntax, NumberTooLarge, Overflow, Mixed, Expected, off, row_of, units, unit_of_word, unit_lengths, older_units, older_unit_of_word, printed_counts, counts_of, max_printed_len, answer, message_of}
 use Rattle.duration_str.proofs.Characters.EachUnit.{Each}
 use Rattle.std.specs.Fmt.{digits}
 use Rattle.std.specs.Str.{chars}
@@ -147,11 +147,11 @@ longest = codes "100000000000y 3q 2mon 3w 6d 23h 59min 59s 999ms 999µs 999ns"
 
 pub record PrintedTexts : Type 0 where
   -- ---- The texts of faults
-  pub caret-by_characters : fault_text (encode_utf8_all (codes "1µs 分")) (Syntax 5 after_unit)
+  pub caret-by_characters : message_of (encode_utf8_all (codes "1µs 分")) (Syntax 5 after_unit)
       ≡ encode_utf8_all (codes "1µs 分" ++ 10 ∷ codes "    ^" ++ 10 ∷ codes "expected ['+', '*']")
-  pub byte-after_line_feeds : fault_text (codes "1m" ++ 10 ∷ codes "+" ++ 10 ∷ codes "x") (Syntax 5 number_alone)
+  pub byte-after_line_feeds : message_of (codes "1m" ++ 10 ∷ codes "+" ++ 10 ∷ codes "x") (Syntax 5 number_alone)
       ≡ codes "byte 5: expected number"
-  pub line-alone : fault_text (codes "1m 2s*3") (Mixed Plus Star) ≡ codes "not support '+' with '*' calculate"
+  pub line-alone : message_of (codes "1m 2s*3") (Mixed Plus Star) ≡ codes "not support '+' with '*' calculate"
   -- ---- Printed texts
   pub printed-zero : printed 0 ≡ codes "0s"
   pub printed-milliseconds : printed 193_029_000_000 ≡ codes "3min 13s 29ms"

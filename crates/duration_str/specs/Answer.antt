@@ -1,5 +1,6 @@
 -- The answer to a text, computed by the table of what may follow.
-use Rattle.std.specs.Prelude.{ℕ, suc, Bool, true, false, ◌&&◌, not, List, [], ◌∷◌, Option, Some, None, is_some, Result, Ok, Err, take, drop, if◌then◌else◌, unwrap_or}
+use Rattle.std.specs.Prelude.{ℕ, suc, Bool, true, false, ◌&&◌, not, List, [], ◌∷◌, Option, Some, None}
+use Rattle.std.specs.Prelude.{is_some, Result, Ok, Err, take, drop, if◌then◌else◌, unwrap_or}
 use Rattle.duration_str.specs.declared.options.Options.{Options}
 use Rattle.duration_str.specs.declared.cause.Cause.{Cause}
 use Rattle.duration_str.specs.declared.cause.Cause.TheVariants.{Empty, Syntax}
@@ -8,29 +9,28 @@ use Rattle.duration_str.specs.Text.{byte_len}
 use Rattle.duration_str.specs.Grammar.{Terminal, number, word, operator, other}
 use Rattle.duration_str.specs.Tokens.{tokens_of}
 use Rattle.duration_str.specs.Place.{start_after, terminals_of}
-use Rattle.duration_str.specs.Value.{terms_of, value_of}
-use Rattle.duration_str.specs.Terms.{fault_or}
+use Rattle.duration_str.specs.Value.{terms_of, value_of, fault_or}
 use Rattle.duration_str.specs.Reading.{early_fault, late_fault}
 
 -- what may start a text or follow an operator: a number
-abbrev pub kinds_at_start : Expected
-kinds_at_start = record { number = true; unit_word = false; operator = false; text_end = false }
+abbrev pub expected_at_start : Expected
+expected_at_start = record { number = true; unit_word = false; operator = false; text_end = false }
 
 -- what may follow a number
-abbrev pub kinds_after_number : Bool → Expected
-kinds_after_number no_calc = record { number = false; unit_word = true; operator = not no_calc; text_end = true }
+abbrev pub expected_after_number : Bool → Expected
+expected_after_number no_calc = record { number = false; unit_word = true; operator = not no_calc; text_end = true }
 
 -- what may follow a unit
-abbrev pub kinds_after_unit : Bool → Expected
-kinds_after_unit no_calc = record { number = true; unit_word = false; operator = not no_calc; text_end = true }
+abbrev pub expected_after_unit : Bool → Expected
+expected_after_unit no_calc = record { number = true; unit_word = false; operator = not no_calc; text_end = true }
 
 -- The table: what may follow a terminal, or start a text.
-abbrev pub kinds_after : Bool → Option Terminal → Expected
-kinds_after no_calc None = kinds_at_start
-kinds_after no_calc (Some (number n)) = kinds_after_number no_calc
-kinds_after no_calc (Some (word u)) = kinds_after_unit no_calc
-kinds_after no_calc (Some (operator op)) = kinds_at_start
-kinds_after no_calc (Some other) = record { number = false; unit_word = false; operator = false; text_end = false }
+abbrev pub expected_after : Bool → Option Terminal → Expected
+expected_after no_calc None = expected_at_start
+expected_after no_calc (Some (number n)) = expected_after_number no_calc
+expected_after no_calc (Some (word u)) = expected_after_unit no_calc
+expected_after no_calc (Some (operator op)) = expected_at_start
+expected_after no_calc (Some other) = record { number = false; unit_word = false; operator = false; text_end = false }
 
 -- whether the terminal is of an expected kind
 abbrev pub allows : Expected → Terminal → Bool
@@ -48,7 +48,7 @@ last_of last (terminal ∷ terminals) = last_of (Some terminal) terminals
 abbrev pub front_after : Bool → Option Terminal → List Terminal → ℕ
 front_after no_calc last [] = 0
 front_after no_calc last (terminal ∷ terminals) =
-    if allows (kinds_after no_calc last) terminal then suc (front_after no_calc (Some terminal) terminals) else 0
+    if allows (expected_after no_calc last) terminal then suc (front_after no_calc (Some terminal) terminals) else 0
 
 -- the length of the front, by the table
 abbrev pub front_of : Bool → List Terminal → ℕ
@@ -56,7 +56,7 @@ front_of no_calc terminals = front_after no_calc None terminals
 
 -- whether the front is all the terminals, and a sentence
 abbrev pub is_whole : Bool → List Terminal → List Terminal → Bool
-is_whole no_calc front [] = (kinds_after no_calc (last_of None front)).text_end
+is_whole no_calc front [] = (expected_after no_calc (last_of None front)).text_end
 is_whole no_calc front (terminal ∷ rest) = false
 
 -- the answer to a sentence, given its evaluation's fault or `None`
@@ -68,7 +68,7 @@ abbrev pub answer_at : Bool → ℕ → List Terminal → List Terminal → Resu
 answer_at no_calc place front rest =
     fault_or (early_fault no_calc front rest)
     (if is_whole no_calc front rest then late_answer (late_fault no_calc front) front
-    else Err (Syntax place (kinds_after no_calc (last_of None front))))
+    else Err (Syntax place (expected_after no_calc (last_of None front))))
 
 -- the value in nanoseconds, or the cause of the refusal
 abbrev pub answer : Options → List ℕ → Result ℕ Cause

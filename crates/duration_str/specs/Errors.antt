@@ -4,7 +4,7 @@ use Rattle.duration_str.specs.declared.cause.Cause.{Cause}
 use Rattle.duration_str.specs.declared.cause.Cause.TheVariants.{Overflow}
 use Rattle.duration_str.specs.declared.error.DError.{DError}
 use Rattle.duration_str.specs.declared.error.DError.TheVariants.{ParseError, OverflowError}
-use Rattle.duration_str.specs.FaultText.{line_of}
+use Rattle.duration_str.specs.Messages.{line_of}
 
 -- The cause is an overflow.
 abbrev pub IsOverflow : Cause → Type 0

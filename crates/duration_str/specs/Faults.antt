@@ -8,7 +8,8 @@ use Rattle.duration_str.specs.Tokens.{Token, tokens_of}
 use Rattle.duration_str.specs.Reading.{IsRefused}
 use Rattle.duration_str.specs.declared.cause.Expected.{Expected}
 use Rattle.duration_str.specs.declared.cause.Cause.{Cause}
-use Rattle.duration_str.specs.declared.cause.Cause.TheVariants.{Empty, Syntax, NumberTooLarge, Overflow, Mixed, OutOfRange, NotText}
+use Rattle.duration_str.specs.declared.cause.Cause.TheVariants.{Empty, Syntax, NumberTooLarge, Overflow}
+use Rattle.duration_str.specs.declared.cause.Cause.TheVariants.{Mixed, OutOfRange, NotText}
 
 -- the byte offset of a fault, if it has a place
 abbrev pub place_of : Cause → Option ℕ

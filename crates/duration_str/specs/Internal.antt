@@ -2,9 +2,7 @@
 pub mod Numbers
 pub mod UnitTable
 pub mod Positions
-pub mod Sorts
 pub mod Steps
 pub mod Packed
 pub mod Rest
 pub mod PrintedBytes
-pub mod Layouts

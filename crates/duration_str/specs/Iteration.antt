@@ -30,6 +30,10 @@ options_of s = s.options
 abbrev pub cut_place : Tokens → ℕ
 cut_place s = s.eye.place
 
+-- how many times a character was looked at
+abbrev pub looks_of : Tokens → ℕ
+looks_of s = s.eye.looks
+
 -- the tokens that are left
 abbrev pub tokens_left : Tokens → List Token
 tokens_left s = tokens_from s.options s.eye.place (ahead s.eye.text.now s.eye.place)

@@ -1,5 +1,7 @@
 -- The laws, each as one statement about the definitions.
-use Rattle.std.specs.Prelude.{◌≡◌, ℕ, ◌+◌, ◌*◌, ◌/◌, ◌^◌, ◌<◌, ◌≤◌, Bool, true, false, if◌then◌else◌, List, [], ◌∷◌, ◌++◌, Some, None, is_some, map, ◌↔◌, ◌≢◌, take, drop, codes, Ok, Err, ◌⊎◌, IsTrue, not, ◌==◌}
+use Rattle.std.specs.Prelude.{◌≡◌, ℕ, ◌+◌, ◌*◌, ◌/◌, ◌^◌, ◌<◌, ◌≤◌, Bool, true, false, if◌then◌else◌}
+use Rattle.std.specs.Prelude.{List, [], ◌∷◌, ◌++◌, Some, None, is_some, map, ◌↔◌, ◌≢◌, take, drop, codes}
+use Rattle.std.specs.Prelude.{encode_utf8_all, Ok, Err, ◌⊎◌, IsTrue, not, ◌==◌}
 use Rattle.std.specs.Char.{is_ascii_uppercase}
 use Rattle.std.specs.List.{list_all}
 use Rattle.std.specs.Duration.{FitsDuration}
@@ -18,7 +20,8 @@ use Rattle.duration_str.specs.Tokens.{Token, tokens_of, lexemes_of, AreTokens}
 use Rattle.duration_str.specs.Place.{BeginsSentence, CanFollow, IsFront}
 use Rattle.duration_str.specs.Value.{AllPlus, Term, value_of_term, written_terms, second}
 use Rattle.duration_str.specs.Reading.{IsRead, IsRefused}
-use Rattle.duration_str.specs.Answer.{answer, kinds_after, last_of, front_of}
+use Rattle.duration_str.specs.Messages.{EndsInsideLine, message_of, line_of}
+use Rattle.duration_str.specs.Answer.{answer, expected_after, last_of, front_of}
 use Rattle.duration_str.specs.Older.{older_row_of, older_terminals, WasSentenceOf, WasRead, WasRefused}
 use Rattle.duration_str.specs.Printing.{IsPrinted, IsGreatestBreakdown, counts_of}
 
@@ -74,7 +77,7 @@ pub record AnswerIsReading : Type 0 where
 -- the longest beginning.
 pub record PlaceAndKinds : Type 0 where
   pub kinds : (no_calc : Bool) (front : List Terminal) (expected : Expected) → BeginsSentence no_calc front
-      → (CanFollow no_calc front expected ↔ (expected ≡ kinds_after no_calc (last_of None front)))
+      → (CanFollow no_calc front expected ↔ (expected ≡ expected_after no_calc (last_of None front)))
   pub no_operator : (no_calc : Bool) (front : List Terminal) (op : CondUnit)
       → no_calc ≡ true → BeginsSentence no_calc front → last_of None front ≢ Some (operator op)
   pub front : (no_calc : Bool) (terminals : List Terminal)
@@ -159,6 +162,11 @@ pub record ReadsBack : Type 0 where
       → IsPrinted nanos text → IsRefused o text (Overflow None)
   pub far_above : (o : Options) (nanos : ℕ) (text : List ℕ) → 585 * nanos_of Year ≤ nanos → FitsDuration nanos
       → IsPrinted nanos text → IsRefused o text (Overflow (Some 0))
+
+-- Neither the line of a cause nor the text of a fault ends with a line feed.
+pub record LastLine : Type 0 where
+  pub line : (cause : Cause) → EndsInsideLine (encode_utf8_all (line_of cause))
+  pub text : (text : List ℕ) (cause : Cause) → EndsInsideLine (message_of text cause)
 
 -- Each row of the table before the quarter is a row of today's. A sentence over those units is a sentence over all
 -- units, with the same terminals. So a text that was read is read as the same value, and one whose evaluation was

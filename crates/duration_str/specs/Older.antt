@@ -6,7 +6,8 @@ use lib.Chars.{codes}
 use Rattle.duration_str.specs.declared.options.Options.{Options}
 use Rattle.duration_str.specs.declared.operator.CondUnit.TheVariants.{Plus}
 use Rattle.duration_str.specs.declared.unit.TimeUnit.{TimeUnit}
-use Rattle.duration_str.specs.declared.unit.TimeUnit.TheVariants.{Year, Quarter, Month, Week, Day, Hour, Minute, Second, MilliSecond, MicroSecond, NanoSecond}
+use Rattle.duration_str.specs.declared.unit.TimeUnit.TheVariants.{Year, Quarter, Month, Week, Day, Hour, Minute, Second}
+use Rattle.duration_str.specs.declared.unit.TimeUnit.TheVariants.{MilliSecond, MicroSecond, NanoSecond}
 use Rattle.duration_str.specs.declared.cause.Cause.{Cause}
 use Rattle.duration_str.specs.Units.{UnitRow, is_in_row}
 use Rattle.duration_str.specs.Grammar.{Terminal, terminal_by, IsSentence, Spells}

@@ -1,5 +1,6 @@
 -- The terms of a sentence, their value, and their faults.
-use Rattle.std.specs.Prelude.{◌≡◌, ℕ, ◌+◌, ◌*◌, ◌/◌, ◌^◌, Bool, true, false, List, [], ◌∷◌, ◌++◌, Option, Some, None, if◌then◌else◌, nat_lt, ⊤, map}
+use Rattle.std.specs.Prelude.{◌≡◌, ℕ, ◌+◌, ◌*◌, ◌/◌, ◌^◌, Bool, true, false, List, [], ◌∷◌, ◌++◌, Option}
+use Rattle.std.specs.Prelude.{Some, None, if◌then◌else◌, nat_lt, ⊤, map, Result, Ok, Err}
 use Rattle.std.specs.List.{list_all, fold}
 use Rattle.duration_str.specs.declared.options.Options.{Options}
 use Rattle.duration_str.specs.declared.unit.TimeUnit.{TimeUnit}
@@ -107,18 +108,18 @@ term_fault place t =
     or_else (unless (fits t.number) (NumberTooLarge place)) (unless (fits (value_of_term t)) (Overflow place))
 
 -- the first fault of the later terms after those in `before`, which have none; `op` is that of the first later term
-abbrev pub later_fault : CondUnit → List Term → List Term → Option Cause
-later_fault op before [] = None
-later_fault op before (t ∷ later) =
+abbrev pub fault_of_terms : CondUnit → List Term → List Term → Option Cause
+fault_of_terms op before [] = None
+fault_of_terms op before (t ∷ later) =
     or_else (unless (is_same_operator op t.operator) (Mixed op t.operator))
     (or_else (term_fault None t)
     (or_else (unless (fits (later_total op (before ++ t ∷ []))) (Overflow None))
-    (later_fault op (before ++ t ∷ []) later)))
+    (fault_of_terms op (before ++ t ∷ []) later)))
 
 -- the fault of a sentence whose first term has none: that of the later terms, or of the total including the first term
 abbrev pub evaluation_fault : List Term → Option Cause
 evaluation_fault (t ∷ u ∷ later) =
-    or_else (later_fault u.operator [] (u ∷ later))
+    or_else (fault_of_terms u.operator [] (u ∷ later))
     (unless (fits (combination u.operator (value_of_term t) (later_total u.operator (u ∷ later)))) (Overflow None))
 evaluation_fault _ = None
 
@@ -126,3 +127,18 @@ evaluation_fault _ = None
 abbrev pub Evaluates : List Term → Type 0
 Evaluates [] = ⊥
 Evaluates (t ∷ later) = (term_fault None t ≡ None) × (evaluation_fault (t ∷ later) ≡ None)
+
+-- ---- One term by itself
+
+-- the term of a number and a unit
+abbrev pub term_of : ℕ → TimeUnit → Term
+term_of n u = record { operator = Plus; number = n; length = nanos_of u }
+
+-- the fault if there is one, otherwise the result
+abbrev pub fault_or : {A : Type 0} → Option Cause → Result A Cause → Result A Cause
+fault_or (Some cause) result = Err cause
+fault_or None result = result
+
+-- the value of a term, or its fault
+abbrev pub term_answer : Option ℕ → Term → Result ℕ Cause
+term_answer place t = fault_or (term_fault place t) (Ok (value_of_term t))

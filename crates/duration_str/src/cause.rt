@@ -1,19 +1,18 @@
 //! Why a text is refused: what could stand at the place of a syntax fault, the cause, and its line.
-ghost use Rattle.std.specs.Prelude.{◌≡◌, length, encode_utf8_all};
-ghost use Rattle.duration_str.specs.Answer.{kinds_at_start, kinds_after_number, kinds_after_unit};
+ghost use Rattle.std.specs.Prelude.{◌≡◌, encode_utf8_all};
+ghost use Rattle.duration_str.specs.Answer.{expected_at_start, expected_after_number, expected_after_unit};
 ghost use Rattle.duration_str.specs.Faults.{place_of};
-ghost use Rattle.duration_str.specs.FaultText.{line_of};
+ghost use Rattle.duration_str.specs.Messages.{line_of};
 
 use crate::operator::CondUnit;
 
 /// What could stand at the place of a syntax fault.
 ///
 /// ```
-/// use duration_str::{Cause, Expected, Options, parse_with};
+/// use duration_str::{Cause, Options, parse_with};
 ///
-/// let number = Expected { number: true, unit_word: false, operator: false, text_end: false };
 /// let cause = parse_with("1m+", Options::off()).unwrap_err().cause();
-/// assert_eq!(cause, Cause::Syntax { place: 3, expected: number });
+/// assert!(matches!(cause, Cause::Syntax { place: 3, expected } if expected.number && !expected.text_end));
 /// ```
 #[derive(Clone, Copy, Debug, PartialEq, Eq)]
 pub struct Expected {
@@ -31,7 +30,7 @@ impl Expected {
     /// What can start a text, or follow an operator.
     #[inline(always)]
     pub(crate) fn at_start() -> Expected
-        ensures { result ≡ kinds_at_start }
+        ensures { result ≡ expected_at_start }
     {
         Expected {
             number: true,
@@ -44,7 +43,7 @@ impl Expected {
     /// What can follow a number.
     #[inline(always)]
     pub(crate) fn after_number(no_calc: bool) -> Expected
-        ensures { result ≡ kinds_after_number no_calc }
+        ensures { result ≡ expected_after_number no_calc }
     {
         Expected {
             number: false,
@@ -57,7 +56,7 @@ impl Expected {
     /// What can follow a unit.
     #[inline(always)]
     pub(crate) fn after_unit(no_calc: bool) -> Expected
-        ensures { result ≡ kinds_after_unit no_calc }
+        ensures { result ≡ expected_after_unit no_calc }
     {
         Expected {
             number: true,
@@ -123,7 +122,8 @@ impl Cause {
     /// assert_eq!(place("1m 3-5"), Some(4));
     /// assert_eq!(place("580y*2"), None);
     /// ```
-    pub fn place(self) -> Option<usize>
+    #[must_use]
+    pub const fn place(self) -> Option<usize>
         ensures { result ≡ place_of self }
     {
         match self {
@@ -141,8 +141,13 @@ impl Cause {
         Cause::Syntax { place, expected }
     }
 
-    /// The line of this cause.
-    pub(crate) fn line(self) -> &'static str
+    /// The line that says why the text is refused.
+    ///
+    /// ```
+    /// assert_eq!(duration_str::Cause::Empty.line(), "Empty input");
+    /// ```
+    #[must_use]
+    pub const fn line(self) -> &'static str
         ensures { result.now ≡ encode_utf8_all (line_of self) }
     {
         match self {
@@ -168,16 +173,5 @@ impl Cause {
             Cause::NotText { optional: true } => "expect duration string, null, or missing field",
             Cause::NotText { optional: false } => "expect duration string, e.g: '1min+30'",
         }
-    }
-
-    /// The length in bytes of the line that `write_line` writes.
-    ///
-    /// ```
-    /// assert_eq!(duration_str::Cause::Empty.line_len(), 11);
-    /// ```
-    pub fn line_len(self) -> usize
-        ensures { result ≡ length (encode_utf8_all (line_of self)) }
-    {
-        self.line().len()
     }
 }

@@ -207,6 +207,7 @@ fn fill(d: Duration, buffer: &mut [u8; 64]) -> usize
 /// assert_eq!(write_human(&Duration::ZERO, &mut buffer), "0s");
 /// ```
 #[tactic(auto, unfolding(crate::specs::Internal::PrintedBytes::digits))]
+#[must_use]
 pub fn write_human<'b>(d: &Duration, buffer: &'b mut [u8; 64]) -> &'b str
     ensures text { IsPrinted (as_nanos d.now) (chars result.now) }
     ensures short { length result.now ≤ MAX_PRINTED_LEN }
@@ -234,8 +235,9 @@ pub trait HumanFormat {
     /// refused.
     fn human_format<A: Allocator>(&self, alloc: A) -> Result<String<A>, AllocError>
         requires { pos 0 ≤ℤ nanos self.now }
-        ensures { IfOk result (λ text.
-            IsPrinted (unsigned_abs (nanos self.now)) (chars (string_bytes text))) };
+        ensures text { IfOk result (λ text.
+            IsPrinted (unsigned_abs (nanos self.now)) (chars (string_bytes text))) }
+        ensures short { IfOk result (λ text. length (string_bytes text) ≤ MAX_PRINTED_LEN) };
 }
 
 impl HumanFormat for Duration {

@@ -1,5 +1,6 @@
 //! The only access to the text while it is cut: one character after the other, and every look is counted.
-ghost use Rattle.std.specs.Prelude.{◌≡◌, ◌+◌, ◌<◌, ◌≤◌, ◌^◌, [], is_some, IsSome, IfSome, IfNone, if◌then◌else◌, slice_range, IsUtf8, length};
+ghost use Rattle.std.specs.Prelude.{◌≡◌, ◌+◌, ◌<◌, ◌≤◌, ◌^◌, [], is_some, IsSome, IfSome, IfNone};
+ghost use Rattle.std.specs.Prelude.{if◌then◌else◌, slice_range, IsUtf8, length};
 ghost use Rattle.std.specs.Str.{IsCharBoundary};
 ghost use Rattle.duration_str.specs.Internal.Positions.{StandsAt};
 ghost use Rattle.duration_str.specs.Text.{ahead};
@@ -89,7 +90,7 @@ impl<'a> Eye<'a> {
         &self.text[start..self.place]
     }
 
-    /// The bytes of `since`, which take no test for characters' boundaries.
+    /// The bytes of `since`, without checking character boundaries.
     #[inline(always)]
     pub(crate) fn bytes_since(&self, start: usize) -> &'a [u8]
         requires order { start ≤ self.now.place }

@@ -37,7 +37,8 @@ impl<'a> Fault<'a> {
     ///
     /// assert_eq!(parse_with("1x", Options::off()).unwrap_err().text(), "1x");
     /// ```
-    pub fn text(&self) -> &'a str
+    #[must_use]
+    pub const fn text(&self) -> &'a str
         ensures { result ≡ self.now.text }
     {
         self.text
@@ -51,7 +52,8 @@ impl<'a> Fault<'a> {
     /// let cause = parse_with("600y", Options::off()).unwrap_err().cause();
     /// assert_eq!(cause, Cause::Overflow { place: Some(0) });
     /// ```
-    pub fn cause(&self) -> Cause
+    #[must_use]
+    pub const fn cause(&self) -> Cause
         ensures { result ≡ self.now.cause }
     {
         self.cause
@@ -65,6 +67,7 @@ impl<'a> Fault<'a> {
     /// ```text
     /// parse("3ms-2ms").unwrap_err().found(Options::off()) // Some("-")
     /// ```
+    #[must_use]
     pub fn found(&self, o: Options) -> Option<&'a str>
         ensures token { IsSliceOf self.now.text.now
             (found_token o (chars self.now.text.now) self.now.cause) result }

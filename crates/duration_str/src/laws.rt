@@ -1,9 +1,12 @@
 //! Laws about the definitions: each function does nothing, and its contract is a law.
-ghost use Rattle.duration_str.specs.Laws.{OneSentence, OneCut, OneReading, AnswerIsReading, PlaceAndKinds, NoCalcAgrees, OptionsIdle, BlanksFree, SumOfTexts, Reorder, TwoFactors, GreatestBreakdown, EqualTexts, ReadsBack, OlderTexts};
+ghost use Rattle.duration_str.specs.Laws.{OneSentence, OneCut, OneReading, AnswerIsReading, PlaceAndKinds};
+ghost use Rattle.duration_str.specs.Laws.{NoCalcAgrees, OptionsIdle, BlanksFree, SumOfTexts, Reorder, TwoFactors};
+ghost use Rattle.duration_str.specs.Laws.{GreatestBreakdown, EqualTexts, ReadsBack, LastLine, OlderTexts};
 
 /// At most one sentence spells a text, and its lexemes are those of the text's tokens; a text is read as one value or
 /// refused for one cause, not both, and the computed answer says which. So `3m31s` is spelled by `3`, `m`, `31`, `s`
 /// and by no other sentence, and is read as 211 seconds.
+#[tactic(auto, using(crate::proofs::LawProofs::OneSentence::each_holds))]
 pub fn one_sentence()
     ensures sentence { OneSentence }
     ensures tokens { OneCut }
@@ -81,6 +84,13 @@ pub fn equal_texts()
 #[tactic(auto, using(crate::proofs::LawProofs::ReadsBack::reads_back_holds))]
 pub fn reads_back()
     ensures { ReadsBack }
+{}
+
+/// Neither a cause's line nor a fault's message ends with a line feed. So an entry of a log ends with the one that is
+/// written after it.
+#[tactic(auto, using(crate::proofs::Printer::MessageLemmas::last_line_holds))]
+pub fn last_line()
+    ensures { LastLine }
 {}
 
 /// A text that was read before the quarter was added is read as the same value, under every choice of options, and one

@@ -2,12 +2,12 @@
 //!
 //! A `Display` may fail for reasons that its contract does not name, so no contract can promise that it prints. Into a
 //! buffer a message for which there is room is always written.
-ghost use Rattle.std.specs.Prelude.{◌≡◌, ◌≤◌, ◌-◌, ◌^◌, ◌++◌, None, Some, IfSome, IsUtf8, min, length, take, replicate, decimal, encode_utf8_all};
+ghost use Rattle.std.specs.Prelude.{◌≡◌, ◌≤◌, ◌-◌, ◌^◌, ◌++◌, ◌<◌, None, Some, IfSome, IfNone, IsUtf8, min};
+ghost use Rattle.std.specs.Prelude.{length, take, replicate, decimal, encode_utf8_all};
 ghost use Rattle.std.specs.Fmt.{DisplaysOnOk, DisplaysStyledOnOk};
 ghost use Rattle.std.specs.Str.{IsCharBoundary};
 ghost use Rattle.duration_str.specs.Buffers.{IsInFront, IsWritten};
-ghost use Rattle.duration_str.specs.FaultText.{EndsInsideLine, byte_text, caret_text, chars_before, fault_text, line_of};
-ghost use Rattle.duration_str.specs.Internal.Layouts.{message_of};
+ghost use Rattle.duration_str.specs.Messages.{byte_text, caret_text, chars_before, message_of, line_of, laid_out};
 
 use crate::cause::Cause;
 use crate::ext::put_number;
@@ -33,25 +33,21 @@ impl Cause {
     {
         put(buffer, 0, self.line().as_bytes())
     }
+
+    /// The length in bytes of the line that `write_line` writes.
+    ///
+    /// ```
+    /// assert_eq!(duration_str::Cause::Empty.line_len(), 11);
+    /// ```
+    #[must_use]
+    pub const fn line_len(self) -> usize
+        ensures { result ≡ length (encode_utf8_all (line_of self)) }
+    {
+        self.line().len()
+    }
 }
 
 impl Fault<'_> {
-    /// How its message is laid out.
-    pub(crate) fn layout(&self) -> Layout
-        ensures { message_of result self.now.text.now (encode_utf8_all (line_of self.now.cause))
-            ≡ fault_text self.now.text.now self.now.cause }
-    {
-        let Some(place) = self.cause.place() else {
-            return Layout::Line;
-        };
-        if self.text.as_bytes().contains(&b'\n') {
-            return Layout::Byte { place };
-        }
-        Layout::Caret {
-            spaces: chars_before(self.text, place),
-        }
-    }
-
     /// The length in bytes of the message that `write_message` writes; `usize::MAX` if it is greater than that.
     ///
     /// ```
@@ -59,8 +55,9 @@ impl Fault<'_> {
     ///
     /// assert_eq!(parse_with("3ms-2ms", Options::off()).unwrap_err().message_len(), 32);
     /// ```
+    #[must_use]
     pub fn message_len(&self) -> usize
-        ensures { result ≡ min (length (fault_text self.now.text.now self.now.cause)) (2 ^ 64 - 1) }
+        ensures { result ≡ min (length (message_of self.now.text.now self.now.cause)) (2 ^ 64 - 1) }
     {
         self.layout().len(self.text, self.cause.line())
     }
@@ -78,10 +75,9 @@ impl Fault<'_> {
     /// assert_eq!(&buffer[..11], b"Empty input");
     /// ```
     pub fn write_message(&self, buffer: &mut [u8]) -> Option<usize>
-        ensures bytes { IsWritten (fault_text self.now.text.now self.now.cause)
+        ensures bytes { IsWritten (message_of self.now.text.now self.now.cause)
             buffer.old result buffer.new }
         ensures utf8 { IfSome result (λ end. IsUtf8 (take end buffer.new)) }
-        ensures last_line { IfSome result (λ end. EndsInsideLine (take end buffer.new)) }
     {
         let layout = self.layout();
         let line = self.cause.line();
@@ -90,32 +86,117 @@ impl Fault<'_> {
         }
         layout.put(buffer, self.text, line)
     }
-}
 
-const SPACES: &str = "                                                                ";
-
-/// This many spaces, at most 64.
-fn short_run(count: usize) -> &'static str
-    requires { count ≤ 64 }
-    ensures { result.now ≡ replicate count 32 }
-{
-    &SPACES[..count]
-}
-
-/// This many spaces, written in runs.
-#[derive(Clone, Copy)]
-struct Spaces(usize);
-
-impl fmt::Display for Spaces {
-    ghost output = { λ spaces. Some (replicate spaces.0 32) };
-
-    fn fmt<W: fmt::Write>(&self, f: &mut fmt::Formatter<W>) -> fmt::Result {
-        let mut left = self.0;
-        while left > 64 {
-            f.write_str(short_run(64))?;
-            left -= 64;
+    /// How its message is laid out.
+    pub(crate) fn layout(&self) -> Layout
+        ensures { laid_out result self.now.text.now (encode_utf8_all (line_of self.now.cause))
+            ≡ message_of self.now.text.now self.now.cause }
+    {
+        let Some(place) = self.cause.place() else {
+            return Layout::Line;
+        };
+        if self.text.as_bytes().contains(&b'\n') {
+            return Layout::Byte { place };
         }
-        f.write_str(short_run(left))
+        Layout::Caret {
+            spaces: chars_before(self.text, place),
+        }
+    }
+}
+
+/// The line that says what is wrong. If the fault has a place, the text and a caret under the place are printed above
+/// it; or, if the text has a line feed, the byte offset is printed before it: `byte 5: expected number`.
+///
+/// ```text
+/// 3ms-2ms
+///    ^
+/// expected ['+', '*']
+/// ```
+impl fmt::Display for Fault<'_> {
+    ghost output = { λ fault. Some (message_of fault.text.now fault.cause) };
+
+    fn fmt<W: fmt::Write>(&self, f: &mut fmt::Formatter<W>) -> fmt::Result
+        ensures writes { DisplaysOnOk W.write_str_gives f.old result
+            (Some (message_of self.now.text.now self.now.cause)) f.new }
+        ensures styled { DisplaysStyledOnOk W.write_str_gives f.old result None f.new }
+    {
+        let layout = self.layout();
+        let line = self.cause.line();
+        if let Layout::Line = layout {
+            return f.write_str(line);
+        }
+        // Most messages are short, and one call of a formatter takes less time than several.
+        match layout.message(&mut [0; 256], self.text, line) {
+            Some(message) => f.write_str(message),
+            None => layout.write(f, self.text, line),
+        }
+    }
+}
+
+/// How a message is laid out around its line.
+#[derive(Clone, Copy)]
+pub(crate) enum Layout {
+    /// The line alone.
+    Line,
+    /// `byte N: ` with the place, and the line.
+    Byte { place: usize },
+    /// The text, below it a caret after this many spaces, and below that the line.
+    Caret { spaces: usize },
+}
+
+impl Layout {
+    /// The length in bytes of a message with this layout; `usize::MAX` if it is greater than that.
+    fn len(self, text: &str, line: &str) -> usize
+        ensures { result ≡ min (length (laid_out self text.now line.now)) (2 ^ 64 - 1) }
+    {
+        match self {
+            Layout::Line => line.len(),
+            Layout::Byte { place } => line.len().saturating_add(decimal_len(place) + 7),
+            Layout::Caret { spaces } => {
+                let above = text.len().saturating_add(spaces);
+                above.saturating_add(line.len()).saturating_add(3)
+            }
+        }
+    }
+
+    /// Writes a message with this layout in parts.
+    fn write<W: fmt::Write>(self, f: &mut fmt::Formatter<W>, text: &str, line: &str) -> fmt::Result
+        ensures { DisplaysOnOk W.write_str_gives f.old result
+            (Some (laid_out self text.now line.now)) f.new }
+    {
+        match self {
+            Layout::Line => f.write_str(line),
+            Layout::Byte { place } => write!(f, "byte {place}: {line}"),
+            Layout::Caret { spaces } => {
+                let spaces = Spaces(spaces);
+                write!(f, "{text}\n{spaces}^\n{line}")
+            }
+        }
+    }
+
+    /// The message with this layout, at the start of the buffer; `None` if there is no room.
+    fn message<'b>(self, buffer: &'b mut [u8], text: &str, line: &str) -> Option<&'b str>
+        ensures text { IfSome result
+            (λ message. message.now ≡ laid_out self text.now line.now) }
+        ensures long { IfNone result
+            (length buffer.old < length (laid_out self text.now line.now)) }
+    {
+        match self.put(buffer, text, line) {
+            Some(end) => Some(unsafe { std::str::from_utf8_unchecked(&buffer[..end]) }),
+            None => None,
+        }
+    }
+
+    /// Writes a message with this layout, and returns where it ends; `None` if there is no room.
+    fn put(self, buffer: &mut [u8], text: &str, line: &str) -> Option<usize>
+        ensures bytes { IsInFront (laid_out self text.now line.now) result buffer.new }
+        ensures utf8 { IfSome result (λ end. IsUtf8 (take end buffer.new)) }
+    {
+        match self {
+            Layout::Line => put(buffer, 0, line.as_bytes()),
+            Layout::Byte { place } => put_byte(buffer, place, line),
+            Layout::Caret { spaces } => put_caret(buffer, text, spaces, line),
+        }
     }
 }
 
@@ -132,44 +213,27 @@ fn chars_before(text: &str, place: usize) -> usize
     }
 }
 
-/// How a message is laid out around its line.
-#[derive(Clone, Copy)]
-pub(crate) enum Layout {
-    /// The line alone.
-    Line,
-    /// `byte N: ` with the place, and the line.
-    Byte { place: usize },
-    /// The text, below it a caret after this many spaces, and below that the line.
-    Caret { spaces: usize },
+/// Writes the place as a number, and the line.
+fn put_byte(buffer: &mut [u8], place: usize, line: &str) -> Option<usize>
+    ensures bytes { IsInFront (byte_text place line.now) result buffer.new }
+    ensures utf8 { IfSome result (λ end. IsUtf8 (take end buffer.new)) }
+{
+    let word = put(buffer, 0, b"byte ")?;
+    let number = put_decimal(buffer, word, place)?;
+    let colon = put(buffer, number, b": ")?;
+    put(buffer, colon, line.as_bytes())
 }
 
-/// The line that says what is wrong. If the fault has a place, the text and a caret under the place are printed above
-/// it; or, if the text has a line feed, the byte offset is printed before it: `byte 5: expected number`.
-///
-/// ```text
-/// 3ms-2ms
-///    ^
-/// expected ['+', '*']
-/// ```
-impl fmt::Display for Fault<'_> {
-    ghost output = { λ fault. Some (fault_text fault.text.now fault.cause) };
-
-    fn fmt<W: fmt::Write>(&self, f: &mut fmt::Formatter<W>) -> fmt::Result
-        ensures writes { DisplaysOnOk W.write_str_gives f.old result
-            (Some (fault_text self.now.text.now self.now.cause)) f.new }
-        ensures styled { DisplaysStyledOnOk W.write_str_gives f.old result None f.new }
-    {
-        let text = self.text;
-        let line = self.cause.line();
-        match self.layout() {
-            Layout::Line => f.write_str(line),
-            Layout::Byte { place } => write!(f, "byte {place}: {line}"),
-            Layout::Caret { spaces } => {
-                let spaces = Spaces(spaces);
-                write!(f, "{text}\n{spaces}^\n{line}")
-            }
-        }
-    }
+/// Writes the text, a caret after this many spaces, and the line.
+fn put_caret(buffer: &mut [u8], text: &str, spaces: usize, line: &str) -> Option<usize>
+    ensures bytes { IsInFront (caret_text text.now spaces line.now) result buffer.new }
+    ensures utf8 { IfSome result (λ end. IsUtf8 (take end buffer.new)) }
+{
+    let above = put(buffer, 0, text.as_bytes())?;
+    let below = put(buffer, above, b"\n")?;
+    let caret = put_spaces(buffer, below, spaces)?;
+    let line_start = put(buffer, caret, b"^\n")?;
+    put(buffer, line_start, line.as_bytes())
 }
 
 /// Writes a part after the first `at` bytes, and returns where it ends; `None` if there is no room.
@@ -199,6 +263,7 @@ fn put_spaces(buffer: &mut [u8], at: usize, count: usize) -> Option<usize>
 }
 
 /// Writes a number in decimal as `put` does.
+#[tactic(auto, using(crate::proofs::Printer::DigitLemmas::short_decimal))]
 fn put_decimal(buffer: &mut [u8], at: usize, number: usize) -> Option<usize>
     requires { at ≤ length buffer.old }
     ensures { IsInFront (take at buffer.old ++ decimal number) result buffer.new }
@@ -208,30 +273,8 @@ fn put_decimal(buffer: &mut [u8], at: usize, number: usize) -> Option<usize>
     put(buffer, at, &digits[..end])
 }
 
-/// Writes the place as a number, and the line.
-fn put_byte(buffer: &mut [u8], place: usize, line: &str) -> Option<usize>
-    ensures bytes { IsInFront (byte_text place line.now) result buffer.new }
-    ensures utf8 { IfSome result (λ end. IsUtf8 (take end buffer.new)) }
-{
-    let word = put(buffer, 0, b"byte ")?;
-    let number = put_decimal(buffer, word, place)?;
-    let colon = put(buffer, number, b": ")?;
-    put(buffer, colon, line.as_bytes())
-}
-
-/// Writes the text, a caret after this many spaces, and the line.
-fn put_caret(buffer: &mut [u8], text: &str, spaces: usize, line: &str) -> Option<usize>
-    ensures bytes { IsInFront (caret_text text.now spaces line.now) result buffer.new }
-    ensures utf8 { IfSome result (λ end. IsUtf8 (take end buffer.new)) }
-{
-    let above = put(buffer, 0, text.as_bytes())?;
-    let below = put(buffer, above, b"\n")?;
-    let caret = put_spaces(buffer, below, spaces)?;
-    let line_start = put(buffer, caret, b"^\n")?;
-    put(buffer, line_start, line.as_bytes())
-}
-
 /// The number of decimal digits.
+#[tactic(auto, using(crate::proofs::Printer::DigitLemmas::short_decimal))]
 fn decimal_len(number: usize) -> usize
     ensures digits { result ≡ length (decimal number) }
     ensures short { result ≤ 20 }
@@ -240,30 +283,29 @@ fn decimal_len(number: usize) -> usize
     put_number(&mut digits, 0, number as u64)
 }
 
-impl Layout {
-    /// The length in bytes of a message with this layout; `usize::MAX` if it is greater than that.
-    fn len(self, text: &str, line: &str) -> usize
-        ensures { result ≡ min (length (message_of self text.now line.now)) (2 ^ 64 - 1) }
-    {
-        match self {
-            Layout::Line => line.len(),
-            Layout::Byte { place } => line.len().saturating_add(decimal_len(place) + 7),
-            Layout::Caret { spaces } => {
-                let above = text.len().saturating_add(spaces);
-                above.saturating_add(line.len()).saturating_add(3)
-            }
-        }
-    }
+/// This many spaces, written in runs.
+#[derive(Clone, Copy)]
+struct Spaces(usize);
 
-    /// Writes a message with this layout, and returns where it ends; `None` if there is no room.
-    fn put(self, buffer: &mut [u8], text: &str, line: &str) -> Option<usize>
-        ensures bytes { IsInFront (message_of self text.now line.now) result buffer.new }
-        ensures utf8 { IfSome result (λ end. IsUtf8 (take end buffer.new)) }
-    {
-        match self {
-            Layout::Line => put(buffer, 0, line.as_bytes()),
-            Layout::Byte { place } => put_byte(buffer, place, line),
-            Layout::Caret { spaces } => put_caret(buffer, text, spaces, line),
+impl fmt::Display for Spaces {
+    ghost output = { λ spaces. Some (replicate spaces.0 32) };
+
+    fn fmt<W: fmt::Write>(&self, f: &mut fmt::Formatter<W>) -> fmt::Result {
+        let mut left = self.0;
+        while left > 64 {
+            f.write_str(short_run(64))?;
+            left -= 64;
         }
+        f.write_str(short_run(left))
     }
 }
+
+/// This many spaces, at most 64.
+fn short_run(count: usize) -> &'static str
+    requires { count ≤ 64 }
+    ensures { result.now ≡ replicate count 32 }
+{
+    &SPACES[..count]
+}
+
+const SPACES: &str = "                                                                ";

@@ -1,6 +1,7 @@
 //! The operators.
 ghost use Rattle.std.specs.Prelude.{◌≡◌, Some};
-ghost use Rattle.duration_str.specs.FaultText.{sign_of};
+ghost use Rattle.std.specs.Fmt.{padded};
+ghost use Rattle.duration_str.specs.Messages.{sign_of};
 ghost use Rattle.duration_str.specs.Text.{operator_of};
 
 use std::fmt;
@@ -27,7 +28,8 @@ impl CondUnit {
     /// assert_eq!(CondUnit::from_char('+'), Some(CondUnit::Plus));
     /// assert_eq!(CondUnit::from_char('-'), None);
     /// ```
-    pub fn from_char(c: char) -> Option<CondUnit>
+    #[must_use]
+    pub const fn from_char(c: char) -> Option<CondUnit>
         ensures { result ≡ operator_of c }
     {
         match c {
@@ -42,10 +44,12 @@ impl CondUnit {
 impl fmt::Display for CondUnit {
     ghost output = { λ operator. Some (sign_of operator) };
 
+    ghost styled_output = { λ operator style. Some (padded style (sign_of operator)) };
+
     fn fmt<W: fmt::Write>(&self, f: &mut fmt::Formatter<W>) -> fmt::Result {
-        match self {
-            CondUnit::Plus => f.write_str("+"),
-            CondUnit::Star => f.write_str("*"),
-        }
+        f.pad(match self {
+            CondUnit::Plus => "+",
+            CondUnit::Star => "*",
+        })
     }
 }

@@ -1,8 +1,9 @@
 //! The choice of options.
-ghost use Rattle.std.specs.Prelude.{◌≡◌};
+ghost use Rattle.std.specs.Prelude.{◌≡◌, ◌↔◌, IsTrue};
 ghost use Rattle.duration_str.specs.Units.{off};
 
-/// Which grammar is read, and which words name units.
+/// Which grammar is read, and which words name units. A literal ends with `..Options::off()`, as here, so that it stands
+/// when a later version has another option.
 ///
 /// ```
 /// use duration_str::{Options, parse_with};
@@ -26,7 +27,8 @@ impl Options {
     /// ```
     /// assert!(!duration_str::Options::off().no_calc);
     /// ```
-    pub fn off() -> Options
+    #[must_use]
+    pub const fn off() -> Options
         ensures { result ≡ off }
     {
         Options {
@@ -34,5 +36,18 @@ impl Options {
             lowercase: false,
             cn_unit: false,
         }
+    }
+
+    /// Whether all three options are off.
+    ///
+    /// ```
+    /// assert!(duration_str::Options::off().are_off());
+    /// ```
+    #[must_use]
+    #[inline]
+    pub const fn are_off(self) -> bool
+        ensures { IsTrue result ↔ (self ≡ off) }
+    {
+        !(self.no_calc || self.lowercase || self.cn_unit)
     }
 }

@@ -26,7 +26,7 @@ use std::time::Duration;
 /// assert_eq!(parse("3m 13s 29ms").unwrap(), Duration::from_millis(193_029));
 /// assert!(parse("1m 3-5").is_err());
 /// ```
-#[inline(always)]
+#[inline(never)]
 pub fn parse(input: &str) -> Result<Duration, Fault<'_>>
     ensures { ParsesText off input.now result }
 {
@@ -62,10 +62,22 @@ pub fn parse_std(input: &str) -> Result<Duration, Fault<'_>>
 /// assert_eq!(parse_with("2h 37m", no_calc), Ok(Duration::from_secs(9_420)));
 /// assert_eq!(parse_with("1+2", no_calc).unwrap_err().cause().place(), Some(1));
 /// ```
+#[inline]
 pub fn parse_with(input: &str, o: Options) -> Result<Duration, Fault<'_>>
     ensures { ParsesText o input.now result }
 {
-    let (answer, _) = parse_looked(input, o);
+    if o.are_off() {
+        return parse(input);
+    }
+    parse_chosen(input, o)
+}
+
+/// What `parse_with` returns where an option is on.
+#[inline(never)]
+fn parse_chosen(input: &str, o: Options) -> Result<Duration, Fault<'_>>
+    ensures { ParsesText o input.now result }
+{
+    let (answer, _) = read_text(input, o);
     answer
 }
 

@@ -1,13 +1,14 @@
 //! The tokens of a text: numbers, words, operators, and other single characters.
-ghost use Rattle.std.specs.Prelude.{◌≡◌, ◌+◌, ◌%◌, ◌^◌, ◌≤◌, ◌<◌, [], ◌&&◌, ◌||◌, ◌==◌, true, length, take, is_some, Option, IsSome, IsTrue, if◌then◌else◌, false, Some, IsUtf8};
+ghost use Rattle.std.specs.Prelude.{◌≡◌, ◌+◌, ◌%◌, ◌^◌, ◌≤◌, ◌<◌, [], ◌&&◌, ◌||◌, ◌==◌, true, length, take};
+ghost use Rattle.std.specs.Prelude.{is_some, Option, IsSome, IsTrue, if◌then◌else◌, false, Some, IsUtf8};
 ghost use Rattle.std.specs.List.{list_all};
 ghost use Rattle.std.specs.Option.{ForSome, ForNone};
 ghost use Rattle.std.specs.Str.{chars};
 ghost use Rattle.std.specs.Iterator.{item_count};
 ghost use Rattle.duration_str.specs.Text.{ahead, is_blank, is_digit, is_unit_letter, is_chinese, IsNumber, number_of};
 ghost use Rattle.duration_str.specs.Tokens.{tokens_of};
-ghost use Rattle.duration_str.specs.Internal.Positions.{letter_number, StandsAt, Passes, Stops, TakesDigits, TakesLetters, wide_number};
-ghost use Rattle.duration_str.specs.Internal.Sorts.{sort_at};
+ghost use Rattle.duration_str.specs.Internal.Positions.{letter_number, StandsAt, Passes, Stops};
+ghost use Rattle.duration_str.specs.Internal.Positions.{TakesDigits, TakesLetters, wide_number};
 ghost use Rattle.duration_str.specs.Value.{fits};
 ghost use Rattle.duration_str.specs.declared.token.Sort.{Sort};
 ghost use Rattle.duration_str.specs.declared.token.Sort.TheVariants.{Number as a_number, Word as a_word};
@@ -66,31 +67,23 @@ pub(crate) enum Sort {
     Other,
 }
 
-/// A run of digits and its value modulo 2^64.
-#[derive(Clone, Copy)]
-pub(crate) struct Number<'a> {
-    digits: &'a [u8],
-    low: u64,
-    ghost utf8: { ∥ IsUtf8 digits.now ∥₁ },
-    ghost number: { IsNumber (chars digits.now) },
-    ghost same: { low ≡ number_of (chars digits.now) % 2 ^ 64 },
-}
+impl Sort {
+    ghost use Rattle.duration_str.specs.Internal.Steps.{sort_at};
 
-impl<'a> Number<'a> {
-    ghost use Rattle.duration_str.specs.Internal.Steps.{u64_of};
-
-    /// The number; `None` from 2^64 on.
+    /// The sort of a token that starts with this character.
     #[inline(always)]
-    pub(crate) fn value(self) -> Option<u64>
-        ensures { result ≡ u64_of self.entry }
+    fn at(first: char, o: Options) -> Sort
+        ensures { result ≡ sort_at o first }
     {
-        if self.digits.len() <= MOST_DIGITS {
-            return Some(self.low);
+        if first.is_ascii_digit() {
+            return Sort::Number;
         }
-        if fits(self.digits, self.low) {
-            Some(self.low)
-        } else {
-            None
+        if is_unit_letter(first, o) {
+            return Sort::Word;
+        }
+        match CondUnit::from_char(first) {
+            Some(operator) => Sort::Operator(operator),
+            None => Sort::Other,
         }
     }
 }
@@ -124,8 +117,10 @@ pub struct Tokens<'a> {
 
 impl<'a> Tokens<'a> {
     ghost use Rattle.duration_str.specs.Grammar.{word};
-    ghost use Rattle.duration_str.specs.Iteration.{source, options_of, cut_place, tokens_left, what_of, KeepsInput};
-    ghost use Rattle.duration_str.specs.Internal.Steps.{IsAhead, LooksAhead, LooksForNumber, u64_of, TakesNumber, TakesToken, TakesTokenWith, TakesSign};
+    ghost use Rattle.duration_str.specs.Iteration.{source, options_of, cut_place, looks_of};
+    ghost use Rattle.duration_str.specs.Iteration.{tokens_left, what_of, KeepsInput};
+    ghost use Rattle.duration_str.specs.Internal.Steps.{IsAhead, LooksAhead, LooksForNumber, TakesNumber};
+    ghost use Rattle.duration_str.specs.Internal.Steps.{TakesToken, TakesTokenWith, TakesSign};
 
     /// The tokens of a text, cut under these options.
     ///
@@ -135,6 +130,7 @@ impl<'a> Tokens<'a> {
     /// assert_eq!(Tokens::new("13s", Options::off()).count(), 2);
     /// ```
     #[inline(always)]
+    #[must_use]
     pub fn new(text: &'a str, o: Options) -> Tokens<'a>
         ensures source { source result ≡ text.now }
         ensures options { options_of result ≡ o }
@@ -159,7 +155,9 @@ impl<'a> Tokens<'a> {
     /// assert_eq!(tokens.looked(), 3);
     /// ```
     #[inline(always)]
+    #[must_use]
     pub fn looked(&self) -> u64
+        ensures count { result ≡ looks_of self.now }
         ensures most { result ≤ length (chars (source self.now)) }
         ensures least { length (chars (take (cut_place self.now) (source self.now))) ≤ result }
     {
@@ -221,22 +219,22 @@ impl<'a> Tokens<'a> {
         number
     }
 
-    /// Takes the number ahead.
+    /// Takes the number ahead; `None` from 2^64 on.
     #[inline(always)]
-    pub(crate) fn take_number(&mut self) -> Number<'a>
+    pub(crate) fn take_number(&mut self) -> Option<u64>
         requires { IsAhead self.old (Some a_number) }
-        ensures { TakesNumber self.old self.new (u64_of result) }
+        ensures { TakesNumber self.old self.new result }
     {
         let start = self.eye.place();
         let low = self.take_digits();
-        Number {
-            digits: self.eye.bytes_since(start),
-            low,
+        if self.eye.place() - start <= MOST_DIGITS {
+            return Some(low);
         }
+        fits(self.eye.bytes_since(start), low).then_some(low)
     }
 
     /// Moves past the letters of the word ahead, and returns them packed. Its first character is a unit letter, and
-    /// stands before the loop, which takes fewer instructions.
+    /// is handled before the loop, which takes fewer instructions.
     #[inline(always)]
     fn take_letters(&mut self) -> Letters
         requires { IsAhead self.old (Some a_word) }
@@ -254,10 +252,9 @@ impl<'a> Tokens<'a> {
         let mut has_capital = first < 'a';
         self.advance();
         while let Some(c) = self.head {
-            let number = letter_number(c, self.options);
-            if number == 0 {
+            let Some(number) = letter_number(c, self.options) else {
                 break;
-            }
+            };
             packed = ((packed as u128 * 40 + number as u128) % MODULUS) as u64;
             has_capital |= c < 'a';
             self.advance();
@@ -315,7 +312,7 @@ impl<'a> Tokens<'a> {
     {
         self.skip_blanks();
         let first = self.head?;
-        Some(sort_at(first, self.options))
+        Some(Sort::at(first, self.options))
     }
 
     /// Moves past the blanks, and returns whether a number is ahead.
@@ -372,43 +369,29 @@ const MOST_DIGITS: usize = 19;
 /// The most bytes of a name. The packed number of as many letters fits into a `u64`.
 const MOST_BYTES: usize = 12;
 
-/// The sort of a token that starts with this character.
-#[inline(always)]
-fn sort_at(first: char, o: Options) -> Sort
-    ensures { result ≡ sort_at o first }
-{
-    if first.is_ascii_digit() {
-        return Sort::Number;
-    }
-    if is_unit_letter(first, o) {
-        return Sort::Word;
-    }
-    match CondUnit::from_char(first) {
-        Some(operator) => Sort::Operator(operator),
-        None => Sort::Other,
-    }
-}
-
 /// Whether a character is a unit letter under these options.
 #[inline]
 fn is_unit_letter(c: char, o: Options) -> bool
     ensures { result ≡ is_unit_letter o c }
 {
-    letter_number(c, o) != 0
+    letter_number(c, o).is_some()
 }
 
-/// The number of a unit letter under these options, ignoring case; 0 of any other character.
+/// The number of a unit letter under these options, ignoring case; `None` of any other character.
 #[inline(always)]
-fn letter_number(c: char, o: Options) -> u64
-    ensures { result ≡ (if is_unit_letter o c then letter_number c else 0) }
+fn letter_number(c: char, o: Options) -> Option<u64>
+    ensures { result ≡ (if is_unit_letter o c then Some (letter_number c) else None) }
 {
     if c.is_ascii_alphabetic() {
-        return u64::from(c as u32 % 32);
+        return Some(u64::from(c as u32 % 32));
     }
     if c.is_ascii() {
-        return 0;
+        return None;
     }
-    wide_number(c, o.cn_unit)
+    match wide_number(c, o.cn_unit) {
+        0 => None,
+        number => Some(number),
+    }
 }
 
 /// The number of a unit letter, ignoring case.

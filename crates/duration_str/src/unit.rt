@@ -1,6 +1,7 @@
 //! The units of time and their names, with the options and operators that are used with them.
 ghost use Rattle.std.specs.Prelude.{◌≡◌, None, Some, true, encode_utf8_all};
 ghost use Rattle.std.specs.List.{list_any};
+ghost use Rattle.std.specs.Fmt.{padded};
 ghost use Rattle.std.specs.Str.{bytes_eq, chars};
 ghost use Rattle.duration_str.specs.Text.{IsNumber, number_of};
 ghost use Rattle.duration_str.specs.declared.unit.TimeUnit.{TimeUnit};
@@ -8,7 +9,7 @@ ghost use Rattle.duration_str.specs.declared.unit.TimeUnit.TheVariants.{Second};
 ghost use Rattle.duration_str.specs.Units.{nanos_of, row_of, comparison_form, is_named, unit_of_word};
 ghost use Rattle.duration_str.specs.Internal.UnitTable.{IsRow};
 ghost use Rattle.duration_str.specs.Internal.Numbers.{checked_term};
-ghost use Rattle.duration_str.specs.Terms.{term_of, term_answer};
+ghost use Rattle.duration_str.specs.Value.{term_of, term_answer};
 
 use crate::cause::Cause;
 pub use crate::operator::CondUnit;
@@ -65,7 +66,8 @@ impl TimeUnit {
     /// assert_eq!(duration_str::TimeUnit::Minute.nanos(), 60_000_000_000);
     /// ```
     #[inline]
-    pub fn nanos(self) -> u64
+    #[must_use]
+    pub const fn nanos(self) -> u64
         ensures { result ≡ nanos_of self }
     {
         self.row().nanos
@@ -82,7 +84,7 @@ impl TimeUnit {
     /// The unit's row of the table.
     #[tactic(auto, unfolding(std::specs::Prelude::encode_utf8))]
     #[inline(always)]
-    fn row(self) -> Row
+    const fn row(self) -> Row
         ensures { IsRow result (row_of self) }
     {
         match self {
@@ -172,6 +174,7 @@ impl TimeUnit {
     /// assert_eq!(TimeUnit::from_word("Minutes", Options::off()), Some(TimeUnit::Minute));
     /// ```
     #[tactic(auto, using(crate::proofs::Characters::UnitLemmas::named_unit))]
+    #[must_use]
     pub fn from_word(word: &str, o: Options) -> Option<TimeUnit>
         ensures unit { result ≡ unit_of_word o (chars word.now) }
         ensures only { (unit : TimeUnit) → is_named o (chars word.now) unit ≡ true
@@ -226,8 +229,11 @@ impl TimeUnit {
 impl fmt::Display for TimeUnit {
     ghost output = { λ unit. Some (encode_utf8_all (row_of unit).printed) };
 
+    ghost styled_output = { λ unit style.
+        Some (padded style (encode_utf8_all (row_of unit).printed)) };
+
     fn fmt<W: fmt::Write>(&self, f: &mut fmt::Formatter<W>) -> fmt::Result {
-        f.write_str(self.name())
+        f.pad(self.name())
     }
 }
 

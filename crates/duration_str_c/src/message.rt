@@ -1,6 +1,6 @@
 //! The message about a refused text, which is read again for it.
 ghost use Rattle.std.specs.Prelude.{◌≡◌, ◌≤◌, length, take, IsUtf8, codes, encode_utf8_all};
-ghost use Rattle.duration_str.specs.FaultText.{fault_text, line_of};
+ghost use Rattle.duration_str.specs.Messages.{message_of, line_of};
 ghost use Rattle.duration_str_c.specs.Answers.{options_of_bits};
 ghost use Rattle.duration_str_c.specs.Messages.{IsShown, ShowsRefusal};
 
@@ -12,7 +12,7 @@ use duration_str::{Cause, Fault, parse_with};
 /// written.
 #[unsafe(no_mangle)]
 pub extern "C" fn duration_str_message(text: &[u8], options: u32, buffer: &mut [u8]) -> usize
-    ensures text { IsUtf8 text.now → ShowsRefusal (fault_text text.now)
+    ensures text { IsUtf8 text.now → ShowsRefusal (message_of text.now)
         (options_of_bits options) text.now buffer.old result buffer.new }
     ensures not_text { ¬ (IsUtf8 text.now)
         → IsShown (codes "not UTF-8") buffer.old result buffer.new }
@@ -47,7 +47,7 @@ pub extern "C" fn duration_str_line(text: &[u8], options: u32, buffer: &mut [u8]
 
 /// Writes the message if there is room, and returns its length in bytes.
 fn show_message(fault: &Fault<'_>, buffer: &mut [u8]) -> usize
-    ensures shown { IsShown (fault_text fault.now.text.now fault.now.cause)
+    ensures shown { IsShown (message_of fault.now.text.now fault.now.cause)
         buffer.old result buffer.new }
     ensures utf8 { result ≤ length buffer.new → IsUtf8 (take result buffer.new) }
 {

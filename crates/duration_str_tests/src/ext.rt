@@ -1,7 +1,7 @@
 // Printed texts.
 use duration_str::{HumanFormat, MAX_PRINTED_LEN, write_human};
 use jiff::SignedDuration;
-use linked_list_allocator::LocalHeap;
+use refusing::Refusing;
 use std::alloc::{AllocError, Allocator, Global};
 use std::test::Fail;
 use std::time::Duration;
@@ -180,19 +180,28 @@ fn leaves_nothing_of_an_earlier_text(rt: HostRuntime) {
     assert_eq!(rt; first_misprinted(&rows), None);
 }
 
-/// Whether the value is printed as this text in a heap that has room for the text alone, and is refused once that is full.
-fn fits<T: HumanFormat>(alloc: Global, value: &T, text: &str) -> Result<bool, AllocError> {
-    let heap = LocalHeap::new(alloc, text.len())?;
-    let Some(printed) = formatted(value, &heap)? else {
-        return Ok(false);
-    };
-    Ok(printed.as_str() == text && formatted(value, &heap).is_err())
+/// How many requests for memory it takes to print the value as this text. `None` if it prints otherwise, or if one of them
+/// is refused and the answer is not that, at once.
+fn requests<T: HumanFormat>(alloc: Global, value: &T, text: &str) -> Option<u64> {
+    for refused in 1..100u64 {
+        let heap = Refusing::nth(alloc, refused);
+        match formatted(value, &heap) {
+            Ok(Some(printed)) if printed.as_str() == text && heap.made() < refused => {
+                return Some(heap.made());
+            }
+            Err(AllocError) if heap.made() == refused => {}
+            _ => return None,
+        }
+    }
+    None
 }
 
 #[test]
-fn requests_memory_for_the_text_alone(rt: HostRuntime) -> Result<(), Fail> {
-    let text = "3min 13s 29ms";
-    assert!(rt; fits(rt.alloc(), &Duration::new(193, 29_000_000), text)?);
-    assert!(rt; fits(rt.alloc(), &SignedDuration::from_millis(193_029), text)?);
-    Ok(())
+fn requests_memory_for_the_text_alone(rt: HostRuntime) {
+    let (plain, signed) = (
+        Duration::new(193, 29_000_000),
+        SignedDuration::from_millis(193_029),
+    );
+    assert_eq!(rt; requests(rt.alloc(), &plain, "3min 13s 29ms"), Some(1));
+    assert_eq!(rt; requests(rt.alloc(), &signed, "3min 13s 29ms"), Some(1));
 }

@@ -141,6 +141,13 @@ fn measures_and_prints_units(rt: HostRuntime) -> Result<(), Fail> {
 }
 
 #[test]
+fn pads_units_and_operators(rt: HostRuntime) -> Result<(), Fail> {
+    let padded = format!(in rt.alloc(); "{:>4}|{:.^5}", TimeUnit::Month, CondUnit::Plus)?;
+    assert_eq!(rt; padded.as_str(), " mon|..+..");
+    Ok(())
+}
+
+#[test]
 fn knows_the_names(rt: HostRuntime) {
     let wrong = first_misnamed(Options::off())
         .or(first_misnamed(NO_CALC))

@@ -6,7 +6,7 @@ use Rattle.duration_str.specs.declared.options.Options.{Options}
 use Rattle.duration_str.specs.declared.cause.Cause.{Cause}
 use Rattle.duration_str.specs.Reading.{IsRead, IsRefused}
 use Rattle.duration_str.specs.Printing.{IsPrinted}
-use Rattle.duration_str.specs.FaultText.{fault_text}
+use Rattle.duration_str.specs.Messages.{message_of}
 use Rattle.durstr_run.specs.Lines.{lines_of}
 
 -- An accepted line prints its value in nanoseconds, a space, and the value as a duration.
@@ -23,7 +23,7 @@ pub record PrintsFault (o : Options) (line text : List ℕ) : Type 0 where
   pub cause : Cause
   pub utf8 : IsUtf8 line
   pub refused : IsRefused o (chars line) cause
-  pub shown : text ≡ fault_text line cause
+  pub shown : text ≡ message_of line cause
 
 -- Bytes that are not UTF-8 print a line that says so.
 abbrev pub PrintsNotUtf8 : List ℕ → List ℕ → Type 0

@@ -3,13 +3,12 @@ use Rattle.std.proofs.Common.{◌≡◌, ℕ, List, [], ◌∷◌, ◌++◌, map
 use Rattle.duration_str.proofs.Common.{map-append, byte_len, Terminal, number, word, operator, other, terminal_of, IsSentence, Spells, IsLexeme, AreTokens, tokens_of, lexemes_of, BeginsSentence, allows, IsRefused, OneSentence, OneCut, PlaceAndKinds}
 use Rattle.uses.proofs.Common.{take-map, Options, Expected, Syntax, Token}
 use Rattle.std.proofs.Math.Seq.{take-append_seam}
-use Rattle.duration_str.proofs.Sentences.SpellingLemmas.{tokens_spell_at}
+use Rattle.duration_str.proofs.Sentences.SpellingLemmas.{tokens_spell_at, begins_with}
 use Rattle.duration_str.proofs.LawProofs.SumOfTexts.{spells_both}
 use Rattle.uses.specs.Completion.{BeginsExpression, IsCompletion}
 use Rattle.uses.proofs.FollowLemmas.{follows, ends, zero_ends}
 use Rattle.uses.proofs.CutLemmas.{IsSplit, split_at, typed_lexemes, one_token}
 use Rattle.uses.proofs.SyntaxLemmas.{refused_at}
-use Rattle.duration_str.proofs.Sentences.SpellingLemmas.{begins_with}
 
 -- A lexeme is the only token of its text.
 pub tokens_of_lexeme : OneCut → (o : Options) (w : List ℕ) → IsLexeme o w

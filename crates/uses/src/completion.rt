@@ -2,7 +2,8 @@
 #![tactic(auto, using(crate::proofs::CompletionLemmas::refused_completion))]
 
 ghost use Rattle.std.specs.Prelude.{◌≡◌, ◌↔◌, ℕ, length, IsTrue, IfSome, IfNone, chars};
-ghost use Rattle.uses.specs.Common.{Syntax, Expected as Kinds, IsRefused, Terminal, terminal_of, IsLexeme, what_of, allows};
+ghost use Rattle.uses.specs.Common.{Syntax, Expected as Kinds, IsRefused, Terminal};
+ghost use Rattle.uses.specs.Common.{terminal_of, IsLexeme, what_of, allows};
 ghost use Rattle.uses.specs.Completion.{IsCompletion};
 
 use duration_str::laws::{one_sentence, place_and_kinds};

@@ -9,23 +9,23 @@ use std::time::Duration;
 /// A text, the options under which it is read, and the duration or the cause of the refusal.
 pub type Example = (&'static str, Options, Result<Duration, Cause>);
 
-pub(crate) const OFF: Options = Options {
+const OFF: Options = Options {
     no_calc: false,
     lowercase: false,
     cn_unit: false,
 };
 
-pub(crate) const NO_CALC: Options = Options {
+const NO_CALC: Options = Options {
     no_calc: true,
     ..OFF
 };
 
-pub(crate) const LOWERCASE: Options = Options {
+const LOWERCASE: Options = Options {
     lowercase: true,
     ..OFF
 };
 
-pub(crate) const CN_UNIT: Options = Options {
+const CN_UNIT: Options = Options {
     cn_unit: true,
     ..OFF
 };

@@ -30,6 +30,3 @@ pub use signed::difference;
 pub use stored::{first_unit, stored_duration};
 pub use sum::{longest_first, total_of};
 pub use unit::unit_nanos;
-
-#[cfg(test)]
-mod tests;

@@ -1,8 +1,9 @@
 //! The message of a fault as an entry of a log.
 ghost use Rattle.std.specs.Prelude.{◌≡◌, ◌++◌, codes, IfSome};
-ghost use Rattle.duration_str.specs.FaultText.{EndsInsideLine, fault_text};
+ghost use Rattle.duration_str.specs.Messages.{EndsInsideLine, message_of};
 
 use duration_str::Fault;
+use duration_str::laws::last_line;
 
 /// The message of a fault and one line feed, in the caller's buffer; `None` if the buffer is too short. No message ends
 /// with a line feed, so each entry ends with exactly one.
@@ -12,10 +13,11 @@ use duration_str::Fault;
 /// ```
 pub fn log_entry<'b>(fault: &Fault<'_>, buffer: &'b mut [u8]) -> Option<&'b str>
     ensures entry { IfSome result (λ entry.
-        entry.now ≡ fault_text fault.now.text.now fault.now.cause ++ codes "\n") }
+        entry.now ≡ message_of fault.now.text.now fault.now.cause ++ codes "\n") }
     ensures last_line { IfSome result (λ _.
-        EndsInsideLine (fault_text fault.now.text.now fault.now.cause)) }
+        EndsInsideLine (message_of fault.now.text.now fault.now.cause)) }
 {
+    last_line();
     let end = fault.write_message(buffer)?;
     if end == buffer.len() {
         return None;

@@ -50,7 +50,7 @@ def _like(values: Any, result: Any) -> Any:
 
 
 def _kept(value: Any, index: int, raises: bool) -> int:
-    """What stands in timedelta64[ns] for a value that is no text: NaT where it is missing, or refused and not raised."""
+    """The timedelta64[ns] of a value that is no text: NaT where it is missing, or refused and not raised."""
     numpy: Any = import_module("numpy")
     if _is_missing(value):
         return -(2**63)

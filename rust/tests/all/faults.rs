@@ -50,24 +50,10 @@ fn tells_what_is_wrong() {
     check("under no_calc", |options| options.no_calc);
 }
 
-const NONE: Expected = Expected {
-    number: false,
-    unit_word: false,
-    operator: false,
-    text_end: false,
-};
-const AFTER_NUMBER: Expected = Expected {
-    unit_word: true,
-    operator: true,
-    text_end: true,
-    ..NONE
-};
-const AFTER_UNIT: Expected = Expected {
-    number: true,
-    operator: true,
-    text_end: true,
-    ..NONE
-};
+// A number, a unit, an operator, the end: whether each could stand there.
+const NUMBER: [bool; 4] = [true, false, false, false];
+const AFTER_NUMBER: [bool; 4] = [false, true, true, true];
+const AFTER_UNIT: [bool; 4] = [true, false, true, true];
 
 #[test]
 fn points_at_what_it_found() {
@@ -75,55 +61,29 @@ fn points_at_what_it_found() {
     let rows = [
         ("0mxyz", off, 1, Some("mxyz"), AFTER_NUMBER),
         ("1m 3-5", off, 4, Some("-"), AFTER_NUMBER),
-        (
-            "1m+",
-            off,
-            3,
-            None,
-            Expected {
-                number: true,
-                ..NONE
-            },
-        ),
-        (
-            "1m+…",
-            off,
-            3,
-            Some("…"),
-            Expected {
-                number: true,
-                ..NONE
-            },
-        ),
+        ("1m+", off, 3, None, NUMBER),
+        ("1m+…", off, 3, Some("…"), NUMBER),
         ("1m 2s ?", off, 6, Some("?"), AFTER_UNIT),
         ("1 12", off, 2, Some("12"), AFTER_NUMBER),
-        (
-            "3ms*2ms",
-            NO_CALC,
-            3,
-            Some("*"),
-            Expected {
-                operator: false,
-                ..AFTER_UNIT
-            },
-        ),
-        (
-            "1分s",
-            Options {
-                cn_unit: true,
-                ..off
-            },
-            1,
-            Some("分s"),
-            AFTER_NUMBER,
-        ),
+        ("99999999999999999999 x", off, 21, Some("x"), AFTER_NUMBER),
+        ("3ms*2ms", NO_CALC, 3, Some("*"), [true, false, false, true]),
+        ("1分s", off.with_cn_unit(), 1, Some("分s"), AFTER_NUMBER),
     ];
-    for (text, options, place, found, expected) in rows {
+    for (text, options, place, found, kinds) in rows {
         let fault = fault(text, options);
+        let expected = fault.expected().expect(text);
         assert_eq!(fault.cause(), Cause::Syntax { place, expected }, "{text}");
+        let Expected {
+            number,
+            unit_word,
+            operator,
+            text_end,
+            ..
+        } = expected;
+        assert_eq!([number, unit_word, operator, text_end], kinds, "{text}");
         assert_eq!(
-            (fault.place(), fault.expected(), fault.found()),
-            (Some(place), Some(expected), found),
+            (fault.place(), fault.found()),
+            (Some(place), found),
             "{text}"
         );
     }
@@ -133,14 +93,6 @@ fn points_at_what_it_found() {
 fn tells_the_cause() {
     let rows = [
         ("", Cause::Empty, None),
-        (
-            "99999999999999999999 x",
-            Cause::Syntax {
-                place: 21,
-                expected: AFTER_NUMBER,
-            },
-            Some("x"),
-        ),
         (
             "99999999999999999999y",
             Cause::NumberTooLarge { place: Some(0) },
@@ -265,12 +217,12 @@ fn tells_in_one_line() {
     ];
     for (text, line) in rows {
         let fault = fault(text, Options::off());
-        assert_eq!(format!("{fault:#}"), line);
-        assert_eq!(format!("{:#}", fault.into_owned()), line);
+        assert_eq!(fault.one_line().to_string(), line);
+        assert_eq!(fault.into_owned().one_line().to_string(), line);
     }
     let no_calc = fault("1+2", NO_CALC);
     assert_eq!(
-        format!("{no_calc:#}"),
+        no_calc.one_line().to_string(),
         r#"expected a unit or the end at column 2, found "+""#
     );
 }
@@ -278,7 +230,7 @@ fn tells_in_one_line() {
 #[test]
 fn tells_of_a_long_text_in_a_short_line() {
     let word = format!("1{}", "é".repeat(1 << 20));
-    let line = format!("{:#}", parse_duration(&word).unwrap_err());
+    let line = parse_duration(&word).unwrap_err().one_line().to_string();
     assert!(line.len() < 200, "{line}");
 }
 

@@ -99,11 +99,13 @@ fn reads_required_and_optional_texts_in_one_way() {
     let minute = Ok(Duration::from_secs(60));
     assert_eq!(read(|| Untyped("1m")), minute);
     assert_eq!(read(|| Untyped("60")), minute);
-    assert_eq!(read(|| Untyped("")), Err("Empty input".to_string()));
+    assert_eq!(read(|| Untyped("")), Err("empty text".to_string()));
     let required: Result<Duration, Error> = duration_str::deserialize_duration(Untyped("60"));
     assert_eq!(required, Err(Error::custom("the type is not known")));
     let optional = Option::<HumanDuration>::deserialize(Untyped(""));
-    assert_eq!(optional, Err(Error::custom("Empty input")));
+    assert_eq!(optional, Err(Error::custom("empty text")));
+    let long = "1x".repeat(1 << 20).leak();
+    assert!(read(|| Untyped(long)).unwrap_err().len() < 200);
 }
 
 #[test]

@@ -6,6 +6,8 @@ mod dates;
 mod faults;
 #[cfg(feature = "serde")]
 mod human;
+#[cfg(feature = "macros")]
+mod macros;
 mod owned;
 mod printing;
 mod values;

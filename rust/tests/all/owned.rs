@@ -76,7 +76,17 @@ fn reads_and_prints_as_text() {
         (timeout.to_string(), format!("[{timeout:>10}]")),
         ("1min 30s".into(), "[  1min 30s]".into())
     );
+    let padded = [
+        format!("{timeout:*<10}|{timeout:^11}|{timeout:>1}"),
+        format!("{timeout:.2}|{timeout:9.2}|"),
+    ];
+    assert_eq!(
+        padded,
+        ["1min 30s**| 1min 30s  |1min 30s", "1min 30s|1min 30s |"]
+    );
     assert_eq!(timeout.as_secs(), timeout.as_ref().as_secs());
+    assert_eq!(timeout.get_ref(), timeout.as_ref());
+    assert_eq!(HumanDuration::try_from("1m 30s"), Ok(timeout));
     assert_eq!(parse_duration("1m 30s"), Ok(*timeout));
     assert_eq!(format_duration(*timeout).to_string(), "1min 30s");
     assert_eq!(HumanDuration::default().to_string(), "0s");
@@ -84,6 +94,14 @@ fn reads_and_prints_as_text() {
         "600y".parse::<HumanDuration>().unwrap_err().cause(),
         Cause::Overflow { place: Some(0) }
     );
+}
+
+const MINUTE: u64 = TimeUnit::Minute.nanos();
+const PLACE: Option<usize> = Cause::Overflow { place: Some(0) }.place();
+
+#[test]
+fn knows_constants() {
+    assert_eq!((MINUTE, PLACE), (60_000_000_000, Some(0)));
 }
 
 #[test]

@@ -2,6 +2,7 @@
 use Rattle.duration_str.proofs.Common.{◌≡◌, ℕ, suc, ◌+◌, ◌-◌, ◌*◌, ◌%◌, ◌^◌, ◌<◌, ◌≤◌, Bool, true, false, ◌&&◌, ◌||◌, ◌==◌, nat_le, length, take, drop, get_or, Result, Ok, Err, Option, Some, decimal, List, [], ◌∷◌, ◌++◌, IsUtf8, IsTrue, refl, ap, sym, ◌∙◌, inl, inr, arith, rules, le-ltb, lt-ltb, chars, OkIff, mul-pos, pow-suc, drop-cons, take-append-drop, length-drop, cases_Bool, cases_lt, and_parts, cond-true, decimal_nonempty, encodes-IsAscii, encodes-chars, fits, list_all, list_all-append, nat_tests, Options, is_digit, IsNumber, number_after, number_of, number, terminal_of, u64_from, IsAscii-from_digits, digits_decimal, digits_value-decimal}
 use Rattle.std.proofs.lemmas.Str.Parse.{IsNumeralModel, digits_value_short, numerals_by_fold, parse_digits}
 use native.Mathlib.Nat.{pow-le-pow_right}
+use Rattle.std.specs.Bool.{then_some}
 use Rattle.std.specs.Result.{result_ok}
 use Rattle.std.specs.Str.Parse.{ParsesUnsigned}
 
@@ -58,8 +59,8 @@ long_value true front first last low n none some digit short is same =
       | inr above ↦ grind (arith, nat_tests)
     ]
 
--- More than 19 digits write a number below 2^64 exactly if zeros stand before the last 20 digits, and the first of these
--- is a zero, or a one and the number modulo 2^64 is at least 10^19.
+-- More than 19 digits write a number below 2^64 exactly if zeros stand before the last 20 digits, and the first of
+-- these is a zero, or a one and the number modulo 2^64 is at least 10^19.
 pub long_number : (digits : List ℕ) (low : ℕ) → 19 < length digits → IsTrue (list_all is_digit digits)
     → low ≡ number_of digits % 2 ^ 64 → (let at = length digits - 19 - 1 in
     (are_zeros (take at digits)
@@ -85,9 +86,9 @@ long_number digits low long all same =
     (digits_value_short decimal_digits last 19 lasts.1 (omega arith)) (rw few at value) same
 
 -- Digits are ASCII, so their bytes are their characters.
-pub bytes_of_digits : (bs : List ℕ) → IsUtf8 bs → IsNumber (chars bs) → chars bs ≡ bs
+pub bytes_of_digits : (bs : List ℕ) → IsUtf8 bs → IsTrue (list_all is_digit (chars bs)) → chars bs ≡ bs
 bytes_of_digits bs utf8 digits =
-    let own = encodes-IsAscii (chars bs) (IsAscii-from_digits (chars bs) (decimal_digits.to (chars bs) digits.1)) in
+    let own = encodes-IsAscii (chars bs) (IsAscii-from_digits (chars bs) (decimal_digits.to (chars bs) digits)) in
     sym own ∙ encodes-chars bs utf8
 
 -- A number that fits is its value modulo 2^64.
@@ -95,6 +96,13 @@ pub whole_number : (n low : ℕ) → low ≡ n % 2 ^ 64 → n < 2 ^ 64 → Some 
 whole_number n low same below =
     let whole : low ≡ n = omega arith in
     rw (lt-ltb n (2 ^ 64) below, whole)
+
+-- If a number fits, it is given by its value modulo 2^64.
+pub fitting_number : (n low : ℕ) → low ≡ n % 2 ^ 64 → then_some (fits n) low ≡ u64_from n
+fitting_number n low same = elim (cases_lt n (2 ^ 64)) [
+  | inl below ↦ rw (lt-ltb n _ below) (rw (lt-ltb n _ below) at (whole_number n low same below))
+  | inr above ↦ rw (le-ltb n _ above)
+]
 
 ok_u64 : {E : Type 0} (r : Result ℕ E) (n len : ℕ) → 0 < len → OkIff r ((0 < len) × (n < 2 ^ 64)) n
     → result_ok r ≡ u64_from n
@@ -106,7 +114,7 @@ ok_u64 (Err e) n len some h =
 pub parsed_u64 : {E : Type 0} (bs : List ℕ) (r : Result ℕ E) (parsed : Option ℕ) → IsUtf8 bs → IsNumber (chars bs)
     → ParsesUnsigned 64 10 bs r → parsed ≡ result_ok r → parsed ≡ u64_from (number_of (chars bs))
 parsed_u64 bs r parsed utf8 digits parses is =
-    let same = sym (bytes_of_digits bs utf8 digits) in
+    let same = sym (bytes_of_digits bs utf8 digits.1) in
     let read = parse_digits decimal_digits 64 (chars bs) r (rw same at parses) digits.1 in
     is ∙ ok_u64 r _ (length (chars bs)) digits.0 read
 

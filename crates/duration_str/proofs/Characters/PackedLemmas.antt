@@ -1,9 +1,12 @@
 -- Packed names and their slots.
-use Rattle.duration_str.proofs.Common.{◌≡◌, ℕ, zero, suc, ◌+◌, ◌-◌, ◌*◌, ◌/◌, ◌%◌, ◌^◌, ◌<◌, ◌≤◌, Bool, true, false, not, leb, eqb, ◌==◌, ◌&&◌, ◌||◌, List, [], ◌∷◌, map, length, get_or, Option, Some, None, refl, sym, ◌∙◌, arith, inl, inr, lit<, add-zero, eq-eqb, eqb-true, leb-true, if◌then◌else◌, find, bytes_eq, pow-succ', cases_Bool, and_parts, and_from, false_from_ne_true, nat_tests, bytes_eq-Decides, same_from_decides, list_all, list_any, list_any-append, to_ascii_lowercase, is_ascii_alphabetic, is_ascii_uppercase, Options, TimeUnit, SPREAD, all_names, byte_len, chinese_letters, is_chinese, is_unit_letter, width, letter_number, number_in, units, row_of, comparison_form, is_named, unit_of_word, packed_number_after, packed_number, packs_to, pow-le-pow_right, or_cases, or_parts, length-reverse, reverse-reverse}
+use Rattle.duration_str.proofs.Common.{◌≡◌, ℕ, zero, suc, ◌+◌, ◌-◌, ◌*◌, ◌/◌, ◌%◌, ◌^◌, ◌<◌, ◌≤◌, Bool, true, false, not, leb, eqb, ◌==◌, ◌&&◌, ◌||◌, List, [], ◌∷◌, map, length, get_or, Option, Some, None, refl, ap, sym, ◌∙◌, arith, inl, inr, lit<, add-zero, eq-eqb, eqb-true, leb-true, if◌then◌else◌, find, bytes_eq, pow-succ', cases_Bool, and_parts, and_from, false_from_ne_true, nat_tests, bytes_eq-Decides, same_from_decides, list_all, list_any, list_any-append, to_ascii_lowercase, is_ascii_alphabetic, is_ascii_uppercase, Options, TimeUnit, SPREAD, all_names, byte_len, chinese_letters, is_chinese, is_unit_letter, width, letter_number, number_in, units, row_of, comparison_form, is_named, unit_of_word, packed_number_after, packed_number, packs_to, pow-le-pow_right, or_cases, or_parts, length-reverse, reverse-reverse}
 use mathlib.Core.List.{reverse_aux, reverse}
+use Rattle.std.specs.List.{range_with_len}
 use Rattle.duration_str.specs.Internal.Packed.{unit_of_packed}
+use Rattle.std.proofs.lemmas.List.{get_or-map}
+use Rattle.std.proofs.lemmas.List.FromFn.{get_or-map-range_with_len}
 use Rattle.duration_str.proofs.Characters.EachUnit.{all_units}
-use Rattle.duration_str.proofs.Characters.UnitLemmas.{among_all, named_passes}
+use Rattle.duration_str.proofs.Characters.UnitLemmas.{among_all, any_same, named_passes}
 
 -- ---- the numbers of letters
 
@@ -149,23 +152,18 @@ lower_number c = elim (cases_Bool (is_ascii_uppercase c)) [
   | inr other ↦ let same : to_ascii_lowercase c ≡ c = grind (arith, nat_tests) in rw same refl
 ]
 
--- a unit letter has a number
-letter_some : (o : Options) (c : ℕ) → is_unit_letter o c ≡ true → 0 < letter_number c
-letter_some o c e = omega (arith, letter_number-some (to_ascii_lowercase c) (lower_letter o c e), lower_number c)
-
--- the letter with the number n, if n is not 0
-pub numbered_letter : (o : Options) (c n : ℕ) → n ≡ (if is_unit_letter o c then letter_number c else 0)
-    → (n ≡ 0 → ⊥) → (is_unit_letter o c ≡ true) × (n ≡ letter_number c)
-numbered_letter o c n is some = elim (cases_Bool (is_unit_letter o c)) [
-  | inl letter ↦ (letter, rw letter at is)
-  | inr other ↦ absurd (some (rw other at is))
+-- the number of a letter
+pub numbered_letter : (o : Options) (c n : ℕ) → Some n ≡ (if is_unit_letter o c then Some (letter_number c) else None)
+    → (is_unit_letter o c ≡ true) × (n ≡ letter_number c)
+numbered_letter o c n is = elim (cases_Bool (is_unit_letter o c)) [
+  | inl letter ↦ let same = rw letter at is in (letter, cc)
+  | inr other ↦ let none = rw other at is in absurd cc
 ]
 
 -- a character without number is no letter
-pub unnumbered : (o : Options) (c n : ℕ) → n ≡ (if is_unit_letter o c then letter_number c else 0) → n ≡ 0
+pub unnumbered : (o : Options) (c : ℕ) → None ≡ (if is_unit_letter o c then Some (letter_number c) else None)
     → is_unit_letter o c ≡ false
-unnumbered o c n is none =
-    false_from_ne_true _ (λ letter. absurd (omega (arith, letter_some o c letter, rw letter at is, none)))
+unnumbered o c is = false_from_ne_true _ (λ letter. let some = rw letter at is in absurd cc)
 
 lower_word : (o : Options) (w : List ℕ) → list_all (is_unit_letter o) w ≡ true
     → are_letters (map to_ascii_lowercase w) ≡ true
@@ -185,13 +183,6 @@ name_test : (v name : List ℕ) → are_letters v ≡ true → are_letters name 
 name_test v name letters own =
     let found = λ (e : packs_to (packed_number v) name ≡ true). packed_same v name letters own (sym (eqb-true _ _ e)) in
     sym (same_from_decides _ _ (found, λ e. rw (← e) (eq-eqb _ _ refl)) (bytes_eq-Decides v name))
-
-names_test : (v : List ℕ) (names : List (List ℕ)) → are_letters v ≡ true → list_all are_letters names ≡ true
-    → list_any (bytes_eq v) names ≡ list_any (packs_to (packed_number v)) names
-names_test v [] letters own = refl
-names_test v (name ∷ names) letters own =
-    let parts = and_parts (are_letters name) (list_all are_letters names) own in
-    rw (name_test v name letters parts.0, names_test v names letters parts.1)
 
 -- without `cn_unit` no letter is Chinese, so the word is no Chinese name
 no_chinese_letter : (o : Options) (w : List ℕ) → o.cn_unit ≡ false → list_all (is_unit_letter o) w ≡ true
@@ -226,11 +217,11 @@ named_by_number : (o : Options) (w : List ℕ) (u : TimeUnit) → (o.lowercase &
     → list_all (is_unit_letter o) w ≡ true → is_named o w u ≡ list_any (packs_to (packed_number w)) (all_names u)
 named_by_number o w u folded letters =
     let v = map to_ascii_lowercase w in
-    let small = lower_word o w letters in
-    let names = names_test v (row_of u).names small (all_units (λ v. list_all are_letters (row_of v).names) refl u) in
-    let chinese =
-    names_test v (row_of u).chinese small (all_units (λ v. list_all are_letters (row_of v).chinese) refl u) in
-    rw (form_lower o w folded, list_any-append (packs_to (packed_number w)) (row_of u).names, ← lower_packed 0 w, ← names, ← chinese)
+    let test = any_same (λ name. name_test v name (lower_word o w letters)) in
+    let names = test (row_of u).names (all_units (λ v. list_all are_letters (row_of v).names) refl u) in
+    let chinese = test (row_of u).chinese (all_units (λ v. list_all are_letters (row_of v).chinese) refl u) in
+    let parts = list_any-append (packs_to (packed_number w)) (row_of u).names in
+    rw (form_lower o w folded, parts, ← lower_packed 0 w, ← names, ← chinese)
     (elim (cases_Bool o.cn_unit) [ inl on ↦ rw on | inr off ↦ rw (off, no_chinese_name o w u off letters) ])
 
 -- the unit that a word names, without capitals under `lowercase`
@@ -274,54 +265,39 @@ no_long_name o w long = no_name o w (λ name. leb (byte_len name) 12) refl
 abbrev pub slot : ℕ → ℕ
 slot n = n * SPREAD / 2 ^ 57 % 128
 
--- what each entry says, or, for an entry in its own slot, the unit of its number
-abbrev pub found_from : ℕ → List (ℕ × TimeUnit) → List (Option TimeUnit)
-found_from i [] = []
-found_from i (e ∷ es) = (if eqb (slot e.0) i then unit_of_packed e.0 else Some e.1) ∷ found_from (i + 1) es
-
-slot_found_from : (es : List (ℕ × TimeUnit)) (i j : ℕ) (d : ℕ × TimeUnit) → j < length es
-    → found_from i es ≡ map (λ e. Some e.1) es → slot (get_or es j d).0 ≡ i + j
-    → Some (get_or es j d).1 ≡ unit_of_packed (get_or es j d).0
-slot_found_from [] i j d lt right own = absurd (omega (arith, lt))
-slot_found_from (e ∷ es) i zero d lt right own =
-    let here = rw (eq-eqb (slot e.0) i (rw add-zero at own)) at right in cc here
-slot_found_from (e ∷ es) i (suc j) d lt right own =
-    slot_found_from es (i + 1) j d (omega (arith, lt)) (cc right) (omega (arith, own))
+-- the unit in a slot or, if the slot's number belongs there, the unit of that number
+abbrev pub found_at : List ℕ → List TimeUnit → ℕ → TimeUnit → ℕ → Option TimeUnit
+found_at names table m u i =
+    if eqb (slot (get_or names i m)) i then unit_of_packed (get_or names i m) else Some (get_or table i u)
 
 -- if the number in the slot is the one searched for, its unit is found
-pub slot_found : (table : List (ℕ × TimeUnit)) (d : ℕ × TimeUnit) (n : ℕ) → length table ≡ 128
-    → found_from 0 table ≡ map (λ e. Some e.1) table → n < 2 ^ 64 → (get_or table (slot n) d).0 ≡ n
-    → Some (get_or table (slot n) d).1 ≡ unit_of_packed n
-slot_found table d n len right small key =
-    rw key at (slot_found_from table 0 (slot n) d (omega (arith, len)) right (rw key (omega arith)))
+pub slot_found : (names : List ℕ) (table : List TimeUnit) (m : ℕ) (u : TimeUnit) (n : ℕ) → length table ≡ 128
+    → map (found_at names table m u) (range_with_len 0 128) ≡ map Some table → get_or names (slot n) m ≡ n
+    → Some (get_or table (slot n) u) ≡ unit_of_packed n
+slot_found names table m u n same right key =
+    let there = get_or-map Some table (slot n) u None (omega (arith, same)) in
+    let here = get_or-map-range_with_len (found_at names table m u) 0 128 (slot n) (slot n) None (omega arith) (omega arith) in
+    sym there ∙ ap (λ units. get_or units (slot n) None) (sym right) ∙ here ∙ rw (key, eq-eqb (slot n) _ refl) refl
 
 -- whether a name is in its slot
-abbrev pub is_kept : List (ℕ × TimeUnit) → (ℕ × TimeUnit) → List ℕ → Bool
-is_kept table d name = eqb (get_or table (slot (packed_number name)) d).0 (packed_number name)
+abbrev pub is_kept : List ℕ → ℕ → List ℕ → Bool
+is_kept names m name = eqb (get_or names (slot (packed_number name)) m) (packed_number name)
 
-abbrev pub are_kept : List (ℕ × TimeUnit) → (ℕ × TimeUnit) → List TimeUnit → Bool
-are_kept table d us = list_all (λ u. list_all (is_kept table d) (all_names u)) us
+-- a number whose slot has another one is that of no name in its slot
+not_kept : (names : List ℕ) (m n : ℕ) → (get_or names (slot n) m ≡ n → ⊥) → (ns : List (List ℕ))
+    → list_all (is_kept names m) ns ≡ true → list_any (packs_to n) ns ≡ false
+not_kept names m n differs [] kept = refl
+not_kept names m n differs (name ∷ ns) kept =
+    let b = and_parts (is_kept names m name) (list_all (is_kept names m) ns) kept in
+    let other = false_from_ne_true (packs_to n name)
+    (λ e. differs (rw (eqb-true (packed_number name) n e) at (eqb-true _ _ b.0))) in
+    rw (other, not_kept names m n differs ns b.1)
 
-module _ (table : List (ℕ × TimeUnit)) (d : ℕ × TimeUnit) (n : ℕ) (differs : (get_or table (slot n) d).0 ≡ n → ⊥) where
-  not_it : (name : List ℕ) → is_kept table d name ≡ true → packs_to n name ≡ false
-  not_it name kept = false_from_ne_true (eqb (packed_number name) n) (λ e.
-      let is = eqb-true (packed_number name) n e in differs (rw is at (eqb-true _ _ kept)))
-
-  none_of_names : (ns : List (List ℕ)) → list_all (is_kept table d) ns ≡ true
-      → list_any (packs_to n) ns ≡ false
-  none_of_names [] kept = refl
-  none_of_names (name ∷ names) kept =
-      let b = and_parts (is_kept table d name) (list_all (is_kept table d) names) kept in
-      rw (not_it name b.0) (none_of_names names b.1)
-
-  none_of_units : (us : List TimeUnit) → are_kept table d us ≡ true
-      → None ≡ find (λ u. list_any (packs_to n) (all_names u)) us
-  none_of_units [] kept = refl
-  none_of_units (u ∷ us) kept =
-      let b = and_parts (list_all (is_kept table d) (all_names u)) (are_kept table d us) kept in
-      rw (none_of_names (all_names u) b.0) (none_of_units us b.1)
-
-  -- if the number in the slot is another one, no name has the number searched for
-  pub slot_empty : are_kept table d units ≡ true → None ≡ unit_of_packed n
-  unfolding unit_of_packed
-  slot_empty kept = none_of_units units kept
+-- if the number in the slot is another one, no name has the number searched for
+pub slot_empty : (names : List ℕ) (m n : ℕ) → (get_or names (slot n) m ≡ n → ⊥)
+    → list_all (λ u. list_all (is_kept names m) (all_names u)) units ≡ true → None ≡ unit_of_packed n
+unfolding unit_of_packed
+slot_empty names m n differs kept =
+    let none = λ (u : TimeUnit). not_kept names m n differs (all_names u)
+    (all_units (λ v. list_all (is_kept names m) (all_names v)) kept u) in
+    simp none

@@ -63,18 +63,17 @@ name_test o word name utf8 small =
     rw (bytes, comparison_form-encodes o name, small_form o name small)
     (bytes_eq-encodes (comparison_form o (chars word)) name)
 
-names_test : (o : Options) (word : List ℕ) (names : List (List ℕ)) → IsUtf8 word → list_all is_small names ≡ true
-    → list_any (λ bytes. bytes_eq (comparison_form o word) (comparison_form o bytes)) (map encodes names)
-    ≡ list_any (bytes_eq (comparison_form o (chars word))) names
-names_test o word [] utf8 small = refl
-names_test o word (name ∷ names) utf8 small =
-    let parts = and_parts (is_small name) (list_all is_small names) small in
-    rw (name_test o word name utf8 parts.0, names_test o word names utf8 parts.1)
+-- Two tests that agree where a third one passes agree on lists that pass it.
+pub any_same : {A : Type 0} {test p q : A → Bool} → ((x : A) → test x ≡ true → p x ≡ q x) → (xs : List A)
+    → list_all test xs ≡ true → list_any p xs ≡ list_any q xs
+any_same same [] all = refl
+any_same {test = test} same (x ∷ xs) all =
+    let parts = and_parts (test x) (list_all test xs) all in rw (same x parts.0, any_same same xs parts.1)
 
-any_now : (test : List ℕ → Bool) (texts : List (Bor (List ℕ)))
-    → list_any (λ text. test text.now) texts ≡ list_any test (map (λ text. text.now) texts)
-any_now test [] = refl
-any_now test (text ∷ texts) = rw (any_now test texts)
+any_map : {A B : Type 0} (test : B → Bool) (f : A → B) (xs : List A)
+    → list_any test (map f xs) ≡ list_any (λ x. test (f x)) xs
+any_map test f [] = refl
+any_map test f (x ∷ xs) = rw (any_map test f xs)
 
 -- The answer whether a word is among the texts of these names is whether its characters are one of the names.
 abbrev FindsName : Options → List ℕ → List (List ℕ) → List (Bor (List ℕ)) → Bool → Type 0
@@ -85,8 +84,9 @@ FindsName o word names texts r = IsUtf8 word → AreEncoded texts names
 any_name : (o : Options) (word : List ℕ) (texts : List (Bor (List ℕ))) (names : List (List ℕ)) (r : Bool)
     → list_all is_small names ≡ true → FindsName o word names texts r
 any_name o word texts names r small utf8 encoded is =
-    is ∙ rw (any_now (λ bytes. bytes_eq (comparison_form o word) (comparison_form o bytes)) texts, encoded)
-    (names_test o word names utf8 small)
+    let test = λ (bytes : List ℕ). bytes_eq (comparison_form o word) (comparison_form o bytes) in
+    is ∙ rw (← any_map test (λ text. text.now) texts, encoded, any_map test encodes names)
+    (any_same (λ name. name_test o word name utf8) names small)
 
 -- the word is among the unit's names, which have no ASCII capitals
 pub by_name : (o : Options) (word : List ℕ) (u : TimeUnit) (texts : List (Bor (List ℕ))) (r : Bool)

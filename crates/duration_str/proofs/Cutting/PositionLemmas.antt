@@ -1,5 +1,5 @@
 -- The steps of cutting, in terms of a text, the byte up to which it is cut, and the looks.
-use Rattle.duration_str.proofs.Common.{◌≡◌, ℕ, ◌+◌, ◌-◌, ◌*◌, ◌%◌, ◌<◌, ◌≤◌, ◌^◌, Bool, true, false, List, [], ◌∷◌, ◌++◌, length, take, drop, Option, Some, None, IsUtf8, refl, ap, sym, ◌∙◌, arith, nat_lt, ◌&&◌, ◌||◌, is_some, IsSome, IfSome, slice_range, if◌then◌else◌, IsCharBoundary, chars, take-append-drop, drop-drop, add-zero, length-append, append_assoc, length-drop, is_ascii_uppercase, and_from, list_any-append, list_all-append, ForSome, encodes-chars, chars-append, IsUtf8-take, IsUtf8-drop, Options, TimeUnit, tokens_from, IsLexeme, EndsRun, byte_len, is_blank, is_digit, is_unit_letter, number_after, number_of, IsNumber, unit_of_word, u64_from, unit_of_packed, ahead, StandsAt, Between, Passes, TakesDigits, TakesLetters, letter_number, packed_number_after, length-le-encodes, append_cancel_right}
+use Rattle.duration_str.proofs.Common.{◌≡◌, ℕ, ◌+◌, ◌-◌, ◌*◌, ◌%◌, ◌<◌, ◌≤◌, ◌^◌, Bool, true, false, List, [], ◌∷◌, ◌++◌, length, take, drop, Option, Some, None, IsUtf8, refl, ap, sym, ◌∙◌, arith, nat_lt, ◌&&◌, ◌||◌, is_some, IsSome, IfSome, slice_range, if◌then◌else◌, IsCharBoundary, chars, take-append-drop, drop-drop, add-zero, length-append, append_assoc, length-drop, is_ascii_uppercase, and_from, list_any-append, list_all-append, ForSome, encodes-chars, chars-append, IsUtf8-take, IsUtf8-drop, Options, TimeUnit, tokens_from, IsLexeme, EndsRun, byte_len, is_blank, is_digit, is_unit_letter, number_after, number_of, unit_of_word, u64_from, unit_of_packed, ahead, StandsAt, Between, Passes, TakesDigits, TakesLetters, letter_number, packed_number_after, length-le-encodes, append_cancel_right}
 use Rattle.std.proofs.Math.Bool.{or-false}
 pub use Rattle.duration_str.proofs.Cutting.TokenLemmas.{blanks_no_token, tokens_step}
 use Rattle.duration_str.proofs.Characters.CharacterLemmas.{capital_below}
@@ -133,13 +133,13 @@ chars_between {text} {cs} {slice} {place} {next} between is utf8 =
 -- ---- numbers and words
 
 -- a number with at most 19 digits is below 2^64
-pub short_number : (digits : List ℕ) (low : ℕ) → IsUtf8 digits → IsNumber (chars digits)
-    → low ≡ number_of (chars digits) % 2 ^ 64 → length digits ≤ 19 → Some low ≡ u64_from (number_of (chars digits))
-short_number digits low utf8 number same short =
-    let cs = chars digits in
-    let few : length cs ≤ 19 = omega (arith, chars_short digits utf8, short) in
-    let less = digits_value_short decimal_digits cs 19 number.1 few in
-    whole_number (number_of cs) low same (omega arith)
+pub short_number : {text : List ℕ} {place next low : ℕ} (taken : TakesDigits text place next low) → next ≤ place + 19
+    → Some low ≡ u64_from (number_of taken.run.characters)
+short_number taken short =
+    let cs = taken.run.characters in
+    let few : length cs ≤ 19 = omega (arith, length-le-byte_len cs, taken.run.between.bytes, short) in
+    let less = digits_value_short decimal_digits cs 19 taken.run.all few in
+    whole_number (number_of cs) _ taken.number (omega arith)
 
 -- The characters from `place` to `next` are unit letters, and `unit` is the unit that they name.
 pub record TakesWord (o : Options) (text : List ℕ) (place next : ℕ) (unit : Option TimeUnit) : Type 0 where

@@ -1,6 +1,7 @@
 -- The steps of `Tokens`: what is ahead, and the next token.
-use Rattle.duration_str.proofs.Common.{◌≡◌, ℕ, ◌-◌, ◌<◌, ◌%◌, ◌^◌, ◌≤◌, drop, length-drop, arith, true, List, [], ◌∷◌, length, Option, Some, None, IsUtf8, refl, ap, ◌∙◌, slice_range, IsCharBoundary, chars, length-take-le, ForSome, IsUtf8-had, TimeUnit, CondUnit, Sort, Number, Word, Operator, Other, Tokens, Terminal, word, operator, other, operator_or_other, terminal_of, is_blank, is_digit, is_unit_letter, operator_of, number_of, IsNumber, tokens_from, ahead, StandsAt, Passes, Stops, TakesDigits, sort_of, u64_from, source, options_of, tokens_left, what_of, KeepsInput, YieldsNextToken, IsAhead, LooksAhead, IsSign, TakesToken, TakesTokenWith, TakesNumber, Token, cut_place}
+use Rattle.duration_str.proofs.Common.{◌≡◌, ℕ, ◌-◌, ◌<◌, ◌≤◌, drop, length-drop, arith, true, List, [], ◌∷◌, length, Option, Some, None, IsUtf8, refl, ap, sym, ◌∙◌, slice_range, IsCharBoundary, length-take-le, ForSome, IsUtf8-had, TimeUnit, CondUnit, Sort, Number, Word, Operator, Other, Tokens, Terminal, word, operator, other, operator_or_other, terminal_of, is_blank, is_digit, is_unit_letter, operator_of, number_of, tokens_from, ahead, StandsAt, Passes, Stops, TakesDigits, sort_of, u64_from, source, options_of, tokens_left, what_of, KeepsInput, YieldsNextToken, IsAhead, LooksAhead, IsSign, TakesToken, TakesTokenWith, TakesNumber, Token, cut_place}
 use Rattle.duration_str.specs.declared.token.Token.{Token as RustToken}
+use Rattle.duration_str.proofs.Characters.NumberLemmas.{bytes_of_digits}
 use Rattle.duration_str.proofs.Cutting.PositionLemmas.{TakesWord, chars_between, blanks_passed, token_taken, place_at_end}
 use Rattle.duration_str.proofs.Cutting.SortLemmas.{StandsToken, number_stands, word_stands, sign_stands, digit_of_sort, letter_of_sort, sign_of_sort, first_token}
 use Rattle.duration_str.proofs.Cutting.TerminalLemmas.{sign_sorts}
@@ -70,20 +71,21 @@ same_slice : {s t : Tokens} {slice : List ℕ} {start : ℕ} → KeepsInput s t 
     → slice ≡ slice_range (source t) start (cut_place t) → slice ≡ slice_range (source s) (cut_place s) (cut_place t)
 same_slice kept there is = simp (kept.text, there) at is
 
--- The slice from s to t is the number ahead, and `low` is its value modulo 2^64.
-pub takes_number : {s t : Tokens} {low start : ℕ} {slice : List ℕ} → IsAhead s (Some Number) → KeepsInput s t
-    → TakesDigits (source s) (cut_place s) (cut_place t) low → Stops is_digit (ahead (source t) (cut_place t))
-    → start ≡ cut_place s → slice ≡ slice_range (source t) start (cut_place t) → IsUtf8 slice
-    → IsNumber (chars slice) × (low ≡ number_of (chars slice) % 2 ^ 64)
-    × TakesNumber s t (u64_from (number_of (chars slice)))
-takes_number {s} h kept taken stops there is utf8 =
+-- The slice from s to t is the digits that were taken.
+pub digits_between : {s t : Tokens} {low start : ℕ} {slice : List ℕ} → KeepsInput s t
+    → (taken : TakesDigits (source s) (cut_place s) (cut_place t) low) → start ≡ cut_place s
+    → slice ≡ slice_range (source t) start (cut_place t) → IsUtf8 slice → slice ≡ taken.run.characters
+digits_between kept taken there is utf8 =
     let same = chars_between taken.run.between (same_slice kept there is) utf8 in
+    sym (bytes_of_digits _ utf8 (rw same taken.run.all)) ∙ same
+
+pub takes_number : {s t : Tokens} {low : ℕ} {value : Option ℕ} → IsAhead s (Some Number) → KeepsInput s t
+    → (taken : TakesDigits (source s) (cut_place s) (cut_place t) low) → Stops is_digit (ahead (source t) (cut_place t))
+    → value ≡ u64_from (number_of taken.run.characters) → TakesNumber s t value
+takes_number {s} h kept taken stops is =
     let digit = digit_of_sort (options_of s) h.character h.is_sort in
-    let run = number_stands (options_of s) taken.run (simp kept.text at stops) (s.some h.character h.is_head) digit in (
-      rw same run.0,
-      rw same taken.number,
-      record { n = number_of taken.run.characters; token = takes_token kept run.1; is_value = rw same },
-    )
+    let run = number_stands (options_of s) taken.run (simp kept.text at stops) (s.some h.character h.is_head) digit in
+    record { n = number_of taken.run.characters; token = takes_token kept run.1; is_value = is }
 
 pub takes_word : {s t : Tokens} {unit : Option TimeUnit} → IsAhead s (Some Word) → KeepsInput s t
     → TakesWord (options_of s) (source s) (cut_place s) (cut_place t) unit

@@ -1,5 +1,5 @@
 -- The law `older_texts`: a sentence over the units without the quarter is a sentence over all units.
-use Rattle.duration_str.proofs.Common.{◌≡◌, ℕ, Bool, true, false, List, [], ◌∷◌, map, Option, Some, None, IsTrue, refl, sym, ap, ap₂, ◌∙◌, append-nil, ◌⊎◌, inl, inr, true≢false, find, ⊤, and_parts, cases_Bool, list_all, Options, CondUnit, Plus, TimeUnit, Quarter, Cause, is_digit, is_unit_letter, operator_of, UnitRow, row_of, nanos_of, is_named, unit_of_word, Terminal, number, word, operator, operator_or_other, sign_terminal, terminal_by, terminal_of, IsSentence, IsSentenceOf, kinds_after, allows, terms_by, terms_of, or_else, evaluation_fault, IsRead, IsRefusedAt, IsRefused, first_fault, early, late, older_row_of, older_units, was_named, older_nanos_of, older_unit_of_word, older_terminals, older_terms, WasSentenceOf, WasRead, WasRefused, sentence_fault, OlderTexts}
+use Rattle.duration_str.proofs.Common.{◌≡◌, ℕ, Bool, true, false, List, [], ◌∷◌, map, Option, Some, None, IsTrue, refl, sym, ap, ap₂, ◌∙◌, append-nil, ◌⊎◌, inl, inr, true≢false, find, ⊤, and_parts, cases_Bool, list_all, Options, CondUnit, Plus, TimeUnit, Quarter, Cause, is_digit, is_unit_letter, operator_of, UnitRow, row_of, nanos_of, is_named, unit_of_word, Terminal, number, word, operator, operator_or_other, sign_terminal, terminal_by, terminal_of, IsSentence, IsSentenceOf, expected_after, allows, terms_by, terms_of, or_else, evaluation_fault, IsRead, IsRefusedAt, IsRefused, first_fault, early, late, older_row_of, older_units, was_named, older_nanos_of, older_unit_of_word, older_terminals, older_terms, WasSentenceOf, WasRead, WasRefused, sentence_fault, OlderTexts}
 use Rattle.duration_str.proofs.Characters.UnitLemmas.{named_unit}
 use Rattle.duration_str.proofs.Sentences.AnswerLemmas.{sentence_refused}
 use Rattle.duration_str.proofs.Sentences.FrontLemmas.{AreAllowed, sentence_allowed}
@@ -38,12 +38,12 @@ KeepLengths (word (Some u) ∷ terminals) = (older_nanos_of u ≡ nanos_of u) ×
 KeepLengths (terminal ∷ terminals) = KeepLengths terminals
 
 same_word : (o : Options) (last : Option Terminal) (w : List ℕ) (found : Option TimeUnit) (terminals : List Terminal)
-    → older_unit_of_word o w ≡ found → IsTrue (allows (kinds_after o.no_calc last) (word found)) → KeepLengths terminals
+    → older_unit_of_word o w ≡ found → IsTrue (allows (expected_after o.no_calc last) (word found)) → KeepLengths terminals
     → (word found ≡ word (unit_of_word o w)) × KeepLengths (word found ∷ terminals)
 same_word o last w (Some u) terminals e a k =
     let named = still_named o w u (found_named o w older_units u e) in (rw (named_unit o w u named.0), (named.1, k))
 same_word o last w None terminals e a k =
-    absurd (true≢false (sym (and_parts (kinds_after o.no_calc last).unit_word false a).1))
+    absurd (true≢false (sym (and_parts (expected_after o.no_calc last).unit_word false a).1))
 
 sign_keeps : (w : List ℕ) (terminals : List Terminal) → KeepLengths terminals
     → KeepLengths (sign_terminal w ∷ terminals)
@@ -53,7 +53,7 @@ sign_keeps _ terminals k = k
 
 -- A lexeme that the table allows where it is has the same terminal as before, with a unit of the same length.
 same_terminal : (o : Options) (last : Option Terminal) (w : List ℕ) (terminals : List Terminal)
-    → IsTrue (allows (kinds_after o.no_calc last) (terminal_by older_unit_of_word o w)) → KeepLengths terminals
+    → IsTrue (allows (expected_after o.no_calc last) (terminal_by older_unit_of_word o w)) → KeepLengths terminals
     → (terminal_by older_unit_of_word o w ≡ terminal_of o w)
     × KeepLengths (terminal_by older_unit_of_word o w ∷ terminals)
 same_terminal o last [] terminals a k = (refl, k)

@@ -1,9 +1,9 @@
 -- The table says what can follow the beginning of a sentence, and finds the front.
-use Rattle.duration_str.proofs.Common.{◌≡◌, Bool, true, ◌≢◌, List, [], ◌∷◌, Option, Some, None, IsTrue, sym, ◌∙◌, true≢false, CondUnit, Terminal, operator, kinds_after, allows, last_of, PlaceAndKinds}
-use Rattle.duration_str.proofs.Sentences.FrontLemmas.{AreAllowed, begins_allowed, kinds_by_table, no_operators, table_front, one_front}
+use Rattle.duration_str.proofs.Common.{◌≡◌, Bool, true, ◌≢◌, List, [], ◌∷◌, Option, Some, None, IsTrue, sym, ◌∙◌, true≢false, CondUnit, Terminal, operator, expected_after, allows, last_of, PlaceAndKinds}
+use Rattle.duration_str.proofs.Sentences.FrontLemmas.{AreAllowed, begins_allowed, expected_by_table, no_operators, table_front, one_front}
 
 allowed_no_operator : (no_calc : Bool) (last : Option Terminal) (t : Terminal) (op : CondUnit) → no_calc ≡ true
-    → IsTrue (allows (kinds_after no_calc last) t) → Some t ≢ Some (operator op)
+    → IsTrue (allows (expected_after no_calc last) t) → Some t ≢ Some (operator op)
 allowed_no_operator no_calc last (operator other_op) op e h = λ q. true≢false (sym h ∙ no_operators no_calc last e)
 allowed_no_operator no_calc last _ op e h = λ q. cc
 
@@ -16,7 +16,7 @@ no_operator_last no_calc last (t ∷ terminals) op e n h =
 
 pub place_and_kinds_hold : PlaceAndKinds
 place_and_kinds_hold = record {
-  kinds = kinds_by_table;
+  kinds = expected_by_table;
   no_operator =
       λ no_calc front op e b. no_operator_last no_calc None front op e (λ q. cc) (begins_allowed no_calc front b);
   front = table_front;

@@ -1,5 +1,5 @@
 -- The place of a fault is a character boundary of the text.
-use Rattle.duration_str.proofs.Common.{◌≡◌, ℕ, zero, suc, ◌+◌, ◌-◌, ◌≤◌, Bool, true, false, List, [], ◌∷◌, ◌++◌, length, take, drop, Option, Some, None, Err, IfSome, IsUtf8, refl, ap, sym, subst, ◌∙◌, arith, append_assoc, append-nil, length-append, IsCharBoundary, chars, ForSome, IsUtf8-take, encodes-append, encodes-chars, scalars-chars, chars-append, and_parts, scalar, scalars, encodes, encode, Options, CondUnit, Cause, Syntax, byte_len, Terminal, AreTokens, tokens_of, start_after, Term, or_else, unless, terms_of, later_fault, evaluation_fault, complete_terms, first_fault, running_fault, early_fault, late_fault, answer, IsRefused, early, syntax_fault, late, IsCharBoundary-start, IsCharBoundary-at_seam, length-encode, Token}
+use Rattle.duration_str.proofs.Common.{◌≡◌, ℕ, zero, suc, ◌+◌, ◌-◌, ◌≤◌, Bool, true, false, List, [], ◌∷◌, ◌++◌, length, take, drop, Option, Some, None, Err, IfSome, IsUtf8, refl, ap, sym, subst, ◌∙◌, arith, append_assoc, append-nil, length-append, IsCharBoundary, chars, ForSome, IsUtf8-take, encodes-append, encodes-chars, scalars-chars, chars-append, and_parts, scalar, scalars, encodes, encode, Options, CondUnit, Cause, Syntax, byte_len, Terminal, AreTokens, tokens_of, start_after, Term, or_else, unless, terms_of, fault_of_terms, evaluation_fault, complete_terms, first_fault, running_fault, early_fault, late_fault, answer, IsRefused, early, syntax_fault, late, IsCharBoundary-start, IsCharBoundary-at_seam, length-encode, Token}
 use Rattle.std.proofs.Math.Seq.{drop-nil, take-add}
 use Rattle.duration_str.specs.Faults.{place_of}
 use Rattle.duration_str.proofs.Characters.TextLemmas.{width-scalar, byte_len-append}
@@ -24,7 +24,7 @@ module _ (P : ℕ → Type 0) where
 
   ruleset stands = (or_else_stands, unless_stands)
 
-  later_stands : (op : CondUnit) (before later : List Term) → IfSome (later_fault op before later) (Stands P)
+  later_stands : (op : CondUnit) (before later : List Term) → IfSome (fault_of_terms op before later) (Stands P)
   later_stands op before [] = tt
   later_stands op before (t ∷ later) = search (stands, later_stands op (before ++ t ∷ []) later) depth 8
 

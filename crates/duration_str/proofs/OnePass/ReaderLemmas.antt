@@ -1,5 +1,5 @@
 -- The reader's steps: what comes next, by the sort ahead, and what is left after it.
-use Rattle.duration_str.proofs.Common.{◌≡◌, ℕ, Bool, true, false, length, Option, Some, None, Result, Ok, Err, IsTrue, refl, sym, ap, ◌∙◌, if◌then◌else◌, TimeUnit, CondUnit, Plus, Cause, Syntax, Sort, Tokens, Terminal, number, word, operator, other, terminal_of, kinds_at_start, sort_of, source, options_of, tokens_left, LooksAhead, is_number, TakesToken, TakesSign, Rest, terminal_at, end_at, rest_from, rest_of, number_fault, fault_or, ReadItem, leaving, operator_read}
+use Rattle.duration_str.proofs.Common.{◌≡◌, ℕ, Bool, true, false, length, Option, Some, None, Result, Ok, Err, IsTrue, refl, sym, ap, ◌∙◌, if◌then◌else◌, TimeUnit, CondUnit, Plus, Cause, Syntax, Sort, Tokens, Terminal, number, word, operator, other, terminal_of, expected_at_start, sort_of, source, options_of, tokens_left, LooksAhead, is_number, TakesToken, TakesSign, Rest, terminal_at, end_at, rest_from, rest_of, number_fault, fault_or, ReadItem, leaving, operator_read}
 use Rattle.duration_str.specs.Iteration.{cut_place}
 use Rattle.duration_str.proofs.Cutting.StepLemmas.{none_left, first_left}
 use Rattle.duration_str.specs.declared.token.Sort.TheVariants as sorts
@@ -35,7 +35,7 @@ starts {s} {m} {sort = sort} look is =
 
 -- A number follows, or its absence is a fault at the place.
 pub number_comes : {s m : Tokens} {sort : Option Sort} → LooksAhead s m sort
-    → number_fault (rest_of s) ≡ (if is_number sort then None else Some (Syntax (cut_place m) kinds_at_start))
+    → number_fault (rest_of s) ≡ (if is_number sort then None else Some (Syntax (cut_place m) expected_at_start))
 number_comes {sort = None} look = rw (at_end look).0
 number_comes {sort = Some sorts.Number} look = rw (starts look refl).2
 number_comes {sort = Some sorts.Word} look = rw (starts look refl).2

@@ -1,11 +1,11 @@
 -- The terms that are left while a text is read, and the answer that they give.
-use Rattle.duration_str.proofs.Common.{◌≡◌, ℕ, ◌^◌, ◌<◌, Bool, true, false, List, [], ◌∷◌, ◌++◌, length, take, drop, Option, Some, None, Result, Ok, Err, if◌then◌else◌, IsTrue, refl, sym, ap, subst, ◌∙◌, arith, TimeUnit, NanoSecond, CondUnit, Plus, Star, Cause, Syntax, Expected, Number, Tokens, nanos_of, Terminal, number, word, operator, AllPlus, Term, value_of_term, terms_of, terms_after, unless, checked_term, term_of, without_last_number, complete_terminals, late_answer, answer_at, kinds_after, last_of, front_of, IsAhead, LooksAhead, TakesNumber, Rest, terminal_at, rest_of, start_left, terminals_in, ReadItem, leaving, unit_read, operator_read, answer_left, first_term, fault_or, check_operator, immediate_fault, checked_combination, Later, no_later, with_first}
+use Rattle.duration_str.proofs.Common.{◌≡◌, ℕ, ◌^◌, ◌<◌, Bool, true, false, List, [], ◌∷◌, ◌++◌, length, take, drop, is_some, Option, Some, None, Result, Ok, Err, if◌then◌else◌, IsTrue, refl, sym, ap, subst, ◌∙◌, arith, TimeUnit, NanoSecond, CondUnit, Plus, Cause, Number, Tokens, nanos_of, Terminal, number, operator, AllPlus, Term, value_of_term, terms_of, terms_after, unless, checked_term, term_of, without_last_number, complete_terminals, late_answer, answer_at, expected_after, last_of, front_of, IsAhead, LooksAhead, TakesNumber, Rest, terminal_at, rest_of, start_left, terminals_in, ReadItem, leaving, unit_read, operator_read, answer_left, first_term, fault_or, fault_at, fault_left, identity_of, sum_fault, with_term, Second, word}
 use Rattle.duration_str.specs.Iteration.{cut_place}
 use Rattle.duration_str.proofs.Sentences.FaultLemmas.{term_below_no_fault}
 use Rattle.duration_str.proofs.Sentences.FrontLemmas.{begins_allowed, table_front}
 use Rattle.duration_str.proofs.Sentences.SumLemmas.{AreAdded, terms_added}
 use Rattle.duration_str.proofs.Sentences.AnswerLemmas.{allowed_plus}
-use Rattle.duration_str.proofs.OnePass.EvaluationLemmas.{answer_of, checked_term_is, answer_with, answer_after_first, one_by_one}
+use Rattle.duration_str.proofs.OnePass.EvaluationLemmas.{answer_of, checked_term_is, after_term, answer_with, answer_after_first, one_by_one}
 use Rattle.duration_str.proofs.OnePass.ReaderLemmas.{starts, after_token}
 use Rattle.duration_str.proofs.Cutting.StepLemmas.{keeps_all}
 
@@ -13,11 +13,6 @@ use Rattle.duration_str.proofs.Cutting.StepLemmas.{keeps_all}
 pub record Ended : Type 0 where
   pub terms : List Term
   pub fault : Option Cause
-
--- the syntax fault at a place with these kinds expected and these terminals following
-abbrev pub fault_at : ℕ → Expected → List Terminal → Option Cause
-fault_at place expected [] = unless expected.text_end (Syntax place expected)
-fault_at place expected (terminal ∷ terminals) = Some (Syntax place expected)
 
 -- the part of the rest that the table allows, and what follows it
 abbrev front_in : Bool → Rest → List Terminal
@@ -31,7 +26,7 @@ abbrev pub left_after : Bool → CondUnit → Rest → Ended
 left_after no_calc op rest = record {
   terms = terms_after op (complete_terminals (front_in no_calc rest) (after_in no_calc rest));
   fault = fault_at (start_left (front_of no_calc (terminals_in rest)) rest)
-      (kinds_after no_calc (last_of None (front_in no_calc rest))) (after_in no_calc rest);
+      (expected_after no_calc (last_of None (front_in no_calc rest))) (after_in no_calc rest);
 }
 
 -- the terms after an operator, or none at the end
@@ -83,77 +78,77 @@ pub number_taken : {s a : Tokens} {n : Option ℕ} (no_calc : Bool) (op : CondUn
 number_taken {s} {a} no_calc op taken r is =
     rw (after_token taken.token, terms_read no_calc op (cut_place s) taken.n (rest_of a), is)
 
--- ---- Steps of the answer
-
--- the answer, given the later terms so far and what is left
-abbrev pub with_left : Bool → Later → Ended → Result ℕ Cause
-with_left no_calc later left =
-    answer_with no_calc later.first later.operator later.value left.terms left.fault
-
--- the answer, given the first value and what is left after it
-abbrev pub total_of : Bool → ℕ → Ended → Result ℕ Cause
-total_of no_calc first left = answer_after_first no_calc first left.terms left.fault
-
--- A property of the terms that are left after a number holds if a number is ahead.
-by_number : {A : Type 0} {s : Tokens} (no_calc : Bool) (f g : Ended → A) (op next : CondUnit)
-    → IsAhead s (Some Number)
-    → ((n : ℕ) (r : ReadItem TimeUnit) → f (after_number no_calc op n (Ok r)) ≡ g (after_number no_calc next n (Ok r)))
-    → ((cause : Cause) → f (no_terms cause) ≡ g (no_terms cause))
-    → f (left_after no_calc op (rest_of s)) ≡ g (left_after no_calc next (rest_of s))
-by_number {s = s} no_calc f g op next ahead terms none =
-    let look : LooksAhead s s (Some Number) = record { kept = keeps_all s; same_left = refl; ahead = ahead } in
-    let (n, rest, is) = starts look refl in
-    rw (is, terms_read no_calc op (cut_place s) n rest, terms_read no_calc next (cut_place s) n rest)
-    (elim (unit_read no_calc rest) as (λ r. f (after_number no_calc op n r) ≡ g (after_number no_calc next n r))
-    [ Ok r ↦ terms n r | Err cause ↦ none cause ])
+-- An operator that was read and a number are passed, up to the unit.
+pub term_passed : {s a : Tokens} {n : Option ℕ} (no_calc : Bool) (b : Rest) (read : Option CondUnit)
+    → is_some read ≡ true → leaving (rest_of s) (Ok read) ≡ operator_read no_calc b → (taken : TakesNumber s a n)
+    → (r : Result (ReadItem TimeUnit) Cause) → r ≡ unit_read no_calc (rest_of a)
+    → (op : CondUnit) × (after_unit no_calc (operator_read no_calc b) ≡ after_number no_calc op taken.n r)
+term_passed no_calc b None some is taken r unit = absurd cc
+term_passed no_calc b (Some op) some is taken r unit =
+    (op, ap (after_unit no_calc) (sym is) ∙ number_taken no_calc op taken r unit)
 
 abbrev pub count : Ended → ℕ
 count left = length left.terms
 
 -- Taking a term leaves fewer.
-pub fewer : {s a d : Tokens} {b : Rest} {n : Option ℕ} {u : TimeUnit} {next : CondUnit} (no_calc : Bool)
-    (op : CondUnit) → TakesNumber s a n → leaving b (Ok u) ≡ unit_read no_calc (rest_of a)
-    → leaving (rest_of d) (Ok (Some next)) ≡ operator_read no_calc b → IsAhead d (Some Number)
-    → count (left_after no_calc op (rest_of d)) < count (left_after no_calc op (rest_of s))
-fewer {next = next} no_calc op taken unit read ahead =
+pub fewer : {s a : Tokens} {b : Rest} {n : Option ℕ} {u : TimeUnit} {next : CondUnit} (no_calc : Bool) (op : CondUnit)
+    → TakesNumber s a n → leaving b (Ok u) ≡ unit_read no_calc (rest_of a)
+    → (rest : Rest) → leaving rest (Ok (Some next)) ≡ operator_read no_calc b
+    → count (left_after no_calc next rest) < count (left_after no_calc op (rest_of s))
+fewer no_calc op taken unit rest read =
     let here = ap count (number_taken no_calc op taken _ unit) in
     let after = ap (λ r. count (after_unit no_calc r)) read in
-    omega (arith, here, after, by_number no_calc count count op next ahead (λ n r. refl) (λ cause. refl))
+    omega (arith, here, after)
 
--- The same operator is not a fault.
-same_operator : (op : CondUnit) (later : Result ℕ Cause) → check_operator op later op ≡ later
-same_operator Plus (Ok total) = refl
-same_operator Star (Ok total) = refl
-same_operator op (Err cause) = refl
+-- Of what is left after a unit, the syntax fault is that after the terms.
+pub fault_after_unit : (no_calc : Bool) (rest : Rest)
+    → fault_left no_calc (word (Some Second)) rest ≡ (after_unit no_calc (operator_read no_calc rest)).fault
+fault_after_unit no_calc (terminal_at at (number n) rest) = refl
+fault_after_unit false (terminal_at at (operator op) (terminal_at p (number n) rest)) = refl
+fault_after_unit no_calc rest = refl
+
+-- ---- Steps of the answer
+
+-- the answer, given the first value and that of the later terms so far, and what is left
+abbrev pub with_left : Bool → ℕ → CondUnit → ℕ → Ended → Result ℕ Cause
+with_left no_calc first op total left = answer_with no_calc first op total left.terms left.fault
+
+-- the answer, given the first value and what is left after it
+abbrev pub total_of : Bool → ℕ → Ended → Result ℕ Cause
+total_of no_calc first left = answer_after_first no_calc first left.terms left.fault
 
 -- The first of the later terms sets the operator.
 pub operator_set : (no_calc : Bool) (first : ℕ) (op : CondUnit) {s : Tokens} → IsAhead s (Some Number)
-    → with_left no_calc (no_later first op) (left_after no_calc op (rest_of s))
+    → with_left no_calc first op (identity_of op) (left_after no_calc op (rest_of s))
     ≡ total_of no_calc first (left_after no_calc op (rest_of s))
-operator_set no_calc first op ahead =
-    by_number no_calc (with_left no_calc (no_later first op)) (total_of no_calc first) op op ahead
-    (λ n r. refl) (λ cause. refl)
-
--- Checking an operator when it is read gives the same answer as checking it with its term.
-pub operator_next : (no_calc : Bool) (later : Later) {s : Tokens} (next : CondUnit) → IsAhead s (Some Number)
-    → with_left no_calc (record later { value = check_operator later.operator later.value next })
-    (left_after no_calc later.operator (rest_of s))
-    ≡ with_left no_calc later (left_after no_calc next (rest_of s))
-operator_next no_calc later next ahead =
-    let checked = check_operator later.operator later.value next in
-    by_number no_calc (with_left no_calc (record later { value = checked })) (with_left no_calc later)
-    later.operator next ahead (λ n r. rw (same_operator later.operator checked)) (λ cause. refl)
+operator_set no_calc first op {s} ahead =
+    let look : LooksAhead s s (Some Number) = record { kept = keeps_all s; same_left = refl; ahead = ahead } in
+    let (n, rest, is) = starts look refl in
+    let read : left_after no_calc op (rest_of s) ≡ after_number no_calc op n (unit_read no_calc rest) =
+    rw (is, terms_read no_calc op (cut_place s) n rest) refl in
+    subst (λ (l : Ended). with_left no_calc first op (identity_of op) l ≡ total_of no_calc first l) (sym read)
+    (elim (unit_read no_calc rest) as (λ r. with_left no_calc first op (identity_of op) (after_number no_calc op n r)
+    ≡ total_of no_calc first (after_number no_calc op n r))
+    [ Ok r ↦ refl | Err cause ↦ refl ])
 
 -- A later term is read up to b and added.
-pub later_step : (no_calc : Bool) (later : Later) {s a : Tokens} {b : Rest} {n : Option ℕ} {u : TimeUnit} {next : Later}
-    → TakesNumber s a n → leaving b (Ok u) ≡ unit_read no_calc (rest_of a)
-    → next ≡ record later { value = checked_combination later.operator later.value (checked_term None n (nanos_of u)) }
-    → with_left no_calc later (left_after no_calc later.operator (rest_of s))
-    ≡ fault_or (immediate_fault no_calc (with_first next))
-    (with_left no_calc next (after_unit no_calc (operator_read no_calc b)))
-later_step no_calc later taken unit is =
-    ap (with_left no_calc later) (number_taken no_calc later.operator taken _ unit)
-    ∙ rw (same_operator later.operator later.value, is, taken.is_value)
+pub later_step : (no_calc : Bool) (first : ℕ) (op : CondUnit) (total : ℕ) {s a : Tokens} {b : Rest} {n : Option ℕ}
+    {u : TimeUnit} (next : CondUnit) → TakesNumber s a n → leaving b (Ok u) ≡ unit_read no_calc (rest_of a)
+    → let left = after_unit no_calc (operator_read no_calc b) in
+    with_left no_calc first op total (left_after no_calc next (rest_of s))
+    ≡ after_term no_calc left.fault
+    (λ more. fault_or (sum_fault no_calc first more) (with_left no_calc first op more left))
+    (with_term op total next n (nanos_of u))
+later_step no_calc first op total next taken unit =
+    ap (with_left no_calc first op total) (number_taken no_calc next taken _ unit) ∙ rw taken.is_value refl
+
+pub later_added : (no_calc : Bool) (first : ℕ) (op : CondUnit) (total : ℕ) {s a : Tokens} {b : Rest} {n : Option ℕ}
+    {u : TimeUnit} {more : ℕ} (next : CondUnit) → TakesNumber s a n → leaving b (Ok u) ≡ unit_read no_calc (rest_of a)
+    → Ok more ≡ with_term op total next n (nanos_of u) → None ≡ sum_fault no_calc first more
+    → with_left no_calc first op total (left_after no_calc next (rest_of s))
+    ≡ with_left no_calc first op more (after_unit no_calc (operator_read no_calc b))
+later_added no_calc first op total next taken unit value none =
+    later_step no_calc first op total next taken unit ∙ rw (← value, ← none) refl
 
 -- ---- The answer in order: the early fault, the syntax fault, the late fault, and the value
 
@@ -165,7 +160,7 @@ whole_answer true cause late terminals = refl
 
 in_order : (no_calc : Bool) (place : ℕ) (front rest : List Terminal)
     → answer_of no_calc (terms_of (complete_terminals front rest))
-    (fault_at place (kinds_after no_calc (last_of None front)) rest) ≡ answer_at no_calc place front rest
+    (fault_at place (expected_after no_calc (last_of None front)) rest) ≡ answer_at no_calc place front rest
 in_order no_calc place front [] = rw whole_answer
 in_order no_calc place front (terminal ∷ rest) = refl
 
@@ -231,7 +226,7 @@ first_step {m} {b = b} {u = u} no_calc same taken unit is =
     (one_by_one no_calc t more.terms more.fault added)
 
 same_kinds : (no_calc : Bool) (op : CondUnit) (front : List Terminal)
-    → kinds_after no_calc (last_of (Some (operator op)) front) ≡ kinds_after no_calc (last_of None front)
+    → expected_after no_calc (last_of (Some (operator op)) front) ≡ expected_after no_calc (last_of None front)
 same_kinds no_calc op [] = refl
 same_kinds no_calc op (terminal ∷ front) = refl
 

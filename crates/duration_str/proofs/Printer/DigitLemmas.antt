@@ -30,3 +30,7 @@ length_count u count h =
     let fits = ltb-true (greatest_count u) (2 ^ 64) (all_units (λ v. ltb (greatest_count v) (2 ^ 64)) refl u) in
     length-decimal-le (length (decimal (greatest_count u))) count (decimal_nonempty (greatest_count u) fits)
     (omega (arith, below_power (greatest_count u) fits)) (omega (arith, fits))
+
+-- A number of 64 bits has at most 20 digits.
+pub short_decimal : (n : ℕ) → n < 2 ^ 64 → length (decimal n) ≤ 20
+short_decimal n h = length-decimal-le 20 n (omega arith) (omega arith) (omega arith)

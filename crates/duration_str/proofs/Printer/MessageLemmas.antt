@@ -1,10 +1,11 @@
 -- The text of a fault is UTF-8, and its last byte is no line feed.
-use Rattle.duration_str.proofs.Common.{rules, ◌≡◌, ◌≢◌, ℕ, ◌<◌, ◌^◌, ◌==◌, true, false, List, [], ◌∷◌, ◌++◌, Option, Some, None, IsUtf8, decimal, encode_utf8_all, replicate, take, inl, inr, refl, lit<, IfSome, codes, cases_Bool, Plus, Star, Cause, Syntax, Mixed, NotText, IsAscii-decimal, IsUtf8-append, IsUtf8-from_ascii, EndsInsideLine, byte_text, caret_text, has_line_feed, placed_text, fault_text, line_of}
+use Rattle.duration_str.proofs.Common.{rules, ◌≡◌, ◌≢◌, ℕ, ◌<◌, ◌^◌, ◌==◌, true, false, List, [], ◌∷◌, ◌++◌, Option, Some, None, IsUtf8, decimal, encode_utf8_all, replicate, take, inl, inr, refl, lit<, IfSome, codes, cases_Bool, Plus, Star, Cause, Syntax, Mixed, NotText, IsAscii-decimal, IsUtf8-append, IsUtf8-from_ascii, EndsInsideLine, byte_text, caret_text, has_line_feed, placed_text, line_of}
 use Rattle.std.proofs.lemmas.List.Elements.{All-replicate}
 use Rattle.std.proofs.lemmas.Str.Ascii.{IsAscii-from_all}
 use Rattle.std.specs.List.{last_or}
 use Rattle.duration_str.specs.Buffers.{IsInFront}
 use Rattle.duration_str.specs.Faults.{place_of}
+use Rattle.duration_str.specs.Laws.{LastLine}
 
 -- What holds of the bytes holds of the front of the buffer, if they are there.
 pub front_has : (P : List ℕ → Type 0) (bytes : List ℕ) (result : Option ℕ) (buffer : List ℕ) → P bytes
@@ -40,7 +41,7 @@ not_line_feed : (n : ℕ) → (n == 10) ≡ false → Some n ≢ Some 10
 not_line_feed n other e = let same : n ≡ 10 = cc in cc (rw same at other)
 
 -- Whatever stands before a line, its last byte is no line feed.
-pub line_last : (cause : Cause) (o : Option ℕ) → last_or o (encode_utf8_all (line_of cause)) ≢ Some 10
+line_last : (cause : Cause) (o : Option ℕ) → last_or o (encode_utf8_all (line_of cause)) ≢ Some 10
 unfolding lib.Utf8.encode
 line_last (Syntax place expected) o = elim (cases_Bool expected.unit_word) [
   | inl unit ↦ rw unit (not_line_feed _ refl)
@@ -62,6 +63,8 @@ placed_ends text cause (Some place) = elim (cases_Bool (has_line_feed text)) [
   | inr one ↦ rw one (simp last_or-append (line_last cause _))
 ]
 
--- No fault text ends with a line feed.
-pub text_ends : (text : List ℕ) (cause : Cause) → EndsInsideLine (fault_text text cause)
-text_ends text cause = placed_ends text cause (place_of cause)
+pub last_line_holds : LastLine
+last_line_holds = record {
+  line = λ cause. line_last cause None;
+  text = λ text cause. placed_ends text cause (place_of cause);
+}

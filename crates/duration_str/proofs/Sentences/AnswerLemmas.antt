@@ -1,6 +1,6 @@
 -- A text is read or refused, not both, and the computed answer says which.
-use Rattle.duration_str.proofs.Common.{◌≡◌, ℕ, ◌^◌, ◌<◌, ◌≤◌, Bool, true, false, ◌⊎◌, ◌↔◌, inl, inr, List, [], ◌∷◌, ◌++◌, map, length, Option, Some, None, Result, Ok, Err, if◌then◌else◌, arith, refl, sym, ap, ◌∙◌, append-nil, and_parts, cond-true, list_all, Options, CondUnit, Cause, Syntax, byte_len, Terminal, number, word, operator, other, terminal_of, IsSentence, IsSentenceOf, tokens_of, lexemes_of, IsFront, start_after, terminals_of, AllPlus, Term, value_of_term, combination, later_total, value_of, terms_of, later_fault, evaluation_fault, is_same_operator, Evaluates, first_fault, early_fault, late_fault, IsRead, IsRefusedAt, early, syntax_fault, late, IsRefused, is_whole, fault_or, late_answer, answer, kinds_after, last_of, OneReading, AnswerIsReading}
-use Rattle.duration_str.proofs.Sentences.FrontLemmas.{AreAllowed, sentence_allowed, no_operators, one_front, one_expected, table_front, front_allowed, ends_by_table, kinds_by_table}
+use Rattle.duration_str.proofs.Common.{◌≡◌, ℕ, ◌^◌, ◌<◌, ◌≤◌, Bool, true, false, ◌⊎◌, ◌↔◌, inl, inr, List, [], ◌∷◌, ◌++◌, map, length, Option, Some, None, Result, Ok, Err, if◌then◌else◌, arith, refl, sym, ap, ◌∙◌, append-nil, and_parts, cond-true, list_all, Options, CondUnit, Cause, Syntax, byte_len, Terminal, number, word, operator, other, terminal_of, IsSentence, IsSentenceOf, tokens_of, lexemes_of, IsFront, start_after, terminals_of, AllPlus, Term, value_of_term, combination, later_total, value_of, terms_of, fault_of_terms, evaluation_fault, is_same_operator, Evaluates, first_fault, early_fault, late_fault, IsRead, IsRefusedAt, early, syntax_fault, late, IsRefused, is_whole, fault_or, late_answer, answer, expected_after, last_of, OneReading, AnswerIsReading}
+use Rattle.duration_str.proofs.Sentences.FrontLemmas.{AreAllowed, sentence_allowed, no_operators, one_front, one_expected, table_front, front_allowed, ends_by_table, expected_by_table}
 use Rattle.duration_str.proofs.Sentences.SpellingLemmas.{sentence_terminals, tokens_spell, empty_no_sentence}
 use Rattle.duration_str.proofs.Sentences.FaultLemmas.{no_fault, or_else-none, is_same_operator-true}
 use Rattle.duration_str.proofs.Sentences.SumLemmas.{terms_added, has_terms, running_none, running_below, below_evaluate, evaluate_below}
@@ -36,14 +36,14 @@ evaluates_by true terminals s =
 
 -- ---- The value of terms that evaluate
 
-same_later : (op : CondUnit) (before later : List Term) → later_fault op before later ≡ None
+same_later : (op : CondUnit) (before later : List Term) → fault_of_terms op before later ≡ None
     → list_all (λ v. is_same_operator op v.operator) later ≡ true
 same_later op before [] h = refl
 same_later op before (t ∷ later) h =
     let parts = simp no_fault at h in
     rw ((is_same_operator-true op t.operator).1 parts.0) (same_later op (before ++ t ∷ []) later parts.1.1.1)
 
-pub later_value : (t u : Term) (later : List Term) → later_fault u.operator [] (u ∷ later) ≡ None
+pub later_value : (t u : Term) (later : List Term) → fault_of_terms u.operator [] (u ∷ later) ≡ None
     → value_of (t ∷ u ∷ later) ≡ Some (combination u.operator (value_of_term t) (later_total u.operator (u ∷ later)))
 later_value t u later h =
     cond-true _ _ _ (and_parts (is_same_operator u.operator u.operator) _ (same_later u.operator [] (u ∷ later) h)).1
@@ -52,7 +52,7 @@ has_value_below : (terms : List Term) → Evaluates terms → (n : ℕ) × (valu
 has_value_below [] e = absurd e
 has_value_below (t ∷ []) e = (value_of_term t, refl, (simp no_fault at e.0).1)
 has_value_below (t ∷ u ∷ later) e =
-    let faults = (or_else-none (later_fault u.operator [] (u ∷ later)) _).0 e.1 in
+    let faults = (or_else-none (fault_of_terms u.operator [] (u ∷ later)) _).0 e.1 in
     (_, later_value t u later faults.0, simp no_fault at faults.1)
 
 -- ---- Readings and refusals in terms of terminals
@@ -182,14 +182,14 @@ module _ (no_calc : Bool) (place : ℕ) where
 
   syntax_means : {terminals : List Terminal} (front rest : List Terminal) → IsFront no_calc terminals front rest
       → early_fault no_calc front rest ≡ None → (IsSentence no_calc (front ++ rest) → ⊥)
-      → IsRefusedAt no_calc place front rest (Syntax place (kinds_after no_calc (last_of None front)))
-  syntax_means front rest f e n = syntax_fault _ e n ((kinds_by_table no_calc front _ f.begins).1 refl) refl
+      → IsRefusedAt no_calc place front rest (Syntax place (expected_after no_calc (last_of None front)))
+  syntax_means front rest f e n = syntax_fault _ e n ((expected_by_table no_calc front _ f.begins).1 refl) refl
 
   whole_means : {terminals : List Terminal} (front rest : List Terminal) → IsFront no_calc terminals front rest
       → early_fault no_calc front rest ≡ None → (whole : Bool) → is_whole no_calc front rest ≡ whole
       → MeansAt no_calc place front rest
       (if whole then late_answer (late_fault no_calc front) front
-      else Err (Syntax place (kinds_after no_calc (last_of None front))))
+      else Err (Syntax place (expected_after no_calc (last_of None front))))
   whole_means front [] f e true w = late_means front _ ((ends_by_table no_calc front f.begins).0 w) e refl
   whole_means front [] f e false w =
       syntax_means front [] f e (λ s. cc ((ends_by_table no_calc front f.begins).1 (rw append-nil at s)))
@@ -202,7 +202,7 @@ module _ (no_calc : Bool) (place : ℕ) where
       → (cause : Option Cause) → early_fault no_calc front rest ≡ cause
       → MeansAt no_calc place front rest
       (fault_or cause (if is_whole no_calc front rest then late_answer (late_fault no_calc front) front
-      else Err (Syntax place (kinds_after no_calc (last_of None front)))))
+      else Err (Syntax place (expected_after no_calc (last_of None front)))))
   front_means front rest f (Some cause) e = early e
   front_means front rest f None e = whole_means front rest f e _ refl
 

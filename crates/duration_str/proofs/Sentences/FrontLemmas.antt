@@ -1,15 +1,15 @@
 -- Sentences in terms of the table of what may follow a terminal, and the front of a list of terminals.
-use Rattle.duration_str.proofs.Common.{◌≡◌, ℕ, suc, zero, ◌≤◌, Bool, true, false, ◌↔◌, inl, inr, List, [], ◌∷◌, ◌++◌, Option, Some, None, take, drop, length, IsTrue, arith, refl, sym, ap, zero-le, le_antisymm, suc-le-suc, le_of_suc-le-suc, take-append-drop, take_at, drop_at, length-append, ⊤, same_from_decides, cases_Bool, not-true, and_from, and_parts, Second, Plus, Expected, Terminal, number, word, operator, IsSentence, BeginsSentence, CanFollow, IsFront, kinds_after, allows, last_of, front_after, front_of, not_from_false, not_from_true}
+use Rattle.duration_str.proofs.Common.{◌≡◌, ℕ, suc, zero, ◌≤◌, Bool, true, false, ◌↔◌, inl, inr, List, [], ◌∷◌, ◌++◌, Option, Some, None, take, drop, length, IsTrue, arith, refl, sym, ap, zero-le, le_antisymm, suc-le-suc, le_of_suc-le-suc, take-append-drop, take_at, drop_at, length-append, ⊤, same_from_decides, cases_Bool, not-true, and_from, and_parts, Second, Plus, Expected, Terminal, number, word, operator, IsSentence, BeginsSentence, CanFollow, IsFront, expected_after, allows, last_of, front_after, front_of, not_from_false, not_from_true}
 
 -- The table allows each terminal after the one before it, and the first one after `last`.
 abbrev pub AreAllowed : Bool → Option Terminal → List Terminal → Type 0
 AreAllowed no_calc last [] = ⊤
 AreAllowed no_calc last (t ∷ terminals) =
-    IsTrue (allows (kinds_after no_calc last) t) × AreAllowed no_calc (Some t) terminals
+    IsTrue (allows (expected_after no_calc last) t) × AreAllowed no_calc (Some t) terminals
 
 -- The table allows these terminals and then the end, where they come after `last`.
 abbrev CanEnd : Bool → Option Terminal → List Terminal → Type 0
-CanEnd no_calc last terminals = IsTrue (kinds_after no_calc (last_of last terminals)).text_end
+CanEnd no_calc last terminals = IsTrue (expected_after no_calc (last_of last terminals)).text_end
 
 -- Only one set of kinds can follow a front.
 pub one_expected : {no_calc : Bool} {front : List Terminal} {a b : Expected} → CanFollow no_calc front a
@@ -67,13 +67,13 @@ module _ (no_calc : Bool) where
   ends_by_table front b = (allowed_begins front (begins_allowed front b)).1
 
   follows_by_table : (front : List Terminal) (t : Terminal) → BeginsSentence no_calc front
-      → (IsTrue (allows (kinds_after no_calc (last_of None front)) t) ↔ BeginsSentence no_calc (front ++ t ∷ []))
+      → (IsTrue (allows (expected_after no_calc (last_of None front)) t) ↔ BeginsSentence no_calc (front ++ t ∷ []))
   follows_by_table front t b =
       let both = allowed-append None front (t ∷ []) in
       (λ h. (allowed_begins _ (both.1 (begins_allowed front b, (h, tt)))).0, λ h. (both.0 (begins_allowed _ h)).1.0)
 
   table_can_follow : (front : List Terminal) → BeginsSentence no_calc front
-      → CanFollow no_calc front (kinds_after no_calc (last_of None front))
+      → CanFollow no_calc front (expected_after no_calc (last_of None front))
   table_can_follow front b =
       let follows = λ (t : Terminal). follows_by_table front t b in
       record {
@@ -86,12 +86,12 @@ module _ (no_calc : Bool) where
         end_expected = ends_by_table front b;
       }
 
-  pub kinds_by_table : (front : List Terminal) (expected : Expected) → BeginsSentence no_calc front
-      → (CanFollow no_calc front expected ↔ (expected ≡ kinds_after no_calc (last_of None front)))
-  kinds_by_table front expected b =
+  pub expected_by_table : (front : List Terminal) (expected : Expected) → BeginsSentence no_calc front
+      → (CanFollow no_calc front expected ↔ (expected ≡ expected_after no_calc (last_of None front)))
+  expected_by_table front expected b =
       (λ h. one_expected h (table_can_follow front b), λ e. rw e (table_can_follow front b))
 
-  pub no_operators : (last : Option Terminal) → no_calc ≡ true → (kinds_after no_calc last).operator ≡ false
+  pub no_operators : (last : Option Terminal) → no_calc ≡ true → (expected_after no_calc last).operator ≡ false
   no_operators (Some (number n)) e = not_from_true _ e
   no_operators (Some (word u)) e = not_from_true _ e
   no_operators _ e = refl
@@ -104,7 +104,7 @@ module _ (no_calc : Bool) where
   front_allowed last [] = (tt, refl)
   front_allowed last (t ∷ terminals) =
       let rest = front_allowed (Some t) terminals in
-      elim (cases_Bool (allows (kinds_after no_calc last) t)) [
+      elim (cases_Bool (allows (expected_after no_calc last) t)) [
         | inl e ↦ rw e ((e, rest.0), ap suc rest.1)
         | inr e ↦ rw e (tt, refl)
       ]

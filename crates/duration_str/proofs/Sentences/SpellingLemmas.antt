@@ -1,5 +1,5 @@
 -- A sentence spells a text exactly if its lexemes are those of the text's tokens.
-use Rattle.duration_str.proofs.Common.{◌≡◌, ℕ, ◌+◌, Bool, true, false, List, [], ◌∷◌, ◌++◌, map, Option, Some, None, IsTrue, refl, sym, ◌∙◌, ⊤, and_parts, false_from_ne_true, list_all-append, list_all, Options, Expected, is_blank, IsBlank, byte_len, Terminal, number, word, operator, other, terminal_of, IsSentenceOf, BeginsWith, Spells, are_of_one_run, goes_on, IsLexeme, EndsRun, AreTokens, tokens_of, lexemes_of, terminals_of, kinds_after, allows, sort_of, Token}
+use Rattle.duration_str.proofs.Common.{◌≡◌, ℕ, ◌+◌, Bool, true, false, List, [], ◌∷◌, ◌++◌, map, Option, Some, None, IsTrue, refl, sym, ◌∙◌, ⊤, and_parts, false_from_ne_true, list_all-append, list_all, Options, Expected, is_blank, IsBlank, byte_len, Terminal, number, word, operator, other, terminal_of, IsSentenceOf, BeginsWith, Spells, are_of_one_run, goes_on, IsLexeme, EndsRun, AreTokens, tokens_of, lexemes_of, terminals_of, expected_after, allows, sort_of, Token}
 use Rattle.duration_str.proofs.Characters.CharacterLemmas.{operator-not_blank, run-not_blank}
 use Rattle.duration_str.proofs.Cutting.TokenLemmas.{tokens_once, tokens_are}
 use Rattle.duration_str.proofs.Cutting.TerminalLemmas.{terminal_cases, digits_are_lexeme, letters_are_lexeme, lexeme_sort, run_sort}
@@ -18,7 +18,7 @@ allowed_is_lexeme o expected = terminal_cases o (λ w t. IsTrue (allows expected
     (λ c op _ _ sign h. (operator-not_blank c op sign, refl)) (λ c cs _ _ h. cc)
 
 -- The table allows no terminal after one of its own sort.
-sorts_apart : (no_calc : Bool) (s t : Terminal) → IsTrue (allows (kinds_after no_calc (Some s)) t)
+sorts_apart : (no_calc : Bool) (s t : Terminal) → IsTrue (allows (expected_after no_calc (Some s)) t)
     → sort_of s ≡ sort_of t → ⊥
 sorts_apart no_calc (number n) (number m) a e = cc
 sorts_apart no_calc (word u) (word v) a e = cc
@@ -32,7 +32,7 @@ module _ (o : Options) where
 
   -- Two lexemes that the table allows after one another are not of one run.
   stops_before : (c : ℕ) (cs blanks w rest : List ℕ) → IsBlank blanks → IsLexeme o (c ∷ cs) → IsLexeme o w
-      → IsTrue (allows (kinds_after o.no_calc (Some (terminal_of o (c ∷ cs)))) (terminal_of o w))
+      → IsTrue (allows (expected_after o.no_calc (Some (terminal_of o (c ∷ cs)))) (terminal_of o w))
       → goes_on o c (blanks ++ (w ++ rest)) ≡ false
   stops_before c cs (b ∷ blanks) w rest h p q a = stops_at_blank c b (and_parts _ _ h).0
   stops_before c cs [] [] rest h p q a = absurd q
@@ -46,7 +46,7 @@ module _ (o : Options) where
   ends_in_sentence (c ∷ cs) [] [] p a s = refl
   ends_in_sentence (c ∷ cs) (d ∷ rest) [] p a s = stops_at_blank c d (and_parts _ _ s).0
   ends_in_sentence (c ∷ cs) rest (v ∷ ws) p a s =
-      let expected = kinds_after o.no_calc (Some (terminal_of o (c ∷ cs))) in
+      let expected = expected_after o.no_calc (Some (terminal_of o (c ∷ cs))) in
       rw s.parts (stops_before c cs s.blanks v s.rest s.blank p (allowed_is_lexeme o expected v a.0) a.0)
 
   -- The lexemes of a sentence that spells the text are the characters of its tokens.
@@ -56,7 +56,7 @@ module _ (o : Options) where
   spelled_tokens at last [] text a s = ([], s, refl)
   spelled_tokens at last (w ∷ ws) text a s =
       let start = at + byte_len s.blanks in
-      let p = allowed_is_lexeme o (kinds_after o.no_calc last) w a.0 in
+      let p = allowed_is_lexeme o (expected_after o.no_calc last) w a.0 in
       let ends = ends_in_sentence w s.rest ws p a.1 s.is_rest in
       let more = spelled_tokens (start + byte_len w) (Some (terminal_of o w)) ws s.rest a.1 s.is_rest in (
         record { start = start; characters = w } ∷ more.0,

@@ -1,5 +1,5 @@
 -- Terms that are added evaluate exactly if their sum is below 2^64, and the sum is their value.
-use Rattle.duration_str.proofs.Common.{ℕ, ◌≡◌, ◌+◌, ◌^◌, ◌≤◌, ◌<◌, inl, inr, lt-ltb, le-ltb, Option, Bool, true, leb, List, [], ◌∷◌, ◌++◌, length, Some, None, arith, refl, ap, append_assoc, append-nil, leb-true, ⊤, cases_lt, cases_Bool, Cause, first_fault, list_all, TimeUnit, CondUnit, Plus, Overflow, nanos_of, Terminal, number, word, operator, IsSentence, AllPlus, Term, value_of_term, combination, sum_of, later_total, value_of, terms_of, terms_after, fits, unless, or_else, later_fault, evaluation_fault, is_same_operator, Evaluates, running_fault, place_after}
+use Rattle.duration_str.proofs.Common.{ℕ, ◌≡◌, ◌+◌, ◌^◌, ◌≤◌, ◌<◌, inl, inr, lt-ltb, le-ltb, Option, Bool, true, leb, List, [], ◌∷◌, ◌++◌, length, Some, None, arith, refl, ap, append_assoc, append-nil, leb-true, ⊤, cases_lt, cases_Bool, Cause, first_fault, list_all, TimeUnit, CondUnit, Plus, Overflow, nanos_of, Terminal, number, word, operator, IsSentence, AllPlus, Term, value_of_term, combination, sum_of, later_total, value_of, terms_of, terms_after, fits, unless, or_else, fault_of_terms, evaluation_fault, is_same_operator, Evaluates, running_fault, place_after}
 use Rattle.duration_str.proofs.Sentences.FaultLemmas.{no_fault, is_same_operator-true, term_below_no_fault}
 use Rattle.duration_str.proofs.Characters.EachUnit.{all_units}
 
@@ -42,10 +42,10 @@ sum_fits_each (t ∷ terms) h = (omega arith, sum_fits_each terms (omega arith))
 
 -- ---- Terms that fit have no fault but that of their sum
 
-abbrev overflow : ℕ → Option Cause
+abbrev pub overflow : ℕ → Option Cause
 overflow n = unless (fits n) (Overflow None)
 
-overflow_grows : (m n : ℕ) → m ≤ n → or_else (overflow m) (overflow n) ≡ overflow n
+pub overflow_grows : (m n : ℕ) → m ≤ n → or_else (overflow m) (overflow n) ≡ overflow n
 overflow_grows m n h = elim (cases_lt m (2 ^ 64)) [
   | inl below ↦ rw (lt-ltb m _ below)
   | inr above ↦ rw (le-ltb m _ above, le-ltb n (2 ^ 64) (omega arith))
@@ -53,7 +53,7 @@ overflow_grows m n h = elim (cases_lt m (2 ^ 64)) [
 
 pub running_overflow : (before terms : List Term) → AreAdded terms → EachFits terms
     → (or_else (overflow (sum_of before)) (running_fault before terms) ≡ overflow (sum_of (before ++ terms)))
-    × (or_else (overflow (sum_of before)) (later_fault Plus before terms) ≡ overflow (sum_of (before ++ terms)))
+    × (or_else (overflow (sum_of before)) (fault_of_terms Plus before terms) ≡ overflow (sum_of (before ++ terms)))
 running_overflow before [] a f =
     rw append-nil (elim (cases_Bool (fits (sum_of before))) [ inl e ↦ rw e (refl, refl) | inr e ↦ rw e (refl, refl) ])
 running_overflow before (t ∷ later) a f =
@@ -70,14 +70,14 @@ added_overflow [] a f = (refl, refl)
 added_overflow (t ∷ []) a f =
     (term_below_no_fault (Some 0) t a.1 f.0, rw (lt-ltb (sum_of (t ∷ [])) (2 ^ 64) (omega (arith, f.0))))
 added_overflow (t ∷ u ∷ later) a f =
-    let plus = ap (λ op. or_else (later_fault op [] (u ∷ later))
+    let plus = ap (λ op. or_else (fault_of_terms op [] (u ∷ later))
     (unless (fits (combination op (value_of_term t) (later_total op (u ∷ later)))) (Overflow None))) a.2.0 in (
       term_below_no_fault (Some 0) t a.1 f.0,
       rw (plus, (running_overflow [] (u ∷ later) a.2 f.1).1) (overflow_grows (sum_of (u ∷ later)) _ (omega arith)),
     )
 
 pub later_none : (before terms : List Term) → AreAdded terms → sum_of (before ++ terms) < 2 ^ 64
-    → later_fault Plus before terms ≡ None
+    → fault_of_terms Plus before terms ≡ None
 later_none before terms a h =
     let fits = sum_fits_each terms (omega (arith, sum-append before terms)) in
     (simp no_fault at (rw (lt-ltb _ _ h) at (running_overflow before terms a fits).1)).1

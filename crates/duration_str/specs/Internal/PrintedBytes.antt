@@ -1,5 +1,6 @@
 -- The printed bytes, built unit by unit, and how many there can be.
-use Rattle.std.specs.Prelude.{ℕ, ◌+◌, ◌-◌, ◌*◌, ◌/◌, ◌%◌, ◌^◌, List, [], ◌∷◌, ◌++◌, drop, length, map, if◌then◌else◌, ◌==◌, decimal, encode_utf8_all}
+use Rattle.std.specs.Prelude.{ℕ, ◌+◌, ◌-◌, ◌*◌, ◌/◌, ◌%◌, ◌^◌, List, [], ◌∷◌, ◌++◌, drop, length}
+use Rattle.std.specs.Prelude.{map, if◌then◌else◌, ◌==◌, decimal, encode_utf8_all}
 use Rattle.std.specs.List.{sum}
 unfoldable pub use Rattle.std.specs.Fmt.{digits}
 use Rattle.duration_str.specs.declared.unit.TimeUnit.{TimeUnit}

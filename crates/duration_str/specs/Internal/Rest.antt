@@ -1,7 +1,7 @@
 -- What is left of a text while it is read: the next thing to read, and the answer.
-use Rattle.std.specs.Prelude.{◌≡◌, ℕ, zero, suc, ◌≤◌, Bool, false, List, [], ◌∷◌, ◌++◌, length, take, drop, Option, Some, None, Result, Ok, Err, IfErr, if◌then◌else◌}
+use Rattle.std.specs.Prelude.{◌≡◌, ℕ, zero, suc, ◌+◌, ◌≤◌, Bool, false, List, [], ◌∷◌, ◌++◌, length, take}
+use Rattle.std.specs.Prelude.{drop, Option, Some, None, Result, Ok, Err, IfErr, if◌then◌else◌}
 use Rattle.std.specs.Option.{ForSome, ok_or}
-use Rattle.std.specs.Result.{result_and, result_err}
 use Rattle.std.specs.Duration.{as_nanos}
 use Rattle.std.specs.declared.time.Duration.{Duration}
 use Rattle.duration_str.specs.declared.options.Options.{Options}
@@ -17,14 +17,13 @@ use Rattle.duration_str.specs.declared.token.Tokens.{Tokens}
 use Rattle.duration_str.specs.Results.{IsValueOrFault}
 use Rattle.duration_str.specs.Grammar.{Terminal, number, word, operator, terminal_of}
 use Rattle.duration_str.specs.Tokens.{Token}
-use Rattle.duration_str.specs.Value.{second, combination, is_same_operator}
-use Rattle.duration_str.specs.Terms.{fault_or}
+use Rattle.duration_str.specs.Value.{second, combination, fits, is_same_operator, unless, fault_or}
 use Rattle.duration_str.specs.Internal.Numbers.{u64_from, checked_term}
-use Rattle.duration_str.specs.Answer.{answer_at, kinds_at_start, kinds_after_number, kinds_after_unit, front_of}
+use Rattle.duration_str.specs.Answer.{answer_at, expected_at_start, expected_after_number}
+use Rattle.duration_str.specs.Answer.{expected_after_unit, expected_after, last_of, front_after, front_of}
 use Rattle.duration_str.specs.Faults.{place_of}
 use Rattle.duration_str.specs.Iteration.{source, options_of, cut_place, tokens_left}
 use Rattle.duration_str.specs.Internal.Steps.{IsAhead}
-use Rattle.duration_str.specs.Units.{nanos_of}
 use Rattle.duration_str.specs.declared.token.Sort.TheVariants.{Number}
 
 -- ---- What is left, and what is read next
@@ -71,21 +70,21 @@ leaving rest (Err cause) = Err cause
 -- the fault if the rest does not start with a number, as it must at the start of a text and after an operator
 abbrev pub number_fault : Rest → Option Cause
 number_fault (terminal_at at (number n) rest) = None
-number_fault rest = Some (misplacement kinds_at_start rest)
+number_fault rest = Some (misplacement expected_at_start rest)
 
 -- the unit after a number; seconds if it is left out before an operator or at the end
 abbrev pub unit_read : Bool → Rest → Result (ReadItem TimeUnit) Cause
 unit_read no_calc (terminal_at at (word (Some u)) rest) = leaving rest (Ok u)
 unit_read false (terminal_at at (operator op) rest) = leaving (terminal_at at (operator op) rest) (Ok Second)
 unit_read no_calc (end_at at) = leaving (end_at at) (Ok Second)
-unit_read no_calc rest = Err (misplacement (kinds_after_number no_calc) rest)
+unit_read no_calc rest = Err (misplacement (expected_after_number no_calc) rest)
 
 -- the operator after a unit, which a number must follow; plus if it is left out, `None` at the end
 abbrev pub operator_read : Bool → Rest → Result (ReadItem (Option CondUnit)) Cause
 operator_read no_calc (terminal_at at (number n) rest) = leaving (terminal_at at (number n) rest) (Ok (Some Plus))
 operator_read false (terminal_at at (operator op) rest) = leaving rest (fault_or (number_fault rest) (Ok (Some op)))
 operator_read no_calc (end_at at) = leaving (end_at at) (Ok None)
-operator_read no_calc rest = Err (misplacement (kinds_after_unit no_calc) rest)
+operator_read no_calc rest = Err (misplacement (expected_after_unit no_calc) rest)
 
 -- ---- Places
 
@@ -116,42 +115,42 @@ first_term nanos op = number nanos ∷ word (Some NanoSecond) ∷ operator op �
 
 -- ---- Values, or the first fault
 
--- two values combined by the operator, if that is below 2^64; otherwise an overflow, or the first fault of the two
-abbrev pub checked_combination : CondUnit → Result ℕ Cause → Result ℕ Cause → Result ℕ Cause
-checked_combination op (Ok x) (Ok y) = ok_or (u64_from (combination op x y)) (Overflow None)
-checked_combination op (Ok x) (Err cause) = Err cause
-checked_combination op (Err cause) y = Err cause
-
 -- the neutral value: 0 for sums, one second for products
 abbrev pub identity_of : CondUnit → ℕ
 identity_of Plus = 0
 identity_of Star = second
 
--- the later terms' value, or their first fault; `Mixed` if the operator `next` differs from `op`
-abbrev pub check_operator : CondUnit → Result ℕ Cause → CondUnit → Result ℕ Cause
-check_operator op later next = result_and later (if is_same_operator op next then later else Err (Mixed op next))
+-- two values combined, the second one or its fault given, if that is below 2^64; otherwise an overflow
+abbrev pub checked_combination : CondUnit → ℕ → Result ℕ Cause → Result ℕ Cause
+checked_combination op x (Ok y) = ok_or (u64_from (combination op x y)) (Overflow None)
+checked_combination op x (Err cause) = Err cause
 
--- the value of a later term, or its fault, which has no place
-abbrev pub later_term : Option ℕ → TimeUnit → Result ℕ Cause
-later_term n unit = checked_term None n (nanos_of unit)
+-- the overflow of the first value and the later ones so far, which is reported under `no_calc`
+abbrev pub sum_fault : Bool → ℕ → ℕ → Option Cause
+sum_fault no_calc first total = if no_calc then unless (fits (first + total)) (Overflow None) else None
 
--- the first term's value, the operator after it, and the value of the later terms so far, or their first fault
-pub record Later : Type 0 where
-  pub first : ℕ
-  pub operator : CondUnit
-  pub value : Result ℕ Cause
+-- the value of the later terms, `total` so far, with one more, or its fault; the operator `next` stands before it
+abbrev pub with_term : CondUnit → ℕ → CondUnit → Option ℕ → ℕ → Result ℕ Cause
+with_term op total next n length =
+    fault_or (unless (is_same_operator op next) (Mixed op next))
+    (checked_combination op total (checked_term None n length))
 
--- no later terms yet
-abbrev pub no_later : ℕ → CondUnit → Later
-no_later first op = record { first = first; operator = op; value = Ok (identity_of op) }
+-- the syntax fault at a place with these kinds expected and these terminals following
+abbrev pub fault_at : ℕ → Expected → List Terminal → Option Cause
+fault_at place expected [] = unless expected.text_end (Syntax place expected)
+fault_at place expected (terminal ∷ terminals) = Some (Syntax place expected)
 
--- the value of all terms, or the first fault
-abbrev pub with_first : Later → Result ℕ Cause
-with_first later = checked_combination later.operator (Ok later.first) later.value
+-- the syntax fault of what is left after this terminal, or `None`
+abbrev pub fault_left : Bool → Terminal → Rest → Option Cause
+fault_left no_calc last rest =
+    let terminals = terminals_in rest in
+    let n = front_after no_calc (Some last) terminals in
+    fault_at (start_left n rest) (expected_after no_calc (last_of (Some last) (take n terminals))) (drop n terminals)
 
--- the fault of a value that is reported immediately, as under `no_calc`
-abbrev pub immediate_fault : Bool → Result ℕ Cause → Option Cause
-immediate_fault no_calc value = if no_calc then result_err value else None
+-- the fault of a term, or the syntax fault of what is left after its unit, which precedes it except under `no_calc`
+abbrev pub fault_in_order : Bool → Rest → Cause → Result ℕ Cause
+fault_in_order no_calc rest fault =
+    if no_calc then Err fault else fault_or (fault_left no_calc (word (Some Second)) rest) (Err fault)
 
 -- ---- Steps of the reader
 

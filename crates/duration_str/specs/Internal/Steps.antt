@@ -1,16 +1,35 @@
 -- What the private calls of `Tokens` do: they look ahead, and take the token ahead.
-use Rattle.std.specs.Prelude.{◌≡◌, ℕ, Bool, true, false, List, ◌∷◌, Option, Some, None, ⊤}
-use Rattle.std.specs.Str.{chars}
+use Rattle.std.specs.Prelude.{◌≡◌, ℕ, Bool, true, false, List, ◌∷◌, Option, Some, None, ⊤, if◌then◌else◌}
+use Rattle.duration_str.specs.declared.options.Options.{Options}
+use Rattle.duration_str.specs.declared.operator.CondUnit.{CondUnit}
 use Rattle.duration_str.specs.declared.token.Sort.{Sort}
 use Rattle.duration_str.specs.declared.token.Sort.TheVariants as sorts
-use Rattle.duration_str.specs.declared.token.Number.{Number}
 use Rattle.duration_str.specs.declared.token.Tokens.{Tokens}
-use Rattle.duration_str.specs.Text.{is_blank, number_of}
-use Rattle.duration_str.specs.Grammar.{Terminal, number, terminal_of}
+use Rattle.duration_str.specs.Text.{is_blank, is_digit, is_unit_letter, operator_of}
+use Rattle.duration_str.specs.Grammar.{Terminal, number, word, operator, other, terminal_of}
 use Rattle.duration_str.specs.Iteration.{source, options_of, cut_place, tokens_left, KeepsInput}
 use Rattle.duration_str.specs.Internal.Numbers.{u64_from}
 use Rattle.duration_str.specs.Internal.Positions.{Between}
-use Rattle.duration_str.specs.Internal.Sorts.{sort_at, sort_of}
+
+-- ---- Sorts
+
+-- the sort of an operator, or `Other` without one
+abbrev pub sign_sort : Option CondUnit → Sort
+sign_sort (Some op) = sorts.Operator op
+sign_sort None = sorts.Other
+
+-- the sort of a token that begins with this character
+abbrev pub sort_at : Options → ℕ → Sort
+sort_at o c = if is_digit c then sorts.Number else if is_unit_letter o c then sorts.Word else sign_sort (operator_of c)
+
+-- the sort of a token that stands for this terminal
+abbrev pub sort_of : Terminal → Sort
+sort_of (number n) = sorts.Number
+sort_of (word u) = sorts.Word
+sort_of (operator op) = sorts.Operator op
+sort_of other = sorts.Other
+
+-- ---- What is ahead
 
 -- The character ahead starts a token of this sort.
 pub record StartsToken (s : Tokens) (sort : Sort) : Type 0 where
@@ -48,6 +67,8 @@ IsSign sorts.Number = ⊥
 IsSign sorts.Word = ⊥
 IsSign _ = ⊤
 
+-- ---- What is taken
+
 -- The first token that is left is taken; it starts at the place and stands for this terminal.
 pub record TakesToken (old new : Tokens) (terminal : Terminal) : Type 0 where
   pub characters : List ℕ
@@ -55,10 +76,6 @@ pub record TakesToken (old new : Tokens) (terminal : Terminal) : Type 0 where
   pub first : tokens_left old ≡ record { start = cut_place old; characters = characters } ∷ tokens_left new
   pub between : Between (source old) (cut_place old) (cut_place new) characters
   pub is_terminal : terminal ≡ terminal_of (options_of old) characters
-
--- the number, or `None` from 2^64 on
-abbrev pub u64_of : Number → Option ℕ
-u64_of n = u64_from (number_of (chars n.digits.now))
 
 -- The first token that is left is taken; it is a number, and `value` is `None` from 2^64 on.
 pub record TakesNumber (old new : Tokens) (value : Option ℕ) : Type 0 where

@@ -13,12 +13,14 @@ const INPUT: &[u8] = b"3m31\n\n580y*2";
 
 const OUTPUT: &[u8] = b"211000000000 3min 31s\nEmpty input\noverflow error\n";
 
-/// Gives at most `step` bytes per call. The call after `calls` calls fails, and later ones work again.
+/// Gives at most `step` bytes per call, and counts the calls. The call after `calls` calls fails, and later ones work
+/// again.
 #[derive(Drop)]
 struct Source<'a> {
     bytes: &'a [u8],
     step: usize,
     calls: usize,
+    reads: usize,
     has_failed: bool,
     is_called_again: bool,
 }
@@ -33,6 +35,7 @@ impl Source<'_> {
             bytes,
             step,
             calls,
+            reads: 0,
             has_failed: false,
             is_called_again: false,
         }
@@ -41,6 +44,7 @@ impl Source<'_> {
 
 impl Read for Source<'_> {
     fn read(&mut self, buf: &mut [u8]) -> io::Result<usize> {
+        self.reads = self.reads.saturating_add(1);
         self.is_called_again |= self.has_failed;
         if self.calls == 0 && !self.has_failed {
             self.has_failed = true;
@@ -65,14 +69,15 @@ impl Read for Blanks {
     }
 }
 
-/// Takes at most `step` bytes per call into a fixed buffer. The call after `calls` calls fails, or the first flush if
-/// `flushes` is not set, and later ones work again.
+/// Takes at most `step` bytes per call into a fixed buffer, and counts the flushes. The call after `calls` calls fails, or
+/// the first flush if `flushes` is not set, and later ones work again.
 #[derive(Drop)]
 struct Sink {
     held: [u8; 64],
     len: usize,
     step: usize,
     calls: usize,
+    flushed: usize,
     flushes: bool,
     has_failed: bool,
     is_called_again: bool,
@@ -90,6 +95,7 @@ impl Sink {
             len: 0,
             step,
             calls,
+            flushed: 0,
             flushes: true,
             has_failed: false,
             is_called_again: false,
@@ -116,6 +122,7 @@ impl Write for Sink {
     }
 
     fn flush(&mut self) -> io::Result<()> {
+        self.flushed = self.flushed.saturating_add(1);
         self.is_called_again |= self.has_failed;
         if self.flushes || self.has_failed {
             return Ok(());
@@ -125,8 +132,8 @@ impl Write for Sink {
     }
 }
 
-/// Whether a run with all options off ends with this answer, and has then written this. Once a call failed, no other
-/// may be made.
+/// Whether a run with all options off ends with this answer, and has then written this, and flushed it if all went well.
+/// Once a call failed, no other may be made.
 fn ends(
     alloc: Global,
     mut source: Source<'_>,
@@ -136,6 +143,7 @@ fn ends(
 ) -> bool {
     run(alloc, &mut source, &mut sink, Options::off()) == answer
         && sink.written() == written
+        && (answer.is_err() || sink.flushed == 1)
         && !source.is_called_again
         && !sink.is_called_again
 }
@@ -252,9 +260,15 @@ fn makes_a_read_for_each_byte_and_one_more(rt: HostRuntime) -> Result<(), Fail> 
         (most, 1_048_576, RunFault::Read),
         (blanks.as_slice(), 1_048_577, RunFault::TooLong),
     ] {
-        let source = Source::giving(bytes, 1, calls);
+        let mut source = Source::giving(bytes, 1, calls);
+        let answer = run(
+            rt.alloc(),
+            &mut source,
+            &mut Sink::taking(0, 1),
+            Options::off(),
+        );
         assert!(rt;
-            ends(rt.alloc(), source, Sink::taking(0, 1), Err(fault), b""),
+            answer == Err(fault) && source.reads == 1_048_577,
             "{fault:?}"
         );
     }

@@ -1,11 +1,12 @@
-use Rattle.duration_str.proofs.Common.{refl, SLOTS}
+use Rattle.duration_str.proofs.Common.{refl, NAMES, UNITS}
 use Rattle.duration_str.specs.Internal.Packed.{unit_of_packed}
 use Rattle.duration_str.proofs.Characters.PackedLemmas.{slot_found, slot_empty}
 use Rattle.duration_str.proofs.packed.unit_of_packed.Goals as goal
 
-pub returns-then-name-packed : goal.returns-then-name-packed
+pub returns-then-slot-packed : goal.returns-then-slot-packed
 unfolding unit_of_packed
-returns-then-name-packed c = slot_found SLOTS _ c.args.packed refl refl c.ranges.packed.fits c.if-name-packed.true
+returns-then-slot-packed c =
+    slot_found NAMES UNITS _ _ c.args.packed refl refl c.if-slot-packed.true
 
-pub returns-else-name-packed : goal.returns-else-name-packed
-returns-else-name-packed c = slot_empty SLOTS _ c.args.packed c.if-name-packed.false refl
+pub returns-else-slot-packed : goal.returns-else-slot-packed
+returns-else-slot-packed c = slot_empty NAMES _ c.args.packed c.if-slot-packed.false refl

@@ -2,7 +2,7 @@ use Rattle.std.proofs.Common.{◌∷◌, ◌++◌, refl, inl, inr, encode_utf8_a
 use Rattle.std.specs.Prelude.{codes}
 use Rattle.std.specs.Duration.{as_nanos}
 use Rattle.std.specs.Fmt.{decimal}
-use Rattle.duration_str.specs.FaultText.{fault_text}
+use Rattle.duration_str.specs.Messages.{message_of}
 use Rattle.durstr_run.specs.Output.{IsLineOutput}
 use Rattle.durstr_run.proofs.output.push_line.Goals as goal
 
@@ -31,7 +31,7 @@ pub returns-in_ok-writeln-in-Err : goal.returns-in_ok-writeln-in-Err
 unfolding IsLineOutput
 returns-in_ok-writeln-in-Err g c =
     let fault = c.in-Err.fault in (
-      fault_text c.args.line.now fault.cause,
+      message_of c.args.line.now fault.cause,
       inl (record {
         cause = fault.cause;
         utf8 = c.in-Some.ensures.text.1;

@@ -12,4 +12,4 @@ returns c =
     let head = c.in_ok-first.was {u = tt} in
     let first = c.in_ok-first.first in
     looks_ahead _ e.kept e.blanks
-    (record { character = first; is_head = head; not_blank = e.stops first head; is_sort = c.sort_at.ensures })
+    (record { character = first; is_head = head; not_blank = e.stops first head; is_sort = c.at.ensures })

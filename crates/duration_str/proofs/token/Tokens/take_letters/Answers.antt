@@ -20,7 +20,7 @@ loop-self-preserved c =
     let inv = c.loop-self.invariant in
     let more = c.advance-in-Some-head.ensures in
     let next = c.in-Some-head.c in
-    let letter = numbered_letter c.loop-self.self.options next _ c.letter_number-number.ensures c.if-number-eq0.false in
+    let letter = numbered_letter c.loop-self.self.options next _ c.in-Some-letter_number.ensures in
     record {
       kept = keeps_on inv.kept more.kept;
       letters = letters_head inv.letters (rw inv.kept.text at (more.past next c.in-Some-head.is))
@@ -31,9 +31,9 @@ pub loop-self-smaller : goal.loop-self-smaller
 loop-self-smaller c =
     let more = c.advance-in-Some-head.ensures in fewer_ahead more.kept more.past c.in-Some-head.is
 
-pub returns-then-number-eq0-clause-stops : goal.returns-then-number-eq0-clause-stops
-returns-then-number-eq0-clause-stops c =
+pub returns-in_default-letter_number-clause-stops : goal.returns-in_default-letter_number-clause-stops
+returns-in_default-letter_number-clause-stops c =
     let s = c.loop-self.self in
     rw (s.some c.in-Some-head.c c.in-Some-head.is).head
     (rw c.loop-self.invariant.kept.options at
-    (unnumbered s.options c.in-Some-head.c _ c.letter_number-number.ensures c.if-number-eq0.true))
+    (unnumbered s.options c.in-Some-head.c (c.in_default-letter_number.ensures {u = tt})))

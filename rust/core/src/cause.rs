@@ -1,0 +1,164 @@
+// Made by tools/erase of crates/duration_str/src/cause.rt.
+//! Why a text is refused: what could stand at the place of a syntax fault, the cause, and its line.
+
+use super::operator::CondUnit;
+
+/// What could stand at the place of a syntax fault.
+///
+/// ```
+/// use duration_str::{Cause, Options, parse_with};
+///
+/// let cause = parse_with("1m+", Options::off()).unwrap_err().cause();
+/// assert!(matches!(cause, Cause::Syntax { place: 3, expected } if expected.number && !expected.text_end));
+/// ```
+#[derive(Clone, Copy, Debug, PartialEq, Eq)]
+#[non_exhaustive]
+pub struct Expected {
+    /// A number.
+    pub number: bool,
+    /// A word that names a unit.
+    pub unit_word: bool,
+    /// `+` or `*`.
+    pub operator: bool,
+    /// The end of the text.
+    pub text_end: bool,
+}
+
+impl Expected {
+    /// What can start a text, or follow an operator.
+    #[inline(always)]
+    pub(crate) fn at_start() -> Expected {
+        Expected {
+            number: true,
+            unit_word: false,
+            operator: false,
+            text_end: false,
+        }
+    }
+
+    /// What can follow a number.
+    #[inline(always)]
+    pub(crate) fn after_number(no_calc: bool) -> Expected {
+        Expected {
+            number: false,
+            unit_word: true,
+            operator: !no_calc,
+            text_end: true,
+        }
+    }
+
+    /// What can follow a unit.
+    #[inline(always)]
+    pub(crate) fn after_unit(no_calc: bool) -> Expected {
+        Expected {
+            number: true,
+            unit_word: false,
+            operator: !no_calc,
+            text_end: true,
+        }
+    }
+}
+
+/// Why a text is refused. A place is a byte offset in the text.
+///
+/// ```
+/// use duration_str::{Cause, Options, parse_with};
+///
+/// assert_eq!(parse_with("", Options::off()).unwrap_err().cause(), Cause::Empty);
+/// ```
+#[derive(Clone, Copy, Debug, PartialEq, Eq)]
+#[non_exhaustive]
+pub enum Cause {
+    /// The text is empty.
+    Empty,
+    /// At `place`, no sentence continues as the text does.
+    Syntax {
+        /// Where the first token stands with which no sentence continues, or the length of the text.
+        place: usize,
+        /// What could stand there.
+        expected: Expected,
+    },
+    /// A number is 2^64 or more.
+    NumberTooLarge {
+        /// 0 for the first number, `None` for a later one.
+        place: Option<usize>,
+    },
+    /// A term, a step of the evaluation or the value is 2^64 nanoseconds or more.
+    Overflow {
+        /// 0 for the first term, `None` for a later one and for a step.
+        place: Option<usize>,
+    },
+    /// The operator `later` follows the different operator `first`.
+    Mixed {
+        /// The first operator.
+        first: CondUnit,
+        /// The first that differs from it.
+        later: CondUnit,
+    },
+    /// The date is out of range.
+    OutOfRange,
+    /// A configuration value is not a text.
+    NotText {
+        /// Whether the value may be missing.
+        optional: bool,
+    },
+}
+
+impl Cause {
+    /// Byte offset of the fault: set for syntax faults, 0 for an oversized first term, otherwise `None`. In a `Fault`
+    /// it is a character boundary within the text.
+    ///
+    /// ```
+    /// use duration_str::{Options, parse_with};
+    ///
+    /// let place = |text| parse_with(text, Options::off()).unwrap_err().cause().place();
+    /// assert_eq!(place("1m 3-5"), Some(4));
+    /// assert_eq!(place("580y*2"), None);
+    /// ```
+    #[must_use]
+    pub const fn place(self) -> Option<usize> {
+        match self {
+            Cause::Syntax { place, .. } => Some(place),
+            Cause::NumberTooLarge { place } | Cause::Overflow { place } => place,
+            Cause::Empty | Cause::Mixed { .. } | Cause::OutOfRange | Cause::NotText { .. } => None,
+        }
+    }
+
+    /// The syntax fault at a place where one of these could stand.
+    #[inline(always)]
+    pub(crate) fn syntax(place: usize, expected: Expected) -> Cause {
+        Cause::Syntax { place, expected }
+    }
+
+    /// The line that says why the text is refused.
+    ///
+    /// ```
+    /// assert_eq!(duration_str::Cause::Empty.line(), "Empty input");
+    /// ```
+    #[must_use]
+    pub const fn line(self) -> &'static str {
+        match self {
+            Cause::Empty => "Empty input",
+            Cause::Syntax { expected, .. } => {
+                if expected.unit_word {
+                    r#"expected ["y", "q", "mon", "w", "d", "h", "m", "s", "ms", "µs", "us", "ns"]"#
+                } else if expected.operator {
+                    "expected ['+', '*']"
+                } else {
+                    "expected number"
+                }
+            }
+            Cause::NumberTooLarge { .. } => "number too large to fit in target type",
+            Cause::Overflow { .. } => "overflow error",
+            Cause::Mixed { first, later } => match (first, later) {
+                (CondUnit::Plus, CondUnit::Plus) => "not support '+' with '+' calculate",
+                (CondUnit::Plus, CondUnit::Star) => "not support '+' with '*' calculate",
+                (CondUnit::Star, CondUnit::Plus) => "not support '*' with '+' calculate",
+                (CondUnit::Star, CondUnit::Star) => "not support '*' with '*' calculate",
+            },
+            Cause::OutOfRange => "date out of range",
+            Cause::NotText { optional: true } => "expect duration string, null, or missing field",
+            Cause::NotText { optional: false } => "expect duration string, e.g: '1min+30'",
+        }
+    }
+}

@@ -1,0 +1,80 @@
+// Made by tools/erase of crates/duration_str/src/fault.rt.
+//! A refused text with its cause, and the token at the place of a syntax fault.
+
+use super::cause::Cause;
+use super::options::Options;
+use super::token::Tokens;
+
+/// A refusal: the text that was read, and the cause. It prints as a message for people.
+///
+/// ```
+/// use duration_str::{Options, parse_with};
+///
+/// let fault = parse_with("3ms-2ms", Options::off()).unwrap_err();
+/// assert_eq!(fault.to_string(), "3ms-2ms\n   ^\nexpected ['+', '*']");
+/// ```
+#[derive(Clone, Copy, Debug, PartialEq, Eq)]
+pub struct Fault<'a> {
+    /// The whole text that was read; the empty text for `NotText`.
+    pub(crate) text: &'a str,
+    /// Why it is refused.
+    pub(crate) cause: Cause,
+}
+
+impl<'a> Fault<'a> {
+    /// The whole text that was read; the empty text for `NotText`.
+    ///
+    /// ```
+    /// use duration_str::{Options, parse_with};
+    ///
+    /// assert_eq!(parse_with("1x", Options::off()).unwrap_err().text(), "1x");
+    /// ```
+    #[must_use]
+    pub const fn text(&self) -> &'a str {
+        self.text
+    }
+
+    /// Why it is refused.
+    ///
+    /// ```
+    /// use duration_str::{Cause, Options, parse_with};
+    ///
+    /// let cause = parse_with("600y", Options::off()).unwrap_err().cause();
+    /// assert_eq!(cause, Cause::Overflow { place: Some(0) });
+    /// ```
+    #[must_use]
+    pub const fn cause(&self) -> Cause {
+        self.cause
+    }
+
+    /// The token that starts at the place of a syntax fault, as a slice of the text.
+    ///
+    /// The text is cut under these options. `None` if no token starts at the place, and for every other cause. With the
+    /// options of the reading, a syntax fault has no token exactly if it is at the end of the text.
+    ///
+    /// ```text
+    /// parse("3ms-2ms").unwrap_err().found(Options::off()) // Some("-")
+    /// ```
+    #[must_use]
+    pub fn found(&self, o: Options) -> Option<&'a str> {
+        let Cause::Syntax { place, .. } = self.cause else {
+            return None;
+        };
+        // To find a token at the place it is enough to cut from the character before it on.
+        let from = (0..place)
+            .rev()
+            .find(|at| self.text.is_char_boundary(*at))
+            .unwrap_or(0);
+        token_at(Tokens::new(&self.text[from..], o), place - from)
+    }
+}
+
+/// The token that starts at the place, among those that are left.
+fn token_at<'a>(mut tokens: Tokens<'a>, place: usize) -> Option<&'a str> {
+    while let Some(token) = tokens.next() {
+        if token.start == place {
+            return Some(token.text);
+        }
+    }
+    None
+}

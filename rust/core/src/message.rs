@@ -1,0 +1,245 @@
+// Made by tools/erase of crates/duration_str/src/message.rt.
+//! The message of a fault: printed, or written to a buffer.
+//!
+//! A `Display` may fail for reasons that its contract does not name, so no contract can promise that it prints. Into a
+//! buffer a message for which there is room is always written.
+
+use super::cause::Cause;
+use super::ext::put_number;
+use super::fault::Fault;
+use core::fmt;
+
+impl Cause {
+    /// Writes the line that says why the text is refused to the start of a buffer, and returns its length in bytes.
+    ///
+    /// `None` if it is longer than the buffer, which is then unchanged. Allocates nothing.
+    ///
+    /// ```
+    /// use duration_str::{Options, parse_with};
+    ///
+    /// let mut buffer = [0; 64];
+    /// let cause = parse_with("3 + ", Options::off()).unwrap_err().cause();
+    /// assert_eq!(cause.write_line(&mut buffer), Some(15));
+    /// assert_eq!(&buffer[..15], b"expected number");
+    /// ```
+    pub fn write_line(self, buffer: &mut [u8]) -> Option<usize> {
+        put(buffer, 0, self.line().as_bytes())
+    }
+
+    /// The length in bytes of the line that `write_line` writes.
+    ///
+    /// ```
+    /// assert_eq!(duration_str::Cause::Empty.line_len(), 11);
+    /// ```
+    #[must_use]
+    pub const fn line_len(self) -> usize {
+        self.line().len()
+    }
+}
+
+impl Fault<'_> {
+    /// The length in bytes of the message that `write_message` writes; `usize::MAX` if it is greater than that.
+    ///
+    /// ```
+    /// use duration_str::{Options, parse_with};
+    ///
+    /// assert_eq!(parse_with("3ms-2ms", Options::off()).unwrap_err().message_len(), 32);
+    /// ```
+    #[must_use]
+    pub fn message_len(&self) -> usize {
+        self.layout().len(self.text, self.cause.line())
+    }
+
+    /// Writes the fault's message to the start of a buffer, and returns its length in bytes.
+    ///
+    /// `None` if it is longer than the buffer, which is then unchanged. Allocates nothing.
+    ///
+    /// ```
+    /// use duration_str::{Options, parse_with};
+    ///
+    /// let mut buffer = [0; 64];
+    /// let fault = parse_with("", Options::off()).unwrap_err();
+    /// assert_eq!(fault.write_message(&mut buffer), Some(11));
+    /// assert_eq!(&buffer[..11], b"Empty input");
+    /// ```
+    pub fn write_message(&self, buffer: &mut [u8]) -> Option<usize> {
+        let layout = self.layout();
+        let line = self.cause.line();
+        if layout.len(self.text, line) > buffer.len() {
+            return None;
+        }
+        layout.put(buffer, self.text, line)
+    }
+
+    /// How its message is laid out.
+    pub(crate) fn layout(&self) -> Layout {
+        let Some(place) = self.cause.place() else {
+            return Layout::Line;
+        };
+        if self.text.as_bytes().contains(&b'\n') {
+            return Layout::Byte { place };
+        }
+        Layout::Caret {
+            spaces: chars_before(self.text, place),
+        }
+    }
+}
+
+/// The line that says what is wrong. If the fault has a place, the text and a caret under the place are printed above
+/// it; or, if the text has a line feed, the byte offset is printed before it: `byte 5: expected number`.
+///
+/// ```text
+/// 3ms-2ms
+///    ^
+/// expected ['+', '*']
+/// ```
+impl fmt::Display for Fault<'_> {
+    fn fmt(&self, f: &mut fmt::Formatter<'_>) -> fmt::Result {
+        let layout = self.layout();
+        let line = self.cause.line();
+        if let Layout::Line = layout {
+            return f.write_str(line);
+        }
+        // Most messages are short, and one call of a formatter takes less time than several.
+        match layout.message(&mut [0; 256], self.text, line) {
+            Some(message) => f.write_str(message),
+            None => layout.write(f, self.text, line),
+        }
+    }
+}
+
+/// How a message is laid out around its line.
+#[derive(Clone, Copy)]
+pub(crate) enum Layout {
+    /// The line alone.
+    Line,
+    /// `byte N: ` with the place, and the line.
+    Byte { place: usize },
+    /// The text, below it a caret after this many spaces, and below that the line.
+    Caret { spaces: usize },
+}
+
+impl Layout {
+    /// The length in bytes of a message with this layout; `usize::MAX` if it is greater than that.
+    fn len(self, text: &str, line: &str) -> usize {
+        match self {
+            Layout::Line => line.len(),
+            Layout::Byte { place } => line.len().saturating_add(decimal_len(place) + 7),
+            Layout::Caret { spaces } => {
+                let above = text.len().saturating_add(spaces);
+                above.saturating_add(line.len()).saturating_add(3)
+            }
+        }
+    }
+
+    /// Writes a message with this layout in parts.
+    fn write(self, f: &mut fmt::Formatter<'_>, text: &str, line: &str) -> fmt::Result {
+        match self {
+            Layout::Line => f.write_str(line),
+            Layout::Byte { place } => write!(f, "byte {place}: {line}"),
+            Layout::Caret { spaces } => {
+                let spaces = Spaces(spaces);
+                write!(f, "{text}\n{spaces}^\n{line}")
+            }
+        }
+    }
+
+    /// The message with this layout, at the start of the buffer; `None` if there is no room.
+    fn message<'b>(self, buffer: &'b mut [u8], text: &str, line: &str) -> Option<&'b str> {
+        match self.put(buffer, text, line) {
+            Some(end) => Some(unsafe { core::str::from_utf8_unchecked(&buffer[..end]) }),
+            None => None,
+        }
+    }
+
+    /// Writes a message with this layout, and returns where it ends; `None` if there is no room.
+    fn put(self, buffer: &mut [u8], text: &str, line: &str) -> Option<usize> {
+        match self {
+            Layout::Line => put(buffer, 0, line.as_bytes()),
+            Layout::Byte { place } => put_byte(buffer, place, line),
+            Layout::Caret { spaces } => put_caret(buffer, text, spaces, line),
+        }
+    }
+}
+
+/// The number of characters before the place. In ASCII it is that of the bytes, which takes less time.
+fn chars_before(text: &str, place: usize) -> usize {
+    let before = &text[..place];
+    if before.is_ascii() {
+        before.len()
+    } else {
+        before.chars().count()
+    }
+}
+
+/// Writes the place as a number, and the line.
+fn put_byte(buffer: &mut [u8], place: usize, line: &str) -> Option<usize> {
+    let word = put(buffer, 0, b"byte ")?;
+    let number = put_decimal(buffer, word, place)?;
+    let colon = put(buffer, number, b": ")?;
+    put(buffer, colon, line.as_bytes())
+}
+
+/// Writes the text, a caret after this many spaces, and the line.
+fn put_caret(buffer: &mut [u8], text: &str, spaces: usize, line: &str) -> Option<usize> {
+    let above = put(buffer, 0, text.as_bytes())?;
+    let below = put(buffer, above, b"\n")?;
+    let caret = put_spaces(buffer, below, spaces)?;
+    let line_start = put(buffer, caret, b"^\n")?;
+    put(buffer, line_start, line.as_bytes())
+}
+
+/// Writes a part after the first `at` bytes, and returns where it ends; `None` if there is no room.
+fn put(buffer: &mut [u8], at: usize, part: &[u8]) -> Option<usize> {
+    if part.len() > buffer.len() - at {
+        return None;
+    }
+    let end = at + part.len();
+    buffer[at..end].copy_from_slice(part);
+    Some(end)
+}
+
+/// Writes this many spaces, as `put` does.
+fn put_spaces(buffer: &mut [u8], at: usize, count: usize) -> Option<usize> {
+    if count > buffer.len() - at {
+        return None;
+    }
+    let end = at + count;
+    buffer[at..end].fill(b' ');
+    Some(end)
+}
+
+/// Writes a number in decimal as `put` does.
+fn put_decimal(buffer: &mut [u8], at: usize, number: usize) -> Option<usize> {
+    let mut digits = [0; 64];
+    let end = put_number(&mut digits, 0, number as u64);
+    put(buffer, at, &digits[..end])
+}
+
+/// The number of decimal digits.
+fn decimal_len(number: usize) -> usize {
+    let mut digits = [0; 64];
+    put_number(&mut digits, 0, number as u64)
+}
+
+/// This many spaces, written in runs.
+#[derive(Clone, Copy)]
+struct Spaces(usize);
+
+impl fmt::Display for Spaces {
+    fn fmt(&self, f: &mut fmt::Formatter<'_>) -> fmt::Result {
+        let mut left = self.0;
+        while left > 64 {
+            f.write_str(short_run(64))?;
+            left -= 64;
+        }
+        f.write_str(short_run(left))
+    }
+}
+
+/// This many spaces, at most 64.
+fn short_run(count: usize) -> &'static str {
+    &SPACES[..count]
+}
+
+const SPACES: &str = "                                                                ";

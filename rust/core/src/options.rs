@@ -1,0 +1,48 @@
+// Made by tools/erase of crates/duration_str/src/options.rt.
+//! The choice of options.
+
+/// Which grammar is read, and which words name units. A literal ends with `..Options::off()`, as here, so that it stands
+/// when a later version has another option.
+///
+/// ```
+/// use duration_str::{Options, parse_with};
+///
+/// let chinese = Options { cn_unit: true, ..Options::off() };
+/// assert_eq!(parse_with("1分 31秒", chinese).unwrap().as_secs(), 91);
+/// ```
+#[derive(Clone, Copy, Debug, PartialEq, Eq, Hash)]
+pub struct Options {
+    /// Operators are not read, and the terms are added one by one.
+    pub no_calc: bool,
+    /// Words are compared as written; otherwise ASCII capitals are read as small letters.
+    pub lowercase: bool,
+    /// The Chinese names of the units are also read.
+    pub cn_unit: bool,
+}
+
+impl Options {
+    /// All three options off.
+    ///
+    /// ```
+    /// assert!(!duration_str::Options::off().no_calc);
+    /// ```
+    #[must_use]
+    pub const fn off() -> Options {
+        Options {
+            no_calc: false,
+            lowercase: false,
+            cn_unit: false,
+        }
+    }
+
+    /// Whether all three options are off.
+    ///
+    /// ```
+    /// assert!(duration_str::Options::off().are_off());
+    /// ```
+    #[must_use]
+    #[inline]
+    pub const fn are_off(self) -> bool {
+        !(self.no_calc || self.lowercase || self.cn_unit)
+    }
+}

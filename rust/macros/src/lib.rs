@@ -1,0 +1,112 @@
+//! The macro `duration!`, which `duration-str` exports under the feature `macros`.
+#![forbid(unsafe_code)]
+
+use duration_str_core::{Options, parse_with};
+use proc_macro::{Delimiter, Span, TokenStream, TokenTree};
+
+/// A duration that is read when the program is compiled: a constant of type [`Duration`](core::time::Duration). A text
+/// that is refused is an error of the compiler, with the message of the fault.
+///
+/// All options are off, whatever features are on, but for those that are named after the text: `no_calc`, `lowercase`,
+/// `cn_unit`. The text is a literal without escapes.
+///
+/// ```
+/// use duration_str::duration;
+/// use std::time::Duration;
+///
+/// const TIMEOUT: Duration = duration!("1h 30m");
+/// assert_eq!(TIMEOUT, Duration::from_secs(5_400));
+/// assert_eq!(duration!("1分", cn_unit), Duration::from_secs(60));
+/// ```
+///
+/// ```compile_fail
+/// const TIMEOUT: std::time::Duration = duration_str::duration!("1m 3-5");
+/// ```
+#[proc_macro]
+pub fn duration(input: TokenStream) -> TokenStream {
+    value(input).unwrap_or_else(|(message, span)| refused(&message, span))
+}
+
+/// What is wrong, and where.
+type Refusal = (String, Span);
+
+/// The duration, as code.
+fn value(input: TokenStream) -> Result<TokenStream, Refusal> {
+    let mut tokens = input.into_iter();
+    let (written, span) = literal(tokens.next())?;
+    let text = text(&written).ok_or_else(|| {
+        (
+            "expected a string literal without escapes".to_string(),
+            span,
+        )
+    })?;
+    let options = options(tokens)?;
+    let value = parse_with(text, options).map_err(|fault| (fault.to_string(), span))?;
+    let (secs, nanos) = (value.as_secs(), value.subsec_nanos());
+    Ok(code(&format!(
+        "::core::time::Duration::new({secs}, {nanos})"
+    )))
+}
+
+/// The literal, as it is written, and where it stands. One that a macro by example hands over stands in a group of its
+/// own.
+fn literal(token: Option<TokenTree>) -> Result<(String, Span), Refusal> {
+    match token {
+        Some(TokenTree::Literal(literal)) => Ok((literal.to_string(), literal.span())),
+        Some(TokenTree::Group(group)) if group.delimiter() == Delimiter::None => {
+            literal(group.stream().into_iter().next())
+        }
+        other => {
+            let span = other.map_or_else(Span::call_site, |token| token.span());
+            Err(("expected a string literal".to_string(), span))
+        }
+    }
+}
+
+/// What a string literal means: in quotes without a backslash, or raw.
+fn text(written: &str) -> Option<&str> {
+    let (quoted, is_raw) = match written.strip_prefix('r') {
+        Some(raw) => (raw.trim_matches('#'), true),
+        None => (written, false),
+    };
+    let text = quoted.strip_prefix('"')?.strip_suffix('"')?;
+    (is_raw || !text.contains('\\')).then_some(text)
+}
+
+/// The options that are named after the literal, each after a comma.
+fn options(mut tokens: impl Iterator<Item = TokenTree>) -> Result<Options, Refusal> {
+    let mut options = Options::off();
+    while let Some(comma) = tokens.next() {
+        if comma.to_string() != "," {
+            return Err(("expected a comma".to_string(), comma.span()));
+        }
+        let Some(name) = tokens.next() else {
+            break;
+        };
+        options = match name.to_string().as_str() {
+            "no_calc" => options.with_no_calc(),
+            "lowercase" => options.with_lowercase(),
+            "cn_unit" => options.with_cn_unit(),
+            _ => {
+                let message = "expected `no_calc`, `lowercase` or `cn_unit`";
+                return Err((message.to_string(), name.span()));
+            }
+        };
+    }
+    Ok(options)
+}
+
+/// An error of the compiler at this place.
+fn refused(message: &str, span: Span) -> TokenStream {
+    let at_span = |mut token: TokenTree| {
+        token.set_span(span);
+        token
+    };
+    let error = code(&format!("::core::compile_error! {{ {message:?} }}"));
+    error.into_iter().map(at_span).collect()
+}
+
+/// The tokens of a code.
+fn code(code: &str) -> TokenStream {
+    code.parse().expect("what is made here is code")
+}
