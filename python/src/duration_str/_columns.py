@@ -73,8 +73,10 @@ def parse_buffers(
     data: Any, offsets: Any, *, errors: str = "raise", no_calc: bool = False, lowercase: bool = False, cn_unit: bool = False
 ) -> array[int] | tuple[array[int], array[int]]:
     """As `parse_many`, of texts in UTF-8 that stand in a buffer: text `k` is `data[offsets[k] : offsets[k + 1]]`, so
-    there is one offset more than there are texts. `data` is any contiguous buffer, such as bytes or a mapped file, and
-    is not copied; `offsets` is one of integers of 8 bytes or of 4. Other threads run while read-only data is read.
+    there is one offset more than there are texts. `data` is any contiguous buffer, and `offsets` one of integers of 8
+    bytes or of 4. The bytes must not change during a call, or any text may be read for what stood there for a moment.
+    `bytes` are read in place, while other threads run; of any other buffer, read-only or not, small pieces are copied.
+    A file that is mapped must not become shorter meanwhile, which ends the process.
 
     Bytes that are not UTF-8 are refused. Offsets that decrease or lie beyond the bytes raise ValueError, or with
     `errors="coerce"` are a refused position.

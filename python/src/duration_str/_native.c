@@ -260,24 +260,93 @@ static int copy_offsets(PyObject *given, size_t *offsets, Py_ssize_t texts) {
     return are_signed;
 }
 
+/* Whether the text between two offsets stands in so many bytes. */
+static bool is_within(const size_t *offsets, Py_ssize_t length) {
+    return offsets[0] <= offsets[1] && offsets[1] <= (size_t)length;
+}
+
 /* Raises why the text between two offsets is refused. */
 static void raise_between(struct state *state, const Py_buffer *data, const size_t *offsets, int are_signed,
                           uint32_t options, Py_ssize_t index) {
     const size_t start = offsets[0], end = offsets[1];
-    if (start > end || end > (size_t)data->len) {
+    if (!is_within(offsets, data->len)) {
         const char *format = are_signed ? "the offsets %zd and %zd decrease or lie beyond %zd bytes, at index %zd"
                                         : "the offsets %zu and %zu decrease or lie beyond %zd bytes, at index %zd";
         PyErr_Format(PyExc_ValueError, format, start, end, data->len, index);
         return;
     }
+    PyObject *copy = PyBytes_FromStringAndSize((const char *)data->buf + start, (Py_ssize_t)(end - start));
+    if (!copy)
+        return;
     struct duration_str_answer answer;
-    const struct text text = {(const uint8_t *)data->buf + start, end - start};
+    const struct text text = {(const uint8_t *)PyBytes_AsString(copy), end - start};
     if (duration_str_parse_with(text.bytes, text.length, options, &answer)) {
         PyErr_Format(PyExc_RuntimeError, "the text changed while it was read, at index %zd", index);
-        return;
+    } else {
+        PyObject *given = PyUnicode_DecodeUTF8((const char *)text.bytes, (Py_ssize_t)text.length, "surrogateescape");
+        raise_error(state, message_of(text, options), given, &answer, text.bytes, index);
     }
-    PyObject *given = PyUnicode_DecodeUTF8((const char *)text.bytes, (Py_ssize_t)text.length, "surrogateescape");
-    raise_error(state, message_of(text, options), given, &answer, text.bytes, index);
+    Py_DECREF(copy);
+}
+
+/* A column to be read: its texts, and room for as many values and causes. */
+struct column {
+    const size_t *offsets;
+    size_t texts;
+    uint32_t options;
+    uint64_t *nanos;
+    uint32_t *causes;
+};
+
+/* The texts that are copied at once, and their bytes; a longer text is copied alone. */
+enum { RUN_TEXTS = 1024, RUN_BYTES = 65536 };
+
+/* How many texts from that one on are copied at once: none if its offsets lead elsewhere. */
+static size_t run_at(const struct column *column, size_t at, Py_ssize_t length) {
+    const size_t *offsets = column->offsets + at;
+    size_t run = 0;
+    while (at + run < column->texts && run < RUN_TEXTS && is_within(offsets + run, length) &&
+           (!run || offsets[run + 1] - offsets[0] <= RUN_BYTES))
+        run++;
+    return run;
+}
+
+/* Reads the texts from copies: whoever writes to the bytes meanwhile, also without the interpreter's lock, changes nothing
+ * that is being read. Returns -1 with an error if there is no memory. */
+static int read_copies(const Py_buffer *data, const struct column *column) {
+    size_t moved[RUN_TEXTS + 1], room = RUN_BYTES, run;
+    uint8_t *copy = PyMem_Malloc(room);
+    for (size_t at = 0; copy && at < column->texts; at += run) {
+        const size_t *offsets = column->offsets + at;
+        run = run_at(column, at, data->len);
+        const size_t length = offsets[run] - offsets[0];
+        if (length > room) {
+            PyMem_Free(copy);
+            copy = PyMem_Malloc(room = length);
+        }
+        if (copy && length)
+            memcpy(copy, (const uint8_t *)data->buf + offsets[0], length);
+        for (size_t end = 0; end <= run; end++)
+            moved[end] = offsets[end] - offsets[0];
+        if (!run)
+            moved[++run] = SIZE_MAX;
+        if (copy)
+            duration_str_parse_column(copy, length, moved, run + 1, column->options, column->nanos + at, run,
+                                      column->causes + at, run);
+    }
+    PyMem_Free(copy);
+    return copy ? 0 : (PyErr_NoMemory(), -1);
+}
+
+/* Reads a column. The bytes of an exact `bytes`, which nobody may change, are read in place, while other threads run. */
+static int read_column(const Py_buffer *data, const struct column *column) {
+    if (!PyBytes_CheckExact(data->obj))
+        return read_copies(data, column);
+    Py_BEGIN_ALLOW_THREADS
+    duration_str_parse_column(data->buf, (size_t)data->len, column->offsets, column->texts + 1, column->options,
+                              column->nanos, column->texts, column->causes, column->texts);
+    Py_END_ALLOW_THREADS
+    return 0;
 }
 
 /* read_buffers(data, offsets, nanos, options, raises): as read_list, of the texts between the offsets into the data. */
@@ -291,15 +360,10 @@ static PyObject *read_buffers(PyObject *self, PyObject *arguments) {
     const size_t texts = (size_t)nanos.len / 8;
     size_t *offsets = PyMem_Calloc(texts + 1, sizeof *offsets);
     uint32_t *causes = PyMem_Calloc(texts + 1, sizeof *causes);
+    const struct column column = {offsets, texts, options, nanos.buf, causes};
     const int are_signed = offsets && causes ? copy_offsets(given, offsets, (Py_ssize_t)texts) : (PyErr_NoMemory(), -1);
-    if (are_signed >= 0) {
-        /* Other threads may run where none of them can change the bytes. */
-        PyThreadState *paused = data.readonly ? PyEval_SaveThread() : NULL;
-        duration_str_parse_column(data.buf, (size_t)data.len, offsets, texts + 1, options, nanos.buf, texts, causes, texts);
-        if (paused)
-            PyEval_RestoreThread(paused);
+    if (are_signed >= 0 && !read_column(&data, &column))
         refused = PyList_New(0);
-    }
     for (size_t at = 0; refused && at < texts; at++) {
         if (causes[at] && raises)
             raise_between(PyModule_GetState(self), &data, offsets + at, are_signed, options, (Py_ssize_t)at);
