@@ -36,6 +36,7 @@ from ._arrays import format_many, to_timedelta
 from ._columns import parse_buffers, parse_many
 from ._models import Duration
 from ._native import format as format
+from ._native import library as library
 from ._native import parse, parse_ns
 from ._texts import Cause, DurationError, DurationTypeError, Expected
 

@@ -3,6 +3,8 @@ from collections.abc import Callable
 from datetime import timedelta
 from typing import Any
 
+library: str
+
 def parse_ns(
     text: str, /, *, no_calc: bool = False, lowercase: bool = False, cn_unit: bool = False
 ) -> int: ...
