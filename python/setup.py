@@ -60,8 +60,8 @@ class Linked(build_ext):
         compiler = getattr(self.compiler, "compiler_so", [sys.executable])[0]
         demand(shutil.which(compiler), f"a C compiler: {compiler} is missing")
         file = archive(os.path.join(self.build_temp, "cargo")).resolve()
-        # Of the two only cargo's has this name, of the crate that has the proved sources without their contracts.
-        is_proved = b"duration_str_core" not in file.read_bytes()
+        # So rt names a function in the archive that it makes.
+        is_proved = b"duration_str::parser::parse" in file.read_bytes()
         extension.define_macros = [("IS_PROVED", str(int(is_proved)))]
         extension.extra_objects = [str(file)]
         if sys.platform == "linux":

@@ -61,9 +61,19 @@ class Lines(unittest.TestCase):
     @unittest.skipUnless(has("click"), "Click is missing")
     def test_click(self):
         self.assertEqual(run("wait.py", "--timeout", "1m"), (0, "0:01:00\n", ""))
+        self.assertEqual(run("wait.py"), (0, "0:00:30\n", ""))
         status, output, told = run("wait.py", "--timeout", "1m 3-5")
         self.assertEqual((status, output), (2, ""))
         self.assertEqual(told, f"Error: Invalid value for '--timeout': {LINE}")
+
+    @unittest.skipUnless(has("click"), "Click is missing")
+    def test_click_keeps_timedeltas(self):
+        from duration_str.click import DURATION
+
+        self.assertEqual(DURATION.convert(MINUTE, None, None), MINUTE)
+        self.assertEqual(DURATION("1m"), MINUTE)
+        with self.assertRaises(duration_str.DurationTypeError):
+            DURATION.convert(60, None, None)
 
 
 LINE = 'expected ["y", "q", "mon", "w", "d", "h", "m", "s", "ms", "µs", "us", "ns"]'

@@ -150,6 +150,20 @@ class Hostile(unittest.TestCase):
         with self.assertRaisesRegex(TypeError, "not Odd, at index 1$"):
             format_many([SECOND, Odd(), SECOND])
 
+    def test_reads_what_changes_while_it_is_read(self):
+        for change in [list.clear, list.pop]:
+            values, nanos = ["1s", Odd(), "1s"], array("Q", bytes(24))
+
+            def keep(value, index):
+                change(values)
+                return 7
+
+            self.assertEqual(duration_str._native.read_list(values, nanos, 0, True, 0, keep), [])
+            self.assertEqual(nanos.tolist(), [SECOND, 7, 0])
+        for kept in ["1", 2**63, None]:
+            with self.assertRaises((OverflowError, TypeError)):
+                duration_str._native.read_list([Odd()], array("Q", [0]), 0, True, 0, lambda value, index: kept)
+
     def test_reads_what_threads_overwrite(self):
         """For five seconds, in which the bytes are written to without the interpreter's lock."""
         texts = 20_000
