@@ -14,6 +14,10 @@ assert_type(duration_str.format(5), str)
 assert_type(duration_str.format(datetime.timedelta(1)), str)
 assert_type(duration_str.format(numpy.int64(5)), str)
 assert_type(duration_str.format(numpy.timedelta64(5, "s")), str)
+assert_type(duration_str.format(5, parts=2, largest="d", smallest="us"), str)
+duration_str.format(5, largest="m")  # type: ignore[arg-type]
+duration_str.format(5, parts=1.5)  # type: ignore[arg-type]
+duration_str.format_many([5], smallest="sec")  # type: ignore[arg-type]
 duration_str.format("1m")  # type: ignore[arg-type]
 duration_str.format(1.5)  # type: ignore[arg-type]
 duration_str.format(None)  # type: ignore[arg-type]

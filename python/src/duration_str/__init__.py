@@ -26,8 +26,8 @@ The units, and their Chinese names, which are read with `cn_unit`:
     nanosecond   ns, nsec, nanosecond, nanoseconds                                 纳秒
 
 `parse` reads a text as a timedelta, `parse_ns` as a number of nanoseconds, and `parse_seconds` as a float of seconds.
-`format(value, /) -> str` prints an int of nanoseconds or a timedelta; it is not in `__all__`, so that
-`from duration_str import *` leaves the builtin function. `parse_many` reads a column of texts by few calls,
+`format(value, /, *, parts=11, largest="y", smallest="ns") -> str` prints an int of nanoseconds or a timedelta; it is not
+in `__all__`, so that `from duration_str import *` leaves the builtin function. `parse_many` reads a column of texts by few calls,
 `parse_buffers` one that stands in buffers, `to_timedelta` one for NumPy or pandas, and `format_many` prints a column.
 `Duration` is a field of pydantic's models, and `duration_str.click.DURATION` a type of Click's options.
 

@@ -10,7 +10,7 @@ from typing import Any
 
 from . import _native
 from ._columns import Errors, checked, values_of, zeros
-from ._texts import DurationTypeError, nanos_a_step, nanos_of, option_bits
+from ._texts import DurationTypeError, Unit, nanos_a_step, nanos_of, option_bits
 
 
 #: NaT as a number
@@ -122,21 +122,24 @@ def to_timedelta(
     return pandas.Timedelta(result[0]) if pandas is not None else result[0]
 
 
-def format_many(values: Any) -> Any:
-    """The texts of a column of durations, each an int of nanoseconds or a timedelta, as `format` prints it: of a list
-    or any other iterable a list of str, of a Series, an Index or a NumPy array one of objects, with the same shape,
-    index and name. These may also have timedelta64, of units from weeks to nanoseconds. What is missing, as in
-    `to_timedelta`, is None.
+def format_many(values: Any, *, parts: int = 11, largest: Unit = "y", smallest: Unit = "ns") -> Any:
+    """The texts of a column of durations, each an int of nanoseconds or a timedelta, as `format` prints it within the
+    same limits: of a list or any other iterable a list of str, of a Series, an Index or a NumPy array one of objects,
+    with the same shape, index and name. These may also have timedelta64, of units from weeks to nanoseconds. What is
+    missing, as in `to_timedelta`, is None.
 
     Raises what `format` raises, with the position in its message.
 
     >>> duration_str.format_many([90 * 10**9, None])
     ['1min 30s', None]
+    >>> duration_str.format_many([90 * 10**9, None], largest="s")
+    ['90s', None]
     """
+    limits = _native.limits(parts=parts, largest=largest, smallest=smallest)
     given = _durations(values) if hasattr(values, "__array__") else list(values)
     texts: list[str | None] = []
     try:
-        _native.format_list(given, lambda value: None if _is_missing(value) else nanos_of(value), texts)
+        _native.format_list(given, lambda value: None if _is_missing(value) else nanos_of(value), texts, limits)
     except (OverflowError, TypeError, ValueError) as error:
         raise type(error)(f"{error}, at index {len(texts)}") from None
     if not hasattr(values, "__array__"):

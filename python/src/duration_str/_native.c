@@ -7,10 +7,10 @@
 
 #define SECOND 1000000000u
 
-/* What the module keeps of Python: the names of the options, in the order of their bits; those of a timedelta's parts; and
- * what it makes and calls. */
-enum kept { NO_CALC, LOWERCASE, CN_UNIT, OPTIONS, DAYS = OPTIONS, SECONDS, MICROSECONDS, ERROR, TYPE_ERROR, NANOS_OF,
-            TIMEDELTA, A_MICROSECOND, A_SECOND, KEPT };
+/* What the module keeps of Python: the names of the options, in the order of their bits; of the limits; of a timedelta's
+ * parts; and what it makes and calls. */
+enum kept { NO_CALC, LOWERCASE, CN_UNIT, OPTIONS, LARGEST = OPTIONS, SMALLEST, PARTS, DAYS, SECONDS, MICROSECONDS, ERROR,
+            TYPE_ERROR, NANOS_OF, TIMEDELTA, A_MICROSECOND, A_SECOND, KEPT };
 
 /* timedelta64's NaT, and the days that it can have whatever else is added. */
 #define MISSING ((uint64_t)INT64_MIN)
@@ -108,16 +108,16 @@ static int read_str(struct state *state, PyObject *given, uint32_t options, uint
     return -1;
 }
 
-/* The option of this name, or -1 with an error. */
-static int option_of(struct state *state, PyObject *name) {
+/* The place of a keyword among some names that are kept, or -1 with an error. */
+static int place_of(struct state *state, PyObject *keyword, int first, int count) {
     /* Almost always it is the same str. */
-    for (int option = 0; option < OPTIONS; option++)
-        if (name == state->kept[option])
-            return option;
-    for (int option = 0; option < OPTIONS; option++)
-        if (!PyUnicode_Compare(name, state->kept[option]))
-            return option;
-    PyErr_Format(PyExc_TypeError, "unexpected keyword argument %R", name);
+    for (int place = 0; place < count; place++)
+        if (keyword == state->kept[first + place])
+            return place;
+    for (int place = 0; place < count; place++)
+        if (!PyUnicode_Compare(keyword, state->kept[first + place]))
+            return place;
+    PyErr_Format(PyExc_TypeError, "unexpected keyword argument %R", keyword);
     return -1;
 }
 
@@ -130,7 +130,7 @@ static int read_call(struct state *state, PyObject *const *arguments, Py_ssize_t
     }
     const Py_ssize_t words = keywords ? PyTuple_Size(keywords) : 0;
     for (Py_ssize_t at = 0; at < words; at++) {
-        const int option = option_of(state, PyTuple_GetItem(keywords, at));
+        const int option = place_of(state, PyTuple_GetItem(keywords, at), NO_CALC, OPTIONS);
         PyObject *value = arguments[count + at];
         const int is_on = value == Py_True ? 1 : value == Py_False ? 0 : PyObject_IsTrue(value);
         if (option < 0 || is_on < 0)
@@ -170,21 +170,80 @@ static PyObject *parse_seconds(PyObject *self, PyObject *const *arguments, Py_ss
     return seconds;
 }
 
-/* The text of a duration. */
-static PyObject *printed(uint64_t secs, uint32_t nanos) {
+/* The limits within which durations are printed. */
+struct limits {
+    uint32_t units[2]; /* the largest and the smallest */
+    uint32_t parts;
+};
+
+/* All units, and as many parts as there are units */
+static const struct limits no_limits = {{DURATION_STR_YEAR, DURATION_STR_NANOSECOND}, DURATION_STR_NANOSECOND + 1};
+
+/* The names of the units as they are printed, in Latin-1 */
+static const char *const unit_names[] = {"y", "q", "mon", "w", "d", "h", "min", "s", "ms", "\xb5s", "ns"};
+
+/* The number of a unit by its name. Returns -1 with an error. */
+static int unit_of(PyObject *name, const char *keyword) {
+    for (int unit = DURATION_STR_YEAR; PyUnicode_Check(name) && unit <= DURATION_STR_NANOSECOND; unit++)
+        if (!PyUnicode_CompareWithASCIIString(name, unit_names[unit]))
+            return unit;
+    if (PyUnicode_Check(name) && !PyUnicode_CompareWithASCIIString(name, "us"))
+        return DURATION_STR_MICROSECOND;
+    PyErr_Format(PyUnicode_Check(name) ? PyExc_ValueError : PyExc_TypeError,
+                 "%s must be one of %s, not %R", keyword, "y, q, mon, w, d, h, min, s, ms, \xc2\xb5s or us, ns", name);
+    return -1;
+}
+
+/* Takes a count of parts. Returns -1 with an error. */
+static int take_parts(PyObject *value, uint32_t *parts) {
+    PyObject *number = PyBool_Check(value) ? NULL : PyNumber_Index(value);
+    int overflow;
+    if (!number)
+        return (PyErr_Format(PyExc_TypeError, "parts must be a whole number, not %R", value), -1);
+    const long long count = PyLong_AsLongLongAndOverflow(number, &overflow);
+    Py_DECREF(number);
+    if (overflow < 0 || (!overflow && count < 0))
+        return (PyErr_Format(PyExc_ValueError, "parts must not be negative: %R", value), -1);
+    *parts = overflow || count > no_limits.parts ? no_limits.parts : (uint32_t)count;
+    return 0;
+}
+
+/* Takes the limits that a call has by keywords. Returns -1 with an error. */
+static int take_limits(struct state *state, PyObject *const *values, PyObject *keywords, struct limits *limits) {
+    const Py_ssize_t words = keywords ? PyTuple_Size(keywords) : 0;
+    *limits = no_limits;
+    for (Py_ssize_t at = 0; at < words; at++) {
+        const int limit = place_of(state, PyTuple_GetItem(keywords, at), LARGEST, PARTS + 1 - LARGEST);
+        if (limit < 0 || (LARGEST + limit == PARTS && take_parts(values[at], &limits->parts)))
+            return -1;
+        if (LARGEST + limit == PARTS)
+            continue;
+        const int unit = unit_of(values[at], limit ? "smallest" : "largest");
+        if (unit < 0)
+            return -1;
+        limits->units[limit] = (uint32_t)unit;
+    }
+    return 0;
+}
+
+/* The text of a duration; without limits the call that has none is the faster one. */
+static PyObject *printed(uint64_t secs, uint32_t nanos, const struct limits *limits) {
     uint8_t buffer[DURATION_STR_FORMAT_BUFFER_SIZE];
-    const size_t length = duration_str_format(secs, nanos, buffer);
+    const bool is_whole = !memcmp(limits, &no_limits, sizeof no_limits);
+    const size_t length =
+        is_whole ? duration_str_format(secs, nanos, buffer)
+                 : duration_str_format_within(secs, nanos, limits->units[0], limits->units[1], limits->parts, buffer);
     return PyUnicode_FromStringAndSize((const char *)buffer, (Py_ssize_t)length);
 }
 
 /* The text of an int of nanoseconds. */
-static PyObject *printed_int(struct state *state, PyObject *nanos) {
+static PyObject *printed_int(struct state *state, PyObject *nanos, const struct limits *limits) {
     int overflow;
     const long long few = PyLong_AsLongLongAndOverflow(nanos, &overflow);
     if (overflow < 0 || (!overflow && few < 0))
         return PyErr_Format(PyExc_ValueError, "a negative duration has no text: %R", nanos);
     if (!overflow)
-        return printed((uint64_t)few / SECOND, (uint32_t)((uint64_t)few % SECOND));
+        return printed((uint64_t)few / SECOND, (uint32_t)((uint64_t)few % SECOND), limits);
     PyObject *both = PyNumber_Divmod(nanos, state->kept[A_SECOND]);
     if (!both)
         return NULL;
@@ -193,7 +252,7 @@ static PyObject *printed_int(struct state *state, PyObject *nanos) {
     Py_DECREF(both);
     if (PyErr_Occurred())
         return PyErr_Format(PyExc_OverflowError, "a duration of 2**64 seconds or more has no text");
-    return printed(secs, rest);
+    return printed(secs, rest, limits);
 }
 
 /* The days, seconds and microseconds of an exact timedelta. Returns -1 with an error if there is no memory. */
@@ -207,42 +266,57 @@ static int parts_of(struct state *state, PyObject *value, long *parts) {
 }
 
 /* The text of an exact timedelta. */
-static PyObject *printed_timedelta(struct state *state, PyObject *value) {
+static PyObject *printed_timedelta(struct state *state, PyObject *value, const struct limits *limits) {
     long parts[3];
     if (parts_of(state, value, parts))
         return NULL;
     if (parts[0] < 0)
         return PyErr_Format(PyExc_ValueError, "a negative duration has no text: %R", value);
-    return printed((uint64_t)parts[0] * 86400 + (uint64_t)parts[1], (uint32_t)parts[2] * 1000);
+    return printed((uint64_t)parts[0] * 86400 + (uint64_t)parts[1], (uint32_t)parts[2] * 1000, limits);
 }
 
 /* The text of a duration, or None where the function, which takes what is neither int nor timedelta, says that it is
  * missing. */
-static PyObject *printed_value(struct state *state, PyObject *value, PyObject *function) {
+static PyObject *printed_value(struct state *state, PyObject *value, PyObject *function, const struct limits *limits) {
     if (PyLong_CheckExact(value))
-        return printed_int(state, value);
+        return printed_int(state, value, limits);
     if (Py_IS_TYPE(value, (PyTypeObject *)state->kept[TIMEDELTA]))
-        return printed_timedelta(state, value);
+        return printed_timedelta(state, value, limits);
     PyObject *nanos = PyObject_CallFunctionObjArgs(function, value, NULL);
-    PyObject *text = !nanos ? NULL : Py_IsNone(nanos) ? Py_NewRef(nanos) : printed_int(state, nanos);
+    PyObject *text = !nanos ? NULL : Py_IsNone(nanos) ? Py_NewRef(nanos) : printed_int(state, nanos, limits);
     Py_XDECREF(nanos);
     return text;
 }
 
-static PyObject *format(PyObject *self, PyObject *value) {
+static PyObject *format(PyObject *self, PyObject *const *arguments, Py_ssize_t count, PyObject *keywords) {
     struct state *state = PyModule_GetState(self);
-    return printed_value(state, value, state->kept[NANOS_OF]);
+    struct limits limits;
+    if (count != 1)
+        return PyErr_Format(PyExc_TypeError, "one duration is wanted as a positional argument, not %zd", count);
+    if (take_limits(state, arguments + 1, keywords, &limits))
+        return NULL;
+    return printed_value(state, arguments[0], state->kept[NANOS_OF], &limits);
 }
 
-/* format_list(values, function, texts): appends to `texts` the text of each value, so that its length tells where an error
- * stands. The function is called with what is no int. */
+/* limits(*, parts, largest, smallest): the limits as format_list takes them */
+static PyObject *limits(PyObject *self, PyObject *const *arguments, Py_ssize_t count, PyObject *keywords) {
+    struct limits limits;
+    if (take_limits(PyModule_GetState(self), arguments + count, keywords, &limits))
+        return NULL;
+    return Py_BuildValue("(III)", limits.units[0], limits.units[1], limits.parts);
+}
+
+/* format_list(values, function, texts, limits): appends to `texts` the text of each value, so that its length tells where
+ * an error stands. The function is called with what is neither int nor timedelta. */
 static PyObject *format_list(PyObject *self, PyObject *arguments) {
     PyObject *values, *function, *texts;
-    if (!PyArg_ParseTuple(arguments, "O!OO!", &PyList_Type, &values, &function, &PyList_Type, &texts))
+    struct limits limits;
+    if (!PyArg_ParseTuple(arguments, "O!OO!(III)", &PyList_Type, &values, &function, &PyList_Type, &texts, &limits.units[0],
+                          &limits.units[1], &limits.parts))
         return NULL;
     for (Py_ssize_t at = 0; at < PyList_Size(values); at++) {
         PyObject *value = Py_NewRef(PyList_GetItem(values, at));
-        PyObject *text = printed_value(PyModule_GetState(self), value, function);
+        PyObject *text = printed_value(PyModule_GetState(self), value, function, &limits);
         const int failed = !text || PyList_Append(texts, text);
         Py_DECREF(value);
         Py_XDECREF(text);
@@ -526,16 +600,22 @@ PyDoc_STRVAR(parse_doc, "parse" OPTIONS_DOC
 PyDoc_STRVAR(parse_seconds_doc, "parse_seconds" OPTIONS_DOC
 "The value of a text in seconds, rounded to the nearest float; `parse_ns`, which has the same options and errors, is\n"
 "exact.");
-PyDoc_STRVAR(format_doc, "format($module, value, /)\n--\n\n"
+PyDoc_STRVAR(format_doc, "format($module, value, /, *, parts=11, largest='y', smallest='ns')\n--\n\n"
 "A duration's text, such as `3min 13s 29ms`, of an int of nanoseconds or of a timedelta, also of NumPy. Raises\n"
-"ValueError where it is negative, OverflowError where it is 2**64 seconds or more, and TypeError where it is neither.");
+"ValueError where it is negative, OverflowError where it is 2**64 seconds or more, and TypeError where it is neither.\n\n"
+"It is printed in at most so many parts, and in the units from the largest to the smallest alone: `y`, `q`, `mon`, `w`,\n"
+"`d`, `h`, `min`, `s`, `ms`, `\xc2\xb5s` or `us`, and `ns`. The rest is left out, so a text is never of more than the\n"
+"duration. If there are no parts, it is `0` and the smallest unit, or `0s`.\n\n"
+">>> duration_str.format(193_029_000_000, parts=2)\n"
+"'3min 13s'");
 
 #define FAST(call) (PyCFunction)(void (*)(void))call, METH_FASTCALL | METH_KEYWORDS
 static PyMethodDef methods[] = {
     {"parse_ns", FAST(parse_ns), parse_ns_doc},
     {"parse", FAST(parse), parse_doc},
     {"parse_seconds", FAST(parse_seconds), parse_seconds_doc},
-    {"format", format, METH_O, format_doc},
+    {"format", FAST(format), format_doc},
+    {"limits", FAST(limits), NULL},
     {"format_list", format_list, METH_VARARGS, NULL},
     {"read_list", read_list, METH_VARARGS, NULL},
     {"read_buffers", read_buffers, METH_VARARGS, NULL},
@@ -566,6 +646,9 @@ static int begin(PyObject *module) {
     state->kept[NO_CALC] = PyUnicode_InternFromString("no_calc");
     state->kept[LOWERCASE] = PyUnicode_InternFromString("lowercase");
     state->kept[CN_UNIT] = PyUnicode_InternFromString("cn_unit");
+    state->kept[LARGEST] = PyUnicode_InternFromString("largest");
+    state->kept[SMALLEST] = PyUnicode_InternFromString("smallest");
+    state->kept[PARTS] = PyUnicode_InternFromString("parts");
     state->kept[DAYS] = PyUnicode_InternFromString("days");
     state->kept[SECONDS] = PyUnicode_InternFromString("seconds");
     state->kept[MICROSECONDS] = PyUnicode_InternFromString("microseconds");

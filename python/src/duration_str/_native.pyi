@@ -3,6 +3,8 @@ from collections.abc import Callable
 from datetime import timedelta
 from typing import Any, Protocol
 
+from ._texts import Unit
+
 class NumpyDuration(Protocol):
     """An integer of NumPy or its timedelta64: both have a denominator, and its floats have none."""
 
@@ -21,8 +23,13 @@ def parse(
 def parse_seconds(
     text: str, /, *, no_calc: bool = False, lowercase: bool = False, cn_unit: bool = False
 ) -> float: ...
-def format(value: int | timedelta | NumpyDuration, /) -> str: ...
-def format_list(values: list[Any], function: Callable[[Any], int | None], texts: list[str | None], /) -> None: ...
+def format(
+    value: int | timedelta | NumpyDuration, /, *, parts: int = 11, largest: Unit = "y", smallest: Unit = "ns"
+) -> str: ...
+def limits(*, parts: int, largest: Unit, smallest: Unit) -> tuple[int, int, int]: ...
+def format_list(
+    values: list[Any], function: Callable[[Any], int | None], texts: list[str | None], limits: tuple[int, int, int], /
+) -> None: ...
 def read_list(
     texts: list[Any],
     nanos: array[int],
