@@ -79,9 +79,9 @@ function showSuggestions(fault) {
 }
 
 /** Where a fault stands, for people. */
-function place({ column, code }) {
-    if (column === null) return "The library says:";
-    return `Column ${code === "SYNTAX" ? column + 1 : 1}. The library says:`;
+function place({ index, code }) {
+    if (index === null) return "The library says:";
+    return `Column ${code === "SYNTAX" ? index + 1 : 1}. The library says:`;
 }
 
 function showFault(fault) {

@@ -16,7 +16,7 @@ test("prints nanoseconds and milliseconds", () => {
         [25_200_000_001_000n, "7h 1µs"],
     ];
     for (const [value, printed] of rows) assert.equal(format(value), printed);
-    for (const [value, printed] of [[0, "0s"], [-0, "0s"], [1, "1ms"], [193_029, "3min 13s 29ms"]]) {
+    for (const [value, printed] of [[0, "0s"], [-0, "0s"], [1, "1ms"], [193_029, "3min 13s 29ms"], [1.005, "1ms 5µs"], [0.0000004, "0s"], [0.0000006, "1ns"], [2.9999999, "3ms"]]) {
         assert.equal(formatMs(value), printed);
     }
     assert.equal(formatMs(parseMs("1m 30s")), "1min 30s");
@@ -31,13 +31,13 @@ test("reads back what it prints", () => {
     }
 });
 
-test("refuses what is negative, fractional or too large", () => {
+test("refuses what is negative, not finite or too large", () => {
     const rows = [
         [format, [-1n, -(10n ** 1000n)], /^a negative duration has no text: -/],
         [format, [2n ** 64n, 10n ** 1000n], /^a duration of 2\^64 nanoseconds or more has no text$/],
-        [formatMs, [-1], /^a negative duration has no text: -/],
-        [formatMs, [-0.5, 0.5, 1e-300, NaN, Infinity, 2 ** 53], /^milliseconds must be a whole number up to /],
-        [formatMs, [18_446_744_073_710], /^a duration of 2\^64 nanoseconds or more has no text$/],
+        [formatMs, [-1, -0.5], /^a negative duration has no text: -(1|0\.5)$/],
+        [formatMs, [NaN, Infinity, -Infinity], /^milliseconds must be finite, not (NaN|-?Infinity)$/],
+        [formatMs, [18_446_744_073_710, 2 ** 53, 1e300], /^a duration of 2\^64 nanoseconds or more has no text$/],
     ];
     for (const [call, values, message] of rows) {
         for (const value of values) assert.throws(() => call(value), { name: "RangeError", message });

@@ -1,7 +1,8 @@
 // The types of the package, by the compiler alone: what has to be wrong stands below a line that expects an error.
 import {
-    after, before, DurationError, type Expected, type Fault, format, formatMs, type Options, parse, parseMs, tryParse,
+    after, before, type Cause, DurationError, type Expected, type Fault, format, library, formatMs, type Options, parse, parseMs, tryParse,
 } from "duration-str";
+import * as wasm from "duration-str/wasm";
 
 const options: Options = { noCalc: true, lowercase: false, cnUnit: undefined };
 const nanoseconds: bigint = parse("2h 37m", options);
@@ -13,15 +14,15 @@ try {
     parse(texts.join(" "));
 } catch (error) {
     if (!(error instanceof DurationError)) throw error;
-    const fault: Fault = error.cause;
+    const cause: Cause = error.cause;
     if (error.code === "SYNTAX") {
         const place: number = error.index;
         void place;
     }
-    const places: (number | null)[] = [error.index, error.byte, error.column];
+    const places: (number | null)[] = [error.index, error.byte];
     const expected: Expected = error.expected;
     const any: boolean = expected.number || expected.unit || expected.operator || expected.end;
-    const told: (string | null)[] = [error.found, error.line, error.text, error.message, fault.code];
+    const told: (string | null)[] = [error.found, error.line, error.text, error.message, cause.code];
     // @ts-expect-error: without a place it is null
     const index: number = error.index;
     // @ts-expect-error: there is no such code
@@ -52,5 +53,9 @@ const wrong: number = parse("1s");
 
 const result = tryParse("1s");
 const read: bigint | string = result.ok ? result.value : result.fault.line;
+const fault: Fault | undefined = result.fault;
+const lines: string[] = [library, result.fault?.message ?? ""];
+const memory: ArrayBuffer = wasm.memory.buffer;
+const version: number = wasm.duration_str_version();
 
-void [dates, wrong, read];
+void [dates, wrong, read, fault, lines, memory, version];
