@@ -4,12 +4,11 @@
 //! This crate has the public interface of `duration-str` 0.19.0 from crates.io. What reads and prints is proved: it is the
 //! source of a proved library with its contracts taken out. What it adds: [`parse_with`], whose options are chosen at each
 //! call and whose [`Fault`] says why and where; [`parse_duration`], whose [`OwnedFault`] outlives the text, and
-//! [`format_duration`], with [`parts`](HumanDuration::parts) and units to choose; [`HumanDuration`], for command lines and serde;
-//! [`write_human`], which allocates nothing; [`Tokens`];
-//! and `moment_after` and `moment_before` for any moment. A message's caret stands at the first token with which no
-//! expression continues.
+//! [`format_duration`], whose [`parts`](HumanDuration::parts) and units can be chosen; [`HumanDuration`], for command lines
+//! and serde; [`write_human`] and [`write_within`], which allocate nothing; [`Tokens`]; and `moment_after` and
+//! `moment_before` for any moment. A message's caret stands at the first token with which no expression continues.
 //!
-//! There are three `unsafe` blocks, in [`write_human`], in [`write_within`] and where a message is printed, proved with the rest of it.
+//! There are two `unsafe` blocks, where a duration and where a message is printed, proved with the rest of it.
 //!
 //! ```
 //! use duration_str::{parse, HumanFormat};
