@@ -18,6 +18,22 @@ export interface Options {
     cnUnit?: boolean | undefined;
 }
 
+/** The units by their printed names, the longest first; `us` stands for `µs` too. */
+export type Unit = "y" | "q" | "mon" | "w" | "d" | "h" | "min" | "s" | "ms" | "µs" | "us" | "ns";
+
+/**
+ * How much of a duration is printed: a plain object's own properties. What is left out is the longest unit, the shortest, and
+ * as many parts as there are units.
+ */
+export interface Limits {
+    /** How many parts are printed at most. The rest is left out, never rounded up. */
+    parts?: number | undefined;
+    /** The largest unit that is printed: from `d` on, 120 days are `120d`. */
+    largest?: Unit | undefined;
+    /** The smallest unit that is printed. If nothing is left it is 0 of this unit, or `0s` where it is shorter than a second. */
+    smallest?: Unit | undefined;
+}
+
 /** What could stand at the place of a syntax fault. */
 export interface Expected {
     readonly number: boolean;
@@ -125,21 +141,21 @@ export function tryParse(text: string, options?: Options): Result;
 export function parseMs(text: string, options?: Options): number;
 
 /**
- * The text of a duration in nanoseconds: `format(5_400_000_000_000n)` is `1h 30min`.
+ * The text of a duration in nanoseconds: `format(5_400_000_000_000n)` is `1h 30min`, and with `{ parts: 1 }` it is `1h`.
  *
- * @throws RangeError where it is negative, or 2^64 or more
- * @throws TypeError where it is no bigint
+ * @throws RangeError where it is negative, or 2^64 or more, or there is no such unit or count of parts
+ * @throws TypeError where it is no bigint, or an option is unknown or of another type
  */
-export function format(nanoseconds: bigint): string;
+export function format(nanoseconds: bigint, options?: Limits): string;
 
 /**
  * The text of a duration in milliseconds: `formatMs(90_000)` is `1min 30s`. A fraction, such as a difference of
  * `performance.now()`, is taken to the nearest nanosecond: `formatMs(1.005)` is `1ms 5µs`.
  *
- * @throws RangeError where it is negative, 2^64 nanoseconds or more, NaN or infinite
- * @throws TypeError where it is no number
+ * @throws RangeError where it is negative, 2^64 nanoseconds or more, NaN or infinite; and as `format` does for the options
+ * @throws TypeError where it is no number; and as `format` does
  */
-export function formatMs(milliseconds: number): string;
+export function formatMs(milliseconds: number, options?: Limits): string;
 
 /**
  * The date that is a text's duration after this one. A Date has whole milliseconds, so what the text has beyond them is

@@ -14,6 +14,9 @@ const LONE_SURROGATE = /\p{Surrogate}/u;
 /** The codes of the refusals, in the order of `enum duration_str_cause` in the library's header. */
 const CODES = ["READ", "EMPTY", "SYNTAX", "NUMBER_TOO_LARGE", "OVERFLOW", "MIXED", "OUT_OF_RANGE", "NOT_TEXT"];
 
+/** The printed names of the units, in the order of `enum duration_str_unit`. */
+const UNITS = ["y", "q", "mon", "w", "d", "h", "min", "s", "ms", "µs", "ns"];
+
 /** How much of a text a message shows: all of a shorter one, and this many UTF-16 units before and after a place. */
 const SHOWN = 200;
 const AROUND = 80;
@@ -181,13 +184,16 @@ function bitOf(name) {
     }
 }
 
+function checkPlain(options) {
+    if (isPlain(options)) return;
+    const type = typeOf(options);
+    throw new TypeError(`the options must be a plain object, not ${type === "object" ? "one that inherits" : type}`);
+}
+
 /** The bits of the options that are on. Only an object's own names are read. */
 function bitsOf(options) {
     if (options === undefined) return 0;
-    if (!isPlain(options)) {
-        const type = typeOf(options);
-        throw new TypeError(`the options must be a plain object, not ${type === "object" ? "one that inherits" : type}`);
-    }
+    checkPlain(options);
     let bits = 0;
     for (const name in options) {
         const bit = bitOf(name);
@@ -225,29 +231,58 @@ export function parseMs(text, options) {
     return Number(parse(text, options) / MILLISECOND);
 }
 
+/** The number of the unit that the option of this name has. */
+function unitOf(name, unit) {
+    if (typeof unit !== "string") throw new TypeError(`the option ${name} must be a string, not ${typeOf(unit)}`);
+    const number = UNITS.indexOf(unit === "us" ? "µs" : unit);
+    if (number < 0) throw new RangeError(`the option ${name} must be one of ${UNITS.join(", ")} or us, not ${unit}`);
+    return number;
+}
+
+/** How many parts are printed at most; there are no more than units. */
+function partsOf(parts) {
+    if (typeof parts !== "number") throw new TypeError(`the option parts must be a number, not ${typeOf(parts)}`);
+    if (!Number.isInteger(parts) || parts < 0) throw new RangeError(`the option parts must be a whole number, not ${parts}`);
+    return Math.min(parts, UNITS.length);
+}
+
+/** The largest unit, the smallest and the count of parts, as `duration_str_format_within` takes them. */
+function limitsOf(options) {
+    checkPlain(options);
+    const limits = { largest: "y", smallest: "ns", parts: UNITS.length };
+    for (const name of Object.keys(options)) {
+        if (!isOwn.call(limits, name)) throw new TypeError(`unknown option: ${name}`);
+        if (options[name] !== undefined) limits[name] = options[name];
+    }
+    return [unitOf("largest", limits.largest), unitOf("smallest", limits.smallest), partsOf(limits.parts)];
+}
+
 /** The text of so many nanoseconds, which were handed in as this value. */
-function printed(nanoseconds, value) {
+function printed(nanoseconds, value, options) {
     if (value < 0) throw new RangeError(`a negative duration has no text: ${value}`);
     if (nanoseconds >= LIMIT) throw new RangeError("a duration of 2^64 nanoseconds or more has no text");
-    const length = calls.duration_str_format(nanoseconds / SECOND, Number(nanoseconds % SECOND), TEXT_POINTER);
+    const [secs, nanos] = [nanoseconds / SECOND, Number(nanoseconds % SECOND)];
+    const length = options === undefined
+        ? calls.duration_str_format(secs, nanos, TEXT_POINTER)
+        : calls.duration_str_format_within(secs, nanos, ...limitsOf(options), TEXT_POINTER);
     return decoded(0, Number(length));
 }
 
-export function format(nanoseconds) {
+export function format(nanoseconds, options) {
     if (typeof nanoseconds !== "bigint") {
         throw new TypeError(`nanoseconds must be a bigint, not ${typeOf(nanoseconds)}; formatMs takes milliseconds`);
     }
-    return printed(nanoseconds, nanoseconds);
+    return printed(nanoseconds, nanoseconds, options);
 }
 
-export function formatMs(milliseconds) {
+export function formatMs(milliseconds, options) {
     if (typeof milliseconds !== "number") {
         throw new TypeError(`milliseconds must be a number, not ${typeOf(milliseconds)}; format takes nanoseconds`);
     }
     if (!Number.isFinite(milliseconds)) throw new RangeError(`milliseconds must be finite, not ${milliseconds}`);
     const whole = Math.trunc(milliseconds);
     const rest = Math.round((milliseconds - whole) * Number(MILLISECOND));
-    return printed(BigInt(whole) * MILLISECOND + BigInt(rest), milliseconds);
+    return printed(BigInt(whole) * MILLISECOND + BigInt(rest), milliseconds, options);
 }
 
 /** The date that is a text's whole milliseconds away, in the direction of the sign. */

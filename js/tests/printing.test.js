@@ -8,6 +8,34 @@ test("prints the vectors", () => {
     for (const [text, printed] of VECTORS.printed) assert.equal(format(parse(text)), printed);
 });
 
+test("prints the vectors within limits", () => {
+    for (const [text, largest, smallest, parts, printed] of VECTORS.printed_within) {
+        assert.equal(format(parse(text), { largest, smallest, parts }), printed);
+        if (smallest === "µs") assert.equal(format(parse(text), { largest, smallest: "us", parts }), printed);
+    }
+    assert.equal(formatMs(193_029, { parts: 2 }), "3min 13s");
+    assert.equal(format(90_061_000_000_001n, { parts: 1e9, largest: undefined }), "1d 1h 1min 1s 1ns");
+});
+
+test("refuses limits that there are not", () => {
+    const names = "y, q, mon, w, d, h, min, s, ms, µs, ns or us";
+    const rows = [
+        [{ largest: "days" }, new RangeError(`the option largest must be one of ${names}, not days`)],
+        [{ smallest: "\u03bcs" }, new RangeError(`the option smallest must be one of ${names}, not \u03bcs`)],
+        [{ smallest: 5 }, new TypeError("the option smallest must be a string, not number")],
+        [{ parts: -1 }, new RangeError("the option parts must be a whole number, not -1")],
+        [{ parts: 1.5 }, new RangeError("the option parts must be a whole number, not 1.5")],
+        [{ parts: NaN }, new RangeError("the option parts must be a whole number, not NaN")],
+        [{ parts: "2" }, new TypeError("the option parts must be a number, not string")],
+        [{ units: 2 }, new TypeError("unknown option: units")],
+        [0, new TypeError("the options must be a plain object, not number")],
+    ];
+    for (const [options, error] of rows) {
+        assert.throws(() => format(1n, options), error);
+        assert.throws(() => formatMs(1, options), error);
+    }
+});
+
 test("prints nanoseconds and milliseconds", () => {
     const rows = [
         [0n, "0s"],

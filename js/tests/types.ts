@@ -7,7 +7,7 @@ import * as wasm from "duration-str/wasm";
 const options: Options = { noCalc: true, lowercase: false, cnUnit: undefined };
 const nanoseconds: bigint = parse("2h 37m", options);
 const milliseconds: number = parseMs("1m 30s", {});
-const texts: string[] = [format(nanoseconds), formatMs(milliseconds)];
+const texts: string[] = [format(nanoseconds), formatMs(milliseconds), format(1n, { parts: 2, largest: "d", smallest: "us" })];
 const dates: Date[] = [after(new Date(), "90d"), before(new Date(), "1w", options)];
 
 try {
@@ -44,6 +44,10 @@ parse("1s", { noCalc: 1 });
 format(milliseconds);
 // @ts-expect-error: no number
 formatMs(nanoseconds);
+// @ts-expect-error: no unit
+format(1n, { largest: "days" });
+// @ts-expect-error: no option
+formatMs(1, { units: 2 });
 // @ts-expect-error: no date
 after(0, "1s");
 // @ts-expect-error: nobody else makes one
