@@ -42,12 +42,13 @@ fn prints_about_the_length_of_each_unit(rt: HostRuntime) {
         assert!(rt; prints(nanos, down_to, text), "{text}");
     }
     for (unit, nanos, text, _, _) in UNITS.iter().copied().take(10) {
+        let above = nanos.saturating_add(1);
         let down_to = Limits {
             smallest: unit,
             ..Limits::none()
         };
-        assert!(rt; prints(nanos + 1, one, text), "{text}");
-        assert!(rt; prints(nanos + 1, down_to, text), "{text}");
+        assert!(rt; prints(above, one, text), "{text}");
+        assert!(rt; prints(above, down_to, text), "{text}");
     }
 }
 
