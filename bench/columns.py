@@ -1,15 +1,18 @@
-"""Times of columns from Python: what is timed, a tab, and the nanoseconds a text, over a million texts as `3m 13s 29ms`, or
-over fewer where each takes a call. Of each it is the least of the rounds, which take turns, and the time of the processor,
-since a call is longer than what a busy machine gives a program at once."""
+"""Times from Python: what is timed, a tab, and the nanoseconds a text or value. Texts are `1h 30m`, or where it is said ones
+as `3m 13s 29ms`; of them a column has a million, or fewer where each takes a call. Of each it is the least of the rounds,
+which take turns, and the time of the processor, since a call is longer than what a busy machine gives a program at once."""
 
+import datetime
 import random
 import time
 from array import array
 from itertools import accumulate
 
+import dask.dataframe
 import duration_str
 import pandas
 import pytimeparse
+from duration_str import parse_buffers
 
 COUNT = 1_000_000
 FEW = 50_000
@@ -17,37 +20,68 @@ ROUNDS = 11
 
 
 def nanos_a_text(call, texts):
-    start = time.process_time_ns()
+    clock = time.perf_counter_ns if call is in_processes else time.process_time_ns
+    start = clock()
     call(texts)
-    return (time.process_time_ns() - start) / len(texts)
+    return (clock() - start) / len(texts)
 
 
 def in_a_loop(call):
     return lambda texts: [call(text) for text in texts]
 
 
-seed = random.Random(19)
-texts = [f"{seed.randrange(60)}m {seed.randrange(60)}s {seed.randrange(1000)}ms" for _ in range(COUNT)]
-whole = [f"{seed.randrange(24)}h {seed.randrange(60)}m {seed.randrange(60)}s" for _ in range(FEW)]
-series = pandas.Series(texts)
-lengths = duration_str.to_timedelta(series)
-if not lengths.equals(pandas.to_timedelta(series)):
-    raise SystemExit("columns: pandas reads the texts otherwise")
-if duration_str.parse_many(whole).tolist() != [pytimeparse.parse(text) * 10**9 for text in whole]:
-    raise SystemExit("columns: pytimeparse reads the texts otherwise")
-data, wide = "".join(texts).encode(), array("q", accumulate(map(len, texts), initial=0))
-narrow = array("i", wide)
+def under_all_options(texts):
+    return [duration_str.parse_ns(text, no_calc=True, lowercase=True, cn_unit=True) for text in texts]
 
-timed = [
-    ("`parse_ns` in a loop", in_a_loop(duration_str.parse_ns), texts[:FEW]),
-    ("`parse_buffers`, offsets of 8 bytes", lambda _: duration_str.parse_buffers(data, wide), texts),
-    ("`parse_buffers`, offsets of 4 bytes", lambda _: duration_str.parse_buffers(data, narrow), texts),
-    ("`parse_many` of a list", duration_str.parse_many, texts),
-    ("`to_timedelta` of a Series", duration_str.to_timedelta, series),
-    ("`pandas.to_timedelta` of the Series", pandas.to_timedelta, series[:FEW]),
-    ("pytimeparse in a loop, without milliseconds", in_a_loop(pytimeparse.parse), whole),
-    ("`format_many` of a Series, which prints", duration_str.format_many, lengths[:FEW]),
-]
-rounds = [[nanos_a_text(call, given) for _, call, given in timed] for _ in range(ROUNDS)]
-for (what, _, _), taken in zip(timed, zip(*rounds)):
-    print(f"{what}\t{min(taken):.0f}")
+
+def in_processes(texts):
+    parts = dask.dataframe.from_pandas(texts, npartitions=4)
+    read = parts.map_partitions(duration_str.to_timedelta, meta=(None, "timedelta64[ns]"))
+    return read.compute(scheduler="processes", num_workers=4)
+
+
+def main():
+    seed = random.Random(19)
+    texts = [f"{seed.randrange(60)}m {seed.randrange(60)}s {seed.randrange(1000)}ms" for _ in range(COUNT)]
+    whole = [f"{seed.randrange(24)}h {seed.randrange(60)}m {seed.randrange(60)}s" for _ in range(FEW)]
+    series = pandas.Series(texts)
+    lengths = duration_str.to_timedelta(series)
+    if not lengths.equals(pandas.to_timedelta(series)):
+        raise SystemExit("columns: pandas reads the texts otherwise")
+    if duration_str.parse_many(whole).tolist() != [pytimeparse.parse(text) * 10**9 for text in whole]:
+        raise SystemExit("columns: pytimeparse reads the texts otherwise")
+    data, wide = "".join(texts).encode(), array("q", accumulate(map(len, texts), initial=0))
+    narrow = array("i", wide)
+    # Each is a str of its own.
+    same = [f"{1}h {30}m" for _ in range(COUNT)]
+    half = pandas.Series([text if place % 2 else None for place, text in enumerate(same)])
+    timedeltas = [datetime.timedelta(seconds=place % 9999, microseconds=place) for place in range(FEW)]
+
+    timed = [
+        ("`parse_ns`, called one by one", in_a_loop(duration_str.parse_ns), same[:FEW]),
+        ("the same under all three options", under_all_options, same[:FEW]),
+        ("`parse`, called one by one", in_a_loop(duration_str.parse), same[:FEW]),
+        ("`to_timedelta` of a Series", duration_str.to_timedelta, pandas.Series(same)),
+        ("`to_timedelta` of a Series half None", duration_str.to_timedelta, half),
+        ("`to_timedelta` of a Series of timedelta64", duration_str.to_timedelta, lengths),
+        ("`pandas.to_timedelta` of the same", pandas.to_timedelta, lengths),
+        ("`to_timedelta` of a list of timedeltas", duration_str.to_timedelta, timedeltas),
+        ("`format_many` of it, which prints", duration_str.format_many, timedeltas),
+        ("`format_many` of a Series of timedelta64", duration_str.format_many, lengths[:FEW]),
+        ("`parse_ns` of `3m 13s 29ms`, called one by one", in_a_loop(duration_str.parse_ns), texts[:FEW]),
+        ("`parse_buffers` of such texts, offsets of 8 bytes", lambda _: parse_buffers(data, wide), texts),
+        ("`parse_buffers` of such texts, offsets of 4 bytes", lambda _: parse_buffers(data, narrow), texts),
+        ("`parse_many` of a list of such texts", duration_str.parse_many, texts),
+        ("`to_timedelta` of a Series of such texts", duration_str.to_timedelta, series),
+        ("`pandas.to_timedelta` of the same", pandas.to_timedelta, series[:FEW]),
+        ("`to_timedelta` of it by Dask, four processes, in time of the clock", in_processes, series),
+        ("pytimeparse of `3h 13m 29s`, called one by one", in_a_loop(pytimeparse.parse), whole),
+    ]
+    rounds = [[nanos_a_text(call, given) for _, call, given in timed] for _ in range(ROUNDS)]
+    for (what, _, _), taken in zip(timed, zip(*rounds)):
+        print(f"{what}\t{min(taken):.0f}")
+
+
+# Worker processes read this file, too.
+if __name__ == "__main__":
+    main()

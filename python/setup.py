@@ -1,13 +1,17 @@
 """Builds the extension module over the library for C: the archive that DURATION_STR_LIB names; else in a checkout, where
 the Rattle toolchain's command rt is on the path, the one that make proves and builds; else the one that cargo builds of
-the proved sources without their contracts, which the sdist has.
+the proved sources without their contracts, which the sdist has. Each build is made anew, in a temporary folder.
 """
 
+import atexit
+import importlib.util
 import os
 import pathlib
 import shutil
 import subprocess
 import sys
+import sysconfig
+import tempfile
 
 from setuptools import Extension, setup
 from setuptools.command.build_ext import build_ext
@@ -20,49 +24,69 @@ CRATES = CHECKOUT if IS_CHECKOUT else HERE
 INCLUDE = CHECKOUT / "c/include" if IS_CHECKOUT else HERE / "include"
 
 
+def demand(is_there, what):
+    """Ends with a line that says what is missing."""
+    if not is_there:
+        raise SystemExit(f"to build duration-str, install {what}")
+
+
+def by_cargo(room):
+    """The archive that cargo builds in this folder."""
+    demand(shutil.which("cargo"), "Rust 1.85 or later, with cargo on the path; or name the library in DURATION_STR_LIB")
+    words = ["cargo", "build", "--quiet", "--release", "--manifest-path", CRATES / "c/Cargo.toml", "--target-dir", room]
+    demand(not subprocess.run(words).returncode, "Rust 1.85 or later: cargo could not build the library for C")
+    return pathlib.Path(room, "release", "duration_str.lib" if sys.platform == "win32" else "libduration_str.a")
+
+
 def archive(room):
-    """The archive's file; cargo builds in this folder."""
+    """The archive's file."""
     named = os.environ.get("DURATION_STR_LIB")
     if named:
-        return os.path.abspath(named)
+        demand(os.path.isfile(named), f"the library: DURATION_STR_LIB names {named}, which is no file")
+        return pathlib.Path(named)
     if IS_CHECKOUT and shutil.which("rt"):
         words = ["make", "--silent", "--directory", CHECKOUT, "library"]
         folder = subprocess.check_output(words, env={**os.environ, "MAKEFLAGS": ""}, text=True).strip()
-        return str(CHECKOUT / folder / "libduration_str.a")
-    if not shutil.which("cargo"):
-        raise SystemExit("to build duration-str, put cargo (Rust 1.85 or later) on the path, or set DURATION_STR_LIB")
-    words = ["cargo", "build", "--quiet", "--release", "--manifest-path", CRATES / "c/Cargo.toml", "--target-dir", room]
-    subprocess.run(words, check=True)
-    name = "duration_str.lib" if sys.platform == "win32" else "libduration_str.a"
-    return str(pathlib.Path(room, "release", name).resolve())
+        return CHECKOUT / folder / "libduration_str.a"
+    return by_cargo(room)
 
 
 class Linked(build_ext):
     """The module is linked with the archive."""
 
     def build_extension(self, extension):
-        extension.extra_objects = [archive(os.path.join(self.build_temp, "cargo"))]
-        extension.depends = [*extension.extra_objects, INCLUDE / "duration_str.h"]
+        header = pathlib.Path(sysconfig.get_path("include"), "Python.h")
+        demand(header.exists(), f"Python's headers (Debian's python3-dev): {header} is missing")
+        compiler = getattr(self.compiler, "compiler_so", [sys.executable])[0]
+        demand(shutil.which(compiler), f"a C compiler: {compiler} is missing")
+        file = archive(os.path.join(self.build_temp, "cargo")).resolve()
+        # So rt names a function in the archive that it makes.
+        is_proved = b"duration_str::parser::parse" in file.read_bytes()
+        extension.define_macros = [("IS_PROVED", str(int(is_proved)))]
+        extension.extra_objects = [str(file)]
         if sys.platform == "linux":
             extension.extra_link_args = ["-s", "-Wl,-z,now,--exclude-libs,ALL,--gc-sections"]
         super().build_extension(extension)
 
 
 class Sources(sdist):
-    """The sources of the library are packed too."""
+    """The sources of the library are packed too, and the tests with what they read."""
 
     def make_release_tree(self, base_dir, files):
         super().make_release_tree(base_dir, files)
         for name in ["c/src", "rust/core/src"]:
             shutil.copytree(CRATES / name, pathlib.Path(base_dir, name))
-        for name in ["c/Cargo.toml", "c/build.rs", "rust/core/Cargo.toml"]:
+        for name in ["c/Cargo.toml", "c/build.rs", "rust/core/Cargo.toml", "rust/vectors.json"]:
             shutil.copy(CRATES / name, pathlib.Path(base_dir, name))
+        for name in ["tests", "examples"]:
+            shutil.copytree(HERE / name, pathlib.Path(base_dir, name), ignore=shutil.ignore_patterns("__pycache__"))
         shutil.copytree(INCLUDE, pathlib.Path(base_dir, "include"))
-        top = CHECKOUT if IS_CHECKOUT else HERE
-        for name in ["LICENSE", "NOTICE"]:
-            shutil.copy(top / name, base_dir)
 
 
+# Earlier versions of setuptools have the command of another package.
+demand(any(map(importlib.util.find_spec, ["wheel", "setuptools.command.bdist_wheel"])), "wheel, beside setuptools")
+room = tempfile.mkdtemp()
+atexit.register(shutil.rmtree, room, True)
 setup(
     cmdclass={"build_ext": Linked, "sdist": Sources},
     ext_modules=[
@@ -73,5 +97,6 @@ setup(
             py_limited_api=True,
         )
     ],
-    options={"bdist_wheel": {"py_limited_api": "cp311"}},
+    license="Apache-2.0",
+    options={"bdist_wheel": {"py_limited_api": "cp311"}, "build": {"build_base": room}},
 )

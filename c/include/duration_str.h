@@ -1,11 +1,12 @@
 /* Durations read from expressions such as `3m 13s 29ms`, and printed for people.
  *
  * No function allocates memory or keeps state, and all may be called from several threads at once. A text is passed as
- * a pointer and a length in bytes; it need not end with a zero byte, and must not overlap what a function writes. A
- * pointer may be null only if its length is 0: as the empty text, a buffer into which nothing fits, or an array of no
- * numbers. Texts are UTF-8; other bytes are refused. No zero byte is
- * written at the end of a text. No function calls back or throws. The functions have no frames for an unwinder (no
- * `.eh_frame`), so a backtrace taken inside one ends there.
+ * a pointer and a length in bytes; it need not end with a zero byte, and must not overlap what a function writes. Its
+ * bytes must not change during a call, by another thread or, in a mapped file, by another process: copy such a text
+ * first. A pointer may be null only if its length is 0: as the empty text, a buffer into which nothing fits, or an array
+ * of no numbers. Texts are UTF-8; other bytes are refused. No zero byte is written at the end of a text. No function
+ * calls back or throws. The functions have no frames for an unwinder (no `.eh_frame`), so a backtrace taken inside one
+ * ends there. The header is for C99 and C++11 and later.
  *
  * The grammar: terms, each a number and a unit such as `3m` or `29 ms`, joined by `+` or by `*`, or following one
  * another, which adds them. After a number the unit may be left out before an operator and at the end; it is seconds.

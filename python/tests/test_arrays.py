@@ -27,6 +27,10 @@ def numbers(result):
     return [None if number == -(2**63) else number for number in values.ravel().view("int64").tolist()]
 
 
+class Name(str):
+    """A str of another type."""
+
+
 @unittest.skipIf(numpy, "NumPy and pandas are installed")
 class Nothing(unittest.TestCase):
     def test_misses_numpy(self):
@@ -79,8 +83,8 @@ class Reading(unittest.TestCase):
     def test_keeps_what_is_missing(self):
         missing = [None, float("nan"), numpy.nan, numpy.float32("nan"), pandas.NA, pandas.NaT, decimal.Decimal("nan")]
         missing += [numpy.timedelta64("NaT"), numpy.datetime64("NaT")]
-        values = ["1s", *missing, "1m"]
-        wanted = [SECOND, *[None] * len(missing), MINUTE]
+        values = ["1s", *missing, *missing, *missing[::-1], "1m"]
+        wanted = [SECOND, *[None] * 3 * len(missing), MINUTE]
         for errors in ["raise", "coerce"]:
             for column in [values, pandas.Series(values), numpy.array(values, dtype=object)]:
                 self.assertEqual(numbers(to_timedelta(column, errors=errors)), wanted)
@@ -94,9 +98,11 @@ class Reading(unittest.TestCase):
             "import sys, numpy, duration_str\n"
             "values = ['1s', None, float('nan'), numpy.float32('nan'), numpy.timedelta64('NaT')]\n"
             "print(duration_str.to_timedelta(values).astype('int64').tolist(), 'pandas' in sys.modules)\n"
+            "print(repr(duration_str.to_timedelta('1s')), repr(duration_str.to_timedelta('x', errors='coerce')))\n"
         )
         told = subprocess.run([sys.executable, "-c", program], capture_output=True, text=True, check=True)
-        self.assertEqual(told.stdout, f"{[SECOND, *[-(2**63)] * 4]} False\n")
+        one = "numpy.timedelta64(1000000000,'ns') numpy.timedelta64('NaT','ns')"
+        self.assertEqual(told.stdout, f"{[SECOND, *[-(2**63)] * 4]} False\n{one}\n")
 
     def test_refuses_what_timedelta64_lacks(self):
         most = 2**63 - 1
@@ -138,6 +144,31 @@ class Reading(unittest.TestCase):
         with self.assertRaisesRegex(TypeError, "unit from weeks to nanoseconds"):
             to_timedelta(numpy.array([1], dtype="timedelta64[Y]"))
 
+    def test_keeps_the_longest_timedeltas(self):
+        microsecond = datetime.timedelta(microseconds=1)
+        for value in [(2**63 - 1) // 1000 * microsecond, -((2**63 - 1) // 1000) * microsecond, datetime.timedelta(106_750)]:
+            self.assertEqual(numbers(to_timedelta([value])), [value // microsecond * 1000])
+        for value in [(2**63 // 1000 + 1) * microsecond, -(2**63 // 1000 + 1) * microsecond]:
+            self.assertEqual(numbers(to_timedelta([value], errors="coerce")), [None])
+        seconds = (2**63 - 1) // SECOND
+        column = numpy.array([seconds, -seconds, seconds + 1, -seconds - 1, "NaT"], dtype="timedelta64[s]")
+        wanted = [seconds * SECOND, -seconds * SECOND, None, None, None]
+        self.assertEqual(numbers(to_timedelta(column, errors="coerce")), wanted)
+        self.assertEqual(numbers(to_timedelta(pandas.Series(column[:2]))), wanted[:2])
+        with self.assertRaisesRegex(OverflowError, "timedelta64\\(9223372037,'s'\\), at index 2$"):
+            to_timedelta(column)
+
+    def test_returns_an_array_of_timedelta64_as_it_is(self):
+        lengths = numpy.array([1, "NaT"], dtype="timedelta64[ns]")
+        self.assertTrue(numpy.shares_memory(to_timedelta(lengths), lengths))
+        series = pandas.Series(lengths, index=["a", "b"], name="wait")
+        read = to_timedelta(series)
+        pandas.testing.assert_series_equal(read, series)
+        read.iloc[0] = pandas.Timedelta(5)
+        self.assertEqual(numbers(series), [1, None])
+        masked = numpy.ma.array(lengths, mask=[True, False])
+        self.assertEqual(numbers(to_timedelta(masked)), [None, None])
+
     def test_takes_one_column(self):
         for table in [numpy.array("12"), numpy.array([["1s"]]), pandas.DataFrame({"1s": ["2s"]})]:
             with self.assertRaises(TypeError):
@@ -158,9 +189,25 @@ class Reading(unittest.TestCase):
         for column in [numpy.array([b"1s"]), numpy.array([1]), pandas.Series([1.5]), {1}]:
             with self.assertRaisesRegex(TypeError, "at index 0$"):
                 to_timedelta(column)
-        for column in ["1s", b"1s", None, 5, pandas.DataFrame({"wait": ["1s"]})]:
+        for column in [b"1s", None, 5, 1.5, pandas.DataFrame({"wait": ["1s"]})]:
             with self.assertRaises(TypeError):
                 to_timedelta(column)
+
+    def test_takes_one_value(self):
+        rows = [("1m 5ns", MINUTE + 5), (datetime.timedelta(1), 86_400 * SECOND), (pandas.Timedelta(-5, "ns"), -5)]
+        for value, nanos in [*rows, (numpy.timedelta64(3, "m"), 3 * MINUTE), (Name("1分"), MINUTE)]:
+            with self.subTest(value=value):
+                read = to_timedelta(value, cn_unit=True)
+                self.assertEqual((type(read), read.value), (pandas.Timedelta, nanos))
+        with self.assertRaisesRegex(DurationError, "^1x\n \\^\nexpected [^\n]*$") as told:
+            to_timedelta("1x")
+        self.assertIsNone(told.exception.index)
+        with self.assertRaisesRegex(DurationError, "^300y\n2.*timedelta64 doesn't have$"):
+            to_timedelta("300y")
+        with self.assertRaisesRegex(OverflowError, "nanoseconds or more: .*=999999\\)$"):
+            to_timedelta(datetime.timedelta.max)
+        for value in ["1x", "300y", datetime.timedelta.max, numpy.timedelta64("NaT")]:
+            self.assertIs(to_timedelta(value, errors="coerce"), pandas.NaT)
 
     def test_reads_as_pandas_does_where_both_read(self):
         texts = [f"{n % 50}d {n % 24}h {n % 60}m {n % 61}s {n}ms {n % 7}us {n % 3}ns" for n in range(20_000)]

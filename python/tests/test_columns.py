@@ -12,8 +12,8 @@ from duration_str import Cause, DurationError, parse_buffers, parse_many, parse_
 from tests.columns import refused_positions, value_columns
 
 SECOND = 10**9
-# A call reads 8,192 texts.
-LENGTHS = [0, 1, 2, 8_191, 8_192, 8_193, 20_000]
+# 1,024 texts are copied at once.
+LENGTHS = [0, 1, 2, 1_023, 1_024, 1_025, 20_000]
 
 
 def buffers_of(encoded, code="q"):
@@ -81,7 +81,9 @@ class Columns(unittest.TestCase):
                 texts = [f"{value}ns" for value in values]
                 self.assertEqual(parse_many(texts), values)
                 self.assertEqual(parse_many(texts, errors="coerce"), (values, array("Q")))
-                self.assertEqual(parse_buffers(*buffers_of([text.encode() for text in texts])), values)
+                data, offsets = buffers_of([text.encode() for text in texts])
+                for given in [data, bytearray(data)]:
+                    self.assertEqual(parse_buffers(given, offsets), values)
                 for place in {0, length // 2, length - 1} if length else ():
                     spoilt = [*texts[:place], "1µx", *texts[place + 1 :]]
                     self.assertEqual(error_of(parse_many, spoilt).index, place)
@@ -96,6 +98,9 @@ class Columns(unittest.TestCase):
     def test_reads_a_long_text_among_short_ones(self):
         long = "1s " * 3_500_000
         self.assertEqual(list(parse_many(["1s", long, "2s"])), [SECOND, 3_500_000 * SECOND, 2 * SECOND])
+        data, offsets = buffers_of([b"1s", long.encode(), b"2s"])
+        for given in [data, bytearray(data)]:
+            self.assertEqual(list(parse_buffers(given, offsets)), [SECOND, 3_500_000 * SECOND, 2 * SECOND])
         error = error_of(parse_many, ["1s", f"{long}µ", "2s"])
         self.assertEqual((error.index, error.column, error.found), (1, len(long), "µ"))
 
@@ -173,12 +178,16 @@ class Buffers(unittest.TestCase):
             for offsets in ([0, 2, 1], [0, 2, 5], [0, 2, -1], [0, 2, 2**31 - 1]):
                 with self.subTest(code=code, offsets=offsets):
                     numbers = array(code, offsets)
-                    with self.assertRaisesRegex(ValueError, "^the offsets .* lie beyond 4 bytes, at index 1$") as told:
-                        parse_buffers(b"1s2s", numbers)
-                    self.assertNotIsInstance(told.exception, DurationError)
-                    answer = parse_buffers(b"1s2s", numbers, errors="coerce")
-                    self.assertEqual(answer, (array("Q", [SECOND, 0]), array("Q", [1])))
-        self.assertEqual(list(parse_buffers(b"1s2s", array("q", [3, 1, 2, 4]), errors="coerce")[0]), [0, 0, 2 * SECOND])
+                    for data in [b"1s2s", bytearray(b"1s2s")]:
+                        with self.assertRaisesRegex(ValueError, "^the offsets .* lie beyond 4 bytes, at index 1$") as told:
+                            parse_buffers(data, numbers)
+                        self.assertNotIsInstance(told.exception, DurationError)
+                        answer = parse_buffers(data, numbers, errors="coerce")
+                        self.assertEqual(answer, (array("Q", [SECOND, 0]), array("Q", [1])))
+        for data in [b"1s2s", bytearray(b"1s2s")]:
+            answer = parse_buffers(data, array("q", [3, 1, 2, 4, 4, 9, 2, 4]), errors="coerce")
+            self.assertEqual(list(answer[0]), [0, 0, 2 * SECOND, 0, 0, 0, 2 * SECOND])
+            self.assertEqual(list(answer[1]), [0, 1, 3, 4, 5])
 
     def test_takes_no_negative_offset_for_a_large_one(self):
         with tempfile.TemporaryFile() as file:

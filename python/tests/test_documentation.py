@@ -34,7 +34,7 @@ class Documentation(unittest.TestCase):
 
     def test_shows_the_units_and_the_options(self):
         self.assertIn("µs, µsec, µsecond", pydoc.render_doc(duration_str))
-        for name in ["parse", "parse_ns"]:
+        for name in ["parse", "parse_ns", "parse_seconds"]:
             told = pydoc.plain(pydoc.render_doc(getattr(duration_str, name)))
             self.assertIn(f"{name}(text, /, *, no_calc=False, lowercase=False, cn_unit=False)", told)
 

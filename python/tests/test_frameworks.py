@@ -11,12 +11,14 @@ import subprocess
 import sys
 import tempfile
 import time
+import typing
 import unittest
 
 import duration_str
 from duration_str import parse
 
 MINUTE = datetime.timedelta(minutes=1)
+HOUR = 60 * MINUTE
 
 
 def has(name):
@@ -59,9 +61,26 @@ class Lines(unittest.TestCase):
     @unittest.skipUnless(has("click"), "Click is missing")
     def test_click(self):
         self.assertEqual(run("wait.py", "--timeout", "1m"), (0, "0:01:00\n", ""))
+        self.assertEqual(run("wait.py"), (0, "0:00:30\n", ""))
         status, output, told = run("wait.py", "--timeout", "1m 3-5")
         self.assertEqual((status, output), (2, ""))
         self.assertEqual(told, f"Error: Invalid value for '--timeout': {LINE}")
+
+    @unittest.skipUnless(has("click"), "Click is missing")
+    def test_click_keeps_timedeltas(self):
+        from duration_str.click import DURATION
+
+        self.assertEqual(DURATION.convert(MINUTE, None, None), MINUTE)
+        self.assertEqual(DURATION("1m"), MINUTE)
+        with self.assertRaises(duration_str.DurationTypeError):
+            DURATION.convert(60, None, None)
+
+
+@unittest.skipUnless(has("dask") and has("pandas"), "Dask or pandas is missing")
+class Cluster(unittest.TestCase):
+    def test_reads_a_million_texts_in_several_processes(self):
+        # 250,000 times 90 and 7,200 seconds
+        self.assertEqual(run("cluster.py"), (0, "21093 days 18:00:00 [1, 5, 9]\n", ""))
 
 
 LINE = 'expected ["y", "q", "mon", "w", "d", "h", "m", "s", "ms", "µs", "us", "ns"]'
@@ -97,6 +116,50 @@ class Models(unittest.TestCase):
             schema = self.model.model_json_schema(mode=mode)
             self.assertEqual(schema["properties"], {"timeout": {"title": "Timeout", "type": "string"}})
 
+    def bounded(self, **words):
+        """Models of one field that has these demands, assigned and in `Annotated`."""
+        field = self.pydantic.Field(**words)
+        for annotation, default in [
+            (duration_str.Duration, field),
+            (typing.Annotated[duration_str.Duration, field], HOUR),
+        ]:
+            yield self.pydantic.create_model("Bounded", length=(annotation, default))
+
+    def test_keeps_what_a_field_demands(self):
+        accepted = {"gt": ["61min"], "ge": ["1h", "61min"], "lt": ["59min"], "le": ["59min", "1h"]}
+        for demand, wanted in accepted.items():
+            for model in self.bounded(**{demand: HOUR}):
+                for text in ["59min", "1h", "61min"]:
+                    for read in [
+                        lambda text=text: model(length=text),
+                        lambda text=text: model(length=parse(text)),
+                        lambda text=text: model.model_validate_json(json.dumps({"length": text})),
+                    ]:
+                        with self.subTest(demand=demand, text=text):
+                            if text in wanted:
+                                self.assertEqual(read().length, parse(text))
+                            else:
+                                self.assertRaisesRegex(self.pydantic.ValidationError, " than .*(1 hour|seconds=3600)", read)
+
+    def test_writes_no_demand_that_json_schema_lacks(self):
+        for demand in ["gt", "ge", "lt", "le"]:
+            for mode in ["validation", "serialization"]:
+                for model in self.bounded(description="how long", **{demand: HOUR}):
+                    schema = model.model_json_schema(mode=mode)["properties"]["length"]
+                    schema.pop("default", None)
+                    self.assertEqual(schema, {"title": "Length", "type": "string", "description": "how long"})
+
+    def test_shows_a_default_as_a_text(self):
+        field = self.pydantic.Field
+        for annotation, default in [
+            (duration_str.Duration, 120 * HOUR),
+            (duration_str.Duration, field(120 * HOUR, gt=HOUR)),
+            (typing.Annotated[duration_str.Duration, field(gt=HOUR)], 120 * HOUR),
+        ]:
+            model = self.pydantic.create_model("Kept", length=(annotation, default))
+            schema = model.model_json_schema(mode="serialization")
+            self.assertEqual(schema["properties"]["length"]["default"], "5d")
+
     def test_refuses_what_json_does_not_read_back(self):
         for value in ["1x", "", "PT1M", 60, 1.5, None, b"1m", -MINUTE, datetime.time(1)]:
             with self.subTest(value=value), self.assertRaises(self.pydantic.ValidationError):
@@ -112,9 +175,7 @@ class Models(unittest.TestCase):
         self.assertEqual(run("model.py"), (0, '{"timeout":"1h 30min"}\n', ""))
 
     def test_reads_before_other_validators(self):
-        from typing import Annotated
-
-        adapter = self.pydantic.TypeAdapter(Annotated[datetime.timedelta, self.pydantic.BeforeValidator(parse)])
+        adapter = self.pydantic.TypeAdapter(typing.Annotated[datetime.timedelta, self.pydantic.BeforeValidator(parse)])
         self.assertEqual(adapter.validate_python("1m"), MINUTE)
         for value in [5, None, b"1m", "1x"]:
             with self.subTest(value=value), self.assertRaises(self.pydantic.ValidationError):

@@ -5,6 +5,12 @@ and values that change while they are read: each gets an error, or the answer fo
 import concurrent.futures
 import datetime
 import gc
+import importlib.util
+import itertools
+import mmap
+import os
+import tempfile
+import time
 import unittest
 from array import array
 
@@ -43,6 +49,15 @@ class Number(int):
 
     def __lt__(self, other):
         return False
+
+
+def parse_any(data, offsets):
+    """The values of a column, of which the first that is refused is raised too."""
+    try:
+        parse_buffers(data, offsets)
+    except (DurationError, RuntimeError):
+        pass
+    return parse_buffers(data, offsets, errors="coerce")[0]
 
 
 def resident():
@@ -130,26 +145,77 @@ class Hostile(unittest.TestCase):
 
         values += [SECOND, Clearing(seconds=1), SECOND]
         texts = []
-        duration_str._native.format_list(values, duration_str._texts.nanos_of, texts)
+        duration_str._native.format_list(values, duration_str._texts.nanos_of, texts, (0, 10, 11))
         self.assertEqual((values, texts), ([], ["1s", "1s 1ns"]))
         with self.assertRaisesRegex(TypeError, "not Odd, at index 1$"):
             format_many([SECOND, Odd(), SECOND])
 
-    def test_reads_in_threads_what_others_write(self):
-        data, offsets = bytearray(b"1s2m" * 5_000), array("q", range(0, 20_001, 2))
-        stops = False
+    def test_reads_what_changes_while_it_is_read(self):
+        for change in [list.clear, list.pop]:
+            values, nanos = ["1s", Odd(), "1s"], array("Q", bytes(24))
+
+            def keep(value, index):
+                change(values)
+                return 7
+
+            self.assertEqual(duration_str._native.read_list(values, nanos, 0, True, 0, keep), [])
+            self.assertEqual(nanos.tolist(), [SECOND, 7, 0])
+        for kept in ["1", 2**63, None]:
+            with self.assertRaises((OverflowError, TypeError)):
+                duration_str._native.read_list([Odd()], array("Q", [0]), 0, True, 0, lambda value, index: kept)
+
+    def test_reads_what_threads_overwrite(self):
+        """For five seconds, in which the bytes are written to without the interpreter's lock."""
+        texts = 20_000
+        offsets = array("q", range(0, 4 * texts + 1, 4))
+        # A character of four bytes, and one that ends a text, begin where others have a number.
+        columns = [encoded * texts for encoded in ["1µs".encode(), "😀".encode(), b"1\xc2 1"]]
+        with tempfile.TemporaryFile() as written, tempfile.TemporaryFile() as source:
+            for file, data in [(written, columns[0]), (source, b"".join(columns))]:
+                file.write(data)
+                file.flush()
+            under = bytearray(columns[0])
+
+            def write():
+                for place, data in enumerate(columns):
+                    os.preadv(source.fileno(), [under], place * len(data))
+                    os.pwrite(written.fileno(), data, 0)
+
+            with mmap.mmap(written.fileno(), len(under), access=mmap.ACCESS_READ) as mapped:
+                views = [under, memoryview(under).toreadonly(), mapped]
+                self.read_while(write, lambda place: parse_any(views[place % 3], offsets))
+
+    @unittest.skipUnless(importlib.util.find_spec("numpy"), "NumPy is missing")
+    def test_reads_what_numpy_overwrites(self):
+        import numpy
+
+        columns = [numpy.frombuffer(encoded * 20_000, dtype="u1") for encoded in ["1µs".encode(), "😀".encode()]]
+        under = columns[0].copy()
+        view = under.view()
+        view.flags.writeable = False
 
         def write():
-            while not stops:
-                data[:] = b"\xff" * len(data)
-                data[:] = b"1s2m" * 5_000
+            for column in columns:
+                under[:] = column
 
-        with concurrent.futures.ThreadPoolExecutor(1) as pool:
-            pool.submit(write)
-            for _ in range(200):
-                values, refused = parse_buffers(data, offsets, errors="coerce")
-                self.assertLessEqual({*values}, {0, SECOND, 120 * SECOND})
-            stops = True
+        self.read_while(write, lambda _: parse_any(view, array("q", range(0, 80_001, 4))))
+
+    def read_while(self, write, read):
+        """Reads for five seconds, while two threads write."""
+        end = time.monotonic() + 5
+
+        def write_on():
+            while time.monotonic() < end:
+                write()
+
+        with concurrent.futures.ThreadPoolExecutor(2) as pool:
+            writers = [pool.submit(write_on), pool.submit(write_on)]
+            for place in itertools.count():
+                self.assertLessEqual({*read(place)}, {0, 1000})
+                if time.monotonic() > end:
+                    break
+        for writer in writers:
+            writer.result()
 
     def test_keeps_no_memory(self):
         def all_calls(rounds):

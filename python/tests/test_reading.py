@@ -6,7 +6,7 @@ import random
 import unittest
 
 import duration_str
-from duration_str import DurationError, parse, parse_ns
+from duration_str import DurationError, parse, parse_ns, parse_seconds
 from tests.vectors import IS_UNDER, OPTIONS, VECTORS
 
 
@@ -39,6 +39,14 @@ class Reading(unittest.TestCase):
         longest = parse(f"{2**64 - 1}ns")
         self.assertEqual(longest // datetime.timedelta(microseconds=1), (2**64 - 1) // 1000)
         self.assertEqual(parse("1分", cn_unit=True), datetime.timedelta(minutes=1))
+
+    def test_rounds_seconds_to_the_nearest_float(self):
+        self.assertEqual(parse_seconds("1h 30m"), 5400.0)
+        self.assertEqual(parse_seconds("1分", cn_unit=True), 60.0)
+        for nanos in [0, 1, 10**8, 2**53 + 1, 2**63 + 513, 2**64 - 1]:
+            self.assertEqual(parse_seconds(f"{nanos}ns"), nanos / 10**9)
+        with self.assertRaises(DurationError):
+            parse_seconds("1x")
 
     def test_takes_options_by_name_alone(self):
         with self.assertRaises(TypeError):

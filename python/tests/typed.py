@@ -1,18 +1,34 @@
-"""A caller, which mypy checks by what the package says of its types."""
+"""A caller, which mypy checks by what the package says of its types: what it refuses is marked, and has to be refused."""
 
 import datetime
 from array import array
 from typing import assert_type
 
 import duration_str
+import numpy
 
 assert_type(duration_str.parse("1m", no_calc=True), datetime.timedelta)
 assert_type(duration_str.parse_ns("1m"), int)
+assert_type(duration_str.parse_seconds("1m"), float)
 assert_type(duration_str.format(5), str)
 assert_type(duration_str.format(datetime.timedelta(1)), str)
+assert_type(duration_str.format(numpy.int64(5)), str)
+assert_type(duration_str.format(numpy.timedelta64(5, "s")), str)
+assert_type(duration_str.format(5, parts=2, largest="d", smallest="us"), str)
+duration_str.format(5, largest="m")  # type: ignore[arg-type]
+duration_str.format(5, parts=1.5)  # type: ignore[arg-type]
+duration_str.format_many([5], smallest="sec")  # type: ignore[arg-type]
+duration_str.format("1m")  # type: ignore[arg-type]
+duration_str.format(1.5)  # type: ignore[arg-type]
+duration_str.format(None)  # type: ignore[arg-type]
+duration_str.format(numpy.float64(5))  # type: ignore[arg-type]
+duration_str.format(numpy.datetime64(5, "s"))  # type: ignore[arg-type]
 assert_type(duration_str.parse_many(["1m"]), "array[int]")
 assert_type(duration_str.parse_many(["1m", None], errors="coerce"), "tuple[array[int], array[int]]")
 assert_type(duration_str.parse_buffers(b"1m", array("q", [0, 2])), "array[int]")
+duration_str.parse_many(["1m"], errors="ignore")  # type: ignore[call-overload]
+duration_str.to_timedelta(["1m"], errors="ignore")  # type: ignore[arg-type]
+assert_type(duration_str.library, str)
 timeout: duration_str.Duration = datetime.timedelta(1)
 try:
     duration_str.parse("1x")

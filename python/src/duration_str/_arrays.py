@@ -4,12 +4,17 @@ from __future__ import annotations
 
 import datetime
 import sys
+from functools import partial
 from importlib import import_module
 from typing import Any
 
 from . import _native
-from ._columns import checked, values_of, zeros
-from ._texts import Cause, DurationError, DurationTypeError, nanos_a_step, nanos_of, option_bits
+from ._columns import Errors, checked, values_of, zeros
+from ._texts import DurationTypeError, Unit, nanos_a_step, nanos_of, option_bits
+
+
+#: NaT as a number
+_NAT = -(2**63)
 
 
 def _is_missing(value: Any) -> bool:
@@ -31,12 +36,19 @@ def _flat(values: Any) -> list[Any]:
         raise TypeError("a DataFrame is no column: take its columns one by one")
     if not hasattr(values, "__array__"):
         return values_of(values)
-    if getattr(getattr(values, "dtype", None), "kind", None) == "m":
-        return list(numpy.ma.filled(values, numpy.timedelta64("NaT")).ravel())
     flat = numpy.asarray(values, dtype=object)
     if isinstance(values, numpy.ma.MaskedArray):
         flat = numpy.where(numpy.ma.getmaskarray(values), None, flat)
-    return list(flat.ravel())
+    texts: list[Any] = flat.ravel().tolist()
+    return texts
+
+
+def _lengths(values: Any) -> Any:
+    """The array of timedelta64 that the values are, with NaT where one is masked, or None if they are something else."""
+    numpy: Any = import_module("numpy")
+    if getattr(getattr(values, "dtype", None), "kind", None) != "m":
+        return None
+    return numpy.ma.filled(values, numpy.timedelta64("NaT")) if numpy.ma.isMA(values) else numpy.asarray(values)
 
 
 def _like(values: Any, result: Any) -> Any:
@@ -53,66 +65,81 @@ def _kept(value: Any, index: int, raises: bool) -> int:
     """The timedelta64[ns] of a value that is no text: NaT where it is missing, or refused and not raised."""
     numpy: Any = import_module("numpy")
     if _is_missing(value):
-        return -(2**63)
+        return _NAT
+    where = "" if index < 0 else f", at index {index}"
     is_kept = isinstance(value, (datetime.timedelta, numpy.timedelta64))
     if is_kept and abs(nanos := nanos_of(value)) < 2**63:
         return nanos
     if raises and is_kept:
-        raise OverflowError(f"timedelta64 doesn't have 2**63 nanoseconds or more: {value!r}, at index {index}")
+        raise OverflowError(f"timedelta64 doesn't have 2**63 nanoseconds or more: {value!r}{where}")
     if raises:
-        raise DurationTypeError(f"a duration's text must be a str, not {type(value).__name__}, at index {index}")
-    return -(2**63)
+        raise DurationTypeError(f"a duration's text must be a str, not {type(value).__name__}{where}")
+    return _NAT
+
+
+def _kept_lengths(values: Any, lengths: Any, raises: bool) -> Any:
+    """The timedelta64[ns] of a column of timedelta64. What has nanoseconds already is as it is."""
+    numpy: Any = import_module("numpy")
+    if lengths.dtype == numpy.dtype("timedelta64[ns]"):
+        return values.copy() if hasattr(values, "array") and values.dtype == lengths.dtype else _like(values, lengths)
+    step, numbers = nanos_a_step(lengths.dtype), lengths.astype("int64").ravel()
+    # NaT is its own absolute value.
+    beyond = abs(numbers) > (2**63 - 1) // step
+    if raises and beyond.any():
+        first = int(beyond.argmax())
+        _kept(lengths.ravel()[first], first, raises)
+    nanos = numpy.where(beyond | (numbers == _NAT), _NAT, numbers * step)
+    return _like(values, nanos.view("timedelta64[ns]"))
 
 
 def to_timedelta(
-    values: Any, *, errors: str = "raise", no_calc: bool = False, lowercase: bool = False, cn_unit: bool = False
+    values: Any, *, errors: Errors = "raise", no_calc: bool = False, lowercase: bool = False, cn_unit: bool = False
 ) -> Any:
     """As `pandas.to_timedelta`, of texts: of a Series a Series of timedelta64[ns] with its index and its name, of an
-    Index an Index, and of a NumPy array or any other sequence an array of the same shape. It needs NumPy, and no
-    pandas. The options are those of `parse_ns`.
+    Index an Index, and of a NumPy array or any other sequence an array of the same shape; of one text a Timedelta where
+    pandas is imported, or else a timedelta64. It needs NumPy, and no pandas. The options are those of `parse_ns`.
 
-    Timedeltas are kept. None, NaN, NaT, pandas' NA, and what an array masks become NaT.
+    Timedeltas are kept, and an array of timedelta64[ns] is returned as it is. None, NaN, NaT, pandas' NA, and what an
+    array masks become NaT.
 
     With `errors="raise"` the first text that is refused raises its DurationError, which has its position as `index`. So
     does a value of 2**63 nanoseconds or more, some 292 years, which timedelta64 does not have. Any other value, such as
-    a number or bytes, raises DurationTypeError before any text is read. With `errors="coerce"` all of these become NaT.
+    a number or bytes, raises DurationTypeError, also where a text before it is refused. With `errors="coerce"` all of
+    these become NaT.
     """
     raises, options = checked(errors), option_bits(no_calc, lowercase, cn_unit)
     numpy: Any = import_module("numpy")
-    texts = _flat(values)
+    if (lengths := _lengths(values)) is not None and not isinstance(values, numpy.timedelta64):
+        return _kept_lengths(values, lengths, raises)
+    is_one = isinstance(values, (str, datetime.timedelta, numpy.timedelta64))
+    texts = [values] if is_one else _flat(values)
     nanos = zeros(len(texts))
-    refused = _native.read_list(texts, nanos, options, False, 0)
-    others = [index for index in refused if not issubclass(type(texts[index]), str)]
-    kept = [_kept(texts[index], index, raises) for index in others]
-    signed = numpy.asarray(nanos).view("int64")
-    faults = numpy.union1d(numpy.setdiff1d(refused, others), numpy.flatnonzero(signed < 0)).astype("int64")
-    if raises and faults.size > 0:
-        first = int(faults[0])
-        # It is refused for what the text is, or else for what its value is.
-        text = str.__str__(texts[first])
-        _native.read_list([text], zeros(1), options, True, first)
-        message = f"{text}\n2**63 nanoseconds or more, which timedelta64 doesn't have"
-        raise DurationError(message, text, Cause.OVERFLOW, index=first)
-    signed[faults] = -(2**63)
-    signed[others] = kept
-    return _like(values, signed.view("timedelta64[ns]"))
+    _native.read_list(texts, nanos, options, raises, -1 if is_one else 0, partial(_kept, raises=raises))
+    result = numpy.asarray(nanos).view("timedelta64[ns]")
+    if not is_one:
+        return _like(values, result)
+    pandas = sys.modules.get("pandas")
+    return pandas.Timedelta(result[0]) if pandas is not None else result[0]
 
 
-def format_many(values: Any) -> Any:
-    """The texts of a column of durations, each an int of nanoseconds or a timedelta, as `format` prints it: of a list
-    or any other iterable a list of str, of a Series, an Index or a NumPy array one of objects, with the same shape,
-    index and name. These may also have timedelta64, of units from weeks to nanoseconds. What is missing, as in
-    `to_timedelta`, is None.
+def format_many(values: Any, *, parts: int = 11, largest: Unit = "y", smallest: Unit = "ns") -> Any:
+    """The texts of a column of durations, each an int of nanoseconds or a timedelta, as `format` prints it within the
+    same limits: of a list or any other iterable a list of str, of a Series, an Index or a NumPy array one of objects,
+    with the same shape, index and name. These may also have timedelta64, of units from weeks to nanoseconds. What is
+    missing, as in `to_timedelta`, is None.
 
     Raises what `format` raises, with the position in its message.
 
     >>> duration_str.format_many([90 * 10**9, None])
     ['1min 30s', None]
+    >>> duration_str.format_many([90 * 10**9, None], largest="s")
+    ['90s', None]
     """
+    limits = _native.limits(parts=parts, largest=largest, smallest=smallest)
     given = _durations(values) if hasattr(values, "__array__") else list(values)
     texts: list[str | None] = []
     try:
-        _native.format_list(given, lambda value: None if _is_missing(value) else nanos_of(value), texts)
+        _native.format_list(given, lambda value: None if _is_missing(value) else nanos_of(value), texts, limits)
     except (OverflowError, TypeError, ValueError) as error:
         raise type(error)(f"{error}, at index {len(texts)}") from None
     if not hasattr(values, "__array__"):
@@ -125,11 +152,12 @@ def format_many(values: Any) -> Any:
 
 def _durations(values: Any) -> list[Any]:
     """The values of an array, one after the other; of timedelta64 ints of nanoseconds, with None where one is missing."""
-    numpy: Any = import_module("numpy")
-    array = values if isinstance(values, numpy.ma.MaskedArray) else numpy.asarray(values)
-    if array.dtype.kind != "m":
+    lengths = _lengths(values)
+    if lengths is None:
         return _flat(values)
-    step = nanos_a_step(array.dtype)
+    step = nanos_a_step(lengths.dtype)
+    numbers: list[int] = lengths.astype("int64").ravel().tolist()
+    if step == 1 and _NAT not in numbers:
+        return numbers
     # The product is an int of Python, since one of NumPy wraps around.
-    numbers = numpy.ma.filled(array, numpy.timedelta64("NaT")).astype("int64").ravel().tolist()
-    return [None if number == -(2**63) else number * step for number in numbers]
+    return [None if number == _NAT else number * step for number in numbers]

@@ -9,6 +9,9 @@ from typing import Any, Literal, overload
 from . import _native
 from ._texts import option_bits
 
+#: What happens to what is refused
+Errors = Literal["raise", "coerce"]
+
 
 def values_of(texts: Any) -> list[Any]:
     """The values of a sequence, as a list of their own. Raises TypeError of a single text and of a table."""
@@ -40,12 +43,12 @@ def parse_many(
     texts: Iterable[object], *, errors: Literal["coerce"], no_calc: bool = ..., lowercase: bool = ..., cn_unit: bool = ...
 ) -> tuple[array[int], array[int]]: ...
 def parse_many(
-    texts: Any, *, errors: str = "raise", no_calc: bool = False, lowercase: bool = False, cn_unit: bool = False
+    texts: Any, *, errors: Errors = "raise", no_calc: bool = False, lowercase: bool = False, cn_unit: bool = False
 ) -> array[int] | tuple[array[int], array[int]]:
     """The values in nanoseconds of texts, any iterable of str, as an `array('Q')`. The options are those of `parse_ns`.
 
     With `errors="raise"` the first text that is refused raises its DurationError, which has its `index`; a value that
-    is no str, such as None, raises DurationTypeError before any text is read.
+    is no str, such as None, raises DurationTypeError, also where a text before it is refused.
 
     With `errors="coerce"` there are two arrays: the values, 0 for each value that is refused or no str, and the
     positions of these.
@@ -57,7 +60,7 @@ def parse_many(
     """
     raises, given = checked(errors), values_of(texts)
     nanos = zeros(len(given))
-    refused = _native.read_list(given, nanos, option_bits(no_calc, lowercase, cn_unit), raises, 0)
+    refused = _native.read_list(given, nanos, option_bits(no_calc, lowercase, cn_unit), raises, 0, None)
     return nanos if raises else (nanos, array("Q", refused))
 
 
@@ -70,11 +73,13 @@ def parse_buffers(
     data: Any, offsets: Any, *, errors: Literal["coerce"], no_calc: bool = ..., lowercase: bool = ..., cn_unit: bool = ...
 ) -> tuple[array[int], array[int]]: ...
 def parse_buffers(
-    data: Any, offsets: Any, *, errors: str = "raise", no_calc: bool = False, lowercase: bool = False, cn_unit: bool = False
+    data: Any, offsets: Any, *, errors: Errors = "raise", no_calc: bool = False, lowercase: bool = False, cn_unit: bool = False
 ) -> array[int] | tuple[array[int], array[int]]:
     """As `parse_many`, of texts in UTF-8 that stand in a buffer: text `k` is `data[offsets[k] : offsets[k + 1]]`, so
-    there is one offset more than there are texts. `data` is any contiguous buffer, such as bytes or a mapped file, and
-    is not copied; `offsets` is one of integers of 8 bytes or of 4. Other threads run while read-only data is read.
+    there is one offset more than there are texts. `data` is any contiguous buffer, and `offsets` one of integers of 8
+    bytes or of 4. The bytes must not change during a call, or any text may be read for what stood there for a moment.
+    `bytes` are read in place, while other threads run; of any other buffer, read-only or not, small pieces are copied.
+    A file that is mapped must not become shorter meanwhile, which ends the process.
 
     Bytes that are not UTF-8 are refused. Offsets that decrease or lie beyond the bytes raise ValueError, or with
     `errors="coerce"` are a refused position.

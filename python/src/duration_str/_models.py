@@ -23,12 +23,20 @@ class _Texts:
     def __get_pydantic_core_schema__(self, source: Any, handler: Any) -> Any:
         schema: Any = import_module("pydantic_core.core_schema")
         text = schema.str_schema()
+        # What `Field` demands of the timedelta, such as `gt`
+        demands = handler(source)
+        read_json = schema.no_info_after_validator_function(parse, text)
         return schema.json_or_python_schema(
-            json_schema=schema.no_info_after_validator_function(parse, text),
-            python_schema=schema.no_info_plain_validator_function(_read),
+            json_schema=schema.chain_schema([read_json, demands]),
+            python_schema=schema.chain_schema([schema.no_info_plain_validator_function(_read), demands]),
             serialization=schema.plain_serializer_function_ser_schema(format, return_schema=text, when_used="json"),
         )
 
+    def __get_pydantic_json_schema__(self, schema: Any, handler: Any) -> Any:
+        # pydantic writes demands that JSON Schema doesn't have of a string.
+        return {key: value for key, value in handler(schema).items() if key not in ("gt", "ge", "lt", "le")}
+
 
 Duration = Annotated[datetime.timedelta, _Texts()]
-"""A timedelta in a model of pydantic: a text is read, a timedelta is kept, and the JSON has the printed text."""
+"""A timedelta in a model of pydantic: a text is read, a timedelta is kept, and the JSON has the printed text. `gt`, `ge`,
+`lt` and `le` of a `Field` are timedeltas."""

@@ -7,8 +7,14 @@
 
 #define SECOND 1000000000u
 
-/* What the module keeps of Python: the names of the options, in the order of their bits, and what it makes and calls. */
-enum kept { NO_CALC, LOWERCASE, CN_UNIT, OPTIONS, ERROR = OPTIONS, TYPE_ERROR, NANOS_OF, TIMEDELTA, A_SECOND, KEPT };
+/* What the module keeps of Python: the names of the options, in the order of their bits; of the limits; of a timedelta's
+ * parts; and what it makes and calls. */
+enum kept { NO_CALC, LOWERCASE, CN_UNIT, OPTIONS, LARGEST = OPTIONS, SMALLEST, PARTS, DAYS, SECONDS, MICROSECONDS, ERROR,
+            TYPE_ERROR, NANOS_OF, TIMEDELTA, A_MICROSECOND, A_SECOND, KEPT };
+
+/* timedelta64's NaT, and the days that it can have whatever else is added. */
+#define MISSING ((uint64_t)INT64_MIN)
+#define MOST_DAYS 106750
 
 struct state {
     PyObject *kept[KEPT];
@@ -102,6 +108,19 @@ static int read_str(struct state *state, PyObject *given, uint32_t options, uint
     return -1;
 }
 
+/* The place of a keyword among some names that are kept, or -1 with an error. */
+static int place_of(struct state *state, PyObject *keyword, int first, int count) {
+    /* Almost always it is the same str. */
+    for (int place = 0; place < count; place++)
+        if (keyword == state->kept[first + place])
+            return place;
+    for (int place = 0; place < count; place++)
+        if (!PyUnicode_Compare(keyword, state->kept[first + place]))
+            return place;
+    PyErr_Format(PyExc_TypeError, "unexpected keyword argument %R", keyword);
+    return -1;
+}
+
 /* Reads the text of a call, whose arguments METH_FASTCALL | METH_KEYWORDS gives. Returns -1 with an error if it is refused. */
 static int read_call(struct state *state, PyObject *const *arguments, Py_ssize_t count, PyObject *keywords, uint64_t *nanos) {
     uint32_t options = 0;
@@ -109,15 +128,12 @@ static int read_call(struct state *state, PyObject *const *arguments, Py_ssize_t
         PyErr_Format(PyExc_TypeError, "one text is wanted as a positional argument, not %zd", count);
         return -1;
     }
-    for (Py_ssize_t at = 0; keywords && at < PyTuple_Size(keywords); at++) {
-        PyObject *name = PyTuple_GetItem(keywords, at);
-        int option = 0;
-        while (option < OPTIONS && name != state->kept[option] && PyUnicode_Compare(name, state->kept[option]))
-            option++;
-        const int is_on = PyObject_IsTrue(arguments[count + at]);
-        if (option == OPTIONS)
-            PyErr_Format(PyExc_TypeError, "unexpected keyword argument %R", name);
-        if (option == OPTIONS || is_on < 0)
+    const Py_ssize_t words = keywords ? PyTuple_Size(keywords) : 0;
+    for (Py_ssize_t at = 0; at < words; at++) {
+        const int option = place_of(state, PyTuple_GetItem(keywords, at), NO_CALC, OPTIONS);
+        PyObject *value = arguments[count + at];
+        const int is_on = value == Py_True ? 1 : value == Py_False ? 0 : PyObject_IsTrue(value);
+        if (option < 0 || is_on < 0)
             return -1;
         options |= (uint32_t)is_on << option;
     }
@@ -139,55 +155,168 @@ static PyObject *parse(PyObject *self, PyObject *const *arguments, Py_ssize_t co
     uint64_t nanos;
     if (read_call(state, arguments, count, keywords, &nanos))
         return NULL;
-    const uint64_t secs = nanos / SECOND;
-    return PyObject_CallFunction(state->kept[TIMEDELTA], "iii", (int)(secs / 86400), (int)(secs % 86400),
-                                 (int)(nanos % SECOND / 1000));
+    /* The product takes two thirds of the constructor's time. */
+    PyObject *micros = PyLong_FromUnsignedLongLong(nanos / 1000);
+    PyObject *value = micros ? PyNumber_Multiply(state->kept[A_MICROSECOND], micros) : NULL;
+    Py_XDECREF(micros);
+    return value;
+}
+
+static PyObject *parse_seconds(PyObject *self, PyObject *const *arguments, Py_ssize_t count, PyObject *keywords) {
+    struct state *state = PyModule_GetState(self);
+    PyObject *nanos = parse_ns(self, arguments, count, keywords);
+    PyObject *seconds = nanos ? PyNumber_TrueDivide(nanos, state->kept[A_SECOND]) : NULL;
+    Py_XDECREF(nanos);
+    return seconds;
+}
+
+/* The limits within which durations are printed. */
+struct limits {
+    uint32_t units[2]; /* the largest and the smallest */
+    uint32_t parts;
+};
+
+/* All units, and as many parts as there are units */
+static const struct limits no_limits = {{DURATION_STR_YEAR, DURATION_STR_NANOSECOND}, DURATION_STR_NANOSECOND + 1};
+
+/* The names of the units as they are printed, in Latin-1 */
+static const char *const unit_names[] = {"y", "q", "mon", "w", "d", "h", "min", "s", "ms", "\xb5s", "ns"};
+
+/* The number of a unit by its name. Returns -1 with an error. */
+static int unit_of(PyObject *name, const char *keyword) {
+    for (int unit = DURATION_STR_YEAR; PyUnicode_Check(name) && unit <= DURATION_STR_NANOSECOND; unit++)
+        if (!PyUnicode_CompareWithASCIIString(name, unit_names[unit]))
+            return unit;
+    if (PyUnicode_Check(name) && !PyUnicode_CompareWithASCIIString(name, "us"))
+        return DURATION_STR_MICROSECOND;
+    PyErr_Format(PyUnicode_Check(name) ? PyExc_ValueError : PyExc_TypeError,
+                 "%s must be one of %s, not %R", keyword, "y, q, mon, w, d, h, min, s, ms, \xc2\xb5s or us, ns", name);
+    return -1;
+}
+
+/* Takes a count of parts. Returns -1 with an error. */
+static int take_parts(PyObject *value, uint32_t *parts) {
+    PyObject *number = PyBool_Check(value) ? NULL : PyNumber_Index(value);
+    int overflow;
+    if (!number)
+        return (PyErr_Format(PyExc_TypeError, "parts must be a whole number, not %R", value), -1);
+    const long long count = PyLong_AsLongLongAndOverflow(number, &overflow);
+    Py_DECREF(number);
+    if (overflow < 0 || (!overflow && count < 0))
+        return (PyErr_Format(PyExc_ValueError, "parts must not be negative: %R", value), -1);
+    *parts = overflow || count > no_limits.parts ? no_limits.parts : (uint32_t)count;
+    return 0;
+}
+
+/* Takes the limits that a call has by keywords. Returns -1 with an error. */
+static int take_limits(struct state *state, PyObject *const *values, PyObject *keywords, struct limits *limits) {
+    const Py_ssize_t words = keywords ? PyTuple_Size(keywords) : 0;
+    *limits = no_limits;
+    for (Py_ssize_t at = 0; at < words; at++) {
+        const int limit = place_of(state, PyTuple_GetItem(keywords, at), LARGEST, PARTS + 1 - LARGEST);
+        if (limit < 0 || (LARGEST + limit == PARTS && take_parts(values[at], &limits->parts)))
+            return -1;
+        if (LARGEST + limit == PARTS)
+            continue;
+        const int unit = unit_of(values[at], limit ? "smallest" : "largest");
+        if (unit < 0)
+            return -1;
+        limits->units[limit] = (uint32_t)unit;
+    }
+    return 0;
+}
+
+/* The text of a duration; without limits the call that has none is the faster one. */
+static PyObject *printed(uint64_t secs, uint32_t nanos, const struct limits *limits) {
+    uint8_t buffer[DURATION_STR_FORMAT_BUFFER_SIZE];
+    const bool is_whole = !memcmp(limits, &no_limits, sizeof no_limits);
+    const size_t length =
+        is_whole ? duration_str_format(secs, nanos, buffer)
+                 : duration_str_format_within(secs, nanos, limits->units[0], limits->units[1], limits->parts, buffer);
+    return PyUnicode_FromStringAndSize((const char *)buffer, (Py_ssize_t)length);
 }
 
 /* The text of an int of nanoseconds. */
-static PyObject *printed(struct state *state, PyObject *nanos) {
+static PyObject *printed_int(struct state *state, PyObject *nanos, const struct limits *limits) {
     int overflow;
     const long long few = PyLong_AsLongLongAndOverflow(nanos, &overflow);
     if (overflow < 0 || (!overflow && few < 0))
         return PyErr_Format(PyExc_ValueError, "a negative duration has no text: %R", nanos);
-    unsigned long long secs = (unsigned long long)few / SECOND, rest = (unsigned long long)few % SECOND;
-    PyObject *both = overflow ? PyNumber_Divmod(nanos, state->kept[A_SECOND]) : NULL;
-    if (both) {
-        secs = PyLong_AsUnsignedLongLong(PyTuple_GetItem(both, 0));
-        rest = PyLong_AsUnsignedLongLong(PyTuple_GetItem(both, 1));
-        Py_DECREF(both);
-    }
-    if (overflow && PyErr_Occurred())
+    if (!overflow)
+        return printed((uint64_t)few / SECOND, (uint32_t)((uint64_t)few % SECOND), limits);
+    PyObject *both = PyNumber_Divmod(nanos, state->kept[A_SECOND]);
+    if (!both)
+        return NULL;
+    const uint64_t secs = PyLong_AsUnsignedLongLong(PyTuple_GetItem(both, 0));
+    const uint32_t rest = (uint32_t)PyLong_AsUnsignedLong(PyTuple_GetItem(both, 1));
+    Py_DECREF(both);
+    if (PyErr_Occurred())
         return PyErr_Format(PyExc_OverflowError, "a duration of 2**64 seconds or more has no text");
-    uint8_t buffer[DURATION_STR_FORMAT_BUFFER_SIZE];
-    const size_t length = duration_str_format(secs, (uint32_t)rest, buffer);
-    return PyUnicode_FromStringAndSize((const char *)buffer, (Py_ssize_t)length);
+    return printed(secs, rest, limits);
 }
 
-/* The text of a duration, or None where the function that takes what is no int says that it is missing. */
-static PyObject *printed_value(struct state *state, PyObject *value, PyObject *function) {
+/* The days, seconds and microseconds of an exact timedelta. Returns -1 with an error if there is no memory. */
+static int parts_of(struct state *state, PyObject *value, long *parts) {
+    for (int part = 0; part < 3; part++) {
+        PyObject *number = PyObject_GetAttr(value, state->kept[DAYS + part]);
+        parts[part] = number ? PyLong_AsLong(number) : -1;
+        Py_XDECREF(number);
+    }
+    return PyErr_Occurred() ? -1 : 0;
+}
+
+/* The text of an exact timedelta. */
+static PyObject *printed_timedelta(struct state *state, PyObject *value, const struct limits *limits) {
+    long parts[3];
+    if (parts_of(state, value, parts))
+        return NULL;
+    if (parts[0] < 0)
+        return PyErr_Format(PyExc_ValueError, "a negative duration has no text: %R", value);
+    return printed((uint64_t)parts[0] * 86400 + (uint64_t)parts[1], (uint32_t)parts[2] * 1000, limits);
+}
+
+/* The text of a duration, or None where the function, which takes what is neither int nor timedelta, says that it is
+ * missing. */
+static PyObject *printed_value(struct state *state, PyObject *value, PyObject *function, const struct limits *limits) {
     if (PyLong_CheckExact(value))
-        return printed(state, value);
+        return printed_int(state, value, limits);
+    if (Py_IS_TYPE(value, (PyTypeObject *)state->kept[TIMEDELTA]))
+        return printed_timedelta(state, value, limits);
     PyObject *nanos = PyObject_CallFunctionObjArgs(function, value, NULL);
-    PyObject *text = !nanos ? NULL : Py_IsNone(nanos) ? Py_NewRef(nanos) : printed(state, nanos);
+    PyObject *text = !nanos ? NULL : Py_IsNone(nanos) ? Py_NewRef(nanos) : printed_int(state, nanos, limits);
     Py_XDECREF(nanos);
     return text;
 }
 
-static PyObject *format(PyObject *self, PyObject *value) {
+static PyObject *format(PyObject *self, PyObject *const *arguments, Py_ssize_t count, PyObject *keywords) {
     struct state *state = PyModule_GetState(self);
-    return printed_value(state, value, state->kept[NANOS_OF]);
+    struct limits limits;
+    if (count != 1)
+        return PyErr_Format(PyExc_TypeError, "one duration is wanted as a positional argument, not %zd", count);
+    if (take_limits(state, arguments + 1, keywords, &limits))
+        return NULL;
+    return printed_value(state, arguments[0], state->kept[NANOS_OF], &limits);
 }
 
-/* format_list(values, function, texts): appends to `texts` the text of each value, so that its length tells where an error
- * stands. The function is called with what is no int. */
+/* limits(*, parts, largest, smallest): the limits as format_list takes them */
+static PyObject *limits(PyObject *self, PyObject *const *arguments, Py_ssize_t count, PyObject *keywords) {
+    struct limits limits;
+    if (take_limits(PyModule_GetState(self), arguments + count, keywords, &limits))
+        return NULL;
+    return Py_BuildValue("(III)", limits.units[0], limits.units[1], limits.parts);
+}
+
+/* format_list(values, function, texts, limits): appends to `texts` the text of each value, so that its length tells where
+ * an error stands. The function is called with what is neither int nor timedelta. */
 static PyObject *format_list(PyObject *self, PyObject *arguments) {
     PyObject *values, *function, *texts;
-    if (!PyArg_ParseTuple(arguments, "O!OO!", &PyList_Type, &values, &function, &PyList_Type, &texts))
+    struct limits limits;
+    if (!PyArg_ParseTuple(arguments, "O!OO!(III)", &PyList_Type, &values, &function, &PyList_Type, &texts, &limits.units[0],
+                          &limits.units[1], &limits.parts))
         return NULL;
     for (Py_ssize_t at = 0; at < PyList_Size(values); at++) {
         PyObject *value = Py_NewRef(PyList_GetItem(values, at));
-        PyObject *text = printed_value(PyModule_GetState(self), value, function);
+        PyObject *text = printed_value(PyModule_GetState(self), value, function, &limits);
         const int failed = !text || PyList_Append(texts, text);
         Py_DECREF(value);
         Py_XDECREF(text);
@@ -205,32 +334,115 @@ static int add_position(PyObject *list, Py_ssize_t position) {
     return failed ? -1 : 0;
 }
 
-/* read_list(texts, nanos, options, raises, first): puts the values of a list's texts into a buffer of zeros, and returns a list of
- * the positions of what is refused, or is no str by its type. If it raises, it raises of the first value that is no str,
- * before any text is read, or else of the first text that is refused. The first text has the index `first`. */
-static PyObject *read_list(PyObject *self, PyObject *arguments) {
-    PyObject *texts;
-    Py_buffer nanos;
-    Py_ssize_t first;
-    unsigned int options;
+/* A list to be read, with room for its values. */
+struct list {
+    PyObject *values;
+    uint64_t *nanos;
+    Py_ssize_t room;
+    uint32_t options;
     int raises;
-    if (!PyArg_ParseTuple(arguments, "O!w*Ipn", &PyList_Type, &texts, &nanos, &options, &raises, &first))
+    Py_ssize_t first; /* the index of the first value; that of a value by itself is -1 */
+    PyObject *function; /* for timedelta64 what keeps other values than texts, or else null */
+};
+
+/* How many values there are: a function that is called may change the list. */
+static Py_ssize_t length_of(const struct list *list) {
+    const Py_ssize_t length = PyList_Size(list->values);
+    return length < list->room ? length : list->room;
+}
+
+/* Keeps a value that is no str for timedelta64. `*missing` is one that the function keeps as NaT, which is not asked again.
+ * Returns -1 with an error. */
+static int keep(struct state *state, const struct list *list, Py_ssize_t at, PyObject *value, PyObject **missing) {
+    long parts[3];
+    const bool is_nan = PyFloat_CheckExact(value) && PyFloat_AsDouble(value) != PyFloat_AsDouble(value);
+    if (Py_IsNone(value) || value == *missing || is_nan) {
+        list->nanos[at] = MISSING;
+        return 0;
+    }
+    if (Py_IS_TYPE(value, (PyTypeObject *)state->kept[TIMEDELTA])) {
+        if (parts_of(state, value, parts))
+            return -1;
+        if (parts[0] >= -MOST_DAYS && parts[0] <= MOST_DAYS) {
+            const int64_t secs = (int64_t)parts[0] * 86400 + parts[1];
+            list->nanos[at] = (uint64_t)(secs * SECOND + (int64_t)parts[2] * 1000);
+            return 0;
+        }
+    }
+    PyObject *kept = PyObject_CallFunction(list->function, "On", value, list->first + at);
+    if (!kept)
+        return -1;
+    list->nanos[at] = (uint64_t)PyLong_AsLongLong(kept);
+    Py_DECREF(kept);
+    if (list->nanos[at] == MISSING) {
+        Py_XDECREF(*missing);
+        *missing = Py_NewRef(value);
+    }
+    return PyErr_Occurred() ? -1 : 0;
+}
+
+/* Raises that timedelta64 doesn't have a text's value. */
+static void raise_beyond(struct state *state, PyObject *given, Py_ssize_t index) {
+    const struct duration_str_answer answer = {.cause = DURATION_STR_OVERFLOW};
+    PyObject *text = PyUnicode_FromObject(given);
+    const char *format = "%U\n2**63 nanoseconds or more, which timedelta64 doesn't have";
+    PyObject *message = text ? PyUnicode_FromFormat(format, text) : NULL;
+    raise_error(state, message, text, &answer, NULL, index);
+}
+
+/* Reads a text of the list, as read_str does. */
+static int read_text(struct state *state, const struct list *list, Py_ssize_t at, PyObject *text, bool raises) {
+    int is_read = read_str(state, text, list->options, list->nanos + at, raises, list->first + at);
+    if (is_read == 1 && list->function && list->nanos[at] > INT64_MAX)
+        is_read = raises ? (raise_beyond(state, text, list->first + at), -1) : 0;
+    if (!is_read)
+        list->nanos[at] = list->function ? MISSING : 0;
+    return is_read;
+}
+
+/* Reads a value, and adds its position to the list if it is refused. Returns -1 with an error. */
+static int read_value(struct state *state, const struct list *list, Py_ssize_t at, PyObject *refused, PyObject **missing) {
+    PyObject *value = Py_NewRef(PyList_GetItem(list->values, at));
+    const bool is_text = PyUnicode_CheckExact(value) || PyUnicode_Check(value);
+    int is_read = is_text ? read_text(state, list, at, value, false) : 0;
+    if (!is_text && list->function)
+        is_read = keep(state, list, at, value, missing) ? -1 : 1;
+    else if (!is_text && list->raises)
+        is_read = (raise_type_error(state, value, list->first + at), -1);
+    Py_DECREF(value);
+    return is_read ? (is_read < 0 ? -1 : 0) : add_position(refused, at);
+}
+
+/* Raises of the first text that is refused. */
+static int raise_first(struct state *state, const struct list *list, PyObject *refused) {
+    const Py_ssize_t at = PyList_Size(refused) ? PyLong_AsSsize_t(PyList_GetItem(refused, 0)) : length_of(list);
+    PyObject *text = at < length_of(list) ? PyList_GetItem(list->values, at) : NULL;
+    return text && PyUnicode_Check(text) && read_text(state, list, at, text, true) < 0 ? -1 : 0;
+}
+
+/* read_list(texts, nanos, options, raises, first, function): puts the values of a list's texts into a buffer of zeros, and
+ * returns a list of the positions of what is refused, or is no str by its type. If it raises, it raises of the first value
+ * that is no str, or if there is none of the first text that is refused. The first text has the index `first`. Where a
+ * function is given and not None, the values are those of timedelta64, what is refused is NaT, and the function has the
+ * value of what is no str. */
+static PyObject *read_list(PyObject *self, PyObject *arguments) {
+    struct list list;
+    Py_buffer nanos;
+    if (!PyArg_ParseTuple(arguments, "O!w*IpnO", &PyList_Type, &list.values, &nanos, &list.options, &list.raises,
+                          &list.first, &list.function))
         return NULL;
     struct state *state = PyModule_GetState(self);
-    PyObject *refused = PyList_New(0);
-    for (Py_ssize_t at = 0; raises && refused && at < PyList_Size(texts); at++)
-        if (!PyUnicode_Check(PyList_GetItem(texts, at))) {
-            raise_type_error(state, PyList_GetItem(texts, at), first + at);
+    PyObject *refused = PyList_New(0), *missing = NULL;
+    list.nanos = nanos.buf;
+    list.room = nanos.len / 8;
+    if (Py_IsNone(list.function))
+        list.function = NULL;
+    for (Py_ssize_t at = 0; refused && at < length_of(&list); at++)
+        if (read_value(state, &list, at, refused, &missing))
             Py_CLEAR(refused);
-        }
-    for (Py_ssize_t at = 0; refused && at < PyList_Size(texts) && at < nanos.len / 8; at++) {
-        PyObject *text = Py_NewRef(PyList_GetItem(texts, at));
-        uint64_t *value = (uint64_t *)nanos.buf + at;
-        const int is_read = PyUnicode_Check(text) ? read_str(state, text, options, value, raises, first + at) : 0;
-        Py_DECREF(text);
-        if (is_read < 0 || (!is_read && add_position(refused, first + at)))
-            Py_CLEAR(refused);
-    }
+    if (refused && list.raises && raise_first(state, &list, refused))
+        Py_CLEAR(refused);
+    Py_XDECREF(missing);
     PyBuffer_Release(&nanos);
     return refused;
 }
@@ -260,24 +472,93 @@ static int copy_offsets(PyObject *given, size_t *offsets, Py_ssize_t texts) {
     return are_signed;
 }
 
+/* Whether the text between two offsets stands in so many bytes. */
+static bool is_within(const size_t *offsets, Py_ssize_t length) {
+    return offsets[0] <= offsets[1] && offsets[1] <= (size_t)length;
+}
+
 /* Raises why the text between two offsets is refused. */
 static void raise_between(struct state *state, const Py_buffer *data, const size_t *offsets, int are_signed,
                           uint32_t options, Py_ssize_t index) {
     const size_t start = offsets[0], end = offsets[1];
-    if (start > end || end > (size_t)data->len) {
+    if (!is_within(offsets, data->len)) {
         const char *format = are_signed ? "the offsets %zd and %zd decrease or lie beyond %zd bytes, at index %zd"
                                         : "the offsets %zu and %zu decrease or lie beyond %zd bytes, at index %zd";
         PyErr_Format(PyExc_ValueError, format, start, end, data->len, index);
         return;
     }
+    PyObject *copy = PyBytes_FromStringAndSize((const char *)data->buf + start, (Py_ssize_t)(end - start));
+    if (!copy)
+        return;
     struct duration_str_answer answer;
-    const struct text text = {(const uint8_t *)data->buf + start, end - start};
+    const struct text text = {(const uint8_t *)PyBytes_AsString(copy), end - start};
     if (duration_str_parse_with(text.bytes, text.length, options, &answer)) {
         PyErr_Format(PyExc_RuntimeError, "the text changed while it was read, at index %zd", index);
-        return;
+    } else {
+        PyObject *given = PyUnicode_DecodeUTF8((const char *)text.bytes, (Py_ssize_t)text.length, "surrogateescape");
+        raise_error(state, message_of(text, options), given, &answer, text.bytes, index);
     }
-    PyObject *given = PyUnicode_DecodeUTF8((const char *)text.bytes, (Py_ssize_t)text.length, "surrogateescape");
-    raise_error(state, message_of(text, options), given, &answer, text.bytes, index);
+    Py_DECREF(copy);
+}
+
+/* A column to be read: its texts, and room for as many values and causes. */
+struct column {
+    const size_t *offsets;
+    size_t texts;
+    uint32_t options;
+    uint64_t *nanos;
+    uint32_t *causes;
+};
+
+/* The texts that are copied at once, and their bytes; a longer text is copied alone. */
+enum { RUN_TEXTS = 1024, RUN_BYTES = 65536 };
+
+/* How many texts from that one on are copied at once: none if its offsets lead elsewhere. */
+static size_t run_at(const struct column *column, size_t at, Py_ssize_t length) {
+    const size_t *offsets = column->offsets + at;
+    size_t run = 0;
+    while (at + run < column->texts && run < RUN_TEXTS && is_within(offsets + run, length) &&
+           (!run || offsets[run + 1] - offsets[0] <= RUN_BYTES))
+        run++;
+    return run;
+}
+
+/* Reads the texts from copies: whoever writes to the bytes meanwhile, also without the interpreter's lock, changes nothing
+ * that is being read. Returns -1 with an error if there is no memory. */
+static int read_copies(const Py_buffer *data, const struct column *column) {
+    size_t moved[RUN_TEXTS + 1], room = RUN_BYTES, run;
+    uint8_t *copy = PyMem_Malloc(room);
+    for (size_t at = 0; copy && at < column->texts; at += run) {
+        const size_t *offsets = column->offsets + at;
+        run = run_at(column, at, data->len);
+        const size_t length = offsets[run] - offsets[0];
+        if (length > room) {
+            PyMem_Free(copy);
+            copy = PyMem_Malloc(room = length);
+        }
+        if (copy && length)
+            memcpy(copy, (const uint8_t *)data->buf + offsets[0], length);
+        for (size_t end = 0; end <= run; end++)
+            moved[end] = offsets[end] - offsets[0];
+        if (!run)
+            moved[++run] = SIZE_MAX;
+        if (copy)
+            duration_str_parse_column(copy, length, moved, run + 1, column->options, column->nanos + at, run,
+                                      column->causes + at, run);
+    }
+    PyMem_Free(copy);
+    return copy ? 0 : (PyErr_NoMemory(), -1);
+}
+
+/* Reads a column. The bytes of an exact `bytes`, which nobody may change, are read in place, while other threads run. */
+static int read_column(const Py_buffer *data, const struct column *column) {
+    if (!PyBytes_CheckExact(data->obj))
+        return read_copies(data, column);
+    Py_BEGIN_ALLOW_THREADS
+    duration_str_parse_column(data->buf, (size_t)data->len, column->offsets, column->texts + 1, column->options,
+                              column->nanos, column->texts, column->causes, column->texts);
+    Py_END_ALLOW_THREADS
+    return 0;
 }
 
 /* read_buffers(data, offsets, nanos, options, raises): as read_list, of the texts between the offsets into the data. */
@@ -291,15 +572,10 @@ static PyObject *read_buffers(PyObject *self, PyObject *arguments) {
     const size_t texts = (size_t)nanos.len / 8;
     size_t *offsets = PyMem_Calloc(texts + 1, sizeof *offsets);
     uint32_t *causes = PyMem_Calloc(texts + 1, sizeof *causes);
+    const struct column column = {offsets, texts, options, nanos.buf, causes};
     const int are_signed = offsets && causes ? copy_offsets(given, offsets, (Py_ssize_t)texts) : (PyErr_NoMemory(), -1);
-    if (are_signed >= 0) {
-        /* Other threads may run where none of them can change the bytes. */
-        PyThreadState *paused = data.readonly ? PyEval_SaveThread() : NULL;
-        duration_str_parse_column(data.buf, (size_t)data.len, offsets, texts + 1, options, nanos.buf, texts, causes, texts);
-        if (paused)
-            PyEval_RestoreThread(paused);
+    if (are_signed >= 0 && !read_column(&data, &column))
         refused = PyList_New(0);
-    }
     for (size_t at = 0; refused && at < texts; at++) {
         if (causes[at] && raises)
             raise_between(PyModule_GetState(self), &data, offsets + at, are_signed, options, (Py_ssize_t)at);
@@ -321,15 +597,25 @@ PyDoc_STRVAR(parse_ns_doc, "parse_ns" OPTIONS_DOC "The value of a text in nanose
 PyDoc_STRVAR(parse_doc, "parse" OPTIONS_DOC
 "The value of a text as a timedelta, rounded down to whole microseconds; `parse_ns`, which has the same options and\n"
 "errors, is exact.");
-PyDoc_STRVAR(format_doc, "format($module, value, /)\n--\n\n"
+PyDoc_STRVAR(parse_seconds_doc, "parse_seconds" OPTIONS_DOC
+"The value of a text in seconds, rounded to the nearest float; `parse_ns`, which has the same options and errors, is\n"
+"exact.");
+PyDoc_STRVAR(format_doc, "format($module, value, /, *, parts=11, largest='y', smallest='ns')\n--\n\n"
 "A duration's text, such as `3min 13s 29ms`, of an int of nanoseconds or of a timedelta, also of NumPy. Raises\n"
-"ValueError where it is negative, OverflowError where it is 2**64 seconds or more, and TypeError where it is neither.");
+"ValueError where it is negative, OverflowError where it is 2**64 seconds or more, and TypeError where it is neither.\n\n"
+"It is printed in at most so many parts, and in the units from the largest to the smallest alone: `y`, `q`, `mon`, `w`,\n"
+"`d`, `h`, `min`, `s`, `ms`, `\xc2\xb5s` or `us`, and `ns`. The rest is left out, so a text is never of more than the\n"
+"duration. If there are no parts, it is `0` and the smallest unit, or `0s`.\n\n"
+">>> duration_str.format(193_029_000_000, parts=2)\n"
+"'3min 13s'");
 
 #define FAST(call) (PyCFunction)(void (*)(void))call, METH_FASTCALL | METH_KEYWORDS
 static PyMethodDef methods[] = {
     {"parse_ns", FAST(parse_ns), parse_ns_doc},
     {"parse", FAST(parse), parse_doc},
-    {"format", format, METH_O, format_doc},
+    {"parse_seconds", FAST(parse_seconds), parse_seconds_doc},
+    {"format", FAST(format), format_doc},
+    {"limits", FAST(limits), NULL},
     {"format_list", format_list, METH_VARARGS, NULL},
     {"read_list", read_list, METH_VARARGS, NULL},
     {"read_buffers", read_buffers, METH_VARARGS, NULL},
@@ -344,20 +630,38 @@ static PyObject *member(const char *module, const char *name) {
     return taken;
 }
 
+/* Says which library the module is linked with. */
+static int add_library(PyObject *module) {
+    const unsigned version = duration_str_version();
+    PyObject *told = PyUnicode_FromFormat("%u.%u.%u, %s", version / 1000000, version / 1000 % 1000, version % 1000,
+                                          IS_PROVED ? "proved" : "the proved sources without their contracts, by rustc");
+    const int status = told ? PyModule_AddObjectRef(module, "library", told) : -1;
+    Py_XDECREF(told);
+    return status;
+}
+
 static int begin(PyObject *module) {
     struct state *state = PyModule_GetState(module);
     int is_there = 1;
     state->kept[NO_CALC] = PyUnicode_InternFromString("no_calc");
     state->kept[LOWERCASE] = PyUnicode_InternFromString("lowercase");
     state->kept[CN_UNIT] = PyUnicode_InternFromString("cn_unit");
+    state->kept[LARGEST] = PyUnicode_InternFromString("largest");
+    state->kept[SMALLEST] = PyUnicode_InternFromString("smallest");
+    state->kept[PARTS] = PyUnicode_InternFromString("parts");
+    state->kept[DAYS] = PyUnicode_InternFromString("days");
+    state->kept[SECONDS] = PyUnicode_InternFromString("seconds");
+    state->kept[MICROSECONDS] = PyUnicode_InternFromString("microseconds");
     state->kept[ERROR] = member("duration_str._texts", "DurationError");
     state->kept[TYPE_ERROR] = member("duration_str._texts", "DurationTypeError");
     state->kept[NANOS_OF] = member("duration_str._texts", "nanos_of");
     state->kept[TIMEDELTA] = member("datetime", "timedelta");
+    if (state->kept[TIMEDELTA])
+        state->kept[A_MICROSECOND] = PyObject_GetAttrString(state->kept[TIMEDELTA], "resolution");
     state->kept[A_SECOND] = PyLong_FromLong(SECOND);
     for (int at = 0; at < KEPT; at++)
         is_there = is_there && state->kept[at];
-    return is_there ? 0 : -1;
+    return is_there ? add_library(module) : -1;
 }
 
 static void end(void *module) {

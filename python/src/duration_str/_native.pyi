@@ -1,7 +1,18 @@
 from array import array
 from collections.abc import Callable
 from datetime import timedelta
-from typing import Any
+from typing import Any, Protocol
+
+from ._texts import Unit
+
+class NumpyDuration(Protocol):
+    """An integer of NumPy or its timedelta64: both have a denominator, and its floats have none."""
+
+    @property
+    def denominator(self) -> Any: ...
+    def astype(self, dtype: str, /) -> Any: ...
+
+library: str
 
 def parse_ns(
     text: str, /, *, no_calc: bool = False, lowercase: bool = False, cn_unit: bool = False
@@ -9,10 +20,24 @@ def parse_ns(
 def parse(
     text: str, /, *, no_calc: bool = False, lowercase: bool = False, cn_unit: bool = False
 ) -> timedelta: ...
-def format(value: int | timedelta | Any, /) -> str: ...
-def format_list(values: list[Any], function: Callable[[Any], int | None], texts: list[str | None], /) -> None: ...
+def parse_seconds(
+    text: str, /, *, no_calc: bool = False, lowercase: bool = False, cn_unit: bool = False
+) -> float: ...
+def format(
+    value: int | timedelta | NumpyDuration, /, *, parts: int = 11, largest: Unit = "y", smallest: Unit = "ns"
+) -> str: ...
+def limits(*, parts: int, largest: Unit, smallest: Unit) -> tuple[int, int, int]: ...
+def format_list(
+    values: list[Any], function: Callable[[Any], int | None], texts: list[str | None], limits: tuple[int, int, int], /
+) -> None: ...
 def read_list(
-    texts: list[Any], nanos: array[int], options: int, raises: bool, first: int, /
+    texts: list[Any],
+    nanos: array[int],
+    options: int,
+    raises: bool,
+    first: int,
+    function: Callable[[Any, int], int] | None,
+    /,
 ) -> list[int]: ...
 def read_buffers(
     data: Any, offsets: memoryview, nanos: array[int], options: int, raises: bool, /

@@ -6,7 +6,10 @@ import datetime
 import enum
 import sys
 from importlib import import_module
-from typing import Any
+from typing import Any, Literal
+
+#: A unit by the name that is printed, or `us`
+Unit = Literal["y", "q", "mon", "w", "d", "h", "min", "s", "ms", "µs", "us", "ns"]
 
 #: The units of timedelta64 that have a length in nanoseconds
 _NANOS = {"W": 604_800 * 10**9, "D": 86_400 * 10**9, "h": 3_600 * 10**9, "m": 60 * 10**9}
