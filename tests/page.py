@@ -1,9 +1,10 @@
 """page.py FILE [--pictures]: tries the page in this file in Chromium, or takes its pictures; called by tests/page.
 
-page-texts.json has texts with what is shown of them, worked out by hand from README.md and docs/GRAMMAR.md: "values" (printed,
-nanoseconds, milliseconds, seconds, ISO 8601), the rows of their "terms", the "notes" on them, the mark and the sentence of
-"faults", and what is offered where an option is "switched". "meant" has texts with the values in seconds that people mean by
-them: several where people use the text with several meanings, null where nothing may be offered.
+page-texts.json has texts and what is shown of them, worked out by hand from README.md and docs/GRAMMAR.md: "values",
+printed and in nanoseconds, milliseconds, seconds and ISO 8601; the rows of their "terms"; "notes" on them; the mark and the
+sentence of "faults"; and what is offered where an option is "switched". "meant" has the values in seconds that people mean
+by texts: several where people use a text with several meanings, null where nothing may be offered. "typed" texts are typed
+character by character, and "hostile" ones must be shown, and do nothing else. page.js runs in the page.
 """
 import ast
 import decimal
@@ -24,7 +25,6 @@ from selenium.webdriver.common.by import By
 from selenium.webdriver.common.keys import Keys
 
 ROOT = pathlib.Path(__file__).resolve().parent.parent
-IMAGES = ROOT / "docs/images"
 TEXTS = json.loads((ROOT / "tests/page-texts.json").read_text(encoding="utf-8"))
 SCHEMES = ("light", "dark")
 # A little longer than the page waits after the last key before it tells the answer and writes the link
@@ -36,18 +36,6 @@ WORDS = 9
 FREE = 300
 OPTIONS = ("no_calc", "lowercase", "cn_unit")
 
-# What the page must show as text, and do nothing else with
-HOSTILE = [
-    "<img src=x onerror=window.hacked=1>",
-    "1m</textarea><script>window.hacked=1</script>",
-    "1m \"><svg onload=window.hacked=1>",
-    "1m <b>&lt;&amp;",
-    "1m \u202etxet desrever",
-    "1m \u05d0\u05d1\u05d2 \u0661",
-    "1m \U0001f600",
-    "1m \ud83d",
-    "javascript:window.hacked=1",
-]
 MEGABYTE = 1 << 20
 # Texts of 1 MiB, and what is printed of them, or None; 349,525 s are 4 d 1 h 5 min 25 s.
 LONG = [
@@ -57,109 +45,6 @@ LONG = [
     (" " * (MEGABYTE - 1) + "x", None),
     ("1m " + "1" * (MEGABYTE - 6) + "m .5", None),
 ]
-
-SETTLED = """
-const done = arguments[arguments.length - 1];
-const start = performance.now();
-const text = document.getElementById("text");
-const words = JSON.parse(arguments[0]);
-if (arguments[1]) {
-    text.select();
-    document.execCommand("insertText", false, words);
-} else {
-    text.value = words;
-    text.dispatchEvent(new Event("input", { bubbles: true }));
-}
-requestAnimationFrame(() => requestAnimationFrame(() => done(performance.now() - start)));
-"""
-CONTRAST = """
-const channels = (colour) => colour.match(/[0-9.]+/g).map(Number);
-const light = (colour) => channels(colour).slice(0, 3).map((c) => c / 255)
-    .map((c) => c <= 0.03928 ? c / 12.92 : ((c + 0.055) / 1.055) ** 2.4)
-    .reduce((sum, c, i) => sum + c * [0.2126, 0.7152, 0.0722][i], 0);
-const behind = (element) => {
-    const colour = getComputedStyle(element).backgroundColor;
-    return (channels(colour)[3] ?? 1) === 0 ? behind(element.parentElement) : colour;
-};
-const ratio = (one, other) => {
-    const [dark, bright] = [light(one), light(other)].sort((a, b) => a - b);
-    return (bright + 0.05) / (dark + 0.05);
-};
-const seen = [...document.querySelectorAll("body *")].filter((element) => element.checkVisibility());
-const hasText = (element) => [...element.childNodes].some((node) => node.nodeType === 3 && node.data.trim() !== "");
-const pale = seen.filter((element) => hasText(element) && !element.closest("#mirror"))
-    .filter((element) => ratio(getComputedStyle(element).color, behind(element)) < 4.5);
-const faint = seen.filter((element) => element.matches("button, .marked, input:not([type=checkbox])"))
-    .filter((element) => ratio(getComputedStyle(element).borderTopColor, behind(element.parentElement)) < 3);
-return [...pale, ...faint].map((element) => element.outerHTML.slice(0, 80));
-"""
-# What breaks a rule, by the rule
-RULES = """
-const all = (selector) => [...document.querySelectorAll(selector)];
-const seen = (selector) => all(selector).filter((element) => element.checkVisibility());
-const told = (elements) => elements.map((element) => element.outerHTML.slice(0, 80));
-const ids = all("[id]").map((element) => element.id);
-const named = (element, attribute) => (element.getAttribute(attribute) ?? "").split(" ").filter(Boolean);
-const refers = ["aria-labelledby", "aria-describedby", "for"];
-const levels = seen("h1, h2, h3").map((element) => Number(element.tagName[1]));
-return {
-    "names used twice": ids.filter((id, place) => ids.indexOf(id) !== place),
-    "names that are nobody's": refers.flatMap((attribute) => all(`[${attribute}]`).flatMap((element) => named(element, attribute)))
-        .filter((id) => !ids.includes(id)),
-    "groups without a name": told(seen("section, [role=group], [role=region]")
-        .filter((element) => !element.hasAttribute("aria-label") && !element.hasAttribute("aria-labelledby"))),
-    "buttons that send": told(all("button:not([type=button])")),
-    "images without words": told(all("img:not([alt])")),
-    "headings that skip a level": levels.filter((level, place) => level > (levels[place - 1] ?? 0) + 1),
-    "a list with other parts": told(all("dl > *, dl > div > *").filter((element) => !element.matches("div, dt, dd"))),
-    "small targets": told(seen("button, input:not([type=checkbox])").filter((element) => element.offsetHeight < 24 || element.offsetWidth < 24)),
-    "places to scroll that no key reaches": told(seen("body *").filter((element) => element.scrollWidth > element.clientWidth + 1
-        && /auto|scroll/.test(getComputedStyle(element).overflowX) && element.tabIndex < 0 && !element.querySelector("textarea"))),
-    "parts outside of a landmark": told([...document.body.children].filter((element) => !element.matches("header, main, footer, script"))),
-};
-"""
-
-
-# For each text its sentence, with each quoted text as one word, and of each button its name, and the text and its value in
-# nanoseconds after it is pressed
-READ_OFFERED = """
-const element = (id) => document.getElementById(id);
-const put = (words) => {
-    for (const box of document.querySelectorAll("input:checked")) box.click();
-    element("text").value = words;
-    element("text").dispatchEvent(new Event("input", { bubbles: true }));
-    return [...document.querySelectorAll("#offered button")];
-};
-const words = (node) => node.nodeName === "CODE" ? "x" : node.textContent;
-return JSON.stringify(JSON.parse(arguments[0]).map((text) => {
-    const count = put(text).length;
-    const sentence = [...element("sentence").childNodes].map(words).join("");
-    return [sentence, Array.from({ length: count }, (_, place) => {
-        const button = put(text)[place];
-        button.click();
-        return [button.ariaLabel, element("text").value, element("nanoseconds").checkVisibility() && element("nanoseconds").textContent];
-    })];
-}));
-"""
-# Each name of a unit, and the text and its nanoseconds after its button is pressed for the empty text
-PRESS_UNITS = """
-const text = document.getElementById("text");
-return [...document.querySelectorAll("#units button")].map((button) => {
-    text.value = "";
-    button.click();
-    return [button.textContent, text.value, document.getElementById("nanoseconds").textContent];
-});
-"""
-PLACED = ["3m + 13s + 29ms", "1h, 30m, 5s", "5 mins", "1:30", "1m+2*3 4", "timeout: 30m", "1分 31秒", "2m*3*4ms*5", "600y x"]
-# Where the examples stand, for each beginning of a text
-PLACES = """
-const text = document.getElementById("text");
-return Array.from({ length: arguments[0].length + 1 }, (_, end) => {
-    text.value = arguments[0].slice(0, end);
-    text.dispatchEvent(new Event("input", { bubbles: true }));
-    return document.getElementById("read-label").getBoundingClientRect().top + scrollY;
-});
-"""
 
 
 class Page:
@@ -174,8 +59,11 @@ class Page:
         options.set_capability("goog:loggingPrefs", {"browser": "ALL", "performance": "ALL"})
         self.driver = webdriver.Chrome(service=Service("/usr/bin/chromedriver"), options=options)
         self.driver.set_script_timeout(60)
-        watch = "window.violations = []; addEventListener('securitypolicyviolation', (e) => violations.push(e.violatedDirective));"
-        self.driver.execute_cdp_cmd("Page.addScriptToEvaluateOnNewDocument", {"source": watch})
+        self.before("(() => {" + (ROOT / "tests/page.js").read_text(encoding="utf-8") + "})()")
+
+    def before(self, script):
+        """Has the script run before the scripts of each page that is opened."""
+        self.driver.execute_cdp_cmd("Page.addScriptToEvaluateOnNewDocument", {"source": script})
 
     def same(self, what, expected, got):
         self.rows += 1
@@ -201,7 +89,8 @@ class Page:
 
     def put(self, text, pasted=False):
         """Puts the text into the input, and gives the milliseconds until it is answered and drawn."""
-        return self.driver.execute_async_script(SETTLED, json.dumps(text), pasted)
+        script = "asked.settled(JSON.parse(arguments[0]), arguments[1], arguments[2])"
+        return self.driver.execute_async_script(script, json.dumps(text), pasted)
 
     def type(self, text):
         self.find("text").clear()
@@ -212,27 +101,27 @@ class Page:
             if self.find(name).is_selected() != (name in names):
                 self.find(name).click()
 
+    def click(self, selector):
+        self.driver.find_element(By.CSS_SELECTOR, selector).click()
+
     def told(self, expression):
         """What the expression is, by JSON, which also carries lone surrogates."""
         return json.loads(self.run(f"return JSON.stringify({expression})"))
+
+    def words(self, selector):
+        """The text of each element."""
+        return self.told(f"asked.words({json.dumps(selector)})")
 
     def text(self):
         return self.told("document.getElementById('text').value")
 
     def marked(self):
-        """What is marked in the input, or in the excerpt below it."""
-        return self.told("document.querySelector('mark')?.textContent ?? null")
+        return next(iter(self.words("mark")), None)
 
-    def offered(self):
-        """What is offered: each text with its meaning."""
-        rows = "document.querySelectorAll('#offered button')"
-        return self.told(f"[...{rows}].map((one) => [...one.children].map((part) => part.textContent.trim()))")
-
-    def press(self, words):
-        for button in self.driver.find_elements(By.CSS_SELECTOR, "#offered button"):
-            if button.find_element(By.TAG_NAME, "code").get_property("textContent") == words:
-                return button.click()
-        return self.same("what is offered", words, self.offered())
+    def key(self, *keys):
+        """Presses the keys in the element that has the focus, and returns the name of the one that has it then."""
+        self.driver.switch_to.active_element.send_keys(*keys)
+        return self.run("const e = document.activeElement; return e.id || e.textContent || e.className")
 
 
 def try_values(page):
@@ -246,8 +135,11 @@ def try_values(page):
     for text, options, expected in TEXTS["terms"]:
         page.choose(*options)
         page.put(text)
-        cells = page.run("return [...document.querySelectorAll('#terms th, #terms td')].map((cell) => cell.textContent)")
-        page.same(f"the terms of {text}", expected, cells if page.find("terms").is_displayed() else None)
+        page.same(f"the terms of {text}", expected, page.words("#terms th, #terms td") or None)
+    page.choose()
+    for text, notes in TEXTS["notes"]:
+        page.put(text)
+        page.same(f"the notes on {text}", notes, page.words("#notes p"))
 
 
 def try_faults(page):
@@ -260,7 +152,7 @@ def try_faults(page):
     page.choose()
     page.put("1h,")
     page.same("the library's line, folded away", None, page.shown("line"))
-    page.driver.find_element(By.TAG_NAME, "summary").click()
+    page.click("summary")
     page.same("the library's line, unfolded", "expected ['+', '*']", page.shown("line"))
 
 
@@ -276,7 +168,7 @@ def try_texts(page):
     page.open()
     rows = [row for rows in TEXTS["meant"].values() for row in rows]
     page.same("texts", True, len(rows) >= 150)
-    answers = json.loads(page.run(READ_OFFERED, json.dumps([text for text, *_ in rows])))
+    answers = page.told(f"asked.offered({json.dumps([text for text, *_ in rows])})")
     for (text, *meant), (sentence, buttons) in zip(rows, answers):
         values = [f"{int(decimal.Decimal(seconds) * 10**9):,}" for seconds in meant if seconds]
         page.same(f"what is offered for {text!r}", values, [value for *_, value in buttons])
@@ -291,26 +183,19 @@ def try_switching(page):
     for text, options, words, meaning, remain in TEXTS["switched"]:
         page.choose(*options)
         page.put(text)
-        page.same(f"{words} for {text}", [[words, meaning]], page.offered())
-        page.press(words)
+        page.same(f"{words} for {text}", [words, meaning], page.words("#offered button > *"))
+        page.click("#offered button")
         chosen = [name for name in OPTIONS if page.find(name).is_selected()]
-        page.same(f"pressed: {words} for {text}", [words, remain, True], [page.text(), chosen, page.shown("printed") is not None])
+        page.same(f"pressed: {words} for {text}", [words, remain], [page.text(), chosen])
     page.choose()
-    for text, notes in TEXTS["notes"]:
-        page.put(text)
-        page.same(f"the notes on {text}", notes, page.run("return [...document.querySelectorAll('#notes p')].map((e) => e.textContent)"))
-
-
-def try_undoing(page):
-    page.open()
     page.type("1h, 30m")
-    page.press("1h 30m")
-    page.driver.switch_to.active_element.send_keys(Keys.CONTROL, "z")
+    page.click("#offered button")
+    page.key(Keys.CONTROL, "z")
     page.same("undone", "1h, 30m", page.text())
-    page.driver.switch_to.active_element.send_keys(Keys.CONTROL, Keys.SHIFT, "z")
+    page.key(Keys.CONTROL, Keys.SHIFT, "z")
     page.same("done again", ["1h 30m", "1h 30min"], [page.text(), page.shown("printed")])
-    page.driver.find_element(By.CSS_SELECTOR, "#read-examples button").click()
-    page.driver.switch_to.active_element.send_keys(Keys.CONTROL, "z")
+    page.click("#read-examples button")
+    page.key(Keys.CONTROL, "z")
     page.same("an example undone", "1h 30m", page.text())
 
 
@@ -330,14 +215,13 @@ def try_examples(page):
 def try_units(page):
     page.open()
     units = [(name, unit.length) for unit in reference_parser.UNITS for name in f"{unit.names} {unit.chinese}".split()]
-    read = page.run(PRESS_UNITS)
-    page.same("the units", [[name, f"1{name}", f"{length:,}"] for name, length in units], read)
+    pressed = [[name, f"1{name}", f"{length:,}"] for name, length in units]
+    page.same("the units", pressed, page.told("asked.pressedUnits()"))
     page.same("the option of the Chinese names", True, page.find("cn_unit").is_selected())
     page.run("document.querySelector('#units button').focus()")
-    for key, name in ((Keys.ARROW_RIGHT, "year"), (Keys.ARROW_LEFT, "y"), (Keys.ARROW_UP, "纳秒"), (Keys.ARROW_DOWN, "y"), (Keys.END, "纳秒")):
-        page.driver.switch_to.active_element.send_keys(key)
-        page.same("the unit that the arrow keys lead to", name, focused(page))
-    page.same("the stop of the tab key", ["纳秒"], page.run("return [...document.querySelectorAll('#units [tabindex=\"0\"]')].map((e) => e.textContent)"))
+    keys = (Keys.ARROW_RIGHT, Keys.ARROW_LEFT, Keys.ARROW_UP, Keys.ARROW_DOWN, Keys.END)
+    page.same("where the arrow keys lead to", ["year", "y", "纳秒", "y", "纳秒"], [page.key(key) for key in keys])
+    page.same("the stop of the tab key", ["纳秒"], page.words("#units [tabindex='0']"))
     for text, becomes in (("1h 30", "1h 30min"), ("1h", "1h 1min"), ("1h, ", "1min"), ("1m*", "1m* 1min")):
         page.put(text)
         page.driver.find_element(By.XPATH, "//*[@id='units']//button[.='min']").click()
@@ -359,7 +243,7 @@ def try_code(page):
     for text in ("1h", '"\\n ${x}', "\t\n\0009", "??/µ 分秒é\u202e\U0001f600"):
         page.put(text)
         call = ast.parse(page.shown("python")).body[-1].value
-        page.same(f"Python's literal of {text!r}", [text, 1, 0], [call.args[0].value, len(call.args), len(call.keywords)])
+        page.same(f"Python's literal of {text!r}", [[text], []], [[each.value for each in call.args], call.keywords])
         literal = page.shown("javascript").split("parse(")[1].removesuffix(");")
         page.same(f"JavaScript's literal of {text!r}", text, page.run(f"return {literal}"))
         page.same(f"Rust's options of {text!r}", True, page.shown("rust").endswith(", Options::off())?;"))
@@ -379,19 +263,20 @@ def literal_of_c(code):
 
 
 def try_copying(page):
-    page.driver.execute_cdp_cmd("Browser.grantPermissions", {"permissions": ["clipboardReadWrite", "clipboardSanitizedWrite"]})
+    permissions = ["clipboardReadWrite", "clipboardSanitizedWrite"]
+    page.driver.execute_cdp_cmd("Browser.grantPermissions", {"permissions": permissions})
     page.open("#text=1h%2030m%201ms")
-    copied = {"printed": "1h 30min 1ms", "nanoseconds": "5400001000000", "milliseconds": "5400001", "seconds": "5400.001",
-              "iso": "PT1H30M0.001S", "python": page.shown("python")}
+    copied = {"printed": "1h 30min 1ms", "nanoseconds": "5400001000000", "milliseconds": "5400001",
+              "seconds": "5400.001", "iso": "PT1H30M0.001S", "python": page.shown("python")}
     page.same("copy buttons", 9, len(page.driver.find_elements(By.CSS_SELECTOR, "[data-copies]")))
     for name, expected in copied.items():
-        page.driver.find_element(By.CSS_SELECTOR, f"[data-copies={name}]").click()
+        page.click(f"[data-copies={name}]")
         time.sleep(0.1)
-        got = page.driver.execute_async_script("navigator.clipboard.readText().then(arguments[0], (e) => arguments[0](String(e)))")
+        got = page.driver.execute_async_script("navigator.clipboard.readText().then(arguments[0])")
         page.same(f"copied: {name}", [expected, f"Copied: {expected.splitlines()[0]}"], [got, page.shown("copied")])
     page.run("Object.defineProperty(navigator, 'clipboard', { value: undefined })")
     for name, expected in copied.items():
-        page.driver.find_element(By.CSS_SELECTOR, f"[data-copies={name}]").click()
+        page.click(f"[data-copies={name}]")
         page.same(f"selected: {name}", [expected, "Selected, not copied: press Ctrl+C, or ⌘C."],
                   [page.run("return String(getSelection())"), page.shown("copied")])
 
@@ -412,14 +297,15 @@ def try_link(page):
     page.same("what is told of #other=1", "Not understood in the link: other=1", page.shown("link-note"))
     page.put("1m \ud800")
     time.sleep(PAUSE)
-    page.same("what is told of a lone surrogate", "This text is not UTF-8, so the address can't hold it.", page.shown("link-note"))
+    said = "This text is not UTF-8, so the address can't hold it."
+    page.same("what is told of a lone surrogate", said, page.shown("link-note"))
 
 
 def try_hostile(page):
     page.open()
     count = "return ['img', 'svg', 'script', 'b'].map((name) => document.querySelectorAll(name).length)"
     before = page.run(count)
-    for text in HOSTILE:
+    for text in TEXTS["hostile"]:
         page.put(text)
         page.same(f"refused: {text!r}", True, page.shown("sentence") is not None)
         page.same(f"the elements under {text!r}", before, page.run(count))
@@ -438,72 +324,60 @@ def try_hostile(page):
         page.same(f"whether {text[:9]}.. has a mark", printed is None, page.marked() is not None)
 
 
-def focused(page):
-    return page.run("const e = document.activeElement; return e.id || e.textContent || e.className")
-
-
 def try_keyboard(page):
     page.open()
-    page.same("the first focus", "text", focused(page))
-    keys = page.driver.switch_to.active_element
-    keys.send_keys(Keys.CONTROL, "a")
-    keys.send_keys("1:30")
-    wanted = page.run(
-        "return [...document.querySelectorAll('button, input, textarea, summary, [tabindex]')]"
+    page.key(Keys.CONTROL, "a")
+    page.same("the first focus", "text", page.key("1:30"))
+    wanted = page.told(
+        "[...document.querySelectorAll('button, input, textarea, summary, [tabindex]')]"
         ".filter((e) => e.checkVisibility() && e.tabIndex === 0).map((e) => e.id || e.textContent || e.className)"
     )
-    reached = [focused(page)]
-    for _ in wanted:
-        page.driver.switch_to.active_element.send_keys(Keys.TAB)
-        reached.append(focused(page))
-    page.same("reached by the tab key", wanted, [name for name in reached if name in wanted][: len(wanted)])
-    page.run("document.getElementById('text').focus()")
-    for key, name in ((Keys.TAB, "no_calc"), (Keys.TAB, "lowercase"), (Keys.TAB, "cn_unit"), (Keys.TAB, "1h 30m1 hour 30 minutes"),
-                      (Keys.TAB, "1m 30s1 minute 30 seconds"), (Keys.ENTER, "text")):
-        page.driver.switch_to.active_element.send_keys(key)
-        page.same("focus", name, focused(page))
+    page.same("reached by the tab key", wanted[1:], [page.key(Keys.TAB) for _ in wanted[1:]])
+    page.click("#text")
+    names = ("no_calc", "lowercase", "cn_unit", "1h 30m1 hour 30 minutes", "1m 30s1 minute 30 seconds")
+    page.same("what follows the text", list(names), [page.key(Keys.TAB) for _ in names])
+    page.same("after the enter key", "text", page.key(Keys.ENTER))
     page.same("taken by the keyboard", "1m 30s", page.text())
-    page.driver.switch_to.active_element.send_keys(" 5")
+    page.key(" 5")
     page.same("typed after it", "1m 30s 5", page.text())
-    page.driver.switch_to.active_element.send_keys(Keys.TAB, Keys.SPACE)
+    page.key(Keys.TAB, Keys.SPACE)
     page.same("switched by the keyboard", True, page.find("no_calc").is_selected())
 
 
 def try_readers(page):
     """What screen readers are told: a name for each field, and one line after a pause."""
     page.open()
-    for field in page.driver.find_elements(By.CSS_SELECTOR, "input, textarea, button:not(#units button:not(:first-child))"):
+    for field in page.driver.find_elements(By.CSS_SELECTOR, "input, textarea, pre, button:not(#units button)"):
         if field.is_displayed():
             page.same(f"a name for {field.get_attribute('outerHTML')[:60]}", True, bool(field.accessible_name))
-    live = "return [...document.querySelectorAll('output, [role=status], [role=alert], [aria-live]')].map((e) => e.id)"
-    page.same("live regions", ["announcement", "link-note", "copied"], page.run(live))
-    page.run(
-        "window.told = []; new MutationObserver(() => told.push(document.getElementById('announcement').textContent))"
-        ".observe(document.getElementById('announcement'), { childList: true })"
-    )
+    page.same("live regions", 3, len(page.words("[role=status], [role=alert], [aria-live]")))
+    page.run("const said = document.getElementById('announcement'); window.told = [];"
+             "new MutationObserver(() => told.push(said.textContent)).observe(said, { childList: true })")
     for text in ("1", "1h", "1h ", "1h 3", "1h 30", "1h 30m"):
         page.put(text)
     time.sleep(PAUSE)
-    page.same("told", ["1h 30min."], page.run("return told"))
-    for text, told in (("1m+", "A number must follow +."), ("1h 30", "1h 30s. 30 has no unit: seconds. Try instead 1h 30m: 1 hour 30 minutes."),
-                       ("5 mins", "There is no unit mins: write min. Try instead 5 min: 5 minutes.")):
+    page.same("told", ["1h 30min."], page.told("told"))
+    told = {
+        "1h 30": "1h 30s. 30 has no unit: seconds. Try instead 1h 30m: 1 hour 30 minutes.",
+        "5 mins": "There is no unit mins: write min. Try instead 5 min: 5 minutes.",
+        "1m+": "A number must follow +.",
+    }
+    for text, expected in told.items():
         page.put(text)
         time.sleep(PAUSE)
-        page.same(f"told of {text}", told, page.run("return told.at(-1)"))
-    page.put("1m+")
-    described = "const e = document.getElementById('text'); return [e.getAttribute('aria-invalid'),"
-    described += "document.getElementById(e.getAttribute('aria-describedby'))?.textContent ?? null]"
-    page.same("the input with a fault", ["true", "A number must follow +."], page.run(described))
+        page.same(f"told of {text}", expected, page.told("told.at(-1)"))
+    described = "['aria-invalid', 'aria-describedby'].map((name) => document.getElementById('text').getAttribute(name))"
+    page.same("the input with a fault", ["true", "sentence"], page.told(described))
     page.put("1m+1")
-    page.same("the input without a fault", ["false", None], page.run(described))
-    page.same("what remains of the fault", "", page.find("sentence").get_property("textContent"))
+    page.same("the input without a fault", ["false", None], page.told(described))
+    page.same("what remains of the fault", [""], page.words("#sentence"))
 
 
-def emulate(page, scheme, width, height=1100, scale=1, forced=False):
+def emulate(page, scheme, width, height=1100, forced=False):
     features = {"prefers-color-scheme": scheme, "forced-colors": "active" if forced else "none"}
     media = {"features": [{"name": name, "value": value} for name, value in features.items()]}
     page.driver.execute_cdp_cmd("Emulation.setEmulatedMedia", media)
-    size = {"width": width, "height": height, "deviceScaleFactor": scale, "mobile": False}
+    size = {"width": width, "height": height, "deviceScaleFactor": 1, "mobile": False}
     page.driver.execute_cdp_cmd("Emulation.setDeviceMetricsOverride", size)
 
 
@@ -511,16 +385,17 @@ def try_rules(page):
     """Rules of accessibility, in a page with all that it can show."""
     for text in ("1:30", "3m + 13s + 29ms"):
         page.open("#cn_unit&text=" + urllib.parse.quote(text))
-        for what, broken in page.run(RULES).items():
+        for what, broken in page.told("asked.brokenRules()").items():
             page.same(f"{what} under {text}", [], broken)
     for button in page.driver.find_elements(By.CSS_SELECTOR, "#units button"):
-        page.same(f"the language of {button.text}", None if button.text.isascii() or "µ" in button.text else "zh", button.get_attribute("lang") or None)
-    page.put("1分 31秒 x")
+        language = "" if button.text.isascii() or "µ" in button.text else "zh"
+        page.same(f"the language of {button.text}", language, button.get_attribute("lang"))
     page.choose()
-    page.same("the language of a sentence", True, page.run("return document.querySelector('#sentence [lang=zh]') !== null"))
+    page.put("1分")
+    page.same("the language of a sentence", ["分"], page.words("#sentence code[lang=zh]"))
     page.same("one first heading", 1, len(page.driver.find_elements(By.TAG_NAME, "h1")))
     version = subprocess.run([ROOT / "tools/version"], stdout=subprocess.PIPE, check=True, text=True).stdout.strip()
-    page.same("the library", f"duration_str {version}", page.run("return /duration_str [0-9.]+[0-9]/.exec(document.querySelector('footer').textContent)[0]"))
+    page.same("the library's version", version, page.shown("version"))
     page.same("an icon", True, page.run("return document.querySelector('link[rel=icon]').href.length > 100"))
 
 
@@ -529,8 +404,8 @@ def try_place(page):
     for width in (320, 900):
         emulate(page, "light", width)
         page.open()
-        tops = [page.run(PLACES, text) for text in PLACED]
-        page.same(f"the places of the examples on {width} pixels", 1, len(set(sum(tops, []))))
+        places = page.told(f"asked.places({json.dumps(TEXTS['typed'])})")
+        page.same(f"the places of the examples on {width} pixels", 1, len(set(places)))
 
 
 def try_phone(page):
@@ -538,29 +413,8 @@ def try_phone(page):
     emulate(page, "light", 375, 667)
     for text in ("3m + 13s + 29ms", "1h 30", "1:30", "5 mins", "5m, 10m"):
         page.open("#text=" + urllib.parse.quote(text))
-        seen = "['printed', 'notes', 'sentence', 'offered'].map((id) => document.getElementById(id)).filter((e) => e.checkVisibility())"
-        lowest = page.run(f"return Math.max(...{seen}.map((e) => (e.querySelector('button') ?? e).getBoundingClientRect().bottom))")
+        lowest = page.told("asked.lowest()")
         page.same(f"the answer to {text} at {lowest} pixels", True, lowest <= FREE)
-
-
-def try_without(page):
-    """Without scripts or WebAssembly the page says so first, and shows nothing else but its title and its end."""
-    command = page.driver.execute_cdp_cmd
-    seen = "[...document.querySelectorAll('body *')].filter((e) => e.checkVisibility() && e.children.length === 0).map((e) => e.textContent)"
-    shown = ["This page needs JavaScript and WebAssembly.", "What does this duration mean?"]
-    command("Emulation.setScriptExecutionDisabled", {"value": True})
-    page.open()
-    page.same("without scripts", shown, page.run(f"return {seen}")[:2])
-    page.same("controls without scripts", False, page.find("text").is_displayed())
-    command("Emulation.setScriptExecutionDisabled", {"value": False})
-    script = command("Page.addScriptToEvaluateOnNewDocument", {"source": "delete globalThis.WebAssembly"})["identifier"]
-    page.open()
-    page.same("without WebAssembly", shown, page.run(f"return {seen}")[:2])
-    page.same("controls without WebAssembly", False, page.find("text").is_displayed())
-    page.driver.get_log("browser")
-    command("Page.removeScriptToEvaluateOnNewDocument", {"identifier": script})
-    page.open()
-    page.same("with both", [False, True], [page.run("return document.getElementById('needs') !== null"), page.find("text").is_displayed()])
 
 
 def try_looks(page):
@@ -573,13 +427,13 @@ def try_looks(page):
                 page.put(text)
                 what = f"{text[:9]} in {scheme} on {width} pixels"
                 page.same(f"width of {what}", width, page.run("return document.documentElement.scrollWidth"))
-                page.same(f"pale parts of {what}", [], page.run(CONTRAST))
+                page.same(f"pale parts of {what}", [], page.told("asked.pale()"))
         papers[scheme] = page.run("return getComputedStyle(document.body).backgroundColor")
     page.same("two papers", 2, len(set(papers.values())))
     emulate(page, "dark", 900, forced=True)
     page.open("#text=1%3A30")
-    seen = "const s = (e) => getComputedStyle(document.querySelector(e)); return [s('mark').outlineStyle, s('.marked').outlineStyle]"
-    page.same("a mark and a focus in forced colours", ["solid", "solid"], page.run(seen))
+    lined = "['mark', '.marked'].map((e) => getComputedStyle(document.querySelector(e)).outlineStyle)"
+    page.same("a mark and a focus in forced colours", ["solid", "solid"], page.told(lined))
     page.same("the diagram is drawn", True, page.run("return document.querySelector('img').naturalWidth > 300"))
 
 
@@ -594,9 +448,27 @@ def try_outside(page):
     page.same("broken rules", [], page.run("return violations"))
     fetched = "const done = arguments[0]; fetch('https://127.0.0.1:9/').then(() => done('read'), () => done('refused'))"
     page.same("a request", "refused", page.driver.execute_async_script(fetched))
-    page.run("const script = document.createElement('script'); script.textContent = 'window.hacked = 1'; document.body.append(script)")
+    page.run("document.body.append(Object.assign(document.createElement('script'), { text: 'window.hacked = 1' }))")
     page.same("another script", None, page.run("return window.hacked ?? null"))
     page.same("broken rules after both", ["connect-src", "script-src-elem"], page.run("return violations"))
+
+
+def try_without(page):
+    """Without scripts or WebAssembly the page says so first, and shows nothing else but its title and its end."""
+
+    def same(what, works):
+        page.open()
+        time.sleep(PAUSE)
+        said = page.driver.find_element(By.TAG_NAME, "body").text.startswith("This page needs JavaScript")
+        page.same(what, [not works, works], [said, page.find("text").is_displayed()])
+
+    disable = "Emulation.setScriptExecutionDisabled"
+    page.driver.execute_cdp_cmd(disable, {"value": True})
+    same("without scripts", False)
+    page.driver.execute_cdp_cmd(disable, {"value": False})
+    same("with both", True)
+    page.before("delete globalThis.WebAssembly")
+    same("without WebAssembly", False)
 
 
 def take_pictures(page):
@@ -604,7 +476,7 @@ def take_pictures(page):
         emulate(page, scheme, 640, 680)
         page.open("#text=1%3A30")
         page.run("document.activeElement.blur()")
-        page.driver.save_screenshot(str(IMAGES / f"page-{scheme}.png"))
+        page.driver.save_screenshot(str(ROOT / f"docs/images/page-{scheme}.png"))
 
 
 def main(file, *words):
@@ -614,10 +486,7 @@ def main(file, *words):
         if words == ("--pictures",):
             take_pictures(page)
             return 0
-        for test in (
-            try_values, try_faults, try_texts, try_switching, try_undoing, try_examples, try_units, try_code, try_copying, try_link,
-            try_hostile, try_keyboard, try_readers, try_rules, try_place, try_phone, try_looks, try_outside, try_without,
-        ):
+        for test in [test for name, test in globals().items() if name.startswith("try_")]:
             test(page)
     finally:
         page.driver.quit()

@@ -37,6 +37,7 @@ function markedPart({ code, index, found }) {
 function putMarked(target, shown, from, to) {
     // At the end of the text a blank is marked.
     const mark = made("mark", from === to ? "\u00a0" : shown.slice(from, to));
+    mark.classList.toggle("thin", /^\p{Cf}$/u.test(mark.textContent));
     target.replaceChildren(shown.slice(0, from), mark, shown.slice(to));
 }
 
@@ -119,9 +120,9 @@ function showValue(value) {
     show("seconds", seconds(value), grouped(seconds(value)));
     show("iso", iso(value));
     showTerms(termRows(text.value, chosenOptions()));
-    const { sentences, offers } = text.value.length > LONG ? { sentences: [], offers: [] } : notesOn(text.value, value, chosenOptions());
-    element("notes").replaceChildren(...sentences.map((each) => made("p", ...parts(each))));
-    showOffers(offers);
+    const notes = text.value.length > LONG ? { sentences: [], offers: [] } : notesOn(text.value, value, chosenOptions());
+    element("notes").replaceChildren(...notes.sentences.map((each) => made("p", ...parts(each))));
+    showOffers(notes.offers);
 }
 
 function showCode() {

@@ -1,17 +1,20 @@
-// Texts in other notations, each recognised as a whole, with their exact values. What people use with two meanings has two
-// readings, and what has no meaning, or none that is a duration, has a sentence alone.
+// Texts in other notations, each recognised as a whole, with their exact values. What people use with two meanings has
+// two readings, and what has no meaning, or none that is a duration, has a sentence alone.
 import { tryParse } from "../js/dist/duration-str.js";
 import { terms, UNITS, unitOf } from "./units.js";
 import { say } from "./words.js";
 
-const LIMIT = 2n ** 64n;
+/** Durations are below this many nanoseconds. */
+const LIMIT = 1n << 64n;
+export const LONGEST = ["over 584 years, the longest duration"];
 const [WEEK, DAY, HOUR, MINUTE, SECOND] = ["w", "d", "h", "m", "s"].map(unitOf);
 
 // ---- Characters and names
 
 /** The text with the digits of other scripts as ASCII's, `µ` for the other mu, and without zero-width characters. */
 function plain(text) {
-    return text.trim().replace(/\u03bc/g, "µ").replace(/[\u00ad\u200b-\u200d\u2060\ufeff]/g, "").replace(/\p{Nd}/gu, (digit) => {
+    const seen = text.trim().replace(/[\u00ad\u200b-\u200d\u2060\ufeff]/g, "");
+    return seen.replace(/\u03bc/g, "µ").replace(/\p{Nd}/gu, (digit) => {
         // The ten digits of a script follow one another.
         let zero = digit.codePointAt(0);
         while (/\p{Nd}/u.test(String.fromCodePoint(zero - 1))) zero--;
@@ -34,7 +37,7 @@ function isOneEdit(one, other) {
     return less === otherLess || less === otherRest || rest === otherLess;
 }
 
-/** The name that a misspelt word of four letters or more means: one edit away, with the same first letter, and of one unit. */
+/** What a misspelt word of four letters or more means: names of one unit alone, one edit away, with its first letter. */
 function misspelt(word) {
     if (word.length < 4) return null;
     const isNear = (name) => name[0] === word[0] && isOneEdit(name, word);
@@ -42,7 +45,7 @@ function misspelt(word) {
     return near.length === 1 ? near[0].find((name) => name.at(-1) === word.at(-1)) ?? near[0][0] : null;
 }
 
-/** The library's name for a word: its own, the one of a common name or of a misspelt one; nothing where there is none. */
+/** The library's name for a word, for a common name and for a misspelt one; nothing where there is none. */
 export function unitName(word) {
     const small = word.toLowerCase();
     if (unitOf(word)) return word;
@@ -82,7 +85,7 @@ function reading(nanos, longest) {
 function found(text, readings, sentence) {
     const none = (why) => ({ readings: [], sentence: why });
     if (readings.some(({ nanos }) => nanos === null)) return none(say`${text} is finer than a nanosecond.`);
-    if (readings.some(({ nanos }) => nanos >= LIMIT)) return none(say`${text} is over 584 years, the longest duration.`);
+    if (readings.some(({ nanos }) => nanos >= LIMIT)) return none(say`${text} is ${LONGEST}.`);
     const isFirst = ({ nanos }, place) => readings.findIndex((each) => each.nanos === nanos) === place;
     return { readings: readings.filter(isFirst), sentence };
 }
@@ -144,7 +147,8 @@ function clock(text) {
 }
 
 const COUNT = "([0-9]+(?:[.,][0-9]+)?)";
-const ISO = new RegExp(`^P(?=.)(?:${COUNT}W|(?:${COUNT}D)?(?:T(?=.)(?:${COUNT}H)?(?:${COUNT}M)?(?:${COUNT}S)?)?)$`, "i");
+const TIME = `(?:${COUNT}H)?(?:${COUNT}M)?(?:${COUNT}S)?`;
+const ISO = new RegExp(`^P(?=.)(?:${COUNT}W|(?:${COUNT}D)?(?:T(?=.)${TIME})?)$`, "i");
 
 /** `PT5M`, in which the last count alone can be a decimal */
 function iso8601(text) {
@@ -164,7 +168,7 @@ function iso8601(text) {
 
 // ---- Sums
 
-const WORDS = ["half", "one", "two", "three", "four", "five", "six", "seven", "eight", "nine", "ten", "eleven", "twelve"];
+const WORDS = "half one two three four five six seven eight nine ten eleven twelve".split(" ");
 const NUMBER = String.raw`\.?[0-9](?:[.,_'’\u00a0\u202f]?[0-9])*(?:e[+-]?[0-9]+)?`;
 const TERM = new RegExp(String.raw`(?:(${NUMBER})\s*|(half an|half a|an|a|${WORDS.join("|")})\s+)([A-Za-zµ]+)`, "iy");
 const JOINED = /\s*,\s*(?:and\s+)?|\s+and\s+|\s*\+\s*|\s*/iy;
@@ -197,14 +201,16 @@ function numberOf(words) {
 /** What a number word means in the same way. */
 function wordOf(words) {
     const number = WORDS.indexOf(words.toLowerCase().split(/\s/)[0]);
-    return { counts: [number === 0 ? [5n, -1] : [BigInt(Math.max(number, 1)), 0]], sentence: say`Write numbers in digits.` };
+    const count = number === 0 ? [5n, -1] : [BigInt(Math.max(number, 1)), 0];
+    return { counts: [count], sentence: say`Write numbers in digits.` };
 }
 
 /** A term's unit and what its number can mean; nothing where it means nothing. */
-function termOf(digits, words, name) {
-    const number = digits ? numberOf(digits) : wordOf(words);
+function termOf(numeral, words, name) {
+    const number = numeral ? numberOf(numeral) : wordOf(words);
     if (number && /^fortnights?$/i.test(name)) {
-        return { ...number, counts: number.counts.map(([each, power]) => [2n * each, power]), unit: WEEK, isForeign: true };
+        const weeks = number.counts.map(([digits, power]) => [2n * digits, power]);
+        return { ...number, counts: weeks, unit: WEEK, isForeign: true };
     }
     const unit = unitOf(unitName(name) ?? "");
     // A quarter of an hour, or of a year
@@ -278,8 +284,8 @@ const REFUSED = [
     [new RegExp(String.raw`^(?:an?|${WORDS.join("|")})\b`, "i"), say`Write numbers in digits.`],
 ];
 
-/** What a text in another notation means: its readings, two where there are two, each with its exact value and the text to
- * write, and a sentence that says why it is refused, if not the library's reason; nothing where the notation is unknown. */
+/** What a text in another notation means: its readings, each with its exact value and the text to write, and a sentence
+ * that says why it is refused, if that isn't the library's reason; nothing where the notation is unknown. */
 export function converted(text, options) {
     const words = plain(text);
     for (const convert of [keyed, enclosed, clock, iso8601, sumOfTerms]) {

@@ -22,7 +22,7 @@ function steps(values) {
     return rows;
 }
 
-/** Rows with the terms of a text that is read and what each is; of a product also the steps. Of one term there are none. */
+/** Rows with the terms of a text that is read and what each is, and of a product the steps; of one term there are none. */
 export function termRows(text, options) {
     const found = [];
     for (const term of terms(text, options)) if (found.push(term) > SHOWN) break;

@@ -1,5 +1,5 @@
-// What is offered beside an answer: whole texts that the library reads, and what is said of a text that it reads otherwise
-// than many people do.
+// What is offered beside an answer: whole texts that the library reads; and what is said of a text that it reads
+// otherwise than many people do.
 import { format, tryParse } from "../js/dist/duration-str.js";
 import { cleaned, converted } from "./conversions.js";
 import { terms, UNITS, unitOf } from "./units.js";
@@ -9,9 +9,11 @@ const DAY = unitOf("d").nanos;
 
 /** These options, and then others that read more, those with the fewest changes first. */
 function optionsToTry({ noCalc, lowercase, cnUnit }) {
-    return [0, 1, 2, 4, 3, 5, 6, 7].map((changes) => {
-        return { noCalc: noCalc && !(changes & 1), lowercase: lowercase && !(changes & 2), cnUnit: cnUnit || changes > 3 };
-    });
+    return [0, 1, 2, 4, 3, 5, 6, 7].map((changes) => ({
+        noCalc: noCalc && !(changes & 1),
+        lowercase: lowercase && !(changes & 2),
+        cnUnit: cnUnit || changes > 3,
+    }));
 }
 
 /** A text as it is offered, with its meaning in words; nothing where it is not read, or has another value. */
@@ -22,7 +24,8 @@ function offered(text, options, nanos) {
     return [{ text, options, value, meaning: named(sum, options) }];
 }
 
-/** What is offered in place of a refused text: itself under other options, or with other characters and names, or converted. */
+/** What is offered in place of a refused text: itself under other options, or with the library's characters and names, or
+ * converted. */
 export function offersFor(text, options) {
     if (text.trim() === "") return [];
     for (const each of [text, cleaned(text)]) {

@@ -49,7 +49,8 @@ function roam(toolbar) {
     toolbar.addEventListener("keydown", (event) => {
         const place = buttons.indexOf(event.target);
         const [next, previous] = [(place + 1) % buttons.length, place - 1];
-        const to = { ArrowRight: next, ArrowDown: next, ArrowLeft: previous, ArrowUp: previous, Home: 0, End: -1 }[event.key];
+        const ways = { ArrowRight: next, ArrowDown: next, ArrowLeft: previous, ArrowUp: previous, Home: 0, End: -1 };
+        const to = ways[event.key];
         if (to === undefined) return;
         event.preventDefault();
         event.target.tabIndex = -1;

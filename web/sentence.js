@@ -1,22 +1,21 @@
 // What is wrong with a refused text, in a sentence for people.
 import { tryParse } from "../js/dist/duration-str.js";
-import { converted, unitName } from "./conversions.js";
+import { converted, LONGEST, unitName } from "./conversions.js";
 import { LONG } from "./elements.js";
 import { terms, UNITS, unitOf } from "./units.js";
 import { say } from "./words.js";
 
-const LONGEST = ["over 584 years, the longest duration"];
 /** So many terms are looked at to find the one that is too large. */
 const LOOKED_AT = 1_000;
 /** Characters that are named, since they are unseen, or not seen well beside a text. */
 const NAMES = {
     ",": "comma", ".": "point", ";": "semicolon", ":": "colon", "-": "minus sign", "\u00a0": "no-break space",
-    "\u00ad": "soft hyphen", "\u200b": "zero-width space", "\u200c": "zero-width non-joiner", "\u200d": "zero-width joiner",
-    "\u200e": "left-to-right mark", "\u200f": "right-to-left mark", "\u2060": "word joiner", "\u3000": "wide space",
-    "\u202f": "narrow no-break space", "\ufeff": "byte order mark",
+    "\u00ad": "soft hyphen", "\u200b": "zero-width space", "\u200c": "zero-width non-joiner",
+    "\u200d": "zero-width joiner", "\u200e": "left-to-right mark", "\u200f": "right-to-left mark", "\u2060": "word joiner",
+    "\u202f": "narrow no-break space", "\u3000": "wide space", "\ufeff": "byte order mark",
 };
 
-/** What stands at the place of a fault: the character's name or number where it has to be told, else the token itself. */
+/** What stands at the place of a fault: the name or number of a character that has to be named, else the token itself. */
 function subject(found, article) {
     if (NAMES[found]) return [`${article} ${NAMES[found]}`];
     const code = found.codePointAt(0).toString(16).toUpperCase().padStart(4, "0");
@@ -44,8 +43,8 @@ function unitSentence(word, { lowercase }) {
 
 function syntaxSentence(text, fault, options) {
     const { index, found, expected } = fault;
-    const name = options.cnUnit ? null : UNITS.flatMap(({ chinese }) => chinese).find((each) => text.startsWith(each, index));
-    if (expected.unit && name) return say`${name} is read only under ${"cn_unit"}.`;
+    const name = UNITS.flatMap(({ chinese }) => chinese).find((each) => text.startsWith(each, index));
+    if (expected.unit && name && !options.cnUnit) return say`${name} is read only under ${"cn_unit"}.`;
     if (expected.unit && wordAt(text, index)) return unitSentence(wordAt(text, index), options);
     if (options.noCalc && /^[+*]$/.test(found ?? "")) return say`${found} can't be read under ${"no_calc"}.`;
     return generalSentence(text, fault);
@@ -83,5 +82,6 @@ export function sentence(text, fault, options) {
     }
     if (fault.code === "OVERFLOW") return overflowSentence(text, options);
     if (fault.code === "NUMBER_TOO_LARGE") return tooLargeSentence(text, options);
-    return fault.code === "MIXED" ? say`Addition and multiplication can't be mixed.` : say`Half of a character stands alone.`;
+    if (fault.code === "MIXED") return say`Addition and multiplication can't be mixed.`;
+    return say`Half of a character stands alone.`;
 }

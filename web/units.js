@@ -27,8 +27,8 @@ export function unitOf(word) {
     return UNITS.find(({ names, chinese }) => names.includes(name) || chinese.includes(name));
 }
 
-/** The terms of a text that is read, or of the part before its fault: each as it stands there, the operator before it, its
- * number and its unit's name. */
+/** The terms of a text that is read, or of the part before its fault: each as it stands there, the operator before it,
+ * its number and its unit's name. */
 export function* terms(text, { cnUnit }) {
     const letters = cnUnit ? "A-Za-zµ年月周日天时分秒毫微纳" : "A-Za-zµ";
     const term = new RegExp(`([+*]?)[ \t\r\n]*(([0-9]+)(?:[ \t\r\n]*([${letters}]+))?)`, "g");
