@@ -79,11 +79,28 @@ static void check_messages(void)
     expect(memcmp(message, "not UTF-8", 9) == 0, "a line without UTF-8");
 }
 
+/* What 3min 13s 29ms prints as within limits, and that wrong limits leave the buffer as it is. */
+static void check_limits(uint8_t *printed)
+{
+    const uint32_t day = DURATION_STR_DAY, second = DURATION_STR_SECOND, nanosecond = DURATION_STR_NANOSECOND;
+    expect(duration_str_format_within(193, 29000000, 0, nanosecond, 2, printed) == 8 && memcmp(printed, "3min 13s", 8) == 0,
+           "two parts");
+    expect(duration_str_format_within(90061, 5, second, second, 9, printed) == 6 && memcmp(printed, "90061s", 6) == 0,
+           "a largest unit");
+    expect(duration_str_format_within(193, 29000000, 0, day, 2, printed) == 2 && memcmp(printed, "0d", 2) == 0, "no days");
+    memset(printed, '#', 64);
+    expect(duration_str_format_within(193, 29000000, 11, nanosecond, 2, printed) == 0, "a largest unit above 10");
+    expect(duration_str_format_within(193, 29000000, 0, 11, 2, printed) == 0, "a smallest unit above 10");
+    expect(duration_str_format_within(193, 1000000000, 0, nanosecond, 2, printed) == 0, "a second within limits");
+    expect(printed[0] == '#', "a buffer that stays");
+}
+
 static void check_plain_calls(void)
 {
     uint8_t printed[DURATION_STR_FORMAT_BUFFER_SIZE];
     expect(duration_str_format(193, 29000000, printed) == 13 && memcmp(printed, "3min 13s 29ms", 13) == 0, "a duration");
     expect(duration_str_format(0, 1000000000, printed) == 0, "nanoseconds that are a second");
+    check_limits(printed);
     const uint8_t *text = (const uint8_t *)"3ms-2ms";
     uint64_t nanos = 7;
     expect(!duration_str_parse(text, 7, &nanos) && nanos == 7, "a refused text");

@@ -7,6 +7,7 @@ without bound. Where the documents say that there is only one of something, it l
 finds another.
 """
 import functools
+import itertools
 import typing
 
 SECOND = 10**9
@@ -69,6 +70,10 @@ class Options(typing.NamedTuple):
 
 
 CHOICES = [Options(*(bool(bits >> bit & 1) for bit in range(3))) for bits in range(8)]
+
+# Every choice of limits for a printed duration: the places in UNITS of the largest and the smallest unit, and how many
+# parts at most, up to one more than there are units.
+LIMITS = list(itertools.product(range(len(UNITS)), range(len(UNITS)), range(len(UNITS) + 2)))
 
 
 class Terminal(typing.NamedTuple):
@@ -413,6 +418,46 @@ def printed(nanos):
         if count:
             parts.append(f"{count}{unit.printed}")
     return " ".join(parts) or "0s"
+
+
+def quotients(nanos, lengths, chosen):
+    """A count for each of these lengths: of the chosen ones how often each goes into what is left, of others 0."""
+    counts = []
+    for length in lengths:
+        count, nanos = divmod(nanos, length) if length in chosen else (0, nanos)
+        counts.append(count)
+    return counts
+
+
+@functools.lru_cache(1 << 16)
+def counts_within(nanos, lengths, parts):
+    """The lexicographically greatest counts for these lengths, of which at most so many are not 0 and which together
+    are at most the duration: the greatest for any choice of so many lengths."""
+    chosen = itertools.combinations(lengths, min(parts, len(lengths)))
+    return max(quotients(nanos, lengths, each) for each in chosen)
+
+
+def search_small_worlds():
+    """Fails where `counts_within` is not the greatest of all lists of counts, among units few and short enough."""
+    for lengths in ((7, 3, 1), (5, 4, 2), (6, 4), (3,), ()):
+        for nanos, parts in itertools.product(range(24), range(len(lengths) + 2)):
+            lists = itertools.product(*(range(nanos // length + 1) for length in lengths))
+            allowed = [
+                list(counts)
+                for counts in lists
+                if sum(count != 0 for count in counts) <= parts
+                and sum(count * length for count, length in zip(counts, lengths)) <= nanos
+            ]
+            assert counts_within(nanos, lengths, parts) == max(allowed), (lengths, nanos, parts)
+
+
+def printed_within(nanos, largest, smallest, parts):
+    """What a duration prints as in the units from one place in UNITS to another, and in at most so many parts."""
+    units = UNITS[largest : smallest + 1]
+    counts = counts_within(nanos, tuple(unit.length for unit in units), parts)
+    printed_parts = [f"{count}{unit.printed}" for count, unit in zip(counts, units) if count]
+    zero = UNITS[smallest] if UNITS[smallest].length > SECOND else next(unit for unit in UNITS if unit.length == SECOND)
+    return " ".join(printed_parts) or f"0{zero.printed}"
 
 
 def line_of(answer):

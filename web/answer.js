@@ -114,6 +114,8 @@ function showTerms(rows) {
 
 function showValue(value) {
     show("printed", format(value));
+    const about = format(value, { parts: 2 });
+    element("about").replaceChildren(...(about === copied.printed ? [] : ["about ", quotation(about)]));
     for (const [id, length] of [["nanoseconds", 1n], ["milliseconds", 1_000_000n]]) {
         show(id, decimal(value, length), grouped(decimal(value, length)));
     }

@@ -5,8 +5,6 @@ import { cleaned, converted } from "./conversions.js";
 import { terms, UNITS, unitOf } from "./units.js";
 import { named, say } from "./words.js";
 
-const DAY = unitOf("d").nanos;
-
 /** These options, and then others that read more, those with the fewest changes first. */
 function optionsToTry({ noCalc, lowercase, cnUnit }) {
     return [0, 1, 2, 4, 3, 5, 6, 7].map((changes) => ({
@@ -49,10 +47,8 @@ function withUnit(text, last, before, options) {
 function inDays(value) {
     const printed = format(value);
     const lengths = UNITS.slice(0, 3).filter(({ names: [name] }) => new RegExp(`[0-9]${name}\\b`).test(printed))
-        .map(({ names, length }) => `a ${names.at(-2)} has ${length.replace(" days", "")}`);
-    const rest = value % DAY > 0n ? [" and ", { quoted: format(value % DAY) }] : [];
-    const days = `${(value / DAY).toLocaleString("en")} days`;
-    return lengths.length > 0 ? [say`That is ${[days, ...rest]}: ${[lengths.join(", ")]}.`] : [];
+        .map(({ names, length }) => `a ${names.at(-2)} has ${length}`);
+    return lengths.length > 0 ? [say`That is ${format(value, { largest: "d" })}: ${[lengths.join(", ")]}.`] : [];
 }
 
 /** What is said of a text that is read, and what is offered beside it. */

@@ -31,7 +31,7 @@
     (DURATION_STR_VERSION_MAJOR * 1000000 + DURATION_STR_VERSION_MINOR * 1000 + DURATION_STR_VERSION_PATCH)
 #define DURATION_STR_VERSION "0.19.0"
 
-/* The most bytes that a printed duration has, and the bytes that duration_str_format needs. */
+/* The most bytes that a printed duration has, and the bytes of the buffer into which it is printed. */
 #define DURATION_STR_MAX_PRINTED_LEN 60
 #define DURATION_STR_FORMAT_BUFFER_SIZE 64
 
@@ -76,6 +76,21 @@ enum duration_str_kind {
     DURATION_STR_END = 8       /* the end of the text */
 };
 
+/* The units, the longest first. */
+enum duration_str_unit {
+    DURATION_STR_YEAR = 0,
+    DURATION_STR_QUARTER = 1,
+    DURATION_STR_MONTH = 2,
+    DURATION_STR_WEEK = 3,
+    DURATION_STR_DAY = 4,
+    DURATION_STR_HOUR = 5,
+    DURATION_STR_MINUTE = 6,
+    DURATION_STR_SECOND = 7,
+    DURATION_STR_MILLISECOND = 8,
+    DURATION_STR_MICROSECOND = 9,
+    DURATION_STR_NANOSECOND = 10
+};
+
 /* What a text is read as, or why and where it is refused. Fields that a case does not use are 0. */
 struct duration_str_answer {
     uint64_t nanos;      /* the value in nanoseconds, if `cause` is DURATION_STR_READ */
@@ -106,6 +121,16 @@ bool duration_str_parse(const uint8_t *text, size_t length, uint64_t *nanos);
  * DURATION_STR_FORMAT_BUFFER_SIZE bytes. Returns 0 if `nanos` is 1,000,000,000 or more; then the buffer is unchanged. */
 DURATION_STR_MUST_USE DURATION_STR_NONNULL(3)
 size_t duration_str_format(uint64_t secs, uint32_t nanos, uint8_t *buffer);
+
+/* Prints a duration in the same way, but only in the units from `largest` to `smallest`, each a number of
+ * `enum duration_str_unit`, and in at most `parts` parts: the greatest count of the largest unit, then of the next in
+ * what is left, and so on. The rest is left out, so the text is never of more than the duration: in two parts from days
+ * to seconds, 90,061 seconds are `1d 1h`. If there are no parts, the text is `0` and the name of the smallest unit, or
+ * `0s` where that is shorter than a second; so it is if `parts` is 0 or `largest` is shorter than `smallest`. Returns 0
+ * if `nanos` is 1,000,000,000 or more or a unit's number is above 10; then the buffer is unchanged. */
+DURATION_STR_MUST_USE DURATION_STR_NONNULL(6)
+size_t duration_str_format_within(uint64_t secs, uint32_t nanos, uint32_t largest, uint32_t smallest, uint32_t parts,
+                                  uint8_t *buffer);
 
 /* Reads a text under these options, and writes its value to `*answer`, or why and where it is refused. Returns true if
  * it is read. */

@@ -7,7 +7,7 @@ mod jiff;
 mod proved;
 
 use core::{mem::MaybeUninit, mem::zeroed, slice::from_raw_parts, slice::from_raw_parts_mut};
-use proved::{answer::Answer, column, message, moment, moment::Moment};
+use proved::{answer::Answer, column, limits, message, moment, moment::Moment};
 
 /// A caller's array, which may be null if it has nothing.
 unsafe fn array<'a, T>(start: *const T, len: usize) -> &'a [T] {
@@ -28,6 +28,13 @@ unsafe extern "C" fn duration_str_parse(text: *const u8, len: usize, nanos: &mut
 #[unsafe(no_mangle)]
 extern "C" fn duration_str_format(secs: u64, nanos: u32, buffer: &mut [u8; 64]) -> usize {
     proved::duration_str_format(secs, nanos, buffer)
+}
+
+#[unsafe(no_mangle)]
+extern "C" fn duration_str_format_within(
+    secs: u64, nanos: u32, largest: u32, smallest: u32, parts: u32, buffer: &mut [u8; 64],
+) -> usize {
+    limits::duration_str_format_within(secs, nanos, largest, smallest, parts, buffer)
 }
 
 #[unsafe(no_mangle)]

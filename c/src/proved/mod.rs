@@ -8,6 +8,8 @@ pub mod answer;
 #[forbid(unsafe_code)]
 pub mod column;
 #[forbid(unsafe_code)]
+pub mod limits;
+#[forbid(unsafe_code)]
 pub mod message;
 #[forbid(unsafe_code)]
 pub mod moment;

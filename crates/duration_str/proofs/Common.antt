@@ -3,7 +3,7 @@ pub use Rattle.std.proofs.Common.{Bool, Bor, Err, IfOk, IfSome, IsCharBoundary, 
 pub use Rattle.std.proofs.Math.Nat.{mod-le, pow-le-pow_right, pow-succ'}
 pub use Rattle.std.proofs.lemmas.Bool.{and_from, and_parts, cases_Bool, cases_lt, cond-true, false_from_ne_true, not-true, not_from_false, not_from_true, or_cases, or_from, or_parts, or_right}
 pub use Rattle.std.proofs.lemmas.Bool.Decides.{nat_tests, same_from_decides}
-pub use Rattle.std.proofs.lemmas.Fmt.{IsAscii-decimal, IsAscii-decimal_wide, IsAscii-from_digits, decimal_by_steps, decimal_by_steps_wide, decimal_digit, decimal_nonempty, decimal_step, digits_decimal, digits_value-decimal, length-decimal-le}
+pub use Rattle.std.proofs.lemmas.Fmt.{IsAscii-decimal, IsAscii-decimal_wide, IsAscii-from_digits, decimal_by_steps, decimal_by_steps_wide, decimal_digit, decimal_nonempty, decimal_step, decimal_step_wide, digits_decimal, digits_value-decimal, length-decimal-le, length-decimal-le_wide}
 pub use Rattle.std.proofs.lemmas.List.{append_cancel_right, drop_all, drop_more, length-reverse, map-append, replicate-append-replicate, reverse-reverse, take-replicate, take_more_set}
 pub use Rattle.std.proofs.lemmas.List.Folds.{list_all-append, list_any-append}
 pub use Rattle.std.proofs.lemmas.Result.{err_from_is_err_and}
@@ -34,8 +34,10 @@ pub use Rattle.duration_str.specs.Answer.{allows, answer, answer_at, front_after
 pub use Rattle.duration_str.specs.Messages.{EndsInsideLine, byte_text, caret_text, message_of, has_line_feed, line_of, placed_text}
 pub use Rattle.duration_str.specs.Faults.{IsMissingAtEnd, IsSliceOf, found_token, token_at}
 pub use Rattle.duration_str.specs.Grammar.{BeginsWith, IsSentence, IsSentenceOf, Spells, Terminal, number, operator, operator_or_other, other, sign_terminal, terminal_by, terminal_of, word}
-pub use Rattle.duration_str.specs.Laws.{BlanksFree, EqualTexts, GreatestBreakdown, HasNoCapital, HasNoChinese, HasNoOperator, HasNoStar, AnswerIsReading, IsIdle, NoCalcAgrees, OlderTexts, OneReading, OneCut, OneSentence, OptionsIdle, PlaceAndKinds, ReadsBack, Reorder, SumOfTexts, TwoFactors, is_operator, times_in}
+pub use Rattle.duration_str.specs.Laws.{AllParts, BlanksFree, EqualTexts, GreatestBreakdown, HasNoCapital, HasNoChinese, HasNoOperator, HasNoStar, AnswerIsReading, IsIdle, IsMostWithin, KeepsWithin, NeverMore, NoCalcAgrees, OlderTexts, OneReading, OneCut, OneSentence, OptionsIdle, PlaceAndKinds, ReadsBack, Reorder, SumOfTexts, TwoFactors, is_operator, times_in}
 pub use Rattle.duration_str.specs.Older.{WasRead, WasRefused, WasSentenceOf, older_nanos_of, older_row_of, older_terminals, older_terms, older_unit_of_word, older_units, sentence_fault, was_named}
+pub use Rattle.duration_str.specs.declared.limits.Limits.{Limits}
+pub use Rattle.duration_str.specs.Limits.{no_limits, IsGreatestWithin, IsWithin, IsPrintedWithin, lengths_within, counts_within, text_within, part_count, units_down_to, units_from, units_within, zero_text, zero_unit}
 pub use Rattle.duration_str.specs.Place.{BeginsSentence, CanFollow, IsFront, start_after, terminals_of}
 pub use Rattle.duration_str.specs.Printing.{IsBefore, IsGreatestBreakdown, IsPrinted, counts_of, printed_counts, printed_parts, spaced_parts, weighted_sum}
 pub use Rattle.duration_str.specs.Reading.{IsRead, IsRefused, IsRefusedAt, complete_terminals, complete_terms, early, early_fault, first_fault, late, late_fault, place_after, running_fault, syntax_fault, without_last_number}
@@ -48,7 +50,7 @@ pub use Rattle.duration_str.specs.Units.{UnitRow, comparison_form, is_named, nan
 pub use Rattle.duration_str.specs.Internal.Positions.{Between, Passes, StandsAt, Stops, TakesDigits, TakesLetters, letter_number, number_in, packed_number, packed_number_after, wide_number}
 pub use Rattle.duration_str.specs.Internal.Numbers.{checked_term, u64_from}
 pub use Rattle.duration_str.specs.Internal.Packed.{all_names, packs_to, unit_of_packed}
-pub use Rattle.duration_str.specs.Internal.PrintedBytes.{greatest_count, max_printed_len, units_below_year, with_part, with_parts, with_space}
+pub use Rattle.duration_str.specs.Internal.PrintedBytes.{greatest_count, max_printed_len, units_below_year, with_counts, with_part, with_parts, with_space}
 pub use Rattle.duration_str.specs.Internal.Rest.{ReadItem, Rest, ReturnsAnswer, answer_left, checked_combination, end_at, fault_at, fault_in_order, fault_left, first_term, number_fault, leaving, identity_of, operator_read, rest_from, rest_of, start_left, sum_fault, terminal_at, terminals_in, unit_read, with_term}
 pub use Rattle.duration_str.specs.Internal.Steps.{sign_sort, sort_at, sort_of, IsAhead, IsSign, LooksAhead, TakesNumber, TakesSign, TakesToken, TakesTokenWith, is_number}
 pub use Rattle.duration_str.specs.Internal.UnitTable.{AreEncoded}

@@ -8,6 +8,9 @@ pub mod SumOfTexts
 pub mod Reorder
 pub mod TwoFactors
 pub mod GreatestBreakdown
+pub mod GreatestWithin
 pub mod EqualTexts
 pub mod ReadsBack
 pub mod OlderTexts
+pub mod AllParts
+pub mod NeverMore

@@ -4,3 +4,4 @@ pub mod PrintingLemmas
 pub mod DigitLemmas
 pub mod SpaceLemmas
 pub mod PrintedBytesLemmas
+pub mod LimitsLemmas

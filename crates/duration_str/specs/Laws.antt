@@ -1,7 +1,7 @@
 -- The laws, each as one statement about the definitions.
 use Rattle.std.specs.Prelude.{◌≡◌, ℕ, ◌+◌, ◌*◌, ◌/◌, ◌^◌, ◌<◌, ◌≤◌, Bool, true, false, if◌then◌else◌}
 use Rattle.std.specs.Prelude.{List, [], ◌∷◌, ◌++◌, Some, None, is_some, map, ◌↔◌, ◌≢◌, take, drop, codes}
-use Rattle.std.specs.Prelude.{encode_utf8_all, Ok, Err, ◌⊎◌, IsTrue, not, ◌==◌}
+use Rattle.std.specs.Prelude.{encode_utf8_all, Ok, Err, ◌⊎◌, IsTrue, not, ◌==◌, length}
 use Rattle.std.specs.Char.{is_ascii_uppercase}
 use Rattle.std.specs.List.{list_all}
 use Rattle.std.specs.Duration.{FitsDuration}
@@ -14,7 +14,7 @@ use Rattle.duration_str.specs.declared.cause.Cause.{Cause}
 use Rattle.duration_str.specs.declared.cause.Cause.TheVariants.{Overflow}
 use Rattle.duration_str.specs.declared.cause.Expected.{Expected}
 use Rattle.duration_str.specs.Text.{operator_of, is_chinese}
-use Rattle.duration_str.specs.Units.{UnitRow, row_of, unit_lengths, nanos_of}
+use Rattle.duration_str.specs.Units.{UnitRow, row_of, unit_lengths, nanos_of, units}
 use Rattle.duration_str.specs.Grammar.{Terminal, operator, IsSentence, IsSentenceOf, Spells, terminal_of}
 use Rattle.duration_str.specs.Tokens.{Token, tokens_of, lexemes_of, AreTokens}
 use Rattle.duration_str.specs.Place.{BeginsSentence, CanFollow, IsFront}
@@ -23,7 +23,9 @@ use Rattle.duration_str.specs.Reading.{IsRead, IsRefused}
 use Rattle.duration_str.specs.Messages.{EndsInsideLine, message_of, line_of}
 use Rattle.duration_str.specs.Answer.{answer, expected_after, last_of, front_of}
 use Rattle.duration_str.specs.Older.{older_row_of, older_terminals, WasSentenceOf, WasRead, WasRefused}
-use Rattle.duration_str.specs.Printing.{IsPrinted, IsGreatestBreakdown, counts_of}
+use Rattle.duration_str.specs.Printing.{IsPrinted, IsGreatestBreakdown, counts_of, weighted_sum}
+use Rattle.duration_str.specs.declared.limits.Limits.{Limits}
+use Rattle.duration_str.specs.Limits.{no_limits, units_from, lengths_within, part_count, IsPrintedWithin}
 
 -- whether a character is `+` or `*`
 abbrev pub is_operator : ℕ → Bool
@@ -179,3 +181,29 @@ pub record OlderTexts : Type 0 where
       → WasSentenceOf o lexemes text → IsSentenceOf o lexemes text
   pub value : (o : Options) (text : List ℕ) (nanos : ℕ) → WasRead o text nanos → IsRead o text nanos
   pub cause : (o : Options) (text : List ℕ) (cause : Cause) → WasRefused o text cause → IsRefused o text cause
+
+-- With all units and at least as many parts as there are units, a duration prints as without limits.
+abbrev pub AllParts : Type 0
+AllParts = (parts nanos : ℕ) (text : List ℕ) → length units ≤ parts
+    → (IsPrintedWithin (record no_limits { parts = parts }) nanos text ↔ IsPrinted nanos text)
+
+-- Broken down into the largest unit of the limits and all shorter ones, the duration has no more parts than they allow,
+-- and none shorter than their smallest unit.
+pub record KeepsWithin (limits : Limits) (nanos : ℕ) (counts : List ℕ) : Type 0 where
+  pub breakdown : IsGreatestBreakdown (map nanos_of (units_from limits.largest units)) nanos counts
+  pub few : part_count counts ≤ limits.parts
+  pub whole : weighted_sum (lengths_within limits) counts ≡ nanos
+
+-- The text is also that of this duration, and is read as it if it is below 2^64 nanoseconds. It is the greatest one, up
+-- to the one printed, whose own breakdown keeps within the limits.
+pub record IsMostWithin (limits : Limits) (nanos : ℕ) (text : List ℕ) (most : ℕ) : Type 0 where
+  pub again : IsPrintedWithin limits most text
+  pub read : (o : Options) → most < 2 ^ 64 → IsRead o text most
+  pub never_more : most ≤ nanos
+  pub own : (counts : List ℕ) × KeepsWithin limits most counts
+  pub greatest : (between : ℕ) (counts : List ℕ) → most < between → between ≤ nanos → KeepsWithin limits between counts → ⊥
+
+-- What is printed within limits is such a duration.
+abbrev pub NeverMore : Type 0
+NeverMore = (limits : Limits) (nanos : ℕ) (text : List ℕ) → IsPrintedWithin limits nanos text
+    → (most : ℕ) × IsMostWithin limits nanos text most

@@ -32,14 +32,14 @@ printed_parts (u ∷ us) (n ∷ counts) =
     if n == 0 then printed_parts us counts else (decimal n ++ (row_of u).printed) ∷ printed_parts us counts
 printed_parts _ _ = []
 
--- the parts with a space between each two; `0s` if there are none
-abbrev pub spaced_parts : List (List ℕ) → List ℕ
-spaced_parts [] = codes "0s"
-spaced_parts (part ∷ parts) = part ++ flat_map (λ p. codes " " ++ p) parts
+-- the parts with a space between each two; this text if there are none
+abbrev pub spaced_parts : List ℕ → List (List ℕ) → List ℕ
+spaced_parts zero [] = zero
+spaced_parts zero (part ∷ parts) = part ++ flat_map (λ p. codes " " ++ p) parts
 
 -- the text that prints these counts
 abbrev pub printed_counts : List ℕ → List ℕ
-printed_counts counts = spaced_parts (printed_parts units counts)
+printed_counts counts = spaced_parts (codes "0s") (printed_parts units counts)
 
 -- A duration of `nanos` nanoseconds prints as this text.
 abbrev pub IsPrinted : ℕ → List ℕ → Type 0

@@ -28,7 +28,7 @@ pub const MAX_PRINTED_LEN: usize = 60;
 /// Writes a digit at `at`, and returns where it ends.
 #[inline(always)]
 #[tactic(auto, using(crate::proofs::Printer::DigitLemmas::put_steps))]
-fn put_digit(buffer: &mut [u8; 64], at: usize, digit: u64) -> usize
+pub(crate) fn put_digit(buffer: &mut [u8; 64], at: usize, digit: u64) -> usize
     requires room { at < 64 }
     requires digit { digit < 10 }
     ensures text { take result buffer.new ≡ take at buffer.old ++ decimal digit }
@@ -56,7 +56,7 @@ pub(crate) fn put_number(buffer: &mut [u8; 64], at: usize, n: u64) -> usize
 /// `3min 13s 29ms` takes 38 % more instructions.
 #[inline(always)]
 #[tactic(auto, using(crate::proofs::Printer::DigitLemmas::put_steps))]
-fn put_count(buffer: &mut [u8; 64], at: usize, n: u64) -> usize
+pub(crate) fn put_count(buffer: &mut [u8; 64], at: usize, n: u64) -> usize
     requires room { at + length (decimal n) ≤ 64 }
     ensures text { take result buffer.new ≡ take at buffer.old ++ decimal n }
     ensures end { result ≡ at + length (decimal n) }
@@ -73,7 +73,7 @@ fn put_count(buffer: &mut [u8; 64], at: usize, n: u64) -> usize
 
 /// Writes a text from `at` on, and returns where it ends.
 #[inline(always)]
-fn put_text(buffer: &mut [u8; 64], at: usize, text: &str) -> usize
+pub(crate) fn put_text(buffer: &mut [u8; 64], at: usize, text: &str) -> usize
     requires room { at + length text.now ≤ 64 }
     ensures text { take result buffer.new ≡ take at buffer.old ++ text.now }
     ensures end { result ≡ at + length text.now }
@@ -85,7 +85,7 @@ fn put_text(buffer: &mut [u8; 64], at: usize, text: &str) -> usize
 
 /// Writes a space after the first `at` bytes unless `at` is 0, and returns where it ends.
 #[inline(always)]
-fn put_space(buffer: &mut [u8; 64], at: usize) -> usize
+pub(crate) fn put_space(buffer: &mut [u8; 64], at: usize) -> usize
     requires room { at < 64 }
     ensures text { take result buffer.new ≡ with_space (take at buffer.old) }
     ensures end { result ≤ at + 1 }
@@ -195,6 +195,16 @@ fn fill(d: Duration, buffer: &mut [u8; 64]) -> usize
     end
 }
 
+/// The printed text, the first bytes of a buffer.
+#[inline(always)]
+pub(crate) fn printed(buffer: &[u8; 64], end: usize) -> &str
+    requires inside { end ≤ 64 }
+    requires utf8 { IsUtf8 (take end buffer.now) }
+    ensures { result.now ≡ take end buffer.now }
+{
+    unsafe { std::str::from_utf8_unchecked(&buffer[..end]) }
+}
+
 /// Prints a duration to the start of a buffer, whatever the buffer holds. The text has at most `MAX_PRINTED_LEN` bytes.
 /// Allocates nothing and cannot fail.
 ///
@@ -213,7 +223,7 @@ pub fn write_human<'b>(d: &Duration, buffer: &'b mut [u8; 64]) -> &'b str
     ensures short { length result.now ≤ MAX_PRINTED_LEN }
 {
     let end = fill(*d, buffer);
-    unsafe { std::str::from_utf8_unchecked(&buffer[..end]) }
+    printed(buffer, end)
 }
 
 /// A length of time that can be printed for people, unless it is negative.

@@ -1,7 +1,7 @@
 //! Laws about the definitions: each function does nothing, and its contract is a law.
 ghost use Rattle.duration_str.specs.Laws.{OneSentence, OneCut, OneReading, AnswerIsReading, PlaceAndKinds};
 ghost use Rattle.duration_str.specs.Laws.{NoCalcAgrees, OptionsIdle, BlanksFree, SumOfTexts, Reorder, TwoFactors};
-ghost use Rattle.duration_str.specs.Laws.{GreatestBreakdown, EqualTexts, ReadsBack, LastLine, OlderTexts};
+ghost use Rattle.duration_str.specs.Laws.{GreatestBreakdown, EqualTexts, ReadsBack, LastLine, OlderTexts, AllParts, NeverMore};
 
 /// At most one sentence spells a text, and its lexemes are those of the text's tokens; a text is read as one value or
 /// refused for one cause, not both, and the computed answer says which. So `3m31s` is spelled by `3`, `m`, `31`, `s`
@@ -100,4 +100,19 @@ pub fn last_line()
 #[tactic(auto, using(crate::proofs::LawProofs::OlderTexts::older_texts_hold))]
 pub fn older_texts()
     ensures { OlderTexts }
+{}
+
+/// With all units and at least as many parts as there are units, `write_within` prints what `write_human` prints. So
+/// eleven parts of 193,029 milliseconds are `3min 13s 29ms`.
+pub fn all_parts()
+    ensures { AllParts }
+{}
+
+/// What is printed within limits is the greatest duration, not above the given one, whose own breakdown into the
+/// largest unit and all shorter ones has so few parts, none of them shorter than the smallest unit. The text is also
+/// that duration's, and is read as it below 2^64 nanoseconds. So a countdown never shows more than is left, and of 366
+/// days one part is `1y`.
+#[tactic(auto, using(crate::proofs::LawProofs::NeverMore::never_more_holds))]
+pub fn never_more()
+    ensures { NeverMore }
 {}

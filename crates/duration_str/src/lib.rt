@@ -9,6 +9,7 @@ pub mod ext;
 mod eye;
 mod fault;
 pub mod laws;
+mod limits;
 mod message;
 mod operator;
 mod options;
@@ -22,6 +23,7 @@ pub mod unit;
 
 pub use error::{DError, DResult};
 pub use ext::{HumanFormat, MAX_PRINTED_LEN, write_human};
+pub use limits::{Limits, write_within};
 pub use parser::{Cause, Expected, Fault, parse, parse_looked, parse_std, parse_with};
 pub use token::{Token, Tokens, What};
 pub use top::{

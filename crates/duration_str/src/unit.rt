@@ -7,7 +7,7 @@ ghost use Rattle.duration_str.specs.Text.{IsNumber, number_of};
 ghost use Rattle.duration_str.specs.declared.unit.TimeUnit.{TimeUnit};
 ghost use Rattle.duration_str.specs.declared.unit.TimeUnit.TheVariants.{Second};
 ghost use Rattle.duration_str.specs.Units.{nanos_of, row_of, comparison_form, is_named, unit_of_word};
-ghost use Rattle.duration_str.specs.Internal.UnitTable.{IsRow};
+ghost use Rattle.duration_str.specs.Internal.UnitTable.{IsRow, place_of};
 ghost use Rattle.duration_str.specs.Internal.Numbers.{checked_term};
 ghost use Rattle.duration_str.specs.Value.{term_of, term_answer};
 
@@ -79,6 +79,14 @@ impl TimeUnit {
         ensures { result.now ≡ encode_utf8_all (row_of self).printed }
     {
         self.row().printed
+    }
+
+    /// How many units are longer.
+    #[inline(always)]
+    pub(crate) fn place(self) -> usize
+        ensures { result ≡ place_of self }
+    {
+        self as usize
     }
 
     /// The unit's row of the table.
@@ -251,7 +259,7 @@ struct Row {
 }
 
 /// The units, the longest first.
-static UNITS: [TimeUnit; 11] = [
+pub(crate) static UNITS: [TimeUnit; 11] = [
     TimeUnit::Year,
     TimeUnit::Quarter,
     TimeUnit::Month,

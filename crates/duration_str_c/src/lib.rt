@@ -17,6 +17,7 @@ ghost use Rattle.duration_str_c.specs.Answers.{options_of_bits, refusal_answer, 
 
 pub mod answer;
 pub mod column;
+pub mod limits;
 pub mod message;
 pub mod moment;
 

@@ -20,6 +20,8 @@ mod ext;
 mod eye;
 #[forbid(unsafe_code)]
 mod fault;
+#[forbid(unsafe_code)]
+mod limits;
 #[allow(unsafe_code)] // Blocks: 1.
 mod message;
 #[forbid(unsafe_code)]
@@ -38,6 +40,7 @@ mod token;
 mod unit;
 
 pub use self::ext::{MAX_PRINTED_LEN, write_human};
+pub use self::limits::{Limits, write_within};
 pub use self::parser::{Cause, Expected, Fault, parse, parse_looked, parse_std, parse_with};
 pub use self::token::{Token, Tokens, What};
 pub use self::unit::{CondUnit, Options, TimeUnit};

@@ -66,6 +66,12 @@ impl TimeUnit {
         self.row().printed
     }
 
+    /// How many units are longer.
+    #[inline(always)]
+    pub(crate) fn place(self) -> usize {
+        self as usize
+    }
+
     /// The unit's row of the table.
     #[inline(always)]
     const fn row(self) -> Row {
@@ -201,7 +207,7 @@ struct Row {
 }
 
 /// The units, the longest first.
-static UNITS: [TimeUnit; 11] = [
+pub(crate) static UNITS: [TimeUnit; 11] = [
     TimeUnit::Year,
     TimeUnit::Quarter,
     TimeUnit::Month,

@@ -2,7 +2,7 @@
 use Rattle.duration_str.proofs.Common.{◌≡◌, ℕ, ◌+◌, ◌*◌, ◌/◌, ◌%◌, ◌≤◌, ◌⊎◌, inl, inr, List, [], ◌∷◌, length, arith, refl, sym, le-div_iff_mul-le, div-add-mod', cases_lt, unit_lengths, weighted_sum, IsBefore, IsGreatestBreakdown, counts_of, GreatestBreakdown}
 
 -- Each length is above 0, and the last is 1.
-abbrev EndInOne : List ℕ → Type 0
+abbrev pub EndInOne : List ℕ → Type 0
 EndInOne [] = ⊥
 EndInOne (l ∷ []) = l ≡ 1
 EndInOne (l ∷ m ∷ lengths) = (1 ≤ l) × EndInOne (m ∷ lengths)
@@ -43,7 +43,7 @@ counts_greatest (x ∷ y ∷ lengths) nanos (n ∷ others) h l e = elim (cases_l
   | inl less ↦ inr (inl less)
   | inr up ↦
       let rest = weighted_sum (y ∷ lengths) others in
-      let within : n ≤ nanos / x = first_within n x rest nanos h.0 e in
+      let no_more : n ≤ nanos / x = first_within n x rest nanos h.0 e in
       let same : n ≡ nanos / x = omega arith in
       let left = rest_same n x rest nanos e same in
       elim (counts_greatest (y ∷ lengths) (nanos % x) others h.1 (omega arith) left) [
@@ -55,14 +55,17 @@ counts_greatest (x ∷ y ∷ lengths) nanos (n ∷ others) h l e = elim (cases_l
 units_end_in_one : EndInOne unit_lengths
 units_end_in_one = omega arith
 
-pub greatest_breakdown_holds : GreatestBreakdown
-greatest_breakdown_holds nanos = record {
-  breakdown =
-      record { one_each = counts_each unit_lengths nanos; whole = counts_whole unit_lengths nanos units_end_in_one };
-  greatest = λ others b. counts_greatest unit_lengths nanos others units_end_in_one b.one_each b.whole;
+pub breakdown_of : (lengths : List ℕ) (nanos : ℕ) → EndInOne lengths
+    → IsGreatestBreakdown lengths nanos (counts_of lengths nanos)
+breakdown_of lengths nanos h = record {
+  breakdown = record { one_each = counts_each lengths nanos; whole = counts_whole lengths nanos h };
+  greatest = λ others b. counts_greatest lengths nanos others h b.one_each b.whole;
 }
 
-not_before_each_other : (ms ns : List ℕ) → IsBefore ms ns → IsBefore ns ms → ⊥
+pub greatest_breakdown_holds : GreatestBreakdown
+greatest_breakdown_holds nanos = breakdown_of unit_lengths nanos units_end_in_one
+
+pub not_before_each_other : (ms ns : List ℕ) → IsBefore ms ns → IsBefore ns ms → ⊥
 not_before_each_other [] ns h k = h
 not_before_each_other (m ∷ ms) [] h k = h
 not_before_each_other (m ∷ ms) (n ∷ ns) (inl h) (inl k) = omega arith

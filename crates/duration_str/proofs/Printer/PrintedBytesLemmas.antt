@@ -1,11 +1,8 @@
 -- The bytes built unit by unit are the UTF-8 of the printed text.
-use Rattle.duration_str.proofs.Common.{rules, ◌≡◌, ◌∙◌, ℕ, ◌+◌, ◌*◌, ◌/◌, ◌%◌, ◌^◌, ◌<◌, ◌≤◌, ◌==◌, List, [], ◌∷◌, ◌++◌, length, take, map, decimal, encode_utf8_all, refl, sym, inl, inr, arith, length-append, append_assoc, append-nil, lit<, flat_map, codes, IsUtf8, div-le_self, length-take-le, cases_Bool, encodes-append, encodes-IsAscii, TimeUnit, Year, Second, units, row_of, nanos_of, unit_lengths, printed_counts, spaced_parts, counts_of, printed_parts, with_space, with_part, with_parts, units_below_year, mod-le, IsAscii-decimal_wide, decimal_by_steps_wide, IsUtf8-append, IsUtf8-from_ascii, IsUtf8-nil}
+use Rattle.duration_str.proofs.Common.{rules, ◌≡◌, ◌∙◌, ℕ, ◌+◌, ◌*◌, ◌/◌, ◌%◌, ◌^◌, ◌<◌, ◌≤◌, ◌==◌, List, [], ◌∷◌, ◌++◌, length, take, map, decimal, encode_utf8_all, refl, sym, inl, inr, arith, length-append, append_assoc, append-nil, lit<, flat_map, codes, IsUtf8, div-le_self, length-take-le, cases_Bool, encodes-append, encodes-IsAscii, TimeUnit, Year, Second, ⊤, units, row_of, nanos_of, unit_lengths, printed_counts, spaced_parts, counts_of, printed_parts, with_space, with_part, with_parts, with_counts, units_below_year, mod-le, IsAscii-decimal_wide, decimal_by_steps_wide, IsUtf8-append, IsUtf8-from_ascii, IsUtf8-nil}
 use Rattle.duration_str.proofs.Characters.NameLemmas.{scalar_name}
 
-smaller : (nanos l : ℕ) → nanos < 10 ^ 64 → (nanos / l < 10 ^ 64) × (nanos % l < 10 ^ 64)
-smaller nanos l h = (omega (arith, div-le_self nanos l), omega (arith, mod-le nanos l))
-
-encode_part : (n : ℕ) (name : List ℕ) → n < 10 ^ 64
+pub encode_part : (n : ℕ) (name : List ℕ) → n < 10 ^ 64
     → encode_utf8_all (decimal n ++ name) ≡ decimal n ++ encode_utf8_all name
 encode_part n name h = rw (encodes-append (decimal n), encodes-IsAscii (decimal n) (IsAscii-decimal_wide n h))
 
@@ -13,96 +10,117 @@ space_some : (bytes : List ℕ) → 0 < length bytes → with_space bytes ≡ by
 space_some [] h = absurd (omega arith)
 space_some (b ∷ bytes) h = refl
 
--- the parts for this many nanoseconds in these units
-abbrev parts_in : List TimeUnit → ℕ → List (List ℕ)
-parts_in us nanos = printed_parts us (counts_of (map nanos_of us) nanos)
+-- Each count has at most 64 digits.
+abbrev pub AreShort : List ℕ → Type 0
+AreShort [] = ⊤
+AreShort (n ∷ counts) = (n < 10 ^ 64) × AreShort counts
+
+pub counts_short : (lengths : List ℕ) (nanos : ℕ) → nanos < 10 ^ 64 → AreShort (counts_of lengths nanos)
+counts_short [] nanos h = tt
+counts_short (l ∷ lengths) nanos h =
+    (omega (arith, div-le_self nanos l), counts_short lengths (nanos % l) (omega (arith, mod-le nanos l)))
+
+-- The parts for a duration are those of its counts.
+parts_are : (us : List TimeUnit) (bytes : List ℕ) (nanos : ℕ)
+    → with_parts bytes us nanos ≡ with_counts bytes us (counts_of (map nanos_of us) nanos)
+parts_are [] bytes nanos = refl
+parts_are (u ∷ us) bytes nanos = parts_are us (with_part bytes u (nanos / nanos_of u)) (nanos % nanos_of u)
 
 -- After some bytes, each part follows a space.
-parts_after : (us : List TimeUnit) (bytes : List ℕ) (nanos : ℕ) → 0 < length bytes → nanos < 10 ^ 64
-    → with_parts bytes us nanos ≡ bytes ++ encode_utf8_all (flat_map (λ part. codes " " ++ part) (parts_in us nanos))
+parts_after : (us : List TimeUnit) (bytes counts : List ℕ) → 0 < length bytes → AreShort counts
+    → with_counts bytes us counts
+    ≡ bytes ++ encode_utf8_all (flat_map (λ part. codes " " ++ part) (printed_parts us counts))
 unfolding lib.Utf8.encode
-parts_after [] bytes nanos some h = sym (append-nil bytes)
-parts_after (u ∷ us) bytes nanos some h =
-    let n = nanos / nanos_of u in
+parts_after (u ∷ us) bytes (n ∷ counts) some short =
     let name = (row_of u).printed in
-    let (few, small) = smaller nanos (nanos_of u) h in
     elim (cases_Bool (n == 0)) [
-      | inl e ↦ rw e (parts_after us bytes (nanos % nanos_of u) some small)
+      | inl e ↦ rw e (parts_after us bytes counts some short.1)
       | inr e ↦
           let longer : 0 < length (with_space bytes ++ (decimal n ++ encode_utf8_all name)) =
           rw (space_some bytes some) (omega (arith, length-append {A = ℕ})) in
-          rw (e, parts_after us _ (nanos % nanos_of u) longer small, space_some bytes some)
-          (rw (encodes-append (decimal n ++ name), encode_part n name few) (simp append_assoc))
+          rw (e, parts_after us _ counts longer short.1, space_some bytes some)
+          (rw (encodes-append (decimal n ++ name), encode_part n name short.0) (simp append_assoc))
     ]
+parts_after _ bytes _ some short = sym (append-nil bytes)
 
--- the bytes, or `0s` if there are none
-abbrev pub ended : List ℕ → List ℕ
-ended [] = codes "0s"
-ended (b ∷ bytes) = b ∷ bytes
+-- the bytes, or these if there are none
+abbrev pub ended : List ℕ → List ℕ → List ℕ
+ended zero [] = zero
+ended zero (b ∷ bytes) = b ∷ bytes
 
-ended_some : (bytes : List ℕ) → 0 < length bytes → ended bytes ≡ bytes
-ended_some [] h = absurd (omega arith)
-ended_some (b ∷ bytes) h = refl
+ended_some : (zero bytes : List ℕ) → 0 < length bytes → ended zero bytes ≡ bytes
+ended_some zero [] h = absurd (omega arith)
+ended_some zero (b ∷ bytes) h = refl
 
-some_decimal : (n : ℕ) → n < 10 ^ 64 → 0 < length (decimal n)
+pub some_decimal : (n : ℕ) → n < 10 ^ 64 → 0 < length (decimal n)
 some_decimal n h =
     decimal_by_steps_wide (λ n ds. 0 < length ds) (λ n small. lit< tt)
     (λ n ds big some. omega (arith, length-append ds ((48 + n % 10) ∷ []))) n h
 
-ended_parts : (us : List TimeUnit) (nanos : ℕ) → nanos < 10 ^ 64
-    → ended (with_parts [] us nanos) ≡ encode_utf8_all (spaced_parts (parts_in us nanos))
+pub ended_parts : (zero : List ℕ) (us : List TimeUnit) (counts : List ℕ) → AreShort counts
+    → ended (encode_utf8_all zero) (with_counts [] us counts)
+    ≡ encode_utf8_all (spaced_parts zero (printed_parts us counts))
 unfolding lib.Utf8.encode
-ended_parts [] nanos h = refl
-ended_parts (u ∷ us) nanos h =
-    let n = nanos / nanos_of u in
+ended_parts zero (u ∷ us) (n ∷ counts) short =
     let name = (row_of u).printed in
-    let (few, small) = smaller nanos (nanos_of u) h in
     let first = decimal n ++ encode_utf8_all name in
-    let some : 0 < length first = omega (arith, length-append {A = ℕ}, some_decimal n few) in
+    let some : 0 < length first = omega (arith, length-append {A = ℕ}, some_decimal n short.0) in
     elim (cases_Bool (n == 0)) [
-      | inl e ↦ rw e (ended_parts us (nanos % nanos_of u) small)
+      | inl e ↦ rw e (ended_parts zero us counts short.1)
       | inr e ↦
-          rw (e, parts_after us first (nanos % nanos_of u) some small)
-          (ended_some (first ++ _) (omega (arith, length-append {A = ℕ}, some))
-          ∙ rw (encodes-append (decimal n ++ name), encode_part n name few))
+          rw (e, parts_after us first counts some short.1)
+          (ended_some (encode_utf8_all zero) (first ++ _) (omega (arith, length-append {A = ℕ}, some))
+          ∙ rw (encodes-append (decimal n ++ name), encode_part n name short.0))
     ]
+ended_parts zero _ _ short = refl
 
 -- the years from whole seconds, then the rest in nanoseconds
 pub printed_from_seconds : {secs subsec second year : ℕ} {years bytes : List ℕ} (nanos : ℕ) → nanos < 10 ^ 64
     → secs ≡ nanos / 1_000_000_000 → subsec ≡ nanos % 1_000_000_000 → second ≡ nanos_of Second → year ≡ nanos_of Year
     → years ≡ with_part [] Year (secs / (year / second))
     → bytes ≡ with_parts years units_below_year (secs % (year / second) * second + subsec)
-    → ended bytes ≡ encode_utf8_all (printed_counts (counts_of unit_lengths nanos))
+    → ended (codes "0s") bytes ≡ encode_utf8_all (printed_counts (counts_of unit_lengths nanos))
+unfolding lib.Utf8.encode
 printed_from_seconds {secs} {subsec} {second} {year} nanos h whole part is_second is_year first more =
     let count : secs / (year / second) ≡ nanos / nanos_of Year = rw (is_second, is_year) (omega arith) in
     let rest : secs % (year / second) * second + subsec ≡ nanos % nanos_of Year =
     rw (is_second, is_year) (omega arith) in
-    rw (more, first, count, rest) (ended_parts units nanos h)
+    rw (more, first, count, rest, parts_are units [] nanos)
+    (ended_parts (codes "0s") units (counts_of unit_lengths nanos) (counts_short unit_lengths nanos h))
 
-pub ended_take : (end : ℕ) (buffer : List ℕ) → 0 < end → end ≤ length buffer → ended (take end buffer) ≡ take end buffer
-ended_take end buffer some inside = ended_some (take end buffer) (rw (length-take-le end buffer inside) some)
+pub ended_take : (zero : List ℕ) (end : ℕ) (buffer : List ℕ) → 0 < end → end ≤ length buffer
+    → ended zero (take end buffer) ≡ take end buffer
+ended_take zero end buffer some inside = ended_some zero (take end buffer) (rw (length-take-le end buffer inside) some)
 
 utf8_space : (bytes : List ℕ) → IsUtf8 bytes → IsUtf8 (with_space bytes)
 utf8_space [] utf8 = utf8
 utf8_space (b ∷ bytes) utf8 = IsUtf8-append (b ∷ bytes) _ utf8 (IsUtf8-from_ascii (codes " ") (search rules))
 
-utf8_parts : (us : List TimeUnit) (bytes : List ℕ) (nanos : ℕ) → IsUtf8 bytes → nanos < 10 ^ 64
-    → IsUtf8 (with_parts bytes us nanos)
-utf8_parts [] bytes nanos utf8 h = utf8
-utf8_parts (u ∷ us) bytes nanos utf8 h =
-    let n = nanos / nanos_of u in
-    let (few, small) = smaller nanos (nanos_of u) h in
-    let part = IsUtf8-append (decimal n) _ (IsUtf8-from_ascii (decimal n) (IsAscii-decimal_wide n few))
+utf8_parts : (us : List TimeUnit) (bytes counts : List ℕ) → IsUtf8 bytes → AreShort counts
+    → IsUtf8 (with_counts bytes us counts)
+utf8_parts (u ∷ us) bytes (n ∷ counts) utf8 short =
+    let part = IsUtf8-append (decimal n) _ (IsUtf8-from_ascii (decimal n) (IsAscii-decimal_wide n short.0))
     ((row_of u).printed, (scalar_name u, refl)) in
     elim (cases_Bool (n == 0)) [
-      | inl e ↦ rw e (utf8_parts us bytes (nanos % nanos_of u) utf8 small)
-      | inr e ↦ rw e (utf8_parts us _ _ (IsUtf8-append (with_space bytes) _ (utf8_space bytes utf8) part) small)
+      | inl e ↦ rw e (utf8_parts us bytes counts utf8 short.1)
+      | inr e ↦ rw e (utf8_parts us _ counts (IsUtf8-append (with_space bytes) _ (utf8_space bytes utf8) part) short.1)
     ]
+utf8_parts _ bytes _ utf8 short = utf8
 
-utf8_ended : (bytes : List ℕ) → IsUtf8 bytes → IsUtf8 (ended bytes)
-utf8_ended [] utf8 = IsUtf8-from_ascii (codes "0s") (search rules)
-utf8_ended (b ∷ bytes) utf8 = utf8
+utf8_ended : (zero bytes : List ℕ) → IsUtf8 zero → IsUtf8 bytes → IsUtf8 (ended zero bytes)
+utf8_ended zero [] zero_utf8 utf8 = zero_utf8
+utf8_ended zero (b ∷ bytes) zero_utf8 utf8 = utf8
+
+-- The text that prints short counts is UTF-8 if the zero is.
+pub IsUtf8-spaced : (zero : List ℕ) (us : List TimeUnit) (counts : List ℕ) → IsUtf8 (encode_utf8_all zero)
+    → AreShort counts → IsUtf8 (encode_utf8_all (spaced_parts zero (printed_parts us counts)))
+IsUtf8-spaced zero us counts utf8 short =
+    rw (← ended_parts zero us counts short)
+    (utf8_ended (encode_utf8_all zero) _ utf8 (utf8_parts us [] counts IsUtf8-nil short))
 
 pub IsUtf8-printed : (nanos : ℕ) → nanos < 10 ^ 64
     → IsUtf8 (encode_utf8_all (printed_counts (counts_of unit_lengths nanos)))
-IsUtf8-printed nanos h = rw (← ended_parts units nanos h) (utf8_ended _ (utf8_parts units [] nanos IsUtf8-nil h))
+unfolding lib.Utf8.encode
+IsUtf8-printed nanos h =
+    IsUtf8-spaced (codes "0s") units (counts_of unit_lengths nanos) (IsUtf8-from_ascii (codes "0s") (search rules))
+    (counts_short unit_lengths nanos h)

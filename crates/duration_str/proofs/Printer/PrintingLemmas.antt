@@ -1,5 +1,5 @@
 -- A printed text is spelled by a sum whose total is the duration.
-use Rattle.duration_str.proofs.Common.{◌≡◌, ℕ, ◌%◌, ◌^◌, ◌<◌, inl, inr, Bool, true, false, ◌==◌, List, [], ◌∷◌, ◌++◌, map, drop, Some, if◌then◌else◌, decimal, codes, arith, refl, append_assoc, eqb-true, flat_map, ⊤, cases_Bool, decimal_digit, FitsDuration, Options, TimeUnit, Year, Second, row_of, units, nanos_of, unit_lengths, Terminal, number, word, terminal_of, IsSentence, Spells, AllPlus, sum_of, terms_of, weighted_sum, IsPrinted, counts_of, printed_parts, spaced_parts, printed_counts}
+use Rattle.duration_str.proofs.Common.{◌≡◌, ℕ, ◌%◌, ◌^◌, ◌<◌, inl, inr, Bool, true, false, ◌==◌, List, [], ◌∷◌, ◌++◌, map, drop, Some, if◌then◌else◌, decimal, codes, arith, refl, append_assoc, append-nil, sym, eqb-true, flat_map, ⊤, cases_Bool, decimal_digit, FitsDuration, Options, TimeUnit, Year, Second, row_of, units, nanos_of, unit_lengths, Terminal, number, word, terminal_of, IsSentence, Spells, AllPlus, sum_of, terms_of, weighted_sum, IsPrinted, counts_of, printed_parts, spaced_parts, printed_counts}
 use Rattle.duration_str.proofs.Characters.NumberLemmas.{decimal_terminal}
 use Rattle.duration_str.proofs.LawProofs.GreatestBreakdown.{one_greatest, greatest_breakdown_holds}
 use Rattle.duration_str.proofs.Sentences.SumReadings.{IsSumOf, terms_of_lexemes}
@@ -10,13 +10,13 @@ abbrev pub kept : List TimeUnit → List ℕ → List (ℕ × TimeUnit)
 kept (u ∷ us) (n ∷ counts) = if n == 0 then kept us counts else (n, u) ∷ kept us counts
 kept _ _ = []
 
--- the counts, or no second if there are none
-abbrev or_zero : List (ℕ × TimeUnit) → List (ℕ × TimeUnit)
-or_zero [] = (0, Second) ∷ []
-or_zero (p ∷ ps) = p ∷ ps
+-- the counts, or none of this unit if there are none
+abbrev pub or_zero : TimeUnit → List (ℕ × TimeUnit) → List (ℕ × TimeUnit)
+or_zero u [] = (0, u) ∷ []
+or_zero u (p ∷ ps) = p ∷ ps
 
 -- the lexemes and terminals of counts
-abbrev lexemes : List (ℕ × TimeUnit) → List (List ℕ)
+abbrev pub lexemes : List (ℕ × TimeUnit) → List (List ℕ)
 lexemes [] = []
 lexemes (p ∷ ps) = decimal p.0 ∷ (row_of p.1).printed ∷ lexemes ps
 
@@ -26,7 +26,7 @@ terminals (p ∷ ps) = number p.0 ∷ word (Some p.1) ∷ terminals ps
 
 -- the counts in the printed text of a duration, and its lexemes
 abbrev pub printed : ℕ → List (ℕ × TimeUnit)
-printed nanos = or_zero (kept units (counts_of unit_lengths nanos))
+printed nanos = or_zero Second (kept units (counts_of unit_lengths nanos))
 
 abbrev pub duration_lexemes : ℕ → List (List ℕ)
 duration_lexemes nanos = lexemes (printed nanos)
@@ -46,9 +46,12 @@ later_spelled [] = refl
 later_spelled (p ∷ ps) =
     begins_with (codes " ") _ refl (simp append_assoc) (begins_with [] _ refl refl (later_spelled ps))
 
-all_spelled : (ps : List (ℕ × TimeUnit)) → Spells (lexemes (or_zero ps)) (spaced_parts (map part ps))
-all_spelled [] = begins_with [] (codes "s") refl (rw (decimal_digit 0 (omega arith))) (begins_with [] [] refl refl refl)
-all_spelled (p ∷ ps) =
+pub all_spelled : (u : TimeUnit) (ps : List (ℕ × TimeUnit))
+    → Spells (lexemes (or_zero u ps)) (spaced_parts (codes "0" ++ (row_of u).printed) (map part ps))
+all_spelled u [] =
+    begins_with [] (row_of u).printed refl (rw (decimal_digit 0 (omega arith)))
+    (begins_with [] [] refl (sym (append-nil (row_of u).printed)) refl)
+all_spelled u (p ∷ ps) =
     begins_with [] _ refl (append_assoc (decimal p.0) _ _) (begins_with [] _ refl refl (later_spelled ps))
 
 -- ---- The lexemes have these terminals
@@ -66,11 +69,11 @@ printed_terminal o = at o.no_calc o.lowercase o.cn_unit
     at no_calc false false Year = refl
     at no_calc lowercase cn_unit u = refl
 
-abbrev EachBelow : List ℕ → Type 0
+abbrev pub EachBelow : List ℕ → Type 0
 EachBelow [] = ⊤
 EachBelow (n ∷ counts) = (n < 2 ^ 64) × EachBelow counts
 
-terminals_kept : (o : Options) (us : List TimeUnit) (counts : List ℕ) → EachBelow counts
+pub terminals_kept : (o : Options) (us : List TimeUnit) (counts : List ℕ) → EachBelow counts
     → map (terminal_of o) (lexemes (kept us counts)) ≡ terminals (kept us counts)
 terminals_kept o (u ∷ us) (n ∷ counts) small = elim (cases_Bool (n == 0)) [
   | inl e ↦ rw e (terminals_kept o us counts small.1)
@@ -78,10 +81,11 @@ terminals_kept o (u ∷ us) (n ∷ counts) small = elim (cases_Bool (n == 0)) [
 ]
 terminals_kept o _ _ small = refl
 
-terminals_or_zero : (o : Options) (ps : List (ℕ × TimeUnit)) → map (terminal_of o) (lexemes ps) ≡ terminals ps
-    → map (terminal_of o) (lexemes (or_zero ps)) ≡ terminals (or_zero ps)
-terminals_or_zero o [] h = rw (decimal_terminal o 0 (omega arith), printed_terminal o Second)
-terminals_or_zero o (p ∷ ps) h = h
+pub terminals_or_zero : (o : Options) (u : TimeUnit) (ps : List (ℕ × TimeUnit))
+    → map (terminal_of o) (lexemes ps) ≡ terminals ps
+    → map (terminal_of o) (lexemes (or_zero u ps)) ≡ terminals (or_zero u ps)
+terminals_or_zero o u [] h = rw (decimal_terminal o 0 (omega arith), printed_terminal o u)
+terminals_or_zero o u (p ∷ ps) h = h
 
 counts_below : (lengths : List ℕ) (nanos : ℕ) → nanos < 2 ^ 64 → EachBelow (counts_of lengths nanos)
 counts_below [] nanos h = tt
@@ -90,17 +94,18 @@ counts_below (l ∷ lengths) nanos h = (omega arith, counts_below lengths (nanos
 pub terminals_of_duration : (o : Options) (nanos : ℕ) → FitsDuration nanos
     → map (terminal_of o) (duration_lexemes nanos) ≡ terminals (printed nanos)
 terminals_of_duration o nanos h =
-    terminals_or_zero o _ (terminals_kept o units (counts_of unit_lengths nanos)
+    terminals_or_zero o Second _ (terminals_kept o units (counts_of unit_lengths nanos)
     (omega arith, counts_below (drop 1 unit_lengths) (nanos % nanos_of Year) (omega arith)))
 
 -- ---- The terminals are a sentence without operators
 
-units_sentence : (no_calc : Bool) (ps : List (ℕ × TimeUnit)) → IsSentence no_calc (terminals (or_zero ps))
-units_sentence no_calc [] = tt
-units_sentence no_calc (p ∷ []) = tt
-units_sentence no_calc (p ∷ q ∷ ps) = units_sentence no_calc (q ∷ ps)
+pub units_sentence : (no_calc : Bool) (u : TimeUnit) (ps : List (ℕ × TimeUnit))
+    → IsSentence no_calc (terminals (or_zero u ps))
+units_sentence no_calc u [] = tt
+units_sentence no_calc u (p ∷ []) = tt
+units_sentence no_calc u (p ∷ q ∷ ps) = units_sentence no_calc u (q ∷ ps)
 
-units_plus : (ps : List (ℕ × TimeUnit)) → AllPlus (terminals ps)
+pub units_plus : (ps : List (ℕ × TimeUnit)) → AllPlus (terminals ps)
 units_plus [] = tt
 units_plus (p ∷ ps) = units_plus ps
 
@@ -116,15 +121,15 @@ printed_is_sum o nanos text h p =
     let counts : List ℕ = counts_of unit_lengths nanos in
     record {
       sentence = (
-        rw (terminals_of_duration o nanos h) (units_sentence o.no_calc (kept units counts)),
-        rw (counts_are nanos text p, parts_kept units counts) (all_spelled (kept units counts)),
+        rw (terminals_of_duration o nanos h) (units_sentence o.no_calc Second (kept units counts)),
+        rw (counts_are nanos text p, parts_kept units counts) (all_spelled Second (kept units counts)),
       );
       plus = rw (terminals_of_duration o nanos h) (units_plus (printed nanos));
     }
 
 -- ---- The total is the duration
 
-sum_kept : (us : List TimeUnit) (counts : List ℕ)
+pub sum_kept : (us : List TimeUnit) (counts : List ℕ)
     → sum_of (terms_of (terminals (kept us counts))) ≡ weighted_sum (map nanos_of us) counts
 sum_kept (u ∷ us) (n ∷ counts) = elim (cases_Bool (n == 0)) [
   | inl e ↦ let none = eqb-true n 0 e in rw (e, none) (omega (arith, sum_kept us counts))
@@ -132,13 +137,14 @@ sum_kept (u ∷ us) (n ∷ counts) = elim (cases_Bool (n == 0)) [
 ]
 sum_kept _ _ = refl
 
-sum_or_zero : (ps : List (ℕ × TimeUnit)) → sum_of (terms_of (terminals (or_zero ps))) ≡ sum_of (terms_of (terminals ps))
-sum_or_zero [] = refl
-sum_or_zero (p ∷ ps) = refl
+pub sum_or_zero : (u : TimeUnit) (ps : List (ℕ × TimeUnit))
+    → sum_of (terms_of (terminals (or_zero u ps))) ≡ sum_of (terms_of (terminals ps))
+sum_or_zero u [] = omega arith
+sum_or_zero u (p ∷ ps) = refl
 
 pub duration_sum : (o : Options) (nanos : ℕ) → FitsDuration nanos
     → sum_of (terms_of_lexemes o (duration_lexemes nanos)) ≡ nanos
 duration_sum o nanos h =
     let counts : List ℕ = counts_of unit_lengths nanos in
-    rw (terminals_of_duration o nanos h, sum_or_zero (kept units counts), sum_kept units counts)
+    rw (terminals_of_duration o nanos h, sum_or_zero Second (kept units counts), sum_kept units counts)
     (greatest_breakdown_holds nanos).breakdown.whole

@@ -41,6 +41,11 @@ abbrev pub with_parts : List ℕ → List TimeUnit → ℕ → List ℕ
 with_parts bytes [] nanos = bytes
 with_parts bytes (u ∷ us) nanos = with_parts (with_part bytes u (nanos / nanos_of u)) us (nanos % nanos_of u)
 
+-- the bytes followed by a part for each of these counts of these units
+abbrev pub with_counts : List ℕ → List TimeUnit → List ℕ → List ℕ
+with_counts bytes (u ∷ us) (n ∷ counts) = with_counts (with_part bytes u n) us counts
+with_counts bytes _ _ = bytes
+
 -- the units shorter than a year
 abbrev pub units_below_year : List TimeUnit
 units_below_year = drop 1 units

@@ -1,0 +1,137 @@
+-- The counts within limits by quotients and remainders are the greatest.
+use Rattle.duration_str.proofs.Common.{◌≡◌, ℕ, ◌+◌, ◌-◌, ◌*◌, ◌/◌, ◌%◌, ◌≤◌, ◌<◌, ◌⊎◌, inl, inr, false, List, [], ◌∷◌, length, arith, refl, sym, ⊤, ◌==◌, cases_Bool, le-div_iff_mul-le, div-add-mod', cases_lt, leb, leb-true, map, TimeUnit, nanos_of, Limits, units_within, lengths_within, weighted_sum, IsBefore, part_count, IsGreatestWithin, counts_within, nat_tests}
+use Rattle.duration_str.proofs.Characters.EachUnit.{all_units}
+use Rattle.duration_str.proofs.LawProofs.GreatestBreakdown.{not_before_each_other}
+
+abbrev pub ArePositive : List ℕ → Type 0
+ArePositive [] = ⊤
+ArePositive (l ∷ lengths) = (1 ≤ l) × ArePositive lengths
+
+pub within_each : (lengths : List ℕ) (most nanos : ℕ) → length (counts_within lengths most nanos) ≡ length lengths
+within_each [] most nanos = refl
+within_each (l ∷ lengths) most nanos = elim (cases_Bool (most == 0)) [
+  | inl none ↦ rw none (omega (arith, within_each lengths most nanos))
+  | inr some ↦ elim (cases_Bool (nanos / l == 0)) [
+    | inl zero ↦ rw (some, zero) (omega (arith, within_each lengths most nanos))
+    | inr count ↦ rw (some, count) (omega (arith, within_each lengths (most - 1) (nanos % l)))
+  ]
+]
+
+pub within_few : (lengths : List ℕ) (most nanos : ℕ) → part_count (counts_within lengths most nanos) ≤ most
+within_few [] most nanos = omega arith
+within_few (l ∷ lengths) most nanos = elim (cases_Bool (most == 0)) [
+  | inl none ↦ rw none (within_few lengths most nanos)
+  | inr some ↦ elim (cases_Bool (nanos / l == 0)) [
+    | inl zero ↦ rw (some, zero) (within_few lengths most nanos)
+    | inr count ↦
+        let positive : 1 ≤ most = grind (arith, nat_tests) in
+        rw (some, count) (rw count (omega (arith, within_few lengths (most - 1) (nanos % l))))
+  ]
+]
+
+pub within_sum : (lengths : List ℕ) (most nanos : ℕ) → weighted_sum lengths (counts_within lengths most nanos) ≤ nanos
+within_sum [] most nanos = omega arith
+within_sum (l ∷ lengths) most nanos = elim (cases_Bool (most == 0)) [
+  | inl none ↦ rw none (omega (arith, within_sum lengths most nanos))
+  | inr some ↦ elim (cases_Bool (nanos / l == 0)) [
+    | inl zero ↦ rw (some, zero) (omega (arith, within_sum lengths most nanos))
+    | inr count ↦ rw (some, count) (omega (arith, div-add-mod' nanos l, within_sum lengths (most - 1) (nanos % l)))
+  ]
+]
+
+first_at_most : (m l rest nanos : ℕ) → 1 ≤ l → m * l + rest ≤ nanos → m ≤ nanos / l
+first_at_most m l rest nanos h e =
+    let product : m * l ≤ nanos = omega arith in (le-div_iff_mul-le h).1 product
+
+rest_at_most : (m l rest nanos : ℕ) → m * l + rest ≤ nanos → m ≡ nanos / l → rest ≤ nanos % l
+rest_at_most m l rest nanos e s = let product = rw s at e in omega (arith, div-add-mod' nanos l)
+
+-- A length that does not go into a number is more than it, and leaves it whole.
+pub below_length : (n l : ℕ) → 1 ≤ l → n / l ≡ 0 → n < l
+below_length n l h none = elim (cases_lt n l) [
+  | inl less ↦ less
+  | inr up ↦ let product : 1 * l ≤ n = omega arith in absurd (omega (arith, (le-div_iff_mul-le h).1 product))
+]
+
+pub left_whole : (n l : ℕ) → n / l ≡ 0 → n % l ≡ n
+left_whole n l none = let parts = rw none at (div-add-mod' n l) in omega arith
+
+within_greatest : (lengths : List ℕ) (most nanos : ℕ) (others : List ℕ) → ArePositive lengths
+    → length others ≡ length lengths → part_count others ≤ most → weighted_sum lengths others ≤ nanos
+    → (others ≡ counts_within lengths most nanos) ⊎ IsBefore others (counts_within lengths most nanos)
+within_greatest [] most nanos [] h l f w = inl refl
+within_greatest [] most nanos (n ∷ others) h l f w = absurd (omega arith)
+within_greatest (x ∷ lengths) most nanos [] h l f w = absurd (omega arith)
+within_greatest (x ∷ lengths) most nanos (n ∷ others) h l f w =
+    let rest = weighted_sum lengths others in
+    let least : n ≤ nanos / x = first_at_most n x rest nanos h.0 w in
+    elim (cases_Bool (n == 0)) [
+      | inl zero ↦
+          let few : part_count others ≤ most = rw zero at f in
+          let nothing : n ≡ 0 = grind (arith, nat_tests) in
+          let no_more : rest ≤ nanos = omega arith in
+          elim (cases_Bool (most == 0)) [
+            | inl none ↦ rw none (elim (within_greatest lengths most nanos others h.1 (omega arith) few no_more) [
+              | inl s ↦ inl cc
+              | inr before ↦ inr (inr (nothing, before))
+            ])
+            | inr some ↦ elim (cases_Bool (nanos / x == 0)) [
+              | inl none ↦ rw (some, none) (elim (within_greatest lengths most nanos others h.1 (omega arith) few no_more) [
+                | inl s ↦ inl cc
+                | inr before ↦ inr (inr (nothing, before))
+              ])
+              | inr count ↦
+                  let positive : 1 ≤ nanos / x = grind (arith, nat_tests) in
+                  rw (some, count) (inr (inl (omega arith)))
+            ]
+          ]
+      | inr one ↦
+          let few : 1 + part_count others ≤ most = rw one at f in
+          let some : (most == 0) ≡ false = grind (arith, nat_tests) in
+          let positive : 1 ≤ n = grind (arith, nat_tests) in
+          let count : (nanos / x == 0) ≡ false = grind (arith, nat_tests) in
+          rw (some, count) (elim (cases_lt n (nanos / x)) [
+            | inl less ↦ inr (inl less)
+            | inr up ↦
+                let same : n ≡ nanos / x = omega arith in
+                let left = rest_at_most n x rest nanos w same in
+                elim (within_greatest lengths (most - 1) (nanos % x) others h.1 (omega arith) (omega arith) left) [
+                  | inl s ↦ inl cc
+                  | inr before ↦ inr (inr (same, before))
+                ]
+          ])
+    ]
+
+pub some_length : (u : TimeUnit) → 1 ≤ nanos_of u
+some_length u = leb-true 1 (nanos_of u) (all_units (λ v. leb 1 (nanos_of v)) refl u)
+
+pub lengths_positive : (us : List TimeUnit) → ArePositive (map nanos_of us)
+lengths_positive [] = tt
+lengths_positive (u ∷ us) = (some_length u, lengths_positive us)
+
+pub greatest_within : (limits : Limits) (nanos : ℕ)
+    → IsGreatestWithin (lengths_within limits) limits.parts nanos (counts_within (lengths_within limits) limits.parts nanos)
+greatest_within limits nanos =
+    let lengths : List ℕ = lengths_within limits in
+    record {
+      within = record {
+        one_each = within_each lengths limits.parts nanos;
+        few = within_few lengths limits.parts nanos;
+        no_more = within_sum lengths limits.parts nanos;
+      };
+      greatest = λ others o.
+          within_greatest lengths limits.parts nanos others (lengths_positive (units_within limits)) o.one_each o.few o.no_more;
+    }
+
+-- The counts within limits are those by quotients and remainders.
+pub one_greatest_within : (limits : Limits) (nanos : ℕ) (counts : List ℕ) → IsGreatestWithin (lengths_within limits) limits.parts nanos counts
+    → counts ≡ counts_within (lengths_within limits) limits.parts nanos
+one_greatest_within limits nanos counts h =
+    let own = greatest_within limits nanos in
+    elim (h.greatest _ own.within) [
+      | inl same ↦ sym same
+      | inr before ↦ elim (own.greatest counts h.within) [
+        | inl same ↦ same
+        | inr after ↦ absurd (not_before_each_other _ _ before after)
+      ]
+    ]
