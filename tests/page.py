@@ -139,7 +139,7 @@ def try_values(page):
     page.choose()
     for text, notes in TEXTS["notes"]:
         page.put(text)
-        page.same(f"the notes on {text}", notes, page.words("#notes p"))
+        page.same(f"the notes on {text}", notes, page.words("#about:not(:empty), #notes p"))
 
 
 def try_faults(page):
@@ -473,7 +473,7 @@ def try_without(page):
 
 def take_pictures(page):
     for scheme in SCHEMES:
-        emulate(page, scheme, 640, 680)
+        emulate(page, scheme, 640, 430)
         page.open("#text=1%3A30")
         page.run("document.activeElement.blur()")
         page.driver.save_screenshot(str(ROOT / f"docs/images/page-{scheme}.png"))
