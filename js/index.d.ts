@@ -8,7 +8,7 @@
  * nanoseconds.
  */
 
-/** How a text is read: a plain object. All are off where they are left out; other names are a `TypeError`. */
+/** How a text is read: a plain object's own properties. All are off where they are left out; other names are a `TypeError`. */
 export interface Options {
     /** `+` and `*` are not read; terms are added as they come. */
     noCalc?: boolean | undefined;
@@ -16,6 +16,22 @@ export interface Options {
     lowercase?: boolean | undefined;
     /** The Chinese names of the units are read too. */
     cnUnit?: boolean | undefined;
+}
+
+/** The units by their printed names, the longest first; `us` stands for `µs` too. */
+export type Unit = "y" | "q" | "mon" | "w" | "d" | "h" | "min" | "s" | "ms" | "µs" | "us" | "ns";
+
+/**
+ * How much of a duration is printed: a plain object's own properties. What is left out is the longest unit, the shortest, and
+ * as many parts as there are units.
+ */
+export interface Limits {
+    /** How many parts are printed at most. The rest is left out, never rounded up. */
+    parts?: number | undefined;
+    /** The largest unit that is printed: from `d` on, 120 days are `120d`. */
+    largest?: Unit | undefined;
+    /** The smallest unit that is printed. If nothing is left it is 0 of this unit, or `0s` where it is shorter than a second. */
+    smallest?: Unit | undefined;
 }
 
 /** What could stand at the place of a syntax fault. */
@@ -35,22 +51,15 @@ interface Refused {
     readonly expected: Expected;
     /** What is wrong, in one line without the text. */
     readonly line: string;
-    /**
-     * The line and, where the fault has a place, the text with a caret under it: of a text with line feeds the line of the
-     * place, and of more than 200 UTF-16 units the part around it.
-     */
-    readonly message: string;
 }
 
 /** At a place, no expression continues as the text does. */
 export interface SyntaxFault extends Refused {
     readonly code: "SYNTAX";
-    /** Where the fault stands, as an index of the string: `text.slice(index)` begins with `found`. */
+    /** Where the fault stands, as an index of the string, which also counts characters: `text.slice(index)` begins with `found`. */
     readonly index: number;
     /** The same as a byte of the text in UTF-8. */
     readonly byte: number;
-    /** The same as a count of characters. It equals `index`, since each character before a fault is one unit of UTF-16. */
-    readonly column: number;
     /** The token at the place, or null at the end. */
     readonly found: string | null;
 }
@@ -60,7 +69,6 @@ export interface SizeFault extends Refused {
     readonly code: "NUMBER_TOO_LARGE" | "OVERFLOW";
     readonly index: 0 | null;
     readonly byte: 0 | null;
-    readonly column: 0 | null;
     readonly found: null;
 }
 
@@ -69,15 +77,24 @@ export interface OtherFault extends Refused {
     readonly code: "EMPTY" | "MIXED" | "NOT_TEXT";
     readonly index: null;
     readonly byte: null;
-    readonly column: null;
     readonly found: null;
 }
 
-/** What is wrong with a refused text. Its code discriminates: only `SYNTAX` always has a place. */
-export type Fault = SyntaxFault | SizeFault | OtherFault;
+/** Why a text is refused. Its code discriminates: only `SYNTAX` always has a place. */
+export type Cause = SyntaxFault | SizeFault | OtherFault;
+
+/** What is wrong with a refused text: the cause, and the message about it. */
+export type Fault = Cause & {
+    /**
+     * The line and, where the fault has a place, the text with a caret under it: of a text with line feeds the line of the
+     * place, and of more than 200 UTF-16 units the part around it.
+     */
+    readonly message: string;
+};
 
 /**
- * A refused text. The fault is also its `cause`, which survives `structuredClone`, and `toJSON` gives all of it.
+ * A refused text. Its `cause` survives `structuredClone`, and `toJSON` gives all of the fault. It is one class for `import`
+ * and `require` in Node.
  *
  * ```js
  * try {
@@ -88,14 +105,20 @@ export type Fault = SyntaxFault | SizeFault | OtherFault;
  * }
  * ```
  */
-export type DurationError = Error & Fault & { readonly cause: Fault; toJSON(): Fault & { name: string } };
+export type DurationError = Error & Cause & { readonly cause: Cause; toJSON(): Fault & { name: string } };
 export declare const DurationError: abstract new (...nobody: never) => DurationError;
 
 /** What a text is read as: its value in nanoseconds, or what is wrong with it. */
-export type Result = { readonly ok: true; readonly value: bigint } | { readonly ok: false; readonly fault: Fault };
+export type Result =
+    | { readonly ok: true; readonly value: bigint; readonly fault?: undefined }
+    | { readonly ok: false; readonly value?: undefined; readonly fault: Fault };
+
+/** Which library is inside: the proved one that the Rattle toolchain built, or the one that cargo built of the same source. */
+export const library: string;
 
 /**
- * The value of a text in nanoseconds, which is exact: `parse("3m + 13s + 29ms")` is `193029000000n`.
+ * The value of a text in nanoseconds, which is exact: `parse("3m + 13s + 29ms")` is `193029000000n`. To read an array write
+ * `texts.map((text) => parse(text))`, since `map` hands in the index as well.
  *
  * @throws DurationError where the text is refused
  * @throws TypeError where it is no string, or an option is unknown or no boolean
@@ -118,21 +141,21 @@ export function tryParse(text: string, options?: Options): Result;
 export function parseMs(text: string, options?: Options): number;
 
 /**
- * The text of a duration in nanoseconds: `format(5_400_000_000_000n)` is `1h 30min`.
+ * The text of a duration in nanoseconds: `format(5_400_000_000_000n)` is `1h 30min`, and with `{ parts: 1 }` it is `1h`.
  *
- * @throws RangeError where it is negative, or 2^64 or more
- * @throws TypeError where it is no bigint
+ * @throws RangeError where it is negative, or 2^64 or more, or there is no such unit or count of parts
+ * @throws TypeError where it is no bigint, or an option is unknown or of another type
  */
-export function format(nanoseconds: bigint): string;
+export function format(nanoseconds: bigint, options?: Limits): string;
 
 /**
- * The text of a duration in whole milliseconds: `formatMs(90_000)` is `1min 30s`, and `formatMs(parseMs(text))` the text
- * without what it has beyond milliseconds.
+ * The text of a duration in milliseconds: `formatMs(90_000)` is `1min 30s`. A fraction, such as a difference of
+ * `performance.now()`, is taken to the nearest nanosecond: `formatMs(1.005)` is `1ms 5µs`.
  *
- * @throws RangeError where it is negative, fractional, or 2^53 or more, or 2^64 nanoseconds or more
- * @throws TypeError where it is no number
+ * @throws RangeError where it is negative, 2^64 nanoseconds or more, NaN or infinite; and as `format` does for the options
+ * @throws TypeError where it is no number; and as `format` does
  */
-export function formatMs(milliseconds: number): string;
+export function formatMs(milliseconds: number, options?: Limits): string;
 
 /**
  * The date that is a text's duration after this one. A Date has whole milliseconds, so what the text has beyond them is

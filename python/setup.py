@@ -84,7 +84,8 @@ class Sources(sdist):
 
 
 # Earlier versions of setuptools have the command of another package.
-demand(any(map(importlib.util.find_spec, ["wheel", "setuptools.command.bdist_wheel"])), "wheel, beside setuptools")
+if {"bdist_wheel", "dist_info"} & set(sys.argv):
+    demand(any(map(importlib.util.find_spec, ["wheel", "setuptools.command.bdist_wheel"])), "wheel, beside setuptools")
 room = tempfile.mkdtemp()
 atexit.register(shutil.rmtree, room, True)
 setup(

@@ -1,7 +1,16 @@
-"""page.py FILE [--pictures]: tries the page in this file in Chromium, or takes its pictures; called by tests/page."""
+"""page.py FILE [--pictures]: tries the page in this file in Chromium, or takes its pictures; called by tests/page.
+
+page-texts.json has texts and what is shown of them, worked out by hand from README.md and docs/GRAMMAR.md: "values",
+printed and in nanoseconds, milliseconds, seconds and ISO 8601; the rows of their "terms"; "notes" on them; the mark and the
+sentence of "faults"; and what is offered where an option is "switched". "meant" has the values in seconds that people mean
+by texts: several where people use a text with several meanings, null where nothing may be offered. "typed" texts are typed
+character by character, and "hostile" ones must be shown, and do nothing else. page.js runs in the page.
+"""
 import ast
+import decimal
 import json
 import pathlib
+import re
 import subprocess
 import sys
 import tempfile
@@ -16,145 +25,17 @@ from selenium.webdriver.common.by import By
 from selenium.webdriver.common.keys import Keys
 
 ROOT = pathlib.Path(__file__).resolve().parent.parent
-IMAGES = ROOT / "docs/images"
+TEXTS = json.loads((ROOT / "tests/page-texts.json").read_text(encoding="utf-8"))
 SCHEMES = ("light", "dark")
 # A little longer than the page waits after the last key before it tells the answer and writes the link
 PAUSE = 0.8
-UNITS = 'expected ["y", "q", "mon", "w", "d", "h", "m", "s", "ms", "µs", "us", "ns"]'
-OPERATORS = "expected ['+', '*']"
-SPACE_MARK = "\u00a0"
+# How many bytes the page may have, and how many words a sentence
+LARGEST = 85_000
+WORDS = 9
+# What the keyboard of a phone of 375 by 667 pixels leaves free
+FREE = 300
 OPTIONS = ("no_calc", "lowercase", "cn_unit")
 
-# Texts, options, and their values, of which printed and nanoseconds stand in README.md or rust/vectors.json;
-# the other notations are worked out by hand: nanoseconds, milliseconds, seconds and ISO 8601.
-VALUES = [
-    ("3m + 13s + 29ms", [], "3min 13s 29ms", "193,029,000,000", "193,029", "193.029", "PT3M13.029S"),
-    ("1h 30m", [], "1h 30min", "5,400,000,000,000", "5,400,000", "5,400", "PT1H30M"),
-    ("1m*10ms", [], "600ms", "600,000,000", "600", "0.6", "PT0.6S"),
-    ("1d2h3min4s", [], "1d 2h 3min 4s", "93,784,000,000,000", "93,784,000", "93,784", "P1DT2H3M4S"),
-    ("1ns+30s", [], "30s 1ns", "30,000,000,001", "30,000.000001", "30.000000001", "PT30.000000001S"),
-    ("0", [], "0s", "0", "0", "0", "PT0S"),
-    ("1y", [], "1y", "31,536,000,000,000,000", "31,536,000,000", "31,536,000", "P365D"),
-    (
-        "18446744073709551615ns",
-        [],
-        "584y 3q 2mon 1w 3d 23h 34min 33s 709ms 551µs 615ns",
-        "18,446,744,073,709,551,615",
-        "18,446,744,073,709.551615",
-        "18,446,744,073.709551615",
-        "P213503DT23H34M33.709551615S",
-    ),
-    ("2h 37m", ["no_calc"], "2h 37min", "9,420,000,000,000", "9,420,000", "9,420", "PT2H37M"),
-    ("1M", [], "1min", "60,000,000,000", "60,000", "60", "PT1M"),
-    ("1m31", ["lowercase"], "1min 31s", "91,000,000,000", "91,000", "91", "PT1M31S"),
-    ("1分+31秒", ["cn_unit"], "1min 31s", "91,000,000,000", "91,000", "91", "PT1M31S"),
-]
-
-# Texts that are read, options, and the rows of their terms and steps, worked out by hand
-TERMS = [
-    ("3m + 13s + 29ms", [], ["3m", "180 s", "+ 13s", "13 s", "+ 29ms", "0.029 s", "together", "193.029 s"]),
-    ("1h 30 m", [], ["1h", "3,600 s", "+ 30 m", "1,800 s", "together", "5,400 s"]),
-    ("1m*10ms", [], ["1m", "60 s", "* 10ms", "0.01 s", "60 × 0.01", "0.6 s"]),
-    ("2m*3*4ms", [], ["2m", "120 s", "* 3", "3 s", "* 4ms", "0.004 s", "3 × 0.004", "0.012 s", "120 × 0.012", "1.44 s"]),
-    ("1ns*1ns*9", [], ["1ns", "0.000000001 s", "* 1ns", "0.000000001 s", "* 9", "9 s",
-                       "0.000000001 × 9", "0.000000009 s", "0.000000001 × 0.000000009", "0 s"]),
-    ("1分31秒", ["cn_unit"], ["1分", "60 s", "+ 31秒", "31 s", "together", "91 s"]),
-    ("1h", [], None),
-]
-
-# Texts, options, and why they are refused: the library's line, what is marked, and the sentence. The lines and places stand
-# in docs/GRAMMAR.md or in rust/vectors.json, what can follow in GRAMMAR's table.
-LONGEST = "longer than 584 years, the longest duration that can be read."
-TOO_LARGE = "number too large to fit in target type"
-FAULTS = [
-    ("", [], "Empty input", None, "Type a duration, such as 1h 30m."),
-    ("   ", [], "expected number", SPACE_MARK, "Type a duration, such as 1h 30m."),
-    ("5 mins", [], UNITS, "mins", "There is no unit mins. Did you mean min?"),
-    ("1 hour 5 minuts", [], UNITS, "minuts", "There is no unit minuts. Did you mean minute?"),
-    ("3 Hurs", [], UNITS, "Hurs", "There is no unit Hurs. Did you mean hours?"),
-    ("5μs", [], UNITS, "μ", "There is no unit μs. Did you mean us?"),
-    ("13mxyz", [], UNITS, "mxyz", "There is no unit mxyz."),
-    ("13x", [], UNITS, "x", "There is no unit x."),
-    ("1h, 30m", [], OPERATORS, ",", "After 1h a number, +, * or the end can follow, not ,."),
-    ("1m 3-5", [], UNITS, "-", "After 3 a unit, +, * or the end can follow, not -."),
-    ("1m+2*3 4", [], UNITS, "4", "After 3 a unit, +, * or the end can follow, not 4."),
-    ("3ms-2ms", [], OPERATORS, "-", "After 3ms a number, +, * or the end can follow, not -."),
-    ("580y 580y x", [], OPERATORS, "x", "After 580y a number, +, * or the end can follow, not x."),
-    ("1m+", [], "expected number", SPACE_MARK, "After + a number has to follow."),
-    ("1m+-", [], "expected number", "-", "After + a number can follow, not -."),
-    ("-5m", [], "expected number", "-", "A duration begins with a number, not with -."),
-    ("1.5h", [], UNITS, ".", "Fractions can't be read: write 1h 30m."),
-    ("1,5 h", [], UNITS, ",", "Fractions can't be read: write 1h 30m."),
-    (".25", [], "expected number", ".", "Fractions can't be read: write 250ms."),
-    ("2*1.5h", [], UNITS, ".", "Fractions can't be read: write 90m."),
-    ("1.5 mins", [], UNITS, ".", "Fractions can't be read: write 1m 30s."),
-    ("0.5ns", [], UNITS, ".", "Fractions can't be read: write whole numbers of a smaller unit, down to ns."),
-    ("1,000s", [], UNITS, ",", "Digits can't be grouped: write 1000s."),
-    ('"30m"', [], "expected number", '"', "Only the duration itself can be read, without what stands around it."),
-    ("timeout: 30m", [], "expected number", "timeout", "Only the duration itself can be read, without what stands around it."),
-    ("30m;", [], OPERATORS, ";", "Only the duration itself can be read, without what stands around it."),
-    ("1m+2", ["no_calc"], "expected number", "+", "There are no operators under no_calc, so + is not read."),
-    ("1m-2", ["no_calc"], "expected number", "-", "After 1m a number or the end can follow, not -."),
-    ("1M", ["lowercase"], UNITS, "M", "Capitals aren't read under lowercase: write m, not M."),
-    ("1分", [], UNITS, "分", "分 means m, and is read only under the option cn_unit."),
-    ("1分s", ["no_calc", "cn_unit"], UNITS, "分s", "There is no unit 分s. Did you mean 分?"),
-    ("600y x", [], "overflow error", "600y", f"600y is {LONGEST}"),
-    ("600y分", [], "overflow error", "600y", f"600y is {LONGEST}"),
-    ("1y 600y", [], "overflow error", None, f"600y is {LONGEST}"),
-    ("580y*2", [], "overflow error", None, f"The product is {LONGEST}"),
-    ("2*580y*3", [], "overflow error", None, f"A step of the product is {LONGEST}"),
-    ("580y + 580y", [], "overflow error", None, f"The sum is {LONGEST}"),
-    ("18446744073709551616", [], TOO_LARGE, "18446744073709551616",
-     "18446744073709551616 is too large: the largest number is 18,446,744,073,709,551,615."),
-    ("1m 99999999999999999999", [], TOO_LARGE, None,
-     "99999999999999999999 is too large: the largest number is 18,446,744,073,709,551,615."),
-    ("1m+2*3", [], "not support '+' with '*' calculate", None,
-     "Sums and products can't be mixed: the first terms are added, and later ones multiplied."),
-    ("1m*2s 3s", [], "not support '*' with '+' calculate", None,
-     "Sums and products can't be mixed: the first terms are multiplied, and later ones added."),
-    ("1m \ud800", [], "not UTF-8: the character at index 3 is a lone surrogate", "\ud800",
-     "The text has half of a character: a lone surrogate, which UTF-8 can't hold."),
-]
-# Texts, a button with what is offered in their place, and what that is read as, by the rules of docs/GRAMMAR.md
-OFFERED = [
-    ("", "1h 30m", "1h 30min"),
-    ("1m+", "1m+30s", "1min 30s"),
-    ("1m 3-5", "1m 3+5", "1min 8s"),
-    ("1 2", "1h 2", "1h 2s"),
-    ("5 mins", "5 min", "5min"),
-    ("5 mins, 30 secs", "5 min 30 sec", "5min 30s"),
-    ("1h, 30m", "1h 30m", "1h 30min"),
-    ("1.5h", "1h 30m", "1h 30min"),
-    ("1.5h30s", "1h 30m 30s", "1h 30min 30s"),
-    ('"30m"', "30m", "30min"),
-    ("timeout: 30m", "30m", "30min"),
-    ("30m;", "30m", "30min"),
-    ('"timeout": "30m",', "30m", "30min"),
-    ("(1h 30m)", "1h 30m", "1h 30min"),
-    ("1m+-", "1m+", "a number is next"),
-    ("1m+2*3", "1m + 6s", "1min 6s"),
-    ("hours", "1hours", "1h"),
-    ("2h × 3", "2h * 3", "6h"),
-]
-# Texts with an option, the button, and the options that it leaves
-SWITCHED = [
-    ("1分", [], "1分", "with cn_unit 1min", ["cn_unit"]),
-    ("1m+2", ["no_calc"], "1m+2", "without no_calc 1min 2s", []),
-    ("1M", ["lowercase"], "1M", "without lowercase 1min", []),
-]
-
-# What the page must show as text, and do nothing else with
-HOSTILE = [
-    "<img src=x onerror=window.hacked=1>",
-    "1m</textarea><script>window.hacked=1</script>",
-    "1m \"><svg onload=window.hacked=1>",
-    "1m <b>&lt;&amp;",
-    "1m \u202etxet desrever",
-    "1m \u05d0\u05d1\u05d2 \u0661",
-    "1m \U0001f600",
-    "1m \ud83d",
-    "javascript:window.hacked=1",
-]
 MEGABYTE = 1 << 20
 # Texts of 1 MiB, and what is printed of them, or None; 349,525 s are 4 d 1 h 5 min 25 s.
 LONG = [
@@ -164,103 +45,6 @@ LONG = [
     (" " * (MEGABYTE - 1) + "x", None),
     ("1m " + "1" * (MEGABYTE - 6) + "m .5", None),
 ]
-
-SETTLED = """
-const done = arguments[arguments.length - 1];
-const start = performance.now();
-const text = document.getElementById("text");
-const words = JSON.parse(arguments[0]);
-if (arguments[1]) {
-    text.select();
-    document.execCommand("insertText", false, words);
-} else {
-    text.value = words;
-    text.dispatchEvent(new Event("input", { bubbles: true }));
-}
-requestAnimationFrame(() => requestAnimationFrame(() => done(performance.now() - start)));
-"""
-CONTRAST = """
-const channels = (colour) => colour.match(/[0-9.]+/g).map(Number);
-const light = (colour) => channels(colour).slice(0, 3).map((c) => c / 255)
-    .map((c) => c <= 0.03928 ? c / 12.92 : ((c + 0.055) / 1.055) ** 2.4)
-    .reduce((sum, c, i) => sum + c * [0.2126, 0.7152, 0.0722][i], 0);
-const behind = (element) => {
-    const colour = getComputedStyle(element).backgroundColor;
-    return (channels(colour)[3] ?? 1) === 0 ? behind(element.parentElement) : colour;
-};
-const ratio = (one, other) => {
-    const [dark, bright] = [light(one), light(other)].sort((a, b) => a - b);
-    return (bright + 0.05) / (dark + 0.05);
-};
-const seen = [...document.querySelectorAll("body *")].filter((element) => element.checkVisibility());
-const hasText = (element) => [...element.childNodes].some((node) => node.nodeType === 3 && node.data.trim() !== "");
-const pale = seen.filter((element) => hasText(element) && !element.closest("#mirror"))
-    .filter((element) => ratio(getComputedStyle(element).color, behind(element)) < 4.5);
-const faint = seen.filter((element) => element.matches("button, .marked, input:not([type=checkbox])"))
-    .filter((element) => ratio(getComputedStyle(element).borderTopColor, behind(element.parentElement)) < 3);
-return [...pale, ...faint].map((element) => element.outerHTML.slice(0, 80));
-"""
-# What breaks a rule, by the rule
-RULES = """
-const all = (selector) => [...document.querySelectorAll(selector)];
-const seen = (selector) => all(selector).filter((element) => element.checkVisibility());
-const told = (elements) => elements.map((element) => element.outerHTML.slice(0, 80));
-const ids = all("[id]").map((element) => element.id);
-const named = (element, attribute) => (element.getAttribute(attribute) ?? "").split(" ").filter(Boolean);
-const refers = ["aria-labelledby", "aria-describedby", "for"];
-const levels = seen("h1, h2, h3").map((element) => Number(element.tagName[1]));
-return {
-    "names used twice": ids.filter((id, place) => ids.indexOf(id) !== place),
-    "names that are nobody's": refers.flatMap((attribute) => all(`[${attribute}]`).flatMap((element) => named(element, attribute)))
-        .filter((id) => !ids.includes(id)),
-    "groups without a name": told(seen("section, [role=group], [role=region]")
-        .filter((element) => !element.hasAttribute("aria-label") && !element.hasAttribute("aria-labelledby"))),
-    "buttons that send": told(all("button:not([type=button])")),
-    "images without words": told(all("img:not([alt])")),
-    "headings that skip a level": levels.filter((level, place) => level > (levels[place - 1] ?? 0) + 1),
-    "a list with other parts": told(all("dl > *, dl > div > *").filter((element) => !element.matches("div, dt, dd"))),
-    "small targets": told(seen("button, input:not([type=checkbox])").filter((element) => element.offsetHeight < 24 || element.offsetWidth < 24)),
-    "places to scroll that no key reaches": told(seen("body *").filter((element) => element.scrollWidth > element.clientWidth + 1
-        && /auto|scroll/.test(getComputedStyle(element).overflowX) && element.tabIndex < 0 && !element.querySelector("textarea"))),
-    "parts outside of a landmark": told([...document.body.children].filter((element) => !element.matches("header, main, footer, noscript, script"))),
-};
-"""
-
-
-# What is offered for a text: each with its meaning, as what it is read, and whether a number can follow it
-READ_OFFERED = """(text) => {
-    const input = document.getElementById("text");
-    const put = (words) => {
-        input.value = words;
-        input.dispatchEvent(new Event("input", { bubbles: true }));
-        const shown = document.getElementById("value").checkVisibility();
-        return shown ? document.getElementById("printed").textContent : null;
-    };
-    put(text);
-    const offered = [...document.querySelectorAll("#offered button")];
-    return offered.map((one) => [...one.children].map((part) => part.textContent.trim()))
-        .filter(([, meaning]) => !meaning.startsWith("with"))
-        .map(([words, meaning]) => [words, meaning, put(words), put(words) === null && put(words + "0") !== null]);
-}"""
-# Each name of a unit, and the text and its nanoseconds after its button is pressed for the empty text
-PRESS_UNITS = """
-const text = document.getElementById("text");
-return [...document.querySelectorAll("#units button")].map((button) => {
-    text.value = "";
-    button.click();
-    return [button.textContent, text.value, document.getElementById("nanoseconds").textContent];
-});
-"""
-PLACED = ["3m + 13s + 29ms", "1h, 30m, 5s", "5 mins", "1m 3-5", "1m+2*3 4", "timeout: 30m", "1分 31秒", "2m*3*4ms*5", "600y x"]
-# Where the examples stand, for each beginning of a text
-PLACES = """
-const text = document.getElementById("text");
-return Array.from({ length: arguments[0].length + 1 }, (_, end) => {
-    text.value = arguments[0].slice(0, end);
-    text.dispatchEvent(new Event("input", { bubbles: true }));
-    return document.getElementById("read-label").getBoundingClientRect().top + scrollY;
-});
-"""
 
 
 class Page:
@@ -275,8 +59,11 @@ class Page:
         options.set_capability("goog:loggingPrefs", {"browser": "ALL", "performance": "ALL"})
         self.driver = webdriver.Chrome(service=Service("/usr/bin/chromedriver"), options=options)
         self.driver.set_script_timeout(60)
-        watch = "window.violations = []; addEventListener('securitypolicyviolation', (e) => violations.push(e.violatedDirective));"
-        self.driver.execute_cdp_cmd("Page.addScriptToEvaluateOnNewDocument", {"source": watch})
+        self.before("(() => {" + (ROOT / "tests/page.js").read_text(encoding="utf-8") + "})()")
+
+    def before(self, script):
+        """Has the script run before the scripts of each page that is opened."""
+        self.driver.execute_cdp_cmd("Page.addScriptToEvaluateOnNewDocument", {"source": script})
 
     def same(self, what, expected, got):
         self.rows += 1
@@ -302,7 +89,8 @@ class Page:
 
     def put(self, text, pasted=False):
         """Puts the text into the input, and gives the milliseconds until it is answered and drawn."""
-        return self.driver.execute_async_script(SETTLED, json.dumps(text), pasted)
+        script = "asked.settled(JSON.parse(arguments[0]), arguments[1], arguments[2])"
+        return self.driver.execute_async_script(script, json.dumps(text), pasted)
 
     def type(self, text):
         self.find("text").clear()
@@ -313,89 +101,101 @@ class Page:
             if self.find(name).is_selected() != (name in names):
                 self.find(name).click()
 
+    def click(self, selector):
+        self.driver.find_element(By.CSS_SELECTOR, selector).click()
+
     def told(self, expression):
         """What the expression is, by JSON, which also carries lone surrogates."""
         return json.loads(self.run(f"return JSON.stringify({expression})"))
+
+    def words(self, selector):
+        """The text of each element."""
+        return self.told(f"asked.words({json.dumps(selector)})")
 
     def text(self):
         return self.told("document.getElementById('text').value")
 
     def marked(self):
-        """What is marked in the input, or in the excerpt below it."""
-        return self.told("document.querySelector('mark')?.textContent ?? null")
+        return next(iter(self.words("mark")), None)
 
-    def offered(self):
-        """What is offered: each text with its meaning."""
-        rows = "document.querySelectorAll('#offered button')"
-        return self.told(f"[...{rows}].map((one) => [...one.children].map((part) => part.textContent.trim()))")
-
-    def press(self, words):
-        for button in self.driver.find_elements(By.CSS_SELECTOR, "#offered button"):
-            if button.find_element(By.TAG_NAME, "code").get_property("textContent") == words:
-                return button.click()
-        return self.same("what is offered", words, self.offered())
+    def key(self, *keys):
+        """Presses the keys in the element that has the focus, and returns the name of the one that has it then."""
+        self.driver.switch_to.active_element.send_keys(*keys)
+        return self.run("const e = document.activeElement; return e.id || e.textContent || e.className")
 
 
 def try_values(page):
     page.open()
-    for text, options, *expected in VALUES:
+    for text, options, *expected in TEXTS["values"]:
         page.choose(*options)
         page.type(text)
         got = [page.shown(name) for name in ("printed", "nanoseconds", "milliseconds", "seconds", "iso")]
         page.same(f"{text} under {options}", expected, got)
-        page.same(f"the fault of {text}", None, page.shown("line"))
-    for text, options, expected in TERMS:
+        page.same(f"the fault of {text}", None, page.shown("sentence"))
+    for text, options, expected in TEXTS["terms"]:
         page.choose(*options)
         page.put(text)
-        cells = page.run("return [...document.querySelectorAll('#terms th, #terms td')].map((cell) => cell.textContent)")
-        page.same(f"the terms of {text}", expected, cells if page.find("terms").is_displayed() else None)
+        page.same(f"the terms of {text}", expected, page.words("#terms th, #terms td") or None)
+    page.choose()
+    for text, notes in TEXTS["notes"]:
+        page.put(text)
+        page.same(f"the notes on {text}", notes, page.words("#about:not(:empty), #notes p"))
 
 
 def try_faults(page):
     page.open()
-    for text, options, *expected in FAULTS:
+    for text, options, *expected in TEXTS["faults"]:
         page.choose(*options)
         page.put(text)
-        page.same(f"{text!r} under {options}", expected, [page.shown("line"), page.marked(), page.shown("sentence")])
+        page.same(f"{text!r} under {options}", expected, [page.marked(), page.shown("sentence")])
         page.same(f"the value of {text!r}", None, page.shown("printed"))
     page.choose()
-    for text, column in (("1m 3-5", "Column 5. "), ("-", "Column 1. "), ("600y", "Column 1. "), ("580y*2", "")):
-        page.put(text)
-        page.same(f"the column of {text}", f"{column}The library says:", page.shown("where"))
+    page.put("1h,")
+    page.same("the library's line, folded away", None, page.shown("line"))
+    page.click("summary")
+    page.same("the library's line, unfolded", "expected ['+', '*']", page.shown("line"))
 
 
-def try_offering(page):
+def nanoseconds_of(words):
+    """The value of a sum in words, as `1 hour 2 months of 30 days`."""
+    lengths = {name: unit.length for unit in reference_parser.UNITS for name in unit.names.split()}
+    found = re.findall(r"([0-9,]+) ([a-z]+)(?: of \d+ days)?", words)
+    return sum(int(count.replace(",", "")) * lengths[name] for count, name in found)
+
+
+def try_texts(page):
+    """No button has another value than is meant, and each says its value."""
     page.open()
-    for text, words, meaning in OFFERED:
-        page.put(text)
-        page.same(f"{words} for {text}", True, [words, meaning] in page.offered())
-        page.press(words)
-        page.same(f"pressed: {words} for {text}", words, page.text())
-        if meaning != "a number is next":
-            page.same(f"{words} is read", meaning, page.shown("printed"))
-    for text, options, words, meaning, remain in SWITCHED:
+    rows = [row for rows in TEXTS["meant"].values() for row in rows]
+    page.same("texts", True, len(rows) >= 150)
+    answers = page.told(f"asked.offered({json.dumps([text for text, *_ in rows])})")
+    for (text, *meant), (sentence, buttons) in zip(rows, answers):
+        values = [f"{int(decimal.Decimal(seconds) * 10**9):,}" for seconds in meant if seconds]
+        page.same(f"what is offered for {text!r}", values, [value for *_, value in buttons])
+        page.same(f"a sentence of at most {WORDS} words for {text!r}: {sentence}", True, len(sentence.split()) <= WORDS)
+        for name, words, value in buttons:
+            said = f"{nanoseconds_of(name.removeprefix(f'{words}: ')):,}"
+            page.same(f"the name of a button for {text!r}", [True, value], [name.startswith(f"{words}: "), said])
+
+
+def try_switching(page):
+    page.open()
+    for text, options, words, meaning, remain in TEXTS["switched"]:
         page.choose(*options)
         page.put(text)
-        page.same(f"{words} for {text}", [words, meaning], page.offered()[0])
-        page.press(words)
+        page.same(f"{words} for {text}", [words, meaning], page.words("#offered button > *"))
+        page.click("#offered button")
         chosen = [name for name in OPTIONS if page.find(name).is_selected()]
-        page.same(f"pressed: {words} for {text}", [words, remain, True], [page.text(), chosen, page.shown("printed") is not None])
-    for text, options, *_ in FAULTS:
-        page.choose(*options)
-        for words, meaning, printed, goes_on in page.told(f"({READ_OFFERED})({json.dumps(text)})"):
-            page.same(f"{words!r} for {text!r}", [meaning, meaning == "a number is next"], [printed or meaning, goes_on])
-
-
-def try_undoing(page):
-    page.open()
+        page.same(f"pressed: {words} for {text}", [words, remain], [page.text(), chosen])
+    page.choose()
     page.type("1h, 30m")
-    page.press("1h 30m")
-    page.driver.switch_to.active_element.send_keys(Keys.CONTROL, "z")
+    page.click("#offered button")
+    page.key(Keys.CONTROL, "z")
     page.same("undone", "1h, 30m", page.text())
-    page.driver.switch_to.active_element.send_keys(Keys.CONTROL, Keys.SHIFT, "z")
+    page.key(Keys.CONTROL, Keys.SHIFT, "z")
     page.same("done again", ["1h 30m", "1h 30min"], [page.text(), page.shown("printed")])
-    page.driver.find_element(By.CSS_SELECTOR, "#read-examples button").click()
-    page.driver.switch_to.active_element.send_keys(Keys.CONTROL, "z")
+    page.click("#read-examples button")
+    page.key(Keys.CONTROL, "z")
     page.same("an example undone", "1h 30m", page.text())
 
 
@@ -405,19 +205,23 @@ def try_examples(page):
         page.choose(*options)
         for name, is_read in (("read", True), ("refused", False)):
             examples = page.driver.find_elements(By.CSS_SELECTOR, f"#{name}-examples button")
-            page.same(f"there are {name} examples", True, len(examples) > 1)
+            page.same(f"up to five {name} examples", True, 1 < len(examples) <= 5)
             for button in examples:
                 button.click()
-                got = [page.text(), page.shown("printed") is not None, page.shown("line") is None]
+                got = [page.text(), page.shown("printed") is not None, page.shown("sentence") is None]
                 page.same(f"the example {button.text} under {options}", [button.text, is_read, is_read], got)
 
 
 def try_units(page):
     page.open()
     units = [(name, unit.length) for unit in reference_parser.UNITS for name in f"{unit.names} {unit.chinese}".split()]
-    read = page.run(PRESS_UNITS)
-    page.same("the units", [[name, f"1{name}", f"{length:,}"] for name, length in units], read)
+    pressed = [[name, f"1{name}", f"{length:,}"] for name, length in units]
+    page.same("the units", pressed, page.told("asked.pressedUnits()"))
     page.same("the option of the Chinese names", True, page.find("cn_unit").is_selected())
+    page.run("document.querySelector('#units button').focus()")
+    keys = (Keys.ARROW_RIGHT, Keys.ARROW_LEFT, Keys.ARROW_UP, Keys.ARROW_DOWN, Keys.END)
+    page.same("where the arrow keys lead to", ["year", "y", "纳秒", "y", "纳秒"], [page.key(key) for key in keys])
+    page.same("the stop of the tab key", ["纳秒"], page.words("#units [tabindex='0']"))
     for text, becomes in (("1h 30", "1h 30min"), ("1h", "1h 1min"), ("1h, ", "1min"), ("1m*", "1m* 1min")):
         page.put(text)
         page.driver.find_element(By.XPATH, "//*[@id='units']//button[.='min']").click()
@@ -439,7 +243,7 @@ def try_code(page):
     for text in ("1h", '"\\n ${x}', "\t\n\0009", "??/µ 分秒é\u202e\U0001f600"):
         page.put(text)
         call = ast.parse(page.shown("python")).body[-1].value
-        page.same(f"Python's literal of {text!r}", [text, 1, 0], [call.args[0].value, len(call.args), len(call.keywords)])
+        page.same(f"Python's literal of {text!r}", [[text], []], [[each.value for each in call.args], call.keywords])
         literal = page.shown("javascript").split("parse(")[1].removesuffix(");")
         page.same(f"JavaScript's literal of {text!r}", text, page.run(f"return {literal}"))
         page.same(f"Rust's options of {text!r}", True, page.shown("rust").endswith(", Options::off())?;"))
@@ -459,90 +263,51 @@ def literal_of_c(code):
 
 
 def try_copying(page):
-    page.driver.execute_cdp_cmd("Browser.grantPermissions", {"permissions": ["clipboardReadWrite", "clipboardSanitizedWrite"]})
+    permissions = ["clipboardReadWrite", "clipboardSanitizedWrite"]
+    page.driver.execute_cdp_cmd("Browser.grantPermissions", {"permissions": permissions})
     page.open("#text=1h%2030m%201ms")
-    copied = {"printed": "1h 30min 1ms", "nanoseconds": "5400001000000", "milliseconds": "5400001", "seconds": "5400.001",
-              "iso": "PT1H30M0.001S", "python": page.shown("python")}
+    copied = {"printed": "1h 30min 1ms", "nanoseconds": "5400001000000", "milliseconds": "5400001",
+              "seconds": "5400.001", "iso": "PT1H30M0.001S", "python": page.shown("python")}
     page.same("copy buttons", 9, len(page.driver.find_elements(By.CSS_SELECTOR, "[data-copies]")))
     for name, expected in copied.items():
-        page.driver.find_element(By.CSS_SELECTOR, f"[data-copies={name}]").click()
+        page.click(f"[data-copies={name}]")
         time.sleep(0.1)
-        got = page.driver.execute_async_script("navigator.clipboard.readText().then(arguments[0], (e) => arguments[0](String(e)))")
-        page.same(f"copied: {name}", [expected, "Copied."], [got, page.find("copied").get_property("textContent")])
+        got = page.driver.execute_async_script("navigator.clipboard.readText().then(arguments[0])")
+        page.same(f"copied: {name}", [expected, f"Copied: {expected.splitlines()[0]}"], [got, page.shown("copied")])
+    page.run("Object.defineProperty(navigator, 'clipboard', { value: undefined })")
+    for name, expected in copied.items():
+        page.click(f"[data-copies={name}]")
+        page.same(f"selected: {name}", [expected, "Selected, not copied: press Ctrl+C, or ⌘C."],
+                  [page.run("return String(getSelection())"), page.shown("copied")])
 
 
 def try_link(page):
     page.open()
     page.choose("no_calc", "cn_unit")
     page.type("1分 30&no=5%#")
-    page.run("document.getElementById('moment').value = '2026-01-01T00:00'")
-    page.find("hours").send_keys("36")
     time.sleep(PAUSE)
     link = page.run("return location.hash")
-    expected = "#text=" + urllib.parse.quote("1分 30&no=5%#", safe="") + "&no_calc&cn_unit&moment=2026-01-01T00%3A00&hours=36"
-    page.same("the link", expected, link)
+    page.same("the link", "#text=" + urllib.parse.quote("1分 30&no=5%#", safe="") + "&no_calc&cn_unit", link)
     page.open(link)
-    got = [page.text(), *(page.find(name).is_selected() for name in OPTIONS), page.shown("made")]
-    page.same("what the link gives", ["1分 30&no=5%#", True, False, True, "1d 12h"], got)
+    got = [page.text(), *(page.find(name).is_selected() for name in OPTIONS)]
+    page.same("what the link gives", ["1分 30&no=5%#", True, False, True], got)
     for fragment, text in [("#text=1m+2", "1m+2"), ("#text=%E0%A4%A", ""), ("#", "3m + 13s + 29ms"), ("#other=1", "")]:
         page.open(fragment)
         page.same(f"the text of {fragment}", text, page.text())
     page.same("what is told of #other=1", "Not understood in the link: other=1", page.shown("link-note"))
     page.put("1m \ud800")
     time.sleep(PAUSE)
-    page.same("what is told of a lone surrogate", "This text is not UTF-8, so it cannot stand there.", page.shown("link-note"))
-
-
-def try_moments(page):
-    page.open("#text=90d&moment=2024-02-28T12:00:30")
-    page.same("90d after", "2024-05-28T12:00:30Z", page.shown("after"))
-    page.same("90d before", "2023-11-30T12:00:30Z", page.shown("before"))
-    page.put("x")
-    page.same("x after", "the text above is not read", page.shown("after"))
-    page.open("#text=584y&moment=9999-01-01T00:00")
-    page.same("584y before", "9415-05-23T00:00:00Z", page.shown("before"))
-    page.open("#text=1y&moment=12000-01-01T00:00")
-    page.same("1y after a far year", "+012000-12-31T00:00:00Z", page.shown("after"))
-    page.open("#text=1y&moment=275760-06-01T00:00")
-    page.same("what no Date holds", ["out of range", "+275759-06-02T00:00:00Z"], [page.shown("after"), page.shown("before")])
-    page.open("#text=0")
-    now = "return [Date.now() - Date.parse(arguments[0]), arguments[0]]"
-    passed, _ = page.run(now, page.shown("after"))
-    page.same("0 after now is near now", True, 0 <= passed < 60_000)
-    page.same("now", f"{page.shown('after')}, when this was answered", page.shown("from"))
-
-
-def try_printing(page):
-    rows = [
-        ({"whole-nanoseconds": "5400000000000"}, "1h 30min"),
-        ({"days": "1", "hours": "36"}, "2d 12h"),
-        ({"minutes": "3", "whole-seconds": "13", "whole-nanoseconds": "29000000"}, "3min 13s 29ms"),
-        ({"days": "364"}, "4q"),
-        ({"hours": "0"}, "0s"),
-        ({"hours": "-1"}, "only whole numbers, 0 or more"),
-        ({"hours": "1.5"}, "only whole numbers, 0 or more"),
-        ({"hours": "<b>"}, "only whole numbers, 0 or more"),
-        ({"days": "9" * 31}, "at most 30 digits"),
-        ({"whole-nanoseconds": str(2**64)}, "a duration of 2^64 nanoseconds or more has no text"),
-    ]
-    for fields, expected in rows:
-        page.open()
-        for name, digits in fields.items():
-            page.find(name).send_keys(digits)
-        page.same(f"the text of {fields}", expected, page.shown("made"))
-    page.open()
-    page.find("days").send_keys("91")
-    page.find("use").click()
-    page.same("91 days, read above", ["1q", "7,862,400"], [page.text(), page.shown("seconds")])
+    said = "This text is not UTF-8, so the address can't hold it."
+    page.same("what is told of a lone surrogate", said, page.shown("link-note"))
 
 
 def try_hostile(page):
     page.open()
     count = "return ['img', 'svg', 'script', 'b'].map((name) => document.querySelectorAll(name).length)"
     before = page.run(count)
-    for text in HOSTILE:
+    for text in TEXTS["hostile"]:
         page.put(text)
-        page.same(f"refused: {text!r}", True, page.shown("line") is not None)
+        page.same(f"refused: {text!r}", True, page.shown("sentence") is not None)
         page.same(f"the elements under {text!r}", before, page.run(count))
         if "\ud83d" not in text:
             page.open("#text=" + urllib.parse.quote(text, safe=""))
@@ -559,86 +324,78 @@ def try_hostile(page):
         page.same(f"whether {text[:9]}.. has a mark", printed is None, page.marked() is not None)
 
 
-def focused(page):
-    return page.run("const e = document.activeElement; return e.id || e.textContent || e.className")
-
-
 def try_keyboard(page):
     page.open()
-    page.same("the first focus", "text", focused(page))
-    keys = page.driver.switch_to.active_element
-    keys.send_keys(Keys.CONTROL, "a")
-    keys.send_keys("1m 3-5")
-    page.same("typed", UNITS, page.shown("line"))
-    wanted = page.run(
-        "return [...document.querySelectorAll('button, input, textarea, [tabindex]')]"
-        ".filter((e) => e.checkVisibility()).map((e) => e.id || e.textContent || e.className)"
+    page.key(Keys.CONTROL, "a")
+    page.same("the first focus", "text", page.key("1:30"))
+    wanted = page.told(
+        "[...document.querySelectorAll('button, input, textarea, summary, [tabindex]')]"
+        ".filter((e) => e.checkVisibility() && e.tabIndex === 0).map((e) => e.id || e.textContent || e.className)"
     )
-    reached = [focused(page)]
-    for _ in range(len(wanted) + 15):
-        page.driver.switch_to.active_element.send_keys(Keys.TAB)
-        reached.append(focused(page))
-    page.same("reached by the tab key", set(), set(wanted) - set(reached))
-    page.find("text").send_keys("")
-    for key, name in ((Keys.TAB, "no_calc"), (Keys.TAB, "lowercase"), (Keys.TAB, "cn_unit"), (Keys.TAB, "1m 3s 5 1min 8s"),
-                      (Keys.TAB, "1m 3+5 1min 8s"), (Keys.ENTER, "text")):
-        page.driver.switch_to.active_element.send_keys(key)
-        page.same("focus", name, focused(page))
-    page.same("taken by the keyboard", "1m 3+5", page.text())
-    page.driver.switch_to.active_element.send_keys("0")
-    page.same("typed after it", "1m 3+50", page.text())
-    page.driver.switch_to.active_element.send_keys(Keys.TAB, Keys.SPACE)
+    page.same("reached by the tab key", wanted[1:], [page.key(Keys.TAB) for _ in wanted[1:]])
+    page.click("#text")
+    names = ("no_calc", "lowercase", "cn_unit", "1h 30m1 hour 30 minutes", "1m 30s1 minute 30 seconds")
+    page.same("what follows the text", list(names), [page.key(Keys.TAB) for _ in names])
+    page.same("after the enter key", "text", page.key(Keys.ENTER))
+    page.same("taken by the keyboard", "1m 30s", page.text())
+    page.key(" 5")
+    page.same("typed after it", "1m 30s 5", page.text())
+    page.key(Keys.TAB, Keys.SPACE)
     page.same("switched by the keyboard", True, page.find("no_calc").is_selected())
 
 
 def try_readers(page):
     """What screen readers are told: a name for each field, and one line after a pause."""
     page.open()
-    for field in page.driver.find_elements(By.CSS_SELECTOR, "input, textarea, button:not(#units button:not(:first-child))"):
+    for field in page.driver.find_elements(By.CSS_SELECTOR, "input, textarea, pre, button:not(#units button)"):
         if field.is_displayed():
             page.same(f"a name for {field.get_attribute('outerHTML')[:60]}", True, bool(field.accessible_name))
-    live = "return [...document.querySelectorAll('output, [role=status], [role=alert], [aria-live]')].map((e) => e.id)"
-    page.same("live regions", ["announcement", "link-note", "copied"], page.run(live))
-    page.run(
-        "window.told = []; new MutationObserver(() => told.push(document.getElementById('announcement').textContent))"
-        ".observe(document.getElementById('announcement'), { childList: true })"
-    )
+    page.same("live regions", 3, len(page.words("[role=status], [role=alert], [aria-live]")))
+    page.run("const said = document.getElementById('announcement'); window.told = [];"
+             "new MutationObserver(() => told.push(said.textContent)).observe(said, { childList: true })")
     for text in ("1", "1h", "1h ", "1h 3", "1h 30", "1h 30m"):
         page.put(text)
     time.sleep(PAUSE)
-    page.same("told", ["1h 30min"], page.run("return told"))
-    page.put("1m+")
-    time.sleep(PAUSE)
-    page.same("told of a fault", "After + a number has to follow.", page.run("return told.at(-1)"))
-    described = "const e = document.getElementById('text'); return [e.getAttribute('aria-invalid'),"
-    described += "document.getElementById(e.getAttribute('aria-describedby'))?.textContent ?? null]"
-    page.same("the input with a fault", ["true", "After + a number has to follow."], page.run(described))
+    page.same("told", ["1h 30min."], page.told("told"))
+    told = {
+        "1h 30": "1h 30s. 30 has no unit: seconds. Try instead 1h 30m: 1 hour 30 minutes.",
+        "5 mins": "There is no unit mins: write min. Try instead 5 min: 5 minutes.",
+        "1m+": "A number must follow +.",
+    }
+    for text, expected in told.items():
+        page.put(text)
+        time.sleep(PAUSE)
+        page.same(f"told of {text}", expected, page.told("told.at(-1)"))
+    described = "['aria-invalid', 'aria-describedby'].map((name) => document.getElementById('text').getAttribute(name))"
+    page.same("the input with a fault", ["true", "sentence"], page.told(described))
     page.put("1m+1")
-    page.same("the input without a fault", ["false", None], page.run(described))
-    page.same("what remains of the fault", "", page.find("sentence").get_property("textContent"))
+    page.same("the input without a fault", ["false", None], page.told(described))
+    page.same("what remains of the fault", [""], page.words("#sentence"))
 
 
-def emulate(page, scheme, width, height=1100, scale=1, forced=False):
+def emulate(page, scheme, width, height=1100, forced=False):
     features = {"prefers-color-scheme": scheme, "forced-colors": "active" if forced else "none"}
     media = {"features": [{"name": name, "value": value} for name, value in features.items()]}
     page.driver.execute_cdp_cmd("Emulation.setEmulatedMedia", media)
-    size = {"width": width, "height": height, "deviceScaleFactor": scale, "mobile": False}
+    size = {"width": width, "height": height, "deviceScaleFactor": 1, "mobile": False}
     page.driver.execute_cdp_cmd("Emulation.setDeviceMetricsOverride", size)
 
 
 def try_rules(page):
     """Rules of accessibility, in a page with all that it can show."""
-    for text in ("1m 3-5", "3m + 13s + 29ms"):
+    for text in ("1:30", "3m + 13s + 29ms"):
         page.open("#cn_unit&text=" + urllib.parse.quote(text))
-        for what, broken in page.run(RULES).items():
+        for what, broken in page.told("asked.brokenRules()").items():
             page.same(f"{what} under {text}", [], broken)
     for button in page.driver.find_elements(By.CSS_SELECTOR, "#units button"):
-        page.same(f"the language of {button.text}", None if button.text.isascii() or "µ" in button.text else "zh", button.get_attribute("lang") or None)
-    page.put("1分 31秒 x")
-    page.same("the language of a sentence", True, page.run("return document.querySelector('#sentence [lang=zh]') !== null"))
+        language = "" if button.text.isascii() or "µ" in button.text else "zh"
+        page.same(f"the language of {button.text}", language, button.get_attribute("lang"))
+    page.choose()
+    page.put("1分")
+    page.same("the language of a sentence", ["分"], page.words("#sentence code[lang=zh]"))
     page.same("one first heading", 1, len(page.driver.find_elements(By.TAG_NAME, "h1")))
     version = subprocess.run([ROOT / "tools/version"], stdout=subprocess.PIPE, check=True, text=True).stdout.strip()
-    page.same("the library", f"duration_str {version}", page.run("return document.querySelector('header p').textContent"))
+    page.same("the library's version", version, page.shown("version"))
     page.same("an icon", True, page.run("return document.querySelector('link[rel=icon]').href.length > 100"))
 
 
@@ -647,27 +404,36 @@ def try_place(page):
     for width in (320, 900):
         emulate(page, "light", width)
         page.open()
-        tops = [page.run(PLACES, text) for text in PLACED]
-        page.same(f"the places of the examples on {width} pixels", 1, len(set(sum(tops, []))))
+        places = page.told(f"asked.places({json.dumps(TEXTS['typed'])})")
+        page.same(f"the places of the examples on {width} pixels", 1, len(set(places)))
+
+
+def try_phone(page):
+    """On a phone the answer and the first suggestion stand above the keyboard."""
+    emulate(page, "light", 375, 667)
+    for text in ("3m + 13s + 29ms", "1h 30", "1:30", "5 mins", "5m, 10m"):
+        page.open("#text=" + urllib.parse.quote(text))
+        lowest = page.told("asked.lowest()")
+        page.same(f"the answer to {text} at {lowest} pixels", True, lowest <= FREE)
 
 
 def try_looks(page):
     papers = {}
     for scheme in SCHEMES:
         for width in (320, 900):
-            for text in ("3m + 13s + 29ms", "1m 3-5", "1m " + "9" * 200, "x" * 5_000):
+            for text in ("3m + 13s + 29ms", "1:30", "1m " + "9" * 200, "x" * 5_000):
                 emulate(page, scheme, width)
                 page.open("#cn_unit&text=" + text)
                 page.put(text)
                 what = f"{text[:9]} in {scheme} on {width} pixels"
                 page.same(f"width of {what}", width, page.run("return document.documentElement.scrollWidth"))
-                page.same(f"pale parts of {what}", [], page.run(CONTRAST))
+                page.same(f"pale parts of {what}", [], page.told("asked.pale()"))
         papers[scheme] = page.run("return getComputedStyle(document.body).backgroundColor")
     page.same("two papers", 2, len(set(papers.values())))
     emulate(page, "dark", 900, forced=True)
-    page.open("#text=1m%203-5")
-    seen = "const s = (e) => getComputedStyle(document.querySelector(e)); return [s('mark').outlineStyle, s('.marked').outlineStyle]"
-    page.same("a mark and a focus in forced colours", ["solid", "solid"], page.run(seen))
+    page.open("#text=1%3A30")
+    lined = "['mark', '.marked'].map((e) => getComputedStyle(document.querySelector(e)).outlineStyle)"
+    page.same("a mark and a focus in forced colours", ["solid", "solid"], page.told(lined))
     page.same("the diagram is drawn", True, page.run("return document.querySelector('img').naturalWidth > 300"))
 
 
@@ -682,29 +448,45 @@ def try_outside(page):
     page.same("broken rules", [], page.run("return violations"))
     fetched = "const done = arguments[0]; fetch('https://127.0.0.1:9/').then(() => done('read'), () => done('refused'))"
     page.same("a request", "refused", page.driver.execute_async_script(fetched))
-    page.run("const script = document.createElement('script'); script.textContent = 'window.hacked = 1'; document.body.append(script)")
+    page.run("document.body.append(Object.assign(document.createElement('script'), { text: 'window.hacked = 1' }))")
     page.same("another script", None, page.run("return window.hacked ?? null"))
     page.same("broken rules after both", ["connect-src", "script-src-elem"], page.run("return violations"))
 
 
+def try_without(page):
+    """Without scripts or WebAssembly the page says so first, and shows nothing else but its title and its end."""
+
+    def same(what, works):
+        page.open()
+        time.sleep(PAUSE)
+        said = page.driver.find_element(By.TAG_NAME, "body").text.startswith("This page needs JavaScript")
+        page.same(what, [not works, works], [said, page.find("text").is_displayed()])
+
+    disable = "Emulation.setScriptExecutionDisabled"
+    page.driver.execute_cdp_cmd(disable, {"value": True})
+    same("without scripts", False)
+    page.driver.execute_cdp_cmd(disable, {"value": False})
+    same("with both", True)
+    page.before("delete globalThis.WebAssembly")
+    same("without WebAssembly", False)
+
+
 def take_pictures(page):
     for scheme in SCHEMES:
-        emulate(page, scheme, 640, 680)
-        page.open("#text=1m%203-5")
+        emulate(page, scheme, 640, 430)
+        page.open("#text=1%3A30")
         page.run("document.activeElement.blur()")
-        page.driver.save_screenshot(str(IMAGES / f"page-{scheme}.png"))
+        page.driver.save_screenshot(str(ROOT / f"docs/images/page-{scheme}.png"))
 
 
 def main(file, *words):
     page = Page(file)
+    page.same(f"at most {LARGEST} bytes", True, pathlib.Path(file).stat().st_size <= LARGEST)
     try:
         if words == ("--pictures",):
             take_pictures(page)
             return 0
-        for test in (
-            try_values, try_faults, try_offering, try_undoing, try_examples, try_units, try_code, try_copying, try_link,
-            try_moments, try_printing, try_hostile, try_keyboard, try_readers, try_rules, try_place, try_looks, try_outside,
-        ):
+        for test in [test for name, test in globals().items() if name.startswith("try_")]:
             test(page)
     finally:
         page.driver.quit()

@@ -1,13 +1,14 @@
-// The answer below the text: its value in all notations, or its fault with what could be written.
+// The answer below the text: its value in all notations, or its fault, and what is offered beside it.
 import { format, tryParse } from "../js/dist/duration-str.js";
 import { LANGUAGES } from "./code.js";
-import { suggestions } from "./edits.js";
 import { AROUND, button, choose, chosenOptions, element, LONE_SURROGATE, LONG, made } from "./elements.js";
 import { quotation, switches, text, write } from "./elements.js";
-import { terms } from "./grammar.js";
 import { termRows } from "./meaning.js";
+import { notesOn, offersFor } from "./offers.js";
 import { sentence } from "./sentence.js";
-import { decimal, grouped, iso, seconds } from "./values.js";
+import { terms } from "./units.js";
+import { decimal, iso, seconds } from "./values.js";
+import { grouped } from "./words.js";
 
 /** What a copy button copies, by the name of the element that shows it. */
 export const copied = {};
@@ -27,14 +28,16 @@ function markedPart({ code, index, found }) {
     }
     if (index === null) return null;
     if (code === "SYNTAX") return { from: index, to: index + (found ?? "").length };
-    const [{ to }] = terms(text.value, chosenOptions());
-    return { from: 0, to };
+    const [{ words }] = terms(text.value, chosenOptions());
+    const from = text.value.indexOf(words);
+    return { from, to: from + words.length };
 }
 
 /** Shows a text in the element, with a mark from and to there. */
 function putMarked(target, shown, from, to) {
     // At the end of the text a blank is marked.
     const mark = made("mark", from === to ? "\u00a0" : shown.slice(from, to));
+    mark.classList.toggle("thin", /^\p{Cf}$/u.test(mark.textContent));
     target.replaceChildren(shown.slice(0, from), mark, shown.slice(to));
 }
 
@@ -58,39 +61,43 @@ function showMarks(part) {
     putMarked(excerpt, shown, part.from - start, stop - start);
 }
 
-// ---- A fault
+// ---- What is offered
 
 /** The names of the options that differ from those that are chosen, with how they are to be. */
 function switched(options) {
     const changed = Object.entries(switches).filter(([name, box]) => box.checked !== options[name]);
-    return changed.map(([, box]) => ` ${box.checked ? "without" : "with"} ${box.id}`).join("");
+    return changed.map(([, box]) => `${box.checked ? "without" : "with"} ${box.id}, `).join("");
 }
 
-function showSuggestions(fault) {
-    const offered = text.value.length > LONG ? [] : suggestions(text.value, fault, chosenOptions());
-    element("suggestions").hidden = offered.length === 0;
-    element("offered").replaceChildren(...offered.map(({ text: words, options, meaning }) => {
+function showOffers(offers) {
+    element("suggestions").hidden = offers.length === 0;
+    element("offered").replaceChildren(...offers.map(({ text: words, options, meaning }) => {
         const press = () => {
             choose(options);
             write(words);
         };
-        return button(press, made("code", made("bdi", words)), made("span", `${switched(options)} `, meaning));
+        const one = button(press, made("code", made("bdi", words)), made("span", switched(options) + meaning));
+        one.ariaLabel = `${words}: ${switched(options)}${meaning}`;
+        return one;
     }));
 }
 
-/** Where a fault stands, for people. */
-function place({ column, code }) {
-    if (column === null) return "The library says:";
-    return `Column ${code === "SYNTAX" ? column + 1 : 1}. The library says:`;
+const parts = (sentences) => sentences.map((part) => typeof part === "string" ? part : quotation(part.quoted));
+
+// ---- A fault
+
+/** The line and column of a fault, where the text has lines. */
+function placeOf(part) {
+    if (!part || !text.value.includes("\n")) return "";
+    const lines = text.value.slice(0, part.from).split("\n");
+    return ` Line ${lines.length}, column ${Array.from(lines.at(-1)).length + 1}.`;
 }
 
-function showFault(fault) {
-    const parts = sentence(text.value, fault, chosenOptions());
-    element("sentence").replaceChildren(...parts.map((part) => typeof part === "string" ? part : quotation(part.quoted)));
+function showFault(fault, part) {
+    element("sentence").replaceChildren(...parts(sentence(text.value, fault, chosenOptions())), placeOf(part));
     element("sentence").classList.toggle("hint", text.value === "");
-    element("where").textContent = place(fault);
     element("line").textContent = fault.line;
-    showSuggestions(fault);
+    showOffers(text.value.length > LONG ? [] : offersFor(text.value, chosenOptions()));
 }
 
 // ---- A value
@@ -107,12 +114,17 @@ function showTerms(rows) {
 
 function showValue(value) {
     show("printed", format(value));
+    const about = format(value, { parts: 2 });
+    element("about").replaceChildren(...(about === copied.printed ? [] : ["about ", quotation(about)]));
     for (const [id, length] of [["nanoseconds", 1n], ["milliseconds", 1_000_000n]]) {
         show(id, decimal(value, length), grouped(decimal(value, length)));
     }
     show("seconds", seconds(value), grouped(seconds(value)));
     show("iso", iso(value));
     showTerms(termRows(text.value, chosenOptions()));
+    const notes = text.value.length > LONG ? { sentences: [], offers: [] } : notesOn(text.value, value, chosenOptions());
+    element("notes").replaceChildren(...notes.sentences.map((each) => made("p", ...parts(each))));
+    showOffers(notes.offers);
 }
 
 function showCode() {
@@ -123,21 +135,29 @@ function showCode() {
     for (const [id, written] of Object.entries(LANGUAGES)) show(id, written(text.value, chosenOptions()));
 }
 
+/** The sentences and what is offered, as screen readers are told them. */
+function told(sentences) {
+    const offers = Array.from(element("offered").children, (one) => one.ariaLabel);
+    return [...sentences, ...(offers.length > 0 ? [`Try instead ${offers.join("; ")}.`] : [])].join(" ");
+}
+
 /** Reads the text, shows its value or its fault, and returns what a screen reader is told of it. */
 export function showAnswer() {
     const { ok, value, fault } = tryParse(text.value, chosenOptions());
     element("value").hidden = !ok;
+    element("notations").hidden = !ok;
     element("fault").hidden = ok;
     text.setAttribute("aria-invalid", String(!ok && text.value !== ""));
-    showMarks(ok || text.value === "" ? null : markedPart(fault));
+    const part = ok || text.value === "" ? null : markedPart(fault);
+    showMarks(part);
     showCode();
     if (ok) {
         text.removeAttribute("aria-describedby");
-        for (const id of ["sentence", "where", "line", "offered"]) element(id).replaceChildren();
+        for (const id of ["sentence", "line"]) element(id).replaceChildren();
         showValue(value);
-        return copied.printed;
+        return told([`${copied.printed}.`, ...Array.from(element("notes").children, (note) => note.textContent)]);
     }
-    showFault(fault);
+    showFault(fault, part);
     text.setAttribute("aria-describedby", "sentence");
-    return element("sentence").textContent;
+    return told([element("sentence").textContent]);
 }

@@ -1,7 +1,8 @@
-// What a text means, term by term.
+// What a text that is read means, term by term.
 import { parse } from "../js/dist/duration-str.js";
-import { terms } from "./grammar.js";
-import { grouped, SECOND, seconds } from "./values.js";
+import { terms, unitOf } from "./units.js";
+import { seconds } from "./values.js";
+import { grouped } from "./words.js";
 
 /** So many terms are shown. */
 const SHOWN = 20;
@@ -12,7 +13,7 @@ const inSeconds = (nanos) => `${grouped(seconds(nanos))} s`;
 function steps(values) {
     const rows = [];
     const multiply = (one, other) => {
-        const product = one * other / SECOND;
+        const product = one * other / unitOf("s").nanos;
         rows.push([`${grouped(seconds(one))} × ${grouped(seconds(other))}`, inSeconds(product)]);
         return product;
     };
@@ -21,24 +22,17 @@ function steps(values) {
     return rows;
 }
 
-function termRowsOf(text, found, options) {
-    return found.map(({ operator, from, to }, place) => {
-        const words = text.slice(from, to).replace(/\s+/g, " ");
-        const value = parse(text.slice(from, to), options);
-        return [place === 0 ? words : `${operator || "+"} ${words}`, inSeconds(value)];
-    });
-}
-
-/** Rows with the terms of a text that is read and what each is; of a product also the steps. Of one term there are none. */
+/** Rows with the terms of a text that is read and what each is, and of a product the steps; of one term there are none. */
 export function termRows(text, options) {
     const found = [];
-    for (const term of terms(text, options)) {
-        if (found.length === SHOWN) return [...termRowsOf(text, found, options), ["and more terms", ""]];
-        found.push(term);
-    }
+    for (const term of terms(text, options)) if (found.push(term) > SHOWN) break;
     if (found.length < 2) return [];
-    const values = found.map(({ from, to }) => parse(text.slice(from, to), options));
-    const isProduct = found[1].operator === "*";
-    const last = isProduct ? steps(values) : [["together", inSeconds(values.reduce((a, b) => a + b))]];
-    return [...termRowsOf(text, found, options), ...last];
+    const values = found.slice(0, SHOWN).map(({ words }) => parse(words, options));
+    const rows = values.map((value, place) => {
+        const { operator, words } = found[place];
+        return [`${place === 0 ? "" : `${operator || "+"} `}${words.replace(/\s+/g, " ")}`, inSeconds(value)];
+    });
+    if (found.length > SHOWN) return [...rows, ["and more terms", ""]];
+    if (found[1].operator === "*") return [...rows, ...steps(values)];
+    return [...rows, ["together", inSeconds(values.reduce((a, b) => a + b))]];
 }

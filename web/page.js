@@ -2,40 +2,35 @@
 import { tryParse } from "../js/dist/duration-str.js";
 import { copied, showAnswer } from "./answer.js";
 import { button, choose, chosenOptions, element, made, switches, text, write } from "./elements.js";
-import { UNITS } from "./grammar.js";
 import { readLink, showUnknown, writeLink } from "./link.js";
-import { showMoments } from "./moments.js";
-import { FIELDS, showMade } from "./printing.js";
+import { UNITS } from "./units.js";
 
 /** How long nothing must have been typed, in milliseconds, before the answer is told and the link written. */
 const PAUSE = 500;
+/** How long is shown what was copied, in milliseconds. */
+const SHOWN = 4_000;
+/** So many examples of a sort are shown. */
+const SHOWN_EXAMPLES = 5;
 
-const EXAMPLES = [
-    "3m + 13s + 29ms", "1h 30m", "2h 37m", "1m*10ms", "1m * 1m", "1 2", "1m 3-5", "5 mins", "1.5h", "13mxyz", "1h, 30m",
-    "\"30m\"", "1m+2*3 4", "1m+2*3", "580y*2", "600y x",
-];
+const EXAMPLES = ["3m + 13s + 29ms", "1h 30m", "1m*10ms", "6mon", "1h 30", "1.5h", "1:30", "5 mins", "PT5M", "3m - 1s"];
 
 let pause;
+let shownCopy;
 
-/** Tells the answer to screen readers and writes the link, once nothing more is typed. */
-function afterPause(told) {
+function read() {
+    const told = showAnswer();
     clearTimeout(pause);
+    // Screen readers are told the answer, and the link is written, once nothing more is typed.
     pause = setTimeout(() => {
         element("announcement").textContent = told;
         writeLink();
     }, PAUSE);
 }
 
-function read() {
-    const told = showAnswer();
-    showMoments();
-    afterPause(told);
-}
-
 /** Sorts the examples into those that are read under the options and those that are refused. */
 function showExamples() {
     const buttons = (isRead) => EXAMPLES.filter((example) => tryParse(example, chosenOptions()).ok === isRead)
-        .map((example) => button(() => write(example), example));
+        .slice(0, SHOWN_EXAMPLES).map((example) => button(() => write(example), example));
     element("read-examples").replaceChildren(...buttons(true));
     element("refused-examples").replaceChildren(...buttons(false));
 }
@@ -47,29 +42,52 @@ function addUnit(name) {
     write(texts.find((each) => tryParse(each, chosenOptions()).ok).trimStart());
 }
 
-function showUnits() {
-    const names = (words) => words.map((name) => button(() => addUnit(name), name));
-    element("units").replaceChildren(...UNITS.map(({ length, names: own, chinese }) => {
-        const row = made("div", made("dt", length), made("dd", ...names(own), ...names(chinese)));
-        row.removeAttribute("lang");
-        row.lastChild.removeAttribute("lang");
-        return row;
-    }));
+/** Makes the buttons in the element one stop of the tab key; the arrow keys lead from one to another. */
+function roam(toolbar) {
+    const buttons = Array.from(toolbar.querySelectorAll("button"));
+    for (const one of buttons) one.tabIndex = one === buttons[0] ? 0 : -1;
+    toolbar.addEventListener("keydown", (event) => {
+        const place = buttons.indexOf(event.target);
+        const [next, previous] = [(place + 1) % buttons.length, place - 1];
+        const ways = { ArrowRight: next, ArrowDown: next, ArrowLeft: previous, ArrowUp: previous, Home: 0, End: -1 };
+        const to = ways[event.key];
+        if (to === undefined) return;
+        event.preventDefault();
+        event.target.tabIndex = -1;
+        buttons.at(to).tabIndex = 0;
+        buttons.at(to).focus();
+    });
 }
 
+function showUnits() {
+    element("units").replaceChildren(...UNITS.map(({ length, names, chinese }) => {
+        const buttons = [...names, ...chinese].map((name) => button(() => addUnit(name), name));
+        const row = document.createElement("div");
+        row.append(made("span", length), row.cloneNode());
+        row.lastChild.append(...buttons);
+        return row;
+    }));
+    roam(element("units"));
+}
+
+/** Copies what the element shows; where that can't be done, selects it. */
 async function copy(id) {
+    let said = `Copied: ${copied[id].split("\n", 1)}`;
     try {
         await navigator.clipboard.writeText(copied[id]);
-        element("copied").textContent = "Copied.";
-    } catch (error) {
-        element("copied").textContent = `Not copied: ${error.message}`;
+    } catch {
+        element(id).textContent = copied[id];
+        getSelection().selectAllChildren(element(id));
+        said = "Selected, not copied: press Ctrl+C, or ⌘C.";
     }
+    element("copied").textContent = said;
+    clearTimeout(shownCopy);
+    shownCopy = setTimeout(() => element("copied").replaceChildren(), SHOWN);
 }
 
 function open() {
     const unknown = readLink();
     showExamples();
-    showMade();
     read();
     if (unknown.length === 0) return;
     // The link stays as it is until something is typed.
@@ -77,6 +95,8 @@ function open() {
     showUnknown(unknown);
 }
 
+element("needs").remove();
+document.querySelector("main").hidden = false;
 showUnits();
 text.addEventListener("input", read);
 for (const box of Object.values(switches)) {
@@ -85,10 +105,7 @@ for (const box of Object.values(switches)) {
         read();
     });
 }
-element("moment").addEventListener("input", read);
-for (const id of Object.keys(FIELDS)) element(id).addEventListener("input", () => afterPause(showMade()));
 for (const one of document.querySelectorAll("[data-copies]")) one.addEventListener("click", () => copy(one.dataset.copies));
-element("use").addEventListener("click", () => write(element("made").textContent));
 addEventListener("hashchange", open);
 if (location.hash) {
     open();
@@ -97,3 +114,4 @@ if (location.hash) {
     showExamples();
     read();
 }
+text.focus();

@@ -1,7 +1,7 @@
 //! The calls that are measured: those of the Rust crate, and those of the archive through C.
 use crate::counting::counted;
 use crate::texts::{EXPRESSION, long_text, refused, repeat};
-use duration_str::{HumanFormat, Options, parse, parse_duration, parse_with, write_human};
+use duration_str::{HumanFormat, Limits, Options, parse, parse_duration, parse_with, write_human, write_within};
 use std::hint::black_box;
 use std::time::Duration;
 
@@ -18,6 +18,10 @@ pub trait Library {
     fn reading_with(text: &str, options: u32) -> Self::Value;
     /// A duration printed into a buffer.
     fn printing(length: Duration) -> [u8; 64];
+    /// A duration printed into a buffer in at most so many parts, where the library does so.
+    fn printing_parts(_: Duration, _: u32) -> [u8; 64] {
+        unimplemented!()
+    }
     /// A duration printed into a `String`, where the library does so.
     fn printing_string(_: Duration) -> String {
         unimplemented!()
@@ -51,6 +55,14 @@ impl Library for Crate {
     fn printing(length: Duration) -> [u8; 64] {
         let mut buffer = [0; 64];
         black_box(write_human(&length, &mut buffer).len());
+        buffer
+    }
+
+    #[inline(always)]
+    fn printing_parts(length: Duration, parts: u32) -> [u8; 64] {
+        let mut buffer = [0; 64];
+        let limits = Limits { parts: parts as usize, ..Limits::none() };
+        black_box(write_within(&length, limits, &mut buffer).len());
         buffer
     }
 
@@ -106,6 +118,14 @@ struct Answer {
 unsafe extern "C" {
     fn duration_str_parse(text: *const u8, length: usize, nanos: *mut u64) -> bool;
     fn duration_str_format(secs: u64, nanos: u32, buffer: *mut u8) -> usize;
+    fn duration_str_format_within(
+        secs: u64,
+        nanos: u32,
+        largest: u32,
+        smallest: u32,
+        parts: u32,
+        buffer: *mut u8,
+    ) -> usize;
     fn duration_str_parse_with(text: *const u8, length: usize, options: u32, answer: *mut Answer) -> bool;
     fn duration_str_message(
         text: *const u8,
@@ -147,6 +167,16 @@ impl Library for Archive {
     }
 
     #[inline(always)]
+    fn printing_parts(length: Duration, parts: u32) -> [u8; 64] {
+        let mut buffer = [0; 64];
+        let (secs, nanos) = (length.as_secs(), length.subsec_nanos());
+        // SAFETY: the buffer has the 64 bytes that may be written.
+        let end = unsafe { duration_str_format_within(secs, nanos, 0, 10, parts, buffer.as_mut_ptr()) };
+        black_box(end);
+        buffer
+    }
+
+    #[inline(always)]
     fn refusing(text: &str, buffer: &mut [u8; ROOM]) -> usize {
         let mut answer = Answer::default();
         // SAFETY: the pointers and lengths are those of slices that lie apart, and `answer` is laid out as the header's.
@@ -163,10 +193,19 @@ impl Library for Archive {
 /// Calls a library so many times, as the first lines of `calls.rs` say.
 pub fn calls<L: Library>(words: &[&str], count: u64) {
     let length = Duration::new(193, 29_000_000);
+    let of_nanos = |nanos: &str| Duration::from_nanos(nanos.parse().expect("nanoseconds"));
     match words {
         ["nothing"] => repeat(count, || { black_box(black_box(EXPRESSION)); }),
         ["read"] => repeat(count, || { black_box(L::reading(black_box(EXPRESSION))); }),
         ["print"] => repeat(count, || { black_box(L::printing(black_box(length))); }),
+        ["print", nanos] => {
+            let length = of_nanos(nanos);
+            repeat(count, || { black_box(L::printing(black_box(length))); });
+        }
+        ["parts", parts, nanos] => {
+            let (length, parts) = (of_nanos(nanos), parts.parse().expect("a number of parts"));
+            repeat(count, || { black_box(L::printing_parts(black_box(length), black_box(parts))); });
+        }
         ["print-string"] => repeat(count, || { black_box(L::printing_string(black_box(length))); }),
         ["with", options, text] => {
             let options = options.parse().expect("options");

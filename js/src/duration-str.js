@@ -1,18 +1,21 @@
 // Durations as people write them, read and printed by a proved library, which is a WebAssembly module.
 // index.d.ts documents what is exported.
-import bytes from "../dist/duration_str.wasm";
+import bytes from "duration_str.wasm";
 
 const PAGE = 65_536;
 const SECOND = 1_000_000_000n;
 const MILLISECOND = 1_000_000n;
 /** Durations are below this many nanoseconds. */
-const LIMIT = 2n ** 64n;
+const LIMIT = 1n << 64n;
 /** The milliseconds of the last Date from 1970 on, and of the first one before. */
 const LAST_DATE = 8_640_000_000_000_000;
 const LONE_SURROGATE = /\p{Surrogate}/u;
 
 /** The codes of the refusals, in the order of `enum duration_str_cause` in the library's header. */
 const CODES = ["READ", "EMPTY", "SYNTAX", "NUMBER_TOO_LARGE", "OVERFLOW", "MIXED", "OUT_OF_RANGE", "NOT_TEXT"];
+
+/** The printed names of the units, in the order of `enum duration_str_unit`. */
+const UNITS = ["y", "q", "mon", "w", "d", "h", "min", "s", "ms", "µs", "ns"];
 
 /** How much of a text a message shows: all of a shorter one, and this many UTF-16 units before and after a place. */
 const SHOWN = 200;
@@ -76,16 +79,18 @@ function written(start, call) {
 /** A refused text. What is wrong is the error's cause, which survives a structured clone, and has all its fields. */
 export class DurationError extends Error {
     constructor(fault) {
-        super(fault.message, { cause: fault });
+        if (typeof fault?.message !== "string") throw new TypeError("a DurationError is made of a fault, as tryParse returns it");
+        const { message, ...cause } = fault;
+        super(message, { cause });
     }
 
     toJSON() {
-        return { name: this.name, ...this.cause };
+        return { name: this.name, message: this.message, ...this.cause };
     }
 }
 
 Object.defineProperty(DurationError.prototype, "name", { value: "DurationError", writable: true, configurable: true });
-for (const field of ["code", "text", "index", "byte", "column", "found", "expected", "line"]) {
+for (const field of ["code", "text", "index", "byte", "found", "expected", "line"]) {
     Object.defineProperty(DurationError.prototype, field, { get() { return this.cause[field]; }, configurable: true });
 }
 
@@ -94,14 +99,12 @@ function expectedOf(kinds) {
     return { number: (kinds & 1) !== 0, unit: (kinds & 2) !== 0, operator: (kinds & 4) !== 0, end: (kinds & 8) !== 0 };
 }
 
-/** Where a byte of the text at TEXT is, in each count. Before a fault stand only tokens, each character of which is one unit
- * of UTF-16. */
+/** Where a byte of the text at TEXT is, in each count. */
 function placeOf(byte) {
-    const column = decoded(0, byte).length;
-    return { index: column, byte, column };
+    return { index: decoded(0, byte).length, byte };
 }
 
-const NO_PLACE = { index: null, byte: null, column: null };
+const NO_PLACE = { index: null, byte: null };
 
 /** The nearest index from there on that is not inside a surrogate pair. */
 function whole(text, index) {
@@ -158,32 +161,54 @@ function write(text) {
 }
 
 function typeOf(value) {
-    return value === null ? "null" : typeof value;
+    return value === null ? "null" : Array.isArray(value) ? "array" : typeof value;
 }
 
-function flag(name, value) {
-    if (value !== undefined && typeof value !== "boolean") {
-        throw new TypeError(`the option ${name} must be a boolean, not ${typeOf(value)}`);
-    }
-    return Boolean(value);
-}
+const isOwn = Object.prototype.hasOwnProperty;
 
 /** Whether nothing is inherited but what every object has, also where that is another realm's. */
 function isPlain(options) {
     if (typeof options !== "object" || options === null) return false;
     const prototype = Object.getPrototypeOf(options);
-    return prototype === null || Object.getPrototypeOf(prototype) === null;
+    return prototype === Object.prototype || prototype === null
+        || (Object.getPrototypeOf(prototype) === null && isOwn.call(prototype, "isPrototypeOf"));
 }
 
-/** The options as the bits of `enum duration_str_option`. */
+/** The bit of `enum duration_str_option`, or 0 for another name. */
+function bitOf(name) {
+    switch (name) {
+        case "noCalc": return 1;
+        case "lowercase": return 2;
+        case "cnUnit": return 4;
+        default: return 0;
+    }
+}
+
+function checkPlain(options) {
+    if (isPlain(options)) return;
+    const type = typeOf(options);
+    throw new TypeError(`the options must be a plain object, not ${type === "object" ? "one that inherits" : type}`);
+}
+
+/** The bits of the options that are on. Only an object's own names are read. */
 function bitsOf(options) {
     if (options === undefined) return 0;
-    if (!isPlain(options)) throw new TypeError(`the options must be a plain object, not ${typeOf(options)}`);
-    const { noCalc, lowercase, cnUnit, ...others } = { __proto__: null, ...options };
-    const unknown = Object.keys(others);
-    if (unknown.length > 0) throw new TypeError(`unknown option: ${unknown[0]}`);
-    return flag("noCalc", noCalc) | (flag("lowercase", lowercase) << 1) | (flag("cnUnit", cnUnit) << 2);
+    checkPlain(options);
+    let bits = 0;
+    for (const name in options) {
+        const bit = bitOf(name);
+        if (!isOwn.call(options, name)) continue;
+        if (bit === 0) throw new TypeError(`unknown option: ${name}`);
+        const value = options[name];
+        if (value === true) bits |= bit;
+        else if (value !== false && value !== undefined) {
+            throw new TypeError(`the option ${name} must be a boolean, not ${typeOf(value)}`);
+        }
+    }
+    return bits;
 }
+
+export const library = LIBRARY;
 
 export function tryParse(text, options) {
     if (typeof text !== "string") throw new TypeError(`a duration's text must be a string, not ${typeOf(text)}`);
@@ -206,29 +231,68 @@ export function parseMs(text, options) {
     return Number(parse(text, options) / MILLISECOND);
 }
 
-export function format(nanoseconds) {
-    if (typeof nanoseconds !== "bigint") {
-        throw new TypeError(`nanoseconds must be a bigint, not ${typeOf(nanoseconds)}; formatMs takes milliseconds`);
+/** The number of the unit that the option of this name has. */
+function unitOf(name, unit) {
+    if (typeof unit !== "string") throw new TypeError(`the option ${name} must be a string, not ${typeOf(unit)}`);
+    const number = UNITS.indexOf(unit === "us" ? "µs" : unit);
+    if (number < 0) throw new RangeError(`the option ${name} must be one of ${UNITS.join(", ")} or us, not ${unit}`);
+    return number;
+}
+
+/** How many parts are printed at most; there are no more than units. */
+function partsOf(parts) {
+    if (typeof parts !== "number") throw new TypeError(`the option parts must be a number, not ${typeOf(parts)}`);
+    if (!Number.isInteger(parts) || parts < 0) throw new RangeError(`the option parts must be a whole number, not ${parts}`);
+    return Math.min(parts, UNITS.length);
+}
+
+/** The largest unit, the smallest and the count of parts, as `duration_str_format_within` takes them. */
+function limitsOf(options) {
+    checkPlain(options);
+    const limits = { largest: "y", smallest: "ns", parts: UNITS.length };
+    for (const name of Object.keys(options)) {
+        if (!isOwn.call(limits, name)) throw new TypeError(`unknown option: ${name}`);
+        if (options[name] !== undefined) limits[name] = options[name];
     }
-    if (nanoseconds < 0n) throw new RangeError(`a negative duration has no text: ${nanoseconds}`);
+    return [unitOf("largest", limits.largest), unitOf("smallest", limits.smallest), partsOf(limits.parts)];
+}
+
+/** The text of so many nanoseconds, which were handed in as this value. */
+function printed(nanoseconds, value, options) {
+    if (value < 0) throw new RangeError(`a negative duration has no text: ${value}`);
     if (nanoseconds >= LIMIT) throw new RangeError("a duration of 2^64 nanoseconds or more has no text");
-    const length = calls.duration_str_format(nanoseconds / SECOND, Number(nanoseconds % SECOND), TEXT_POINTER);
+    const [secs, nanos] = [nanoseconds / SECOND, Number(nanoseconds % SECOND)];
+    const length = options === undefined
+        ? calls.duration_str_format(secs, nanos, TEXT_POINTER)
+        : calls.duration_str_format_within(secs, nanos, ...limitsOf(options), TEXT_POINTER);
     return decoded(0, Number(length));
 }
 
-export function formatMs(milliseconds) {
+export function format(nanoseconds, options) {
+    if (typeof nanoseconds !== "bigint") {
+        throw new TypeError(`nanoseconds must be a bigint, not ${typeOf(nanoseconds)}; formatMs takes milliseconds`);
+    }
+    return printed(nanoseconds, nanoseconds, options);
+}
+
+export function formatMs(milliseconds, options) {
     if (typeof milliseconds !== "number") {
         throw new TypeError(`milliseconds must be a number, not ${typeOf(milliseconds)}; format takes nanoseconds`);
     }
-    if (!Number.isSafeInteger(milliseconds)) {
-        throw new RangeError(`milliseconds must be a whole number up to 2^53 - 1, not ${milliseconds}`);
-    }
-    return format(BigInt(milliseconds) * MILLISECOND);
+    if (!Number.isFinite(milliseconds)) throw new RangeError(`milliseconds must be finite, not ${milliseconds}`);
+    const whole = Math.trunc(milliseconds);
+    const rest = Math.round((milliseconds - whole) * Number(MILLISECOND));
+    return printed(BigInt(whole) * MILLISECOND + BigInt(rest), milliseconds, options);
 }
 
 /** The date that is a text's whole milliseconds away, in the direction of the sign. */
 function moved(date, sign, text, options) {
-    const start = Date.prototype.getTime.call(date);
+    let start;
+    try {
+        start = Date.prototype.getTime.call(date);
+    } catch {
+        throw new TypeError(`the date must be a Date, not ${typeOf(date)}`);
+    }
     if (Number.isNaN(start)) throw new RangeError("the date is invalid");
     // Both are so far below 2^53 that the sum is exact.
     const end = start + sign * parseMs(text, options);

@@ -2,7 +2,8 @@
 import assert from "node:assert/strict";
 import { execFileSync, spawn } from "node:child_process";
 import { createServer } from "node:http";
-import { mkdirSync, mkdtempSync, readFileSync, rmSync, symlinkSync, writeFileSync } from "node:fs";
+import { existsSync, mkdirSync, mkdtempSync, readFileSync, rmSync, symlinkSync, writeFileSync } from "node:fs";
+import { createRequire } from "node:module";
 import { tmpdir } from "node:os";
 import { join } from "node:path";
 import test, { after, before } from "node:test";
@@ -22,7 +23,7 @@ before(() => {
     writeFileSync(join(room, "module.mjs"), `${MODULE}\nconsole.log(said);`);
     writeFileSync(join(room, "required.cjs"), `const { parse } = require("duration-str");\n${USE}\nconsole.log(said);`);
 });
-after(() => rmSync(room, { recursive: true }));
+after(() => rmSync(room, { recursive: true, maxRetries: 20, retryDelay: 100 }));
 
 const runs = (...words) => execFileSync(words[0], words.slice(1), { cwd: room, encoding: "utf8" }).trim();
 
@@ -42,11 +43,38 @@ test("is imported and required", () => {
 
 test("is packed with its licence, types and module", () => {
     const { exports, files } = JSON.parse(readFileSync(join(PACKAGE, "package.json"), "utf8"));
+    const { node, import: imported, require: required } = exports["."];
+    const named = [node.import, node.require, imported, required, exports["./wasm"]].flatMap(Object.values);
     assert.deepEqual(files, ["dist", "index.d.ts", "LICENSE", "NOTICE"]);
-    for (const each of [exports["."].import, exports["."].require]) {
-        for (const file of Object.values(each)) assert.ok(readFileSync(join(PACKAGE, file)).length > 0, file);
-    }
-    assert.ok(WebAssembly.validate(readFileSync(join(PACKAGE, exports["./wasm"]))));
+    for (const file of [...named, "LICENSE", "NOTICE"]) assert.ok(readFileSync(join(PACKAGE, file)).length > 0, file);
+});
+
+test("is one package for import and require", () => {
+    writeFileSync(join(room, "both.mjs"), `import { createRequire } from "node:module";
+import * as imported from "duration-str";
+const required = createRequire(import.meta.url)("duration-str");
+let said = imported.library === required.library && imported.DurationError === required.DurationError;
+try { required.parse("1x"); } catch (error) { said &&= error instanceof imported.DurationError; }
+console.log(said);`);
+    assert.equal(runs("node", "both.mjs"), "true");
+});
+
+test("has the module alone, whose calls take numbers for pointers", async () => {
+    const { exports } = JSON.parse(readFileSync(join(PACKAGE, "package.json"), "utf8"));
+    const { instance } = await WebAssembly.instantiate(readFileSync(join(PACKAGE, exports["./wasm"].default)));
+    const { memory, __heap_base: { value: start }, duration_str_parse: parse } = instance.exports;
+    const { written } = new TextEncoder().encodeInto("1h 30m", new Uint8Array(memory.buffer, start + 8));
+    assert.equal(parse(start + 8, written, start), 1);
+    assert.equal(new DataView(memory.buffer).getBigUint64(start, true), 5_400_000_000_000n);
+});
+
+const BABEL = "/usr/share/nodejs/@babel/standalone/babel.js";
+test("works as Babel compiles it for older browsers", existsSync(BABEL) ? {} : { skip: "Babel is missing (tools/setup-debian)" }, () => {
+    const { transform } = createRequire(import.meta.url)(BABEL);
+    const source = readFileSync(join(PACKAGE, "dist/duration-str.js"), "utf8");
+    const { code } = transform(source, { presets: [["env", { targets: "> 0.25%, not dead", modules: "commonjs" }]] });
+    writeFileSync(join(room, "compiled.cjs"), code);
+    assert.equal(runs("node", "-p", "require('./compiled.cjs').parse('1h 30m')"), "5400000000000n");
 });
 
 for (const format of ["esm", "cjs", "iife"]) {

@@ -51,7 +51,7 @@ test("refuses what a Date cannot hold", () => {
 test("refuses what is no date, and what is no text", () => {
     for (const call of [after, before]) {
         for (const date of [undefined, null, 0, 0n, "2026-01-01", { getTime: () => 0 }, Object.create(Date.prototype)]) {
-            assert.throws(() => call(date, "1s"), TypeError);
+            assert.throws(() => call(date, "1s"), { name: "TypeError", message: /^the date must be a Date, not / });
         }
         assert.throws(() => call(new Date(0), 1), TypeError);
         assert.throws(() => call(new Date(0), "1s", { nocalc: true }), TypeError);

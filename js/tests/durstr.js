@@ -22,8 +22,8 @@ function answered(line) {
 }
 
 /** The library's message, of which the package shows the parts otherwise. A line has no line feed. */
-function messageOf({ text, column, line }) {
-    return column === null ? line : `${text}\n${" ".repeat(column)}^\n${line}`;
+function messageOf({ text, index, line }) {
+    return index === null ? line : `${text}\n${" ".repeat(index)}^\n${line}`;
 }
 
 /** The lines of the input: a line feed ends each, and may be missing after the last. */

@@ -1,5 +1,6 @@
 import assert from "node:assert/strict";
 import test from "node:test";
+import { inspect } from "node:util";
 
 import { DurationError, parse, tryParse } from "duration-str";
 import { IS_UNDER, OPTIONS, VECTORS } from "./vectors.js";
@@ -21,9 +22,9 @@ function errorOf(text, options) {
     return assert.fail(`${JSON.stringify(text)} is read`);
 }
 
-/** The message where the fault has a place: the line, the text, and a caret below the character of this number. */
-function pointed(text, column, line) {
-    return `${line}\n${text}\n${" ".repeat(column)}^`;
+/** The message where the fault has a place: the line, the text, and a caret below the character of this index. */
+function pointed(text, index, line) {
+    return `${line}\n${text}\n${" ".repeat(index)}^`;
 }
 
 test("makes room for each line, also where the text just fits", () => {
@@ -46,11 +47,11 @@ test("shows a long text around the place, and of lines the one that has it", () 
 test("tells the vectors' messages", () => {
     for (const [name, rows] of Object.entries(VECTORS.faults)) {
         for (const options of OPTIONS.filter(IS_UNDER[name])) {
-            for (const [text, column, lineName] of rows) {
+            for (const [text, index, lineName] of rows) {
                 const error = errorOf(text, options);
                 const line = VECTORS.lines[lineName];
-                assert.equal(error.message, column === null ? line : pointed(text, column, line));
-                assert.deepEqual([error.text, error.column, error.line], [text, column, line]);
+                assert.equal(error.message, index === null ? line : pointed(text, index, line));
+                assert.deepEqual([error.text, error.index, error.line], [text, index, line]);
             }
         }
     }
@@ -58,27 +59,27 @@ test("tells the vectors' messages", () => {
 
 test("points at what it found, in each count", () => {
     const rows = [
-        // text, options, index, byte, column, found, expected
-        ["0mxyz", {}, 1, 1, 1, "mxyz", AFTER_NUMBER],
-        ["1m 3-5", {}, 4, 4, 4, "-", AFTER_NUMBER],
-        ["1m+", {}, 3, 3, 3, null, NUMBER],
-        ["1µs …!", {}, 4, 5, 4, "…", AFTER_UNIT],
-        ["1 12", {}, 2, 2, 2, "12", AFTER_NUMBER],
-        ["3ms*2ms", { noCalc: true }, 3, 3, 3, "*", NUMBER_OR_END],
-        ["1分s", { cnUnit: true }, 1, 1, 1, "分s", AFTER_NUMBER],
-        ["1分 2秒 …", { cnUnit: true }, 6, 10, 6, "…", AFTER_UNIT],
-        ["1s 😀", {}, 3, 3, 3, "😀", AFTER_UNIT],
-        ["\ufeff1s", {}, 0, 0, 0, "\ufeff", NUMBER],
-        ["1s\0", {}, 2, 2, 2, "\0", AFTER_UNIT],
-        ["1s \u202e", {}, 3, 3, 3, "\u202e", AFTER_UNIT],
-        ["1s <b>", {}, 3, 3, 3, "<", AFTER_UNIT],
+        // text, options, index, byte, found, expected
+        ["0mxyz", {}, 1, 1, "mxyz", AFTER_NUMBER],
+        ["1m 3-5", {}, 4, 4, "-", AFTER_NUMBER],
+        ["1m+", {}, 3, 3, null, NUMBER],
+        ["1µs …!", {}, 4, 5, "…", AFTER_UNIT],
+        ["1 12", {}, 2, 2, "12", AFTER_NUMBER],
+        ["3ms*2ms", { noCalc: true }, 3, 3, "*", NUMBER_OR_END],
+        ["1分s", { cnUnit: true }, 1, 1, "分s", AFTER_NUMBER],
+        ["1分 2秒 …", { cnUnit: true }, 6, 10, "…", AFTER_UNIT],
+        ["1s 😀", {}, 3, 3, "😀", AFTER_UNIT],
+        ["\ufeff1s", {}, 0, 0, "\ufeff", NUMBER],
+        ["1s\0", {}, 2, 2, "\0", AFTER_UNIT],
+        ["1s \u202e", {}, 3, 3, "\u202e", AFTER_UNIT],
+        ["1s <b>", {}, 3, 3, "<", AFTER_UNIT],
     ];
-    for (const [text, options, index, byte, column, found, expected] of rows) {
+    for (const [text, options, index, byte, found, expected] of rows) {
         const error = errorOf(text, options);
         assert.equal(error.code, "SYNTAX");
-        assert.deepEqual([error.index, error.byte, error.column, error.found], [index, byte, column, found], text);
+        assert.deepEqual([error.index, error.byte, error.found], [index, byte, found], text);
         assert.deepEqual(error.expected, expected, text);
-        assert.equal(error.message, pointed(text, column, error.line));
+        assert.equal(error.message, pointed(text, index, error.line));
         assert.ok(text.slice(index).startsWith(found ?? ""));
     }
 });
@@ -95,7 +96,7 @@ test("tells the cause of other faults", () => {
     for (const [text, code, place] of rows) {
         const error = errorOf(text);
         assert.equal(error.code, code);
-        assert.deepEqual([error.index, error.byte, error.column, error.found], [place, place, place, null]);
+        assert.deepEqual([error.index, error.byte, error.found], [place, place, null]);
         assert.deepEqual(error.expected, NOTHING);
     }
 });
@@ -113,7 +114,7 @@ test("refuses lone surrogates, wherever they stand", () => {
         for (const options of OPTIONS) {
             const error = errorOf(text, options);
             assert.deepEqual([error.code, error.text], ["NOT_TEXT", text]);
-            assert.deepEqual([error.index, error.byte, error.column, error.found], [null, null, null, null]);
+            assert.deepEqual([error.index, error.byte, error.found], [null, null, null]);
             assert.equal(error.line, `not UTF-8: the character at index ${index} is a lone surrogate`);
             assert.equal(error.message, error.line);
         }
@@ -130,10 +131,19 @@ test("is an Error of its own name", () => {
     assert.equal(String(error), "ConfigurationError: overflow error\n600y\n^");
 });
 
+test("is made of a fault alone, and shown with its message once", () => {
+    assert.equal(new DurationError(tryParse("600y").fault).code, "OVERFLOW");
+    for (const fault of [undefined, null, {}, "1x"]) {
+        assert.throws(() => new DurationError(fault), { name: "TypeError", message: /^a DurationError is made of a fault/ });
+    }
+    assert.equal(inspect(errorOf("1x 2-")).split("1x 2-\n ^").length, 2);
+});
+
 test("survives a structured clone and JSON, with all that is wrong", () => {
     const error = errorOf("1m 3-5");
     const { fault } = tryParse("1m 3-5");
-    assert.deepEqual(structuredClone(error).cause, fault);
+    const clone = structuredClone(error);
+    assert.deepEqual({ message: clone.message, ...clone.cause }, fault);
     assert.deepEqual(JSON.parse(JSON.stringify(error)), { name: "DurationError", ...fault });
 });
 
@@ -141,8 +151,8 @@ test("is told without an error by tryParse", () => {
     assert.deepEqual(tryParse("1h 30m"), { ok: true, value: 5_400_000_000_000n });
     for (const text of ["", "1m 3-5", "600y", "\ud800"]) {
         const { ok, fault } = tryParse(text);
-        const { code, index, byte, column, found, expected, line, message } = errorOf(text);
-        assert.deepEqual([ok, fault], [false, { code, text, index, byte, column, found, expected, line, message }]);
+        const { code, index, byte, found, expected, line, message } = errorOf(text);
+        assert.deepEqual([ok, fault], [false, { code, text, index, byte, found, expected, line, message }]);
     }
     assert.throws(() => tryParse(1), TypeError);
 });

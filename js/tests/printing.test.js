@@ -8,6 +8,34 @@ test("prints the vectors", () => {
     for (const [text, printed] of VECTORS.printed) assert.equal(format(parse(text)), printed);
 });
 
+test("prints the vectors within limits", () => {
+    for (const [text, largest, smallest, parts, printed] of VECTORS.printed_within) {
+        assert.equal(format(parse(text), { largest, smallest, parts }), printed);
+        if (smallest === "µs") assert.equal(format(parse(text), { largest, smallest: "us", parts }), printed);
+    }
+    assert.equal(formatMs(193_029, { parts: 2 }), "3min 13s");
+    assert.equal(format(90_061_000_000_001n, { parts: 1e9, largest: undefined }), "1d 1h 1min 1s 1ns");
+});
+
+test("refuses limits that there are not", () => {
+    const names = "y, q, mon, w, d, h, min, s, ms, µs, ns or us";
+    const rows = [
+        [{ largest: "days" }, new RangeError(`the option largest must be one of ${names}, not days`)],
+        [{ smallest: "\u03bcs" }, new RangeError(`the option smallest must be one of ${names}, not \u03bcs`)],
+        [{ smallest: 5 }, new TypeError("the option smallest must be a string, not number")],
+        [{ parts: -1 }, new RangeError("the option parts must be a whole number, not -1")],
+        [{ parts: 1.5 }, new RangeError("the option parts must be a whole number, not 1.5")],
+        [{ parts: NaN }, new RangeError("the option parts must be a whole number, not NaN")],
+        [{ parts: "2" }, new TypeError("the option parts must be a number, not string")],
+        [{ units: 2 }, new TypeError("unknown option: units")],
+        [0, new TypeError("the options must be a plain object, not number")],
+    ];
+    for (const [options, error] of rows) {
+        assert.throws(() => format(1n, options), error);
+        assert.throws(() => formatMs(1, options), error);
+    }
+});
+
 test("prints nanoseconds and milliseconds", () => {
     const rows = [
         [0n, "0s"],
@@ -16,7 +44,7 @@ test("prints nanoseconds and milliseconds", () => {
         [25_200_000_001_000n, "7h 1µs"],
     ];
     for (const [value, printed] of rows) assert.equal(format(value), printed);
-    for (const [value, printed] of [[0, "0s"], [-0, "0s"], [1, "1ms"], [193_029, "3min 13s 29ms"]]) {
+    for (const [value, printed] of [[0, "0s"], [-0, "0s"], [1, "1ms"], [193_029, "3min 13s 29ms"], [1.005, "1ms 5µs"], [0.0000004, "0s"], [0.0000006, "1ns"], [2.9999999, "3ms"]]) {
         assert.equal(formatMs(value), printed);
     }
     assert.equal(formatMs(parseMs("1m 30s")), "1min 30s");
@@ -31,13 +59,13 @@ test("reads back what it prints", () => {
     }
 });
 
-test("refuses what is negative, fractional or too large", () => {
+test("refuses what is negative, not finite or too large", () => {
     const rows = [
         [format, [-1n, -(10n ** 1000n)], /^a negative duration has no text: -/],
         [format, [2n ** 64n, 10n ** 1000n], /^a duration of 2\^64 nanoseconds or more has no text$/],
-        [formatMs, [-1], /^a negative duration has no text: -/],
-        [formatMs, [-0.5, 0.5, 1e-300, NaN, Infinity, 2 ** 53], /^milliseconds must be a whole number up to /],
-        [formatMs, [18_446_744_073_710], /^a duration of 2\^64 nanoseconds or more has no text$/],
+        [formatMs, [-1, -0.5], /^a negative duration has no text: -(1|0\.5)$/],
+        [formatMs, [NaN, Infinity, -Infinity], /^milliseconds must be finite, not (NaN|-?Infinity)$/],
+        [formatMs, [18_446_744_073_710, 2 ** 53, 1e300], /^a duration of 2\^64 nanoseconds or more has no text$/],
     ];
     for (const [call, values, message] of rows) {
         for (const value of values) assert.throws(() => call(value), { name: "RangeError", message });

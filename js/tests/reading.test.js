@@ -38,8 +38,20 @@ test("takes a plain object's own options, of any realm", () => {
     for (const options of [other, Object.assign(Object.create(null), { cnUnit: true })]) {
         assert.equal(parse("1分", options), 60_000_000_000n);
     }
-    for (const options of [Object.create({ cnUnit: true }), new (class { cnUnit = true; })(), [], () => {}]) {
+    for (const options of [Object.create({ cnUnit: true }), Object.create(Object.create(null)), new (class { cnUnit = true; })(), [], () => {}]) {
         assert.throws(() => parse("1分", options), { name: "TypeError", message: /^the options must be a plain object, not / });
+    }
+});
+
+test("takes no option from Object.prototype, and minds none there", () => {
+    Object.prototype.cnUnit = true;
+    Object.prototype.other = true;
+    try {
+        assert.throws(() => parse("1分", {}), DurationError);
+        assert.equal(parse("1分", { cnUnit: true }), 60_000_000_000n);
+    } finally {
+        delete Object.prototype.cnUnit;
+        delete Object.prototype.other;
     }
 });
 
@@ -51,6 +63,8 @@ test("refuses what is no option", () => {
         [{ lowercase: "no" }, "the option lowercase must be a boolean, not string"],
         [{ cnUnit: null }, "the option cnUnit must be a boolean, not null"],
         [null, "the options must be a plain object, not null"],
+        [[], "the options must be a plain object, not array"],
+        [new Map(), "the options must be a plain object, not one that inherits"],
         [0, "the options must be a plain object, not number"],
         ["noCalc", "the options must be a plain object, not string"],
     ];
@@ -66,7 +80,7 @@ test("refuses what is no string", () => {
         [1, "number"],
         [1n, "bigint"],
         [Symbol("1s"), "symbol"],
-        [["1s"], "object"],
+        [["1s"], "array"],
         [new String("1s"), "object"],
         [{ toString: () => "1s" }, "object"],
         [() => "1s", "function"],

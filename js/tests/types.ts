@@ -1,27 +1,28 @@
 // The types of the package, by the compiler alone: what has to be wrong stands below a line that expects an error.
 import {
-    after, before, DurationError, type Expected, type Fault, format, formatMs, type Options, parse, parseMs, tryParse,
+    after, before, type Cause, DurationError, type Expected, type Fault, format, library, formatMs, type Options, parse, parseMs, tryParse,
 } from "duration-str";
+import * as wasm from "duration-str/wasm";
 
 const options: Options = { noCalc: true, lowercase: false, cnUnit: undefined };
 const nanoseconds: bigint = parse("2h 37m", options);
 const milliseconds: number = parseMs("1m 30s", {});
-const texts: string[] = [format(nanoseconds), formatMs(milliseconds)];
+const texts: string[] = [format(nanoseconds), formatMs(milliseconds), format(1n, { parts: 2, largest: "d", smallest: "us" })];
 const dates: Date[] = [after(new Date(), "90d"), before(new Date(), "1w", options)];
 
 try {
     parse(texts.join(" "));
 } catch (error) {
     if (!(error instanceof DurationError)) throw error;
-    const fault: Fault = error.cause;
+    const cause: Cause = error.cause;
     if (error.code === "SYNTAX") {
         const place: number = error.index;
         void place;
     }
-    const places: (number | null)[] = [error.index, error.byte, error.column];
+    const places: (number | null)[] = [error.index, error.byte];
     const expected: Expected = error.expected;
     const any: boolean = expected.number || expected.unit || expected.operator || expected.end;
-    const told: (string | null)[] = [error.found, error.line, error.text, error.message, fault.code];
+    const told: (string | null)[] = [error.found, error.line, error.text, error.message, cause.code];
     // @ts-expect-error: without a place it is null
     const index: number = error.index;
     // @ts-expect-error: there is no such code
@@ -43,6 +44,10 @@ parse("1s", { noCalc: 1 });
 format(milliseconds);
 // @ts-expect-error: no number
 formatMs(nanoseconds);
+// @ts-expect-error: no unit
+format(1n, { largest: "days" });
+// @ts-expect-error: no option
+formatMs(1, { units: 2 });
 // @ts-expect-error: no date
 after(0, "1s");
 // @ts-expect-error: nobody else makes one
@@ -52,5 +57,9 @@ const wrong: number = parse("1s");
 
 const result = tryParse("1s");
 const read: bigint | string = result.ok ? result.value : result.fault.line;
+const fault: Fault | undefined = result.fault;
+const lines: string[] = [library, result.fault?.message ?? ""];
+const memory: ArrayBuffer = wasm.memory.buffer;
+const version: number = wasm.duration_str_version();
 
-void [dates, wrong, read];
+void [dates, wrong, read, fault, lines, memory, version];

@@ -82,7 +82,7 @@ impl fmt::Display for HumanDuration {
 
 /// Writes a text with the width and the fill that are asked for. A precision, which `Formatter::pad` cuts at, is ignored.
 #[inline]
-fn pad(f: &mut fmt::Formatter<'_>, text: &str) -> fmt::Result {
+pub(crate) fn pad(f: &mut fmt::Formatter<'_>, text: &str) -> fmt::Result {
     match f.width() {
         None => f.write_str(text),
         Some(width) => pad_to(width, f, text),

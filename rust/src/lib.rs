@@ -4,11 +4,11 @@
 //! This crate has the public interface of `duration-str` 0.19.0 from crates.io. What reads and prints is proved: it is the
 //! source of a proved library with its contracts taken out. What it adds: [`parse_with`], whose options are chosen at each
 //! call and whose [`Fault`] says why and where; [`parse_duration`], whose [`OwnedFault`] outlives the text, and
-//! [`format_duration`]; [`HumanDuration`], for command lines and serde; [`write_human`], which allocates nothing; [`Tokens`];
-//! and `moment_after` and `moment_before` for any moment. A message's caret stands at the first token with which no
-//! expression continues.
+//! [`format_duration`], whose [`parts`](HumanDuration::parts) and units can be chosen; [`HumanDuration`], for command lines
+//! and serde; [`write_human`] and [`write_within`], which allocate nothing; [`Tokens`]; and `moment_after` and
+//! `moment_before` for any moment. A message's caret stands at the first token with which no expression continues.
 //!
-//! There are two `unsafe` blocks, in [`write_human`] and where a message is printed, proved with the rest of it.
+//! There are two `unsafe` blocks, where a duration and where a message is printed, proved with the rest of it.
 //!
 //! ```
 //! use duration_str::{parse, HumanFormat};
@@ -64,6 +64,7 @@ pub mod human;
 mod human_duration;
 mod one_line;
 mod parser;
+mod printed_within;
 #[cfg(feature = "serde")]
 mod serde_texts;
 
@@ -74,7 +75,8 @@ pub use dates::{
 };
 #[doc(inline)]
 pub use duration_str_core::{
-    Cause, CondUnit, Expected, MAX_PRINTED_LEN, Options, TimeUnit, Token, Tokens, What, write_human,
+    Cause, CondUnit, Expected, Limits, MAX_PRINTED_LEN, Options, TimeUnit, Token, Tokens, What,
+    write_human, write_within,
 };
 #[cfg(feature = "macros")]
 pub use duration_str_macros::duration;
@@ -88,6 +90,7 @@ pub use parser::parse_chrono;
 #[cfg(feature = "time")]
 pub use parser::parse_time;
 pub use parser::{parse, parse_duration, parse_std, parse_with};
+pub use printed_within::PrintedWithin;
 #[cfg(feature = "serde")]
 #[allow(deprecated)]
 pub use serde_texts::{DeserializeDuration, deserialize_duration, deserialize_option_duration};

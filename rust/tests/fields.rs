@@ -1,10 +1,14 @@
 //! For tests/compare: answers each line of standard input. A line of two numbers, seconds and nanoseconds, is a
-//! duration, which is printed. Any other is a text in hexadecimal digits: what follows are the fields of the answer, as
+//! duration, which is printed; three more are its limits: the largest and the smallest unit, as the header for C numbers
+//! them, and how many parts at most. Any other is a text in hexadecimal digits: what follows are the fields of the answer, as
 //! the header for C numbers them, and in hexadecimal digits the message and its last line. The words of the command
 //! line choose the options.
 #![forbid(unsafe_code)]
 
-use duration_str::{Cause, CondUnit, Fault, HumanFormat, Options, parse_with, write_human};
+use duration_str::{
+    Cause, CondUnit, Fault, HumanFormat, Options, TimeUnit, format_duration, parse_with,
+    write_human,
+};
 use std::time::Duration;
 
 fn options() -> Options {
@@ -71,9 +75,33 @@ fn answer(text: &str, options: Options) -> String {
     }
 }
 
-fn printed(secs: &str, nanos: &str) -> String {
-    let number = |digits: &str| digits.parse::<u64>().expect("a number");
-    let duration = Duration::new(number(secs), number(nanos) as u32);
+const UNITS: [TimeUnit; 11] = [
+    TimeUnit::Year,
+    TimeUnit::Quarter,
+    TimeUnit::Month,
+    TimeUnit::Week,
+    TimeUnit::Day,
+    TimeUnit::Hour,
+    TimeUnit::Minute,
+    TimeUnit::Second,
+    TimeUnit::MilliSecond,
+    TimeUnit::MicroSecond,
+    TimeUnit::NanoSecond,
+];
+
+fn printed(line: &str) -> String {
+    let numbers: Vec<u64> = line
+        .split(' ')
+        .map(|digits| digits.parse().expect("a number"))
+        .collect();
+    let duration = Duration::new(numbers[0], numbers[1] as u32);
+    if let [largest, smallest, parts] = numbers[2..] {
+        let (largest, smallest) = (UNITS[largest as usize], UNITS[smallest as usize]);
+        let within = format_duration(duration)
+            .largest(largest)
+            .smallest(smallest);
+        return within.parts(parts as usize).to_string();
+    }
     let printed = duration.human_format();
     assert_eq!(write_human(&duration, &mut [0xff; 64]), printed);
     printed
@@ -82,9 +110,10 @@ fn printed(secs: &str, nanos: &str) -> String {
 fn main() {
     let options = options();
     for line in std::io::stdin().lines().map(|line| line.expect("a line")) {
-        match line.split_once(' ') {
-            Some((secs, nanos)) => println!("{}", printed(secs, nanos)),
-            None => println!("{}", answer(&text_of(&line), options)),
+        if line.contains(' ') {
+            println!("{}", printed(&line));
+        } else {
+            println!("{}", answer(&text_of(&line), options));
         }
     }
 }

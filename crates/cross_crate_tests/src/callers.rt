@@ -235,6 +235,22 @@ fn subtracts_a_longer_duration(rt: HostRuntime) {
 }
 
 #[test]
+fn shows_no_more_than_is_left(rt: HostRuntime) {
+    let mut buffer = [0u8; 64];
+    for (secs, nanos, shown) in [
+        (5_400, 999_999_999, "1h 30min"),
+        (5_401, 0, "1h 30min"),
+        (0, 999_999_999, "0s"),
+    ] {
+        assert_eq!(rt; time_left(&Duration::new(secs, nanos), &mut buffer), shown);
+    }
+    let length = Duration::new(193, 29_000_000);
+    for (parts, shown) in [(0, "0s"), (1, "3min"), (11, "3min 13s 29ms")] {
+        assert_eq!(rt; in_parts(&length, parts, &mut buffer), shown);
+    }
+}
+
+#[test]
 fn hands_a_refusal_on(rt: HostRuntime) -> Result<(), Fail> {
     let value = json!(in rt.alloc(); "1min+30")?;
     let answer = Ok(Duration::from_secs(90));

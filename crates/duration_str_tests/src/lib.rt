@@ -12,6 +12,8 @@ mod ext;
 #[cfg(test)]
 mod fault;
 #[cfg(test)]
+mod limits;
+#[cfg(test)]
 mod message;
 #[cfg(test)]
 mod parser;

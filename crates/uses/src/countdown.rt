@@ -1,24 +1,23 @@
 //! The time that is left, as it is shown.
 #![tactic(auto)]
 
-ghost use Rattle.std.specs.Prelude.{◌≡◌, ◌≤◌, ◌<◌, ◌^◌, ℕ, length, chars};
-ghost use Rattle.uses.specs.Common.{as_nanos, IsRead, IsPrinted, off};
-ghost use Rattle.duration_str.specs.Units.{units};
+ghost use Rattle.std.specs.Prelude.{◌≤◌, ℕ, chars};
+ghost use Rattle.uses.specs.Common.{as_nanos, IsPrinted};
+ghost use Rattle.uses.specs.Countdown.{IsShown};
 
 use duration_str::laws::{all_parts, never_more};
 use duration_str::{Limits, TimeUnit, write_within};
 use std::time::Duration;
 
-/// The time that is left, in the caller's buffer: in two parts at most, and in no unit below the second. Below 2^64
-/// nanoseconds the text is read as no more than is left.
+/// The time that is left, in the caller's buffer: in two parts at most, and in no unit below the second; never more than
+/// is left.
 ///
 /// ```text
 /// time_left(&Duration::new(5_400, 999_999_999), &mut buffer) // "1h 30min"
 /// time_left(&Duration::new(0, 999_999_999), &mut buffer)     // "0s"
 /// ```
 pub fn time_left<'b>(left: &Duration, buffer: &'b mut [u8; 64]) -> &'b str
-    ensures { as_nanos left.now < 2 ^ 64
-        → (shown : ℕ) × (shown ≤ as_nanos left.now) × IsRead off (chars result.now) shown }
+    ensures { (shown : ℕ) × IsShown (as_nanos left.now) (chars result.now) shown }
 {
     never_more();
     let limits = Limits {

@@ -1,6 +1,9 @@
 //! Printed durations.
 use crate::vectors::vectors;
-use duration_str::{Cause, HumanFormat, Options, parse_with, write_human};
+use duration_str::{
+    Cause, HumanFormat, Limits, Options, PrintedWithin, TimeUnit, format_duration, parse_with,
+    write_human, write_within,
+};
 use proptest::prelude::*;
 use std::time::Duration;
 
@@ -36,6 +39,73 @@ fn prints_the_longest() {
             longest(secs)
         );
     }
+}
+
+/// The duration printed within limits by each call, which have to agree.
+fn within(length: Duration, largest: TimeUnit, smallest: TimeUnit, parts: usize) -> String {
+    let limits = Limits {
+        largest,
+        smallest,
+        parts,
+    };
+    let human = format_duration(length);
+    let printed = write_within(&length, limits, &mut [0xff; 64]).to_string();
+    for other in [
+        human.parts(parts).largest(largest).smallest(smallest),
+        human.largest(largest).smallest(smallest).parts(parts),
+        human.smallest(smallest).parts(parts).largest(largest),
+    ] {
+        assert_eq!(other.to_string(), printed);
+    }
+    printed
+}
+
+/// The unit with this name.
+fn unit(name: &str) -> TimeUnit {
+    TimeUnit::from_word(name, Options::off()).unwrap()
+}
+
+#[test]
+fn prints_within_limits() {
+    for (text, largest, smallest, parts, printed) in vectors().printed_within {
+        let length = parse_with(&text, Options::off()).unwrap();
+        let limits = (unit(&largest), unit(&smallest), parts);
+        assert_eq!(
+            within(length, limits.0, limits.1, limits.2),
+            printed,
+            "{text} {limits:?}"
+        );
+    }
+    for (_, largest, smallest, parts, printed) in vectors().printed_longest_within {
+        assert_eq!(
+            within(Duration::MAX, unit(&largest), unit(&smallest), parts),
+            printed
+        );
+    }
+}
+
+#[test]
+fn chooses_one_limit() {
+    let build = format_duration(Duration::from_millis(5_400_029));
+    let printed = |within: PrintedWithin| within.to_string();
+    assert_eq!(printed(build.parts(1)), "1h");
+    assert_eq!(printed(build.largest(TimeUnit::Minute)), "90min 29ms");
+    assert_eq!(printed(build.smallest(TimeUnit::Minute)), "1h 30min");
+}
+
+/// A precision would cut the text of the duration to that of another one.
+#[test]
+fn pads_and_ignores_a_precision() {
+    let human = format_duration(Duration::from_secs(90));
+    assert_eq!(
+        format!("{human:.2}|{human:*>10.2}|{human:^10}|"),
+        "1min 30s|**1min 30s| 1min 30s |"
+    );
+    let part = human.parts(1);
+    assert_eq!(
+        format!("{part:.2}|{part:*>10.2}|{part:^10}|"),
+        "1min|******1min|   1min   |"
+    );
 }
 
 #[test]
@@ -88,6 +158,18 @@ proptest! {
         prop_assert_eq!(parse_with(&text, Options::off()), Ok(length));
         let mut buffer = [0xff; 64];
         prop_assert_eq!(write_human(&length, &mut buffer), text);
+    }
+
+    #[test]
+    fn prints_no_more_within_limits(nanos: u64, parts in 0..13usize) {
+        let length = Duration::from_nanos(nanos);
+        let printed = format_duration(length).parts(parts).to_string();
+        let read = parse_with(&printed, Options::off()).unwrap();
+        prop_assert!(read <= length);
+        prop_assert_eq!(format_duration(read).parts(parts).to_string(), &printed[..]);
+        if parts >= 11 {
+            prop_assert_eq!(length.human_format(), printed);
+        }
     }
 
     #[test]

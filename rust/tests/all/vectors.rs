@@ -15,7 +15,14 @@ pub struct Vectors {
     pub printed: Vec<(String, String)>,
     /// What the longest durations print as.
     pub printed_longest: BTreeMap<String, String>,
+    /// Texts, and what their values print as within limits.
+    pub printed_within: Vec<Within>,
+    /// The same of the longest duration, with its seconds and nanoseconds in place of a text.
+    pub printed_longest_within: Vec<Within>,
 }
+
+/// A duration, its largest and its smallest unit by their printed names, how many parts at most, and the printed text.
+pub type Within = (String, String, String, usize, String);
 
 pub fn vectors() -> Vectors {
     serde_json::from_str(include_str!("../../vectors.json"))

@@ -1,12 +1,23 @@
-use Rattle.duration_str.proofs.Common.{arith, as_nanos, chars, off, IsMostWithin}
-use Rattle.duration_str.specs.declared.limits.Limits.{Limits}
-use Rattle.duration_str.specs.declared.unit.TimeUnit.TheVariants.{Second}
+use Rattle.duration_str.proofs.Common.{ℕ, List, arith, inl, inr, cases_lt, as_nanos, chars, off, IsMostWithin, IsPrintedWithin}
+use Rattle.uses.specs.Countdown.{coarse}
 use Rattle.uses.proofs.countdown.time_left.Goals as goal
 
 pub returns : goal.returns
-returns c small =
-    let limits : Limits = record { largest = c.none.result.largest; smallest = Second; parts = 2 } in
-    let text = chars c.write_within.result.now in
-    let law = c.never_more.ensures limits (as_nanos c.args.left.now) text c.write_within.ensures.text in
-    let most : IsMostWithin limits (as_nanos c.args.left.now) text law.0 = law.1 in
-    (law.0, most.never_more, most.read off (omega (arith, most.never_more)))
+returns c =
+    let left : ℕ = as_nanos c.args.left.now in
+    let text : List ℕ = chars c.write_within.result.now in
+    let printed : IsPrintedWithin coarse left text = rw c.none.ensures at c.write_within.ensures.text in
+    let law = c.never_more.ensures coarse left text printed in
+    let most : IsMostWithin coarse left text law.0 = law.1 in (
+      law.0,
+      record {
+        never_more = most.never_more;
+        few = (most.own.0, most.own.1.breakdown, most.own.1.few);
+        exact = λ counts keeps. elim (cases_lt law.0 left) [
+          | inl less ↦ absurd (most.greatest left counts less (omega arith) keeps)
+          | inr up ↦ omega (arith, most.never_more)
+        ];
+        read = λ small. most.read off small;
+        again = most.again;
+      },
+    )

@@ -1,0 +1,22 @@
+-- The time that is left, as it is shown.
+use Rattle.std.specs.Prelude.{◌≡◌, ℕ, ◌^◌, ◌<◌, ◌≤◌, List}
+use Rattle.duration_str.specs.declared.limits.Limits.{Limits}
+use Rattle.duration_str.specs.declared.unit.TimeUnit.TheVariants.{Year, Second}
+use Rattle.duration_str.specs.Laws.{KeepsWithin}
+use Rattle.duration_str.specs.Limits.{IsPrintedWithin, part_count}
+use Rattle.duration_str.specs.Printing.{IsGreatestBreakdown}
+use Rattle.duration_str.specs.Reading.{IsRead}
+use Rattle.duration_str.specs.Units.{off, unit_lengths}
+
+-- two parts at most, and none of a unit below the second
+abbrev pub coarse : Limits
+coarse = record { largest = Year; smallest = Second; parts = 2 }
+
+-- The text shows a time that is not more than what is left, and that has at most two parts; what is left is shown exactly
+-- if it has so few itself. It is read as that time below 2^64 nanoseconds, which is shown as the same text again.
+pub record IsShown (left : ℕ) (text : List ℕ) (shown : ℕ) : Type 0 where
+  pub never_more : shown ≤ left
+  pub few : (counts : List ℕ) × IsGreatestBreakdown unit_lengths shown counts × (part_count counts ≤ 2)
+  pub exact : (counts : List ℕ) → KeepsWithin coarse left counts → shown ≡ left
+  pub read : shown < 2 ^ 64 → IsRead off text shown
+  pub again : IsPrintedWithin coarse shown text

@@ -1,0 +1,117 @@
+// What tests/page.py asks of the page, in which it is run before the page's own script.
+window.violations = [];
+addEventListener("securitypolicyviolation", (event) => violations.push(event.violatedDirective));
+
+const all = (selector) => [...document.querySelectorAll(selector)];
+const seen = (selector) => all(selector).filter((element) => element.checkVisibility());
+const told = (elements) => elements.map((element) => element.outerHTML.slice(0, 80));
+const words = (selector) => all(selector).map((element) => element.textContent);
+
+function put(text) {
+    all("#text")[0].value = text;
+    all("#text")[0].dispatchEvent(new Event("input", { bubbles: true }));
+}
+
+/** Puts the text into the input, also as pasting does, and gives the milliseconds until it is answered and drawn. */
+function settled(text, pasted, done) {
+    const start = performance.now();
+    all("#text")[0].select();
+    if (pasted) document.execCommand("insertText", false, text);
+    else put(text);
+    requestAnimationFrame(() => requestAnimationFrame(() => done(performance.now() - start)));
+}
+
+/** For each text its sentence, with each quoted text as one word, and of each button its name, and the text and its value
+ * in nanoseconds after it is pressed. */
+function offered(texts) {
+    const quoted = (node) => node.nodeName === "CODE" ? "x" : node.textContent;
+    const buttons = (text) => {
+        for (const box of all("input:checked")) box.click();
+        put(text);
+        return all("#offered button");
+    };
+    return texts.map((text) => {
+        const count = buttons(text).length;
+        const sentence = [...all("#sentence")[0].childNodes].map(quoted).join("");
+        return [sentence, Array.from({ length: count }, (_, place) => {
+            const button = buttons(text)[place];
+            button.click();
+            return [button.ariaLabel, all("#text")[0].value, seen("#nanoseconds")[0]?.textContent ?? null];
+        })];
+    });
+}
+
+/** Each name of a unit, and the text and its nanoseconds after its button is pressed for the empty text. */
+function pressedUnits() {
+    return all("#units button").map((button) => {
+        all("#text")[0].value = "";
+        button.click();
+        return [button.textContent, all("#text")[0].value, all("#nanoseconds")[0].textContent];
+    });
+}
+
+/** Where the examples stand, for each beginning of the texts. */
+function places(texts) {
+    const beginnings = texts.flatMap((text) => Array.from({ length: text.length + 1 }, (_, end) => text.slice(0, end)));
+    return beginnings.map((text) => {
+        put(text);
+        return all("#read-label")[0].getBoundingClientRect().top + scrollY;
+    });
+}
+
+/** The lowest point of the answer and of the first thing that is offered. */
+function lowest() {
+    const parts = [...seen("#printed, #notes, #sentence"), ...seen("#offered button").slice(0, 1)];
+    return Math.max(...parts.map((element) => element.getBoundingClientRect().bottom));
+}
+
+/** Texts and edges that stand out too little from what is behind them. */
+function pale() {
+    const channels = (colour) => colour.match(/[0-9.]+/g).map(Number);
+    const light = (colour) => channels(colour).slice(0, 3).map((c) => c / 255)
+        .map((c) => c <= 0.03928 ? c / 12.92 : ((c + 0.055) / 1.055) ** 2.4)
+        .reduce((sum, c, i) => sum + c * [0.2126, 0.7152, 0.0722][i], 0);
+    const behind = (element) => {
+        const colour = getComputedStyle(element).backgroundColor;
+        return (channels(colour)[3] ?? 1) === 0 ? behind(element.parentElement) : colour;
+    };
+    const ratio = (one, other) => {
+        const [dark, bright] = [light(one), light(other)].sort((a, b) => a - b);
+        return (bright + 0.05) / (dark + 0.05);
+    };
+    const hasText = (element) => [...element.childNodes].some((node) => node.nodeType === 3 && node.data.trim() !== "");
+    const texts = seen("body *").filter((element) => hasText(element) && !element.closest("#mirror"))
+        .filter((element) => ratio(getComputedStyle(element).color, behind(element)) < 4.5);
+    const edges = seen("button, .marked").filter((element) => {
+        return ratio(getComputedStyle(element).borderTopColor, behind(element.parentElement)) < 3;
+    });
+    return told([...texts, ...edges]);
+}
+
+/** What breaks a rule of accessibility, by the rule. */
+function brokenRules() {
+    const ids = all("[id]").map((element) => element.id);
+    const named = (attribute) => all(`[${attribute}]`).flatMap((element) => element.getAttribute(attribute).split(" "));
+    const levels = seen("h1, h2, h3").map((element) => Number(element.tagName[1]));
+    const scrolls = ({ scrollWidth, clientWidth }) => scrollWidth > clientWidth + 1;
+    const isScrolled = (element) => scrolls(element) && /auto|scroll/.test(getComputedStyle(element).overflowX);
+    const isSmall = ({ offsetHeight, offsetWidth }) => offsetHeight < 24 || offsetWidth < 24;
+    return {
+        "names used twice": ids.filter((id, place) => ids.indexOf(id) !== place),
+        "names that are nobody's": ["aria-labelledby", "aria-describedby", "for"].flatMap(named)
+            .filter((id) => !ids.includes(id)),
+        "groups without a name": told(seen("section, [role=group], [role=region], [role=toolbar]")
+            .filter((element) => !element.hasAttribute("aria-label") && !element.hasAttribute("aria-labelledby"))),
+        "what has the focus and no role": told(seen("[tabindex]:not(button, [role])")),
+        "buttons that send": told(all("button:not([type=button])")),
+        "images without words": told(all("img:not([alt])")),
+        "headings that skip a level": levels.filter((level, place) => level > (levels[place - 1] ?? 0) + 1),
+        "a list with other parts": told(all("dl > :not(div), dl > div > :not(dt, dd)")),
+        "small targets": told(seen("button").filter(isSmall)),
+        "places to scroll that no key reaches": told(seen("body *").filter(isScrolled)
+            .filter((element) => element.tabIndex < 0 && !element.querySelector("textarea"))),
+        "parts outside of a landmark": told(all("body > :not(header, main, footer, script)")),
+    };
+}
+
+window.asked = { words, settled, offered, pressedUnits, places, lowest, pale, brokenRules };

@@ -1,0 +1,300 @@
+// Texts in other notations, each recognised as a whole, with their exact values. What people use with two meanings has
+// two readings, and what has no meaning, or none that is a duration, has a sentence alone.
+import { tryParse } from "../js/dist/duration-str.js";
+import { terms, UNITS, unitOf } from "./units.js";
+import { say } from "./words.js";
+
+/** Durations are below this many nanoseconds. */
+const LIMIT = 1n << 64n;
+export const LONGEST = ["over 584 years, the longest duration"];
+const [WEEK, DAY, HOUR, MINUTE, SECOND] = ["w", "d", "h", "m", "s"].map(unitOf);
+
+// ---- Characters and names
+
+/** The text with the digits of other scripts as ASCII's, `µ` for the other mu, and without zero-width characters. */
+function plain(text) {
+    const seen = text.trim().replace(/[\u00ad\u200b-\u200d\u2060\ufeff]/g, "");
+    return seen.replace(/\u03bc/g, "µ").replace(/\p{Nd}/gu, (digit) => {
+        // The ten digits of a script follow one another.
+        let zero = digit.codePointAt(0);
+        while (/\p{Nd}/u.test(String.fromCodePoint(zero - 1))) zero--;
+        return (digit.codePointAt(0) - zero) % 10;
+    });
+}
+
+/** Names that people use and the library doesn't have, with the names to write. */
+const COMMON = {
+    yr: "y", yrs: "y", mo: "mon", mos: "mon", wk: "w", wks: "w", hrs: "h", mins: "min", secs: "sec",
+    millis: "ms", msecs: "ms", micros: "µs", usecs: "µs", nanos: "ns", nsecs: "ns",
+};
+
+/** Whether one letter has to be put in, left out or replaced to make one word the other. */
+function isOneEdit(one, other) {
+    let start = 0;
+    while (start < one.length && one[start] === other[start]) start++;
+    const [rest, otherRest] = [one.slice(start), other.slice(start)];
+    const [less, otherLess] = [rest.slice(1), otherRest.slice(1)];
+    return less === otherLess || less === otherRest || rest === otherLess;
+}
+
+/** What a misspelt word of four letters or more means: names of one unit alone, one edit away, with its first letter. */
+function misspelt(word) {
+    if (word.length < 4) return null;
+    const isNear = (name) => name[0] === word[0] && isOneEdit(name, word);
+    const near = UNITS.map(({ names }) => names.filter(isNear)).filter((names) => names.length > 0);
+    return near.length === 1 ? near[0].find((name) => name.at(-1) === word.at(-1)) ?? near[0][0] : null;
+}
+
+/** The library's name for a word, for a common name and for a misspelt one; nothing where there is none. */
+export function unitName(word) {
+    const small = word.toLowerCase();
+    if (unitOf(word)) return word;
+    // A capital makes it megabytes.
+    if (/^mos?$/.test(small) && word !== small) return null;
+    return COMMON[small] ?? misspelt(small);
+}
+
+/** The same text with characters and names that the library has. */
+export function cleaned(text) {
+    return plain(text).replace(/[\u00a0\u2000-\u200a\u202f\u205f\u3000]/g, " ").replace(/×/g, "*")
+        .replace(/[A-Za-zµ]+/g, (word) => unitName(word) ?? word);
+}
+
+// ---- Readings
+
+/** A count of a unit in nanoseconds, where the count has this power of ten; nothing where it is finer than one. */
+function nanosOf([digits, power], { nanos }) {
+    const scale = 10n ** BigInt(Math.abs(power));
+    if (power >= 0) return digits * scale * nanos;
+    return digits * nanos % scale === 0n ? digits * nanos / scale : null;
+}
+
+/** The reading with this value, whose text counts this unit and, from days down, smaller ones. */
+function reading(nanos, longest) {
+    let rest = nanos ?? 0n;
+    const parts = UNITS.slice(UNITS.indexOf(DAY)).filter((unit) => unit.nanos < longest.nanos);
+    const counts = [longest, ...parts].map((unit) => {
+        const count = rest / unit.nanos;
+        rest %= unit.nanos;
+        return count > 0n ? `${count}${unit.names[0]}` : "";
+    });
+    return { nanos, text: counts.filter(Boolean).join(" ") || `0${longest.names[0]}` };
+}
+
+/** What is found: the readings, each value once, if all can be read. */
+function found(text, readings, sentence) {
+    const none = (why) => ({ readings: [], sentence: why });
+    if (readings.some(({ nanos }) => nanos === null)) return none(say`${text} is finer than a nanosecond.`);
+    if (readings.some(({ nanos }) => nanos >= LIMIT)) return none(say`${text} is ${LONGEST}.`);
+    const isFirst = ({ nanos }, place) => readings.findIndex((each) => each.nanos === nanos) === place;
+    return { readings: readings.filter(isFirst), sentence };
+}
+
+// ---- Around a duration
+
+const without = (words) => say`Write the duration alone, without ${words}.`;
+const KEYED = /^(["'`]?)([A-Za-z_][\w.-]*)\1\s*[:=]\s*(\S.*?)\s*[,;]?$/s;
+const ENCLOSED = /^(?:"(.+)"|'(.+)'|`(.+)`|“(.+)”|‘(.+)’|«(.+)»|\((.+)\)|\[(.+)\]|\{(.+)\})$/s;
+
+/** What a part of a text means, as it stands or converted. */
+function inside(text, options) {
+    for (const each of [text, cleaned(text)]) {
+        const { ok, value } = tryParse(each, options);
+        if (ok) return found(text, [{ nanos: value, text: each.trim() }], null);
+    }
+    return converted(text, options);
+}
+
+/** `timeout: 30m`, where every term has a unit. */
+function keyed(text, options) {
+    const [, , key, words] = KEYED.exec(text) ?? [];
+    if (!key) return null;
+    const meant = inside(words, options);
+    const hasUnits = ({ text: each }) => Array.from(terms(each, options)).every(({ unit }) => unit);
+    if (!meant || meant.readings.length === 0) return meant;
+    if (meant.readings.every(hasUnits) && !words.includes(":")) return found(text, meant.readings, without(key));
+    const unit = /(?:_|[a-z](?=[A-Z]))([A-Za-z]+)$/.exec(key)?.[1];
+    return found(text, [], unit && unitName(unit) ? say`Write the unit after the number.` : say`${words} has no unit.`);
+}
+
+/** `"30m"` and `(30m)` */
+function enclosed(text, options) {
+    const words = (ENCLOSED.exec(text) ?? []).slice(1).find(Boolean);
+    const meant = words ? inside(words, options) : null;
+    if (!meant || meant.sentence) return meant;
+    return found(text, meant.readings, /^[([{]/.test(text) ? say`Remove the brackets.` : say`Remove the quotes.`);
+}
+
+// ---- Clocks and ISO 8601
+
+const CLOCK = /^(?:([0-9]+) days?, (?=[0-9]{1,2}:..:))?([0-9]+):([0-5][0-9])(?::([0-5][0-9]))?(?:\.([0-9]+))?$/;
+
+/** `1:30`, `1:30:00`, `1:30.5`, and Python's `1 day, 12:00:00` */
+function clock(text) {
+    const [whole, days, first, second, third, fraction = ""] = CLOCK.exec(text) ?? [];
+    if (!whole) return null;
+    const seconds = nanosOf([BigInt((third ?? second) + fraction), -fraction.length], SECOND);
+    const sum = (...nanos) => nanos.includes(null) ? null : nanos.reduce((a, b) => a + b);
+    const hours = BigInt(first) * HOUR.nanos;
+    if (third) {
+        const nanos = sum(BigInt(days ?? 0) * DAY.nanos, hours, BigInt(second) * MINUTE.nanos, seconds);
+        return found(text, [reading(nanos, days ? DAY : HOUR)], say`Write units in place of colons.`);
+    }
+    const minutes = reading(sum(BigInt(first) * MINUTE.nanos, seconds), MINUTE);
+    if (fraction) return found(text, [minutes], say`Write units in place of colons.`);
+    const both = [reading(sum(hours, BigInt(second) * MINUTE.nanos), HOUR), minutes];
+    return found(text, both, say`Hours and minutes, or minutes and seconds?`);
+}
+
+const COUNT = "([0-9]+(?:[.,][0-9]+)?)";
+const TIME = `(?:${COUNT}H)?(?:${COUNT}M)?(?:${COUNT}S)?`;
+const ISO = new RegExp(`^P(?=.)(?:${COUNT}W|(?:${COUNT}D)?(?:T(?=.)${TIME})?)$`, "i");
+
+/** `PT5M`, in which the last count alone can be a decimal */
+function iso8601(text) {
+    if (!/^P[0-9T][0-9.,YMWDTHS]*$/i.test(text)) return null;
+    const counts = (ISO.exec(text) ?? []).slice(1);
+    const given = [WEEK, DAY, HOUR, MINUTE, SECOND].filter((_, place) => counts[place]);
+    const digits = counts.filter(Boolean);
+    if (digits.length > 0 && !digits.slice(0, -1).some((count) => /[.,]/.test(count))) {
+        const nanos = digits.map((count, place) => nanosOf(decimal(count), given[place]));
+        const sum = nanos.includes(null) ? null : nanos.reduce((a, b) => a + b);
+        return found(text, [reading(sum, given[0])], say`ISO 8601 can't be read.`);
+    }
+    if (/^P[^T]*M/i.test(text)) return found(text, [], say`A calendar month varies: ${"1mon"} is 30 days.`);
+    if (/^P[^T]*Y/i.test(text)) return found(text, [], say`A calendar year varies: ${"1y"} is 365 days.`);
+    return found(text, [], say`This is not ISO 8601.`);
+}
+
+// ---- Sums
+
+const WORDS = "half one two three four five six seven eight nine ten eleven twelve".split(" ");
+const NUMBER = String.raw`\.?[0-9](?:[.,_'’\u00a0\u202f]?[0-9])*(?:e[+-]?[0-9]+)?`;
+const TERM = new RegExp(String.raw`(?:(${NUMBER})\s*|(half an|half a|an|a|${WORDS.join("|")})\s+)([A-Za-zµ]+)`, "iy");
+const JOINED = /\s*,\s*(?:and\s+)?|\s+and\s+|\s*\+\s*|\s*/iy;
+const GROUPED = /^([1-9][0-9]{0,2}(?:([.,_'’\u00a0\u202f])[0-9]{3})(?:\2[0-9]{3})*)(?:(?!\2)[.,]([0-9]+))?$/;
+const EXPONENT = /^([0-9]+(?:\.[0-9]+)?)e([+-]?[0-9]{1,2})$/i;
+
+/** A decimal as its digits and a power of ten. */
+function decimal(words) {
+    const [whole, fraction = ""] = words.split(/[.,]/);
+    return [BigInt(whole + fraction), -fraction.length];
+}
+
+/** What a number can mean, as digits and a power of ten, and what is wrong with it; nothing where it means nothing. */
+function numberOf(words) {
+    if (/^[0-9]+$/.test(words)) return { counts: [[BigInt(words), 0]] };
+    const [, mantissa, power] = EXPONENT.exec(words) ?? [];
+    if (mantissa) {
+        const [digits, shift] = decimal(mantissa);
+        return { counts: [[digits, shift + Number(power)]], sentence: say`Exponents can't be read.` };
+    }
+    const counts = [];
+    const [, whole, , fraction = ""] = GROUPED.exec(words) ?? [];
+    if (whole) counts.push([BigInt(whole.replace(/[^0-9]/g, "") + fraction), -fraction.length]);
+    if (/^[0-9]*[.,][0-9]+$/.test(words)) counts.push(decimal(words));
+    if (counts.length === 2) return { counts, sentence: say`Thousands, or a decimal?` };
+    if (counts.length === 0) return null;
+    return { counts, sentence: whole ? say`Digits can't be grouped.` : say`Decimals can't be read.` };
+}
+
+/** What a number word means in the same way. */
+function wordOf(words) {
+    const number = WORDS.indexOf(words.toLowerCase().split(/\s/)[0]);
+    const count = number === 0 ? [5n, -1] : [BigInt(Math.max(number, 1)), 0];
+    return { counts: [count], sentence: say`Write numbers in digits.` };
+}
+
+/** A term's unit and what its number can mean; nothing where it means nothing. */
+function termOf(numeral, words, name) {
+    const number = numeral ? numberOf(numeral) : wordOf(words);
+    if (number && /^fortnights?$/i.test(name)) {
+        const weeks = number.counts.map(([digits, power]) => [2n * digits, power]);
+        return { ...number, counts: weeks, unit: WEEK, isForeign: true };
+    }
+    const unit = unitOf(unitName(name) ?? "");
+    // A quarter of an hour, or of a year
+    const isVague = words && unit?.names[0] === "q";
+    return number && unit && !isVague ? { ...number, unit, isForeign: !unitOf(name) } : null;
+}
+
+/** The terms of a sum, and whether it is a list; nothing where a part of the text is none of it. */
+function termsOfSum(text) {
+    const sum = [];
+    let isList = false;
+    for (let place = 0; place < text.length; place = JOINED.lastIndex) {
+        TERM.lastIndex = place;
+        const [whole, ...parts] = TERM.exec(text) ?? [];
+        const term = whole && termOf(...parts);
+        if (!term) return null;
+        JOINED.lastIndex = TERM.lastIndex;
+        const [joined] = JOINED.exec(text);
+        if (JOINED.lastIndex === text.length && joined !== "") return null;
+        isList ||= /,|and/i.test(joined);
+        sum.push({ ...term, joined });
+    }
+    return { sum, isList };
+}
+
+/** What is wrong first in a sum; nothing where the library says it. */
+function wrongIn(sum) {
+    const first = sum.find(({ sentence, isForeign, joined }) => sentence || isForeign || joined.trim() !== "");
+    return first?.sentence ?? null;
+}
+
+/** `1.5h`, `1h, 30m` and `two hours and five minutes` */
+function sumOfTerms(text) {
+    const { sum = [], isList } = termsOfSum(text) ?? {};
+    if (sum.length === 0) return null;
+    const isFalling = sum.every(({ unit }, place) => place === 0 || unit.nanos < sum[place - 1].unit.nanos);
+    if (isList && !isFalling) return found(text, [], say`Write one duration, not a list.`);
+    const readings = [0, 1].map((choice) => {
+        const parts = sum.map(({ counts, unit }) => reading(nanosOf(counts[choice] ?? counts[0], unit), unit));
+        const nanos = parts.some((each) => each.nanos === null) ? null : parts.reduce((a, b) => a + b.nanos, 0n);
+        return { nanos, text: parts.map((each) => each.text).join(" ") };
+    });
+    return found(text, readings, wrongIn(sum));
+}
+
+// ---- What can't be converted
+
+const LIST = new RegExp(String.raw`^${NUMBER}\s*\p{L}*\s*(?:[,;]|and\b|or\b)\s*[0-9]`, "iu");
+
+/** Notations without a reading, and what is said of them. */
+const REFUSED = [
+    [/^[-−–]\s*[0-9P.]/i, say`A duration can't be negative.`],
+    [/^[0-9]{4}-[0-9]{2}-[0-9]{2}/, say`A date is not a duration.`],
+    [/[()[\]{}]/, say`Brackets can't be read.`],
+    [/[0-9]\s*[ap]\.?m\b|o'clock|\bpast\b/i, say`A time of day is not a duration.`],
+    [/[0-9]:[0-9]/, say`Write units in place of colons, as in ${"1h 30m"}.`],
+    [/\b(?:ago|later|from now)\b|^in\b/i, without],
+    [/^[~≈]|^(?:about|around|approx\w*)\b/i, say`Only exact durations can be read.`],
+    [/^(?:[<>]=?|[≤≥±]|less than|more than|at least|at most|up to)/i, without],
+    [/[0-9]\s*%/, say`A percentage is not a duration.`],
+    [/(?<=[0-9]\s*)['"′″’”]/, (words) => say`${words} has two meanings: write ${"m"} or ${"s"}.`],
+    [/[¼-¾⅐-⅞⁄]|[0-9]\s*\/\s*[0-9]/, say`Fractions can't be read.`],
+    [/[/÷]/, say`Durations can't be divided.`],
+    [/(?<![a-zµ])([a-zµ]+)\s*-\s*[0-9]+\s*\1\b/i, say`Ranges and subtraction can't be read.`],
+    [/\.\.|…|[0-9]\s*-|[–—]|\d\s*\p{L}*\s+to\s/u, say`A range can't be read.`],
+    [/[0-9a-zµ]\s*[-−]\s*[0-9]/i, say`Durations can't be subtracted.`],
+    [/\b(?:decades?|century|centuries|forever|never|infinit\w*)\b/i, (words) => say`${words} has no fixed length.`],
+    [new RegExp(String.raw`^${NUMBER}$`, "i"), (words) => say`${words} has no unit.`],
+    [LIST, say`Write one duration, not a list.`],
+    [/[0-9]e[+-]?[0-9]+\s*[a-z]/i, say`Exponents can't be read.`],
+    [new RegExp(String.raw`^(?:an?|${WORDS.join("|")})\b`, "i"), say`Write numbers in digits.`],
+];
+
+/** What a text in another notation means: its readings, each with its exact value and the text to write, and a sentence
+ * that says why it is refused, if that isn't the library's reason; nothing where the notation is unknown. */
+export function converted(text, options) {
+    const words = plain(text);
+    for (const convert of [keyed, enclosed, clock, iso8601, sumOfTerms]) {
+        const meant = convert(words, options);
+        if (meant) return meant;
+    }
+    for (const [pattern, sentence] of REFUSED) {
+        const [part] = pattern.exec(words) ?? [];
+        if (part) return found(text, [], typeof sentence === "function" ? sentence(part) : sentence);
+    }
+    return null;
+}

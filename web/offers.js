@@ -1,0 +1,65 @@
+// What is offered beside an answer: whole texts that the library reads; and what is said of a text that it reads
+// otherwise than many people do.
+import { format, tryParse } from "../js/dist/duration-str.js";
+import { cleaned, converted } from "./conversions.js";
+import { terms, UNITS, unitOf } from "./units.js";
+import { named, say } from "./words.js";
+
+/** These options, and then others that read more, those with the fewest changes first. */
+function optionsToTry({ noCalc, lowercase, cnUnit }) {
+    return [0, 1, 2, 4, 3, 5, 6, 7].map((changes) => ({
+        noCalc: noCalc && !(changes & 1),
+        lowercase: lowercase && !(changes & 2),
+        cnUnit: cnUnit || changes > 3,
+    }));
+}
+
+/** A text as it is offered, with its meaning in words; nothing where it is not read, or has another value. */
+function offered(text, options, nanos) {
+    const { ok, value } = tryParse(text, options);
+    if (!ok || nanos !== undefined && value !== nanos) return [];
+    const sum = text.includes("*") ? format(value) : text;
+    return [{ text, options, value, meaning: named(sum, options) }];
+}
+
+/** What is offered in place of a refused text: itself under other options, or with the library's characters and names, or
+ * converted. */
+export function offersFor(text, options) {
+    if (text.trim() === "") return [];
+    for (const each of [text, cleaned(text)]) {
+        const found = optionsToTry(options).flatMap((tried) => offered(each, tried));
+        if (found.length > 0) return found.slice(0, 1);
+    }
+    return (converted(text, options)?.readings ?? []).flatMap((each) => offered(each.text, options, each.nanos));
+}
+
+/** The units of a day and an hour that people leave out after a number: `1h 30`, `1d 12`. */
+const LEFT_OUT = { h: [60n, "m"], d: [24n, "h"] };
+
+/** What is offered for a number without a unit at the end of a sum. */
+function withUnit(text, last, before, options) {
+    const [limit, name] = LEFT_OUT[unitOf(before?.unit ?? "")?.names[0]] ?? [0n];
+    if (last.unit || BigInt(last.number) >= limit) return [];
+    return offered(text.trimEnd().replace(/(?<=\p{L})(?=[0-9]+$)/u, " ") + name, options);
+}
+
+/** How long a duration is in days that is printed with units of a calendar; nothing where it isn't. */
+function inDays(value) {
+    const printed = format(value);
+    const lengths = UNITS.slice(0, 3).filter(({ names: [name] }) => new RegExp(`[0-9]${name}\\b`).test(printed))
+        .map(({ names, length }) => `a ${names.at(-2)} has ${length}`);
+    return lengths.length > 0 ? [say`That is ${format(value, { largest: "d" })}: ${[lengths.join(", ")]}.`] : [];
+}
+
+/** What is said of a text that is read, and what is offered beside it. */
+export function notesOn(text, value, options) {
+    const found = Array.from(terms(text, options));
+    const isProduct = found[1]?.operator === "*";
+    const bare = isProduct ? null : found.find(({ number, unit }) => !unit && !/^0+$/.test(number));
+    const sentences = [
+        ...(bare ? [say`${bare.number} has no unit: seconds.`] : []),
+        ...(found.some(({ unit }) => unit === "M") ? [say`${"M"} is minutes; months are ${"mon"}.`] : []),
+        ...inDays(value),
+    ];
+    return { sentences, offers: bare ? withUnit(text, found.at(-1), found.at(-2), options) : [] };
+}
