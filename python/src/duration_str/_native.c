@@ -229,7 +229,8 @@ static int take_limits(struct state *state, PyObject *const *values, PyObject *k
 /* The text of a duration; without limits the call that has none is the faster one. */
 static PyObject *printed(uint64_t secs, uint32_t nanos, const struct limits *limits) {
     uint8_t buffer[DURATION_STR_FORMAT_BUFFER_SIZE];
-    const bool is_whole = !memcmp(limits, &no_limits, sizeof no_limits);
+    const bool is_whole = limits->units[0] == no_limits.units[0] && limits->units[1] == no_limits.units[1] &&
+                          limits->parts == no_limits.parts;
     const size_t length =
         is_whole ? duration_str_format(secs, nanos, buffer)
                  : duration_str_format_within(secs, nanos, limits->units[0], limits->units[1], limits->parts, buffer);
