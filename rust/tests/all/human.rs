@@ -5,6 +5,7 @@ use serde::de::value::{BytesDeserializer, Error};
 use serde::de::{Deserializer, Error as _, Visitor};
 use serde::{Deserialize, Serialize, forward_to_deserialize_any};
 use serde_json::{Value, from_value, json, to_value, value::Serializer};
+use std::sync::LazyLock;
 use std::time::Duration;
 
 #[derive(Debug, Serialize, Deserialize, PartialEq)]
@@ -104,8 +105,8 @@ fn reads_required_and_optional_texts_in_one_way() {
     assert_eq!(required, Err(Error::custom("the type is not known")));
     let optional = Option::<HumanDuration>::deserialize(Untyped(""));
     assert_eq!(optional, Err(Error::custom("empty text")));
-    let long = "1x".repeat(1 << 20).leak();
-    assert!(read(|| Untyped(long)).unwrap_err().len() < 200);
+    static LONG: LazyLock<String> = LazyLock::new(|| "1x".repeat(1 << 20));
+    assert!(read(|| Untyped(&LONG)).unwrap_err().len() < 200);
 }
 
 #[test]
