@@ -233,8 +233,8 @@ impl Read for InThrees<'_> {
     }
 }
 
-/// Runs with one request for memory refused, and writes into a fixed buffer. How many requests were made: if it was one of
-/// these it was the last, and the buffer is as before, else the buffer is full of the output.
+/// Runs with one request for memory refused, and writes into a fixed buffer. How many requests were made: if it was one
+/// of these it was the last, and the buffer is as before, else the buffer is full of the output.
 fn requests(rt: &impl Abort, alloc: Global, refused: u64) -> u64 {
     let heap = Refusing::nth(alloc, refused);
     let mut held = [0; 49];

@@ -1,5 +1,9 @@
 -- Worked examples, computed: what texts are read as, why others are refused, and what durations print as.
-use Rattle.duration_str.proofs.Common.{◌≡◌, ℕ, Bool, true, false, List, [], ◌∷◌, ◌++◌, Some, None, Ok, Err, refl, length, flat_map, map, encode_utf8_all, codes, Options, TimeUnit, Quarter, Plus, Star, Empty, Syntax, NumberTooLarge, Overflow, Mixed, Expected, off, row_of, units, unit_of_word, unit_lengths, older_units, older_unit_of_word, printed_counts, counts_of, max_printed_len, answer, message_of}
+use Rattle.duration_str.proofs.Common.{◌≡◌, ℕ, Bool, true, false, List, [], ◌∷◌, ◌++◌, Some, None, Ok, Err, refl}
+use Rattle.duration_str.proofs.Common.{length, flat_map, map, encode_utf8_all, codes, Options, TimeUnit, Quarter, Plus}
+use Rattle.duration_str.proofs.Common.{Star, Empty, Syntax, NumberTooLarge, Overflow, Mixed, Expected, off, row_of}
+use Rattle.duration_str.proofs.Common.{units, unit_of_word, unit_lengths, older_units, older_unit_of_word}
+use Rattle.duration_str.proofs.Common.{printed_counts, counts_of, max_printed_len, answer, message_of}
 use Rattle.duration_str.proofs.Characters.EachUnit.{Each}
 use Rattle.std.specs.Fmt.{digits}
 use Rattle.std.specs.Str.{chars}

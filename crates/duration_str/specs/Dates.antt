@@ -53,5 +53,6 @@ IsDateFault reached bytes cause =
 -- fault of this text.
 abbrev pub IsDated : {T : Type 0} → (ℤ → T → Type 0) → (ℕ → ℤ) → List ℕ → Result T Fault → Type 0
 IsDated shows reached bytes result =
-    IsValueOrFault (λ v. (nanos : ℕ) × IsRead off (chars bytes) nanos × IsInRange (reached nanos) × shows (reached nanos) v)
+    IsValueOrFault (λ v. (nanos : ℕ)
+    × IsRead off (chars bytes) nanos × IsInRange (reached nanos) × shows (reached nanos) v)
     (IsDateFault reached bytes) bytes result

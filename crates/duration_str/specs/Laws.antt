@@ -201,7 +201,8 @@ pub record IsMostWithin (limits : Limits) (nanos : ℕ) (text : List ℕ) (most 
   pub read : (o : Options) → most < 2 ^ 64 → IsRead o text most
   pub never_more : most ≤ nanos
   pub own : (counts : List ℕ) × KeepsWithin limits most counts
-  pub greatest : (between : ℕ) (counts : List ℕ) → most < between → between ≤ nanos → KeepsWithin limits between counts → ⊥
+  pub greatest : (between : ℕ) (counts : List ℕ) → most < between → between ≤ nanos
+      → KeepsWithin limits between counts → ⊥
 
 -- What is printed within limits is such a duration.
 abbrev pub NeverMore : Type 0

@@ -2,13 +2,16 @@
 //!
 //! The text has the greatest possible count of years, then the greatest count of quarters in what is left, and so on
 //! down to nanoseconds. Counts of 0 are left out, and the duration 0 is `0s`.
-ghost use Rattle.std.specs.Prelude.{◌≡◌, ◌+◌, ◌*◌, ◌/◌, ◌%◌, ◌<◌, ◌≤◌, ◌++◌, take, length, decimal, encode_utf8_all, chars, IsUtf8, ◌↔◌, IsTrue, ℤ, pos, ◌≤ℤ◌, unsigned_abs, IfOk, string_bytes};
+ghost use Rattle.std.specs.Prelude.{◌≡◌, ◌+◌, ◌*◌, ◌/◌, ◌%◌, ◌<◌, ◌≤◌, ◌++◌, take, length, decimal, encode_utf8_all};
+ghost use Rattle.std.specs.Prelude.{chars, IsUtf8, ◌↔◌, IsTrue, ℤ, pos, ◌≤ℤ◌, unsigned_abs, IfOk, string_bytes};
 ghost use Rattle.std.specs.Duration.{as_nanos};
 ghost use Rattle.duration_str.specs.declared.unit.TimeUnit.TheVariants.{Year};
 ghost use Rattle.duration_str.specs.Units.{nanos_of, unit_lengths};
 ghost use Rattle.duration_str.specs.Printing.{IsPrinted, printed_counts, counts_of};
 ghost use Rattle.duration_str.specs.declared.ext.TheConstants.{MAX_PRINTED_LEN};
-ghost use Rattle.duration_str.specs.Internal.PrintedBytes.{with_space, with_part, with_parts, units_below_year, units_to_day, rest_after, most_bytes, greatest_count, part_bytes, max_printed_len};
+ghost use Rattle.duration_str.specs.Internal.PrintedBytes.{with_space, with_part, with_parts, units_below_year};
+ghost use Rattle.duration_str.specs.Internal.PrintedBytes.{units_to_day, rest_after, most_bytes, greatest_count};
+ghost use Rattle.duration_str.specs.Internal.PrintedBytes.{part_bytes, max_printed_len};
 
 use crate::unit::TimeUnit;
 use std::alloc::{AllocError, Allocator};

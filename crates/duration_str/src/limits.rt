@@ -2,7 +2,8 @@
 //!
 //! The text has the greatest possible count of the largest unit, then the greatest count of the next in what is left,
 //! and so on, until there are so many parts. What is left then is left out.
-ghost use Rattle.std.specs.Prelude.{ℕ, List, ◌≡◌, ◌+◌, ◌<◌, ◌≤◌, ◌++◌, [], take, length, decimal, encode_utf8_all, chars, IsUtf8, map};
+ghost use Rattle.std.specs.Prelude.{ℕ, List, ◌≡◌, ◌+◌, ◌<◌, ◌≤◌, ◌++◌, [], take, length, decimal, encode_utf8_all};
+ghost use Rattle.std.specs.Prelude.{chars, IsUtf8, map};
 ghost use Rattle.std.specs.Duration.{as_nanos};
 ghost use Rattle.duration_str.specs.Units.{nanos_of, row_of};
 ghost use Rattle.duration_str.specs.declared.ext.TheConstants.{MAX_PRINTED_LEN};
@@ -14,8 +15,8 @@ use crate::ext::{printed, put_count, put_digit, put_space, put_text};
 use crate::unit::{TimeUnit, UNITS};
 use std::time::Duration;
 
-/// In which units a duration is printed, and in how many parts at most. With no parts, or a largest unit that is shorter
-/// than the smallest, every duration prints as the zero.
+/// In which units a duration is printed, and in how many parts at most. With no parts, or a largest unit that is
+/// shorter than the smallest, every duration prints as the zero.
 ///
 /// ```
 /// use duration_str::{Limits, TimeUnit, write_within};
@@ -78,7 +79,8 @@ fn put_wide(buffer: &mut [u8; 64], at: usize, n: u128) -> usize
     put_digit(buffer, end, (n % 10) as u64)
 }
 
-/// Writes a unit's name from `at` on, and returns where it ends. In each arm the name is known, so that no call copies it.
+/// Writes a unit's name from `at` on, and returns where it ends. In each arm the name is known, so that no call copies
+/// it.
 #[inline(always)]
 #[tactic(auto, using(crate::proofs::Characters::NameLemmas::length_name))]
 fn put_name(buffer: &mut [u8; 64], at: usize, unit: TimeUnit) -> usize
@@ -203,10 +205,10 @@ fn fill_within(d: Duration, limits: Limits, buffer: &mut [u8; 64]) -> usize
     end
 }
 
-/// Prints a duration within limits to the start of a buffer, whatever the buffer holds: the greatest duration, not above
-/// this one, that takes only these units and so few parts. If there are no parts it is `0` and the smallest unit's name,
-/// or `0s` where that is shorter than a second. The text has at most `MAX_PRINTED_LEN` bytes. Allocates nothing and
-/// cannot fail.
+/// Prints a duration within limits to the start of a buffer, whatever the buffer holds: the greatest duration, not
+/// above this one, that takes only these units and so few parts. If there are no parts it is `0` and the smallest
+/// unit's name, or `0s` where that is shorter than a second. The text has at most `MAX_PRINTED_LEN` bytes. Allocates
+/// nothing and cannot fail.
 ///
 /// ```
 /// use duration_str::{Limits, TimeUnit, write_within};

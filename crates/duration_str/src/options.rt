@@ -2,8 +2,8 @@
 ghost use Rattle.std.specs.Prelude.{◌≡◌, ◌↔◌, IsTrue};
 ghost use Rattle.duration_str.specs.Units.{off};
 
-/// Which grammar is read, and which words name units. A literal ends with `..Options::off()`, as here, so that it stands
-/// when a later version has another option.
+/// Which grammar is read, and which words name units. A literal ends with `..Options::off()`, as here, so that it
+/// stands when a later version has another option.
 ///
 /// ```
 /// use duration_str::{Options, parse_with};

@@ -1,5 +1,6 @@
 -- What holds of a column holds of one text more, once its value and its cause are written.
-use Rattle.std.proofs.Common.{◌≡◌, ◌≢◌, ℕ, ◌+◌, ◌<◌, ◌==◌, Bool, false, List, length, take, count_by, set, arith, ◌∙◌, ap, refl, zero, suc, get_or-set_other, get_or-set_same, below_more}
+use Rattle.std.proofs.Common.{◌≡◌, ◌≢◌, ℕ, ◌+◌, ◌<◌, ◌==◌, Bool, false, List, length, take, count_by, set, arith, ◌∙◌}
+use Rattle.std.proofs.Common.{ap, refl, zero, suc, get_or-set_other, get_or-set_same, below_more}
 use Rattle.std.proofs.lemmas.List.{take-set, length-set}
 use Rattle.std.proofs.lemmas.List.Sums.{count_by_more_yes, count_by_more_no}
 use Rattle.std.proofs.Math.Dec.{eqb-suc-zero}

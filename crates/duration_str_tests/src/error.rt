@@ -11,8 +11,8 @@ use std::alloc::{AllocError, Global};
 use std::test::Fail;
 use std::time::Duration;
 
-/// How many requests for memory the fault's error takes. `None` if its line is another, or if one of them is refused and
-/// the answer is not that, at once.
+/// How many requests for memory the fault's error takes. `None` if its line is another, or if one of them is refused
+/// and the answer is not that, at once.
 fn requests(alloc: Global, fault: Fault<'_>, line: &str) -> Result<Option<u64>, AllocError> {
     for refused in 1..100u64 {
         let heap = Refusing::nth(alloc, refused);

@@ -180,8 +180,8 @@ fn leaves_nothing_of_an_earlier_text(rt: HostRuntime) {
     assert_eq!(rt; first_misprinted(&rows), None);
 }
 
-/// How many requests for memory it takes to print the value as this text. `None` if it prints otherwise, or if one of them
-/// is refused and the answer is not that, at once.
+/// How many requests for memory it takes to print the value as this text. `None` if it prints otherwise, or if one of
+/// them is refused and the answer is not that, at once.
 fn requests<T: HumanFormat>(alloc: Global, value: &T, text: &str) -> Option<u64> {
     for refused in 1..100u64 {
         let heap = Refusing::nth(alloc, refused);

@@ -163,7 +163,7 @@ fn tells_the_place(rt: HostRuntime) {
 #[test]
 fn finds_the_token_at_the_place(rt: HostRuntime) {
     let off = OFF;
-    for (text, o, piece) in [
+    for (text, o, token) in [
         ("0mxyz", off, Some("mxyz")),
         ("3ms-2ms", off, Some("-")),
         ("3ms-2ms", CN_UNIT, Some("-")),
@@ -181,7 +181,7 @@ fn finds_the_token_at_the_place(rt: HostRuntime) {
         ("580y*2", off, None),
         ("99999999999999999999y-", off, None),
     ] {
-        assert!(rt; found(text, o) == piece, "{text}");
+        assert!(rt; found(text, o) == token, "{text}");
     }
 }
 

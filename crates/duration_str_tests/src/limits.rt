@@ -4,8 +4,8 @@ use duration_str::{
 };
 use std::time::Duration;
 
-/// The units, the longest first, each with its length in nanoseconds, the text of one of it, that of a nanosecond less in
-/// one part, and the zero where it is the smallest unit.
+/// The units, the longest first, each with its length in nanoseconds, the text of one of it, that of a nanosecond less
+/// in one part, and the zero where it is the smallest unit.
 const UNITS: [(TimeUnit, u64, &str, &str, &str); 11] = [
     (TimeUnit::Year, 31_536_000_000_000_000, "1y", "4q", "0y"),
     (TimeUnit::Quarter, 7_862_400_000_000_000, "1q", "3mon", "0q"),

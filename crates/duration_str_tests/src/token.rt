@@ -3,15 +3,10 @@ use crate::vectors::{CN_UNIT, LOWERCASE};
 use duration_str::{CondUnit, Options, TimeUnit, Token, Tokens, What};
 
 /// Whether the text is cut into these tokens, and the iterator then stays at its end.
-fn is_cut(text: &str, o: Options, pieces: &[(usize, &str, What)]) -> bool {
-    let mut tokens = Tokens::new(text, o);
-    for (start, piece, what) in pieces.iter().copied() {
-        let wanted = Token {
-            start,
-            text: piece,
-            what,
-        };
-        if tokens.next() != Some(wanted) {
+fn is_cut(source: &str, o: Options, wanted: &[(usize, &str, What)]) -> bool {
+    let mut tokens = Tokens::new(source, o);
+    for (start, text, what) in wanted.iter().copied() {
+        if tokens.next() != Some(Token { start, text, what }) {
             return false;
         }
     }

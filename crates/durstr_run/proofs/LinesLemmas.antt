@@ -1,5 +1,6 @@
 -- The first line of bytes.
-use Rattle.std.proofs.Common.{◌≡◌, ℕ, ◌+◌, ◌<◌, ◌≤◌, Bool, false, ◌==◌, List, [], ◌∷◌, length, get_or, Option, None, Some, IfNone, refl, sym, ap, ◌∙◌, arith, take, drop}
+use Rattle.std.proofs.Common.{◌≡◌, ℕ, ◌+◌, ◌<◌, ◌≤◌, Bool, false, ◌==◌, List, [], ◌∷◌, length, get_or, Option, None}
+use Rattle.std.proofs.Common.{Some, IfNone, refl, sym, ap, ◌∙◌, arith, take, drop}
 use Rattle.std.specs.List.{slice_split, position, position_or_len, before_first, after_first, All}
 use Rattle.std.proofs.lemmas.Bool.{false≢true}
 use Rattle.std.proofs.lemmas.Grind.{common_steps}

@@ -1,7 +1,8 @@
 -- The canonical text of a value, and texts compared by their bytes.
 use Rattle.std.proofs.Common.{◌≡◌, ◌↔◌, ℕ, ◌^◌, ◌<◌, Bool, List, IsTrue, IsUtf8, refl, ap, sym, ◌∙◌, chars}
 use Rattle.std.specs.Str.{bytes_eq}
-use Rattle.duration_str.proofs.Common.{encodes-chars, bytes_eq-Decides, encodes, FitsDuration, off, unit_lengths, IsRead, IsPrinted, counts_of, GreatestBreakdown, EqualTexts, ReadsBack}
+use Rattle.duration_str.proofs.Common.{encodes-chars, bytes_eq-Decides, encodes, FitsDuration, off, unit_lengths}
+use Rattle.duration_str.proofs.Common.{IsRead, IsPrinted, counts_of, GreatestBreakdown, EqualTexts, ReadsBack}
 use Rattle.uses.specs.Cache.{canonical_text, IsKey, IsCanonical}
 
 -- What a value prints as is its key.

@@ -1,6 +1,9 @@
 -- What can be typed at the place of a syntax fault.
-use Rattle.std.proofs.Common.{◌≡◌, ℕ, List, [], ◌∷◌, ◌++◌, map, take, length, IsTrue, codes, refl, arith, sym, ap, ◌∙◌, append-nil, append_assoc}
-use Rattle.duration_str.proofs.Common.{map-append, byte_len, Terminal, number, word, operator, other, terminal_of, IsSentence, Spells, IsLexeme, AreTokens, tokens_of, lexemes_of, BeginsSentence, allows, IsRefused, OneSentence, OneCut, PlaceAndKinds}
+use Rattle.std.proofs.Common.{◌≡◌, ℕ, List, [], ◌∷◌, ◌++◌, map, take, length, IsTrue, codes, refl, arith, sym, ap, ◌∙◌}
+use Rattle.std.proofs.Common.{append-nil, append_assoc}
+use Rattle.duration_str.proofs.Common.{map-append, byte_len, Terminal, number, word, operator, other, terminal_of}
+use Rattle.duration_str.proofs.Common.{IsSentence, Spells, IsLexeme, AreTokens, tokens_of, lexemes_of, BeginsSentence}
+use Rattle.duration_str.proofs.Common.{allows, IsRefused, OneSentence, OneCut, PlaceAndKinds}
 use Rattle.uses.proofs.Common.{take-map, Options, Expected, Syntax, Token}
 use Rattle.std.proofs.Math.Seq.{take-append_seam}
 use Rattle.duration_str.proofs.Sentences.SpellingLemmas.{tokens_spell_at, begins_with}

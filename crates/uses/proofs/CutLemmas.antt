@@ -1,6 +1,8 @@
 -- How a text is cut that is split at a token, or joined at a blank.
-use Rattle.std.proofs.Common.{◌≡◌, ℕ, zero, suc, ◌+◌, List, [], ◌∷◌, ◌++◌, take, arith, refl, sym, ap, ◌∙◌, append-nil, append_assoc}
-use Rattle.duration_str.proofs.Common.{false_from_ne_true, map-append, byte_len, IsLexeme, EndsRun, AreTokens, tokens_from, tokens_of, lexemes_of, start_after}
+use Rattle.std.proofs.Common.{◌≡◌, ℕ, zero, suc, ◌+◌, List, [], ◌∷◌, ◌++◌, take, arith, refl, sym, ap, ◌∙◌, append-nil}
+use Rattle.std.proofs.Common.{append_assoc}
+use Rattle.duration_str.proofs.Common.{false_from_ne_true, map-append, byte_len, IsLexeme, EndsRun, AreTokens}
+use Rattle.duration_str.proofs.Common.{tokens_from, tokens_of, lexemes_of, start_after}
 use Rattle.uses.proofs.Common.{Options, Token, run-not_blank}
 use Rattle.duration_str.proofs.Characters.TextLemmas.{byte_len-append}
 use Rattle.duration_str.proofs.Cutting.PositionLemmas.{blanks_no_token}

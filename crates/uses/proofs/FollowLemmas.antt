@@ -1,6 +1,8 @@
 -- What the law `place_and_kinds` says of one more terminal.
-use Rattle.std.proofs.Common.{◌≡◌, ◌≤◌, Bool, inl, inr, ◌↔◌, List, [], ◌∷◌, ◌++◌, Option, Some, None, length, IsTrue, arith, refl, sym, ap, append-nil, length-take, suc-le-suc, le_of_suc-le-suc}
-use Rattle.duration_str.proofs.Common.{cases_Bool, Terminal, number, operator, IsSentence, BeginsSentence, expected_after, allows, last_of, front_after, front_of, PlaceAndKinds}
+use Rattle.std.proofs.Common.{◌≡◌, ◌≤◌, Bool, inl, inr, ◌↔◌, List, [], ◌∷◌, ◌++◌, Option, Some, None, length, IsTrue}
+use Rattle.std.proofs.Common.{arith, refl, sym, ap, append-nil, length-take, suc-le-suc, le_of_suc-le-suc}
+use Rattle.duration_str.proofs.Common.{cases_Bool, Terminal, number, operator, IsSentence, BeginsSentence}
+use Rattle.duration_str.proofs.Common.{expected_after, allows, last_of, front_after, front_of, PlaceAndKinds}
 use Rattle.uses.proofs.Common.{take_all, CondUnit}
 
 last_of_pushed : (last : Option Terminal) (front : List Terminal) (t : Terminal) → last_of last (front ++ t ∷ [])

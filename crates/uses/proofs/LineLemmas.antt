@@ -1,6 +1,7 @@
 -- Lines and their texts are spelled by the same sentences.
 use Rattle.std.proofs.Common.{append-nil, ◌≡◌, ℕ, ◌+◌, List, [], ◌∷◌, IsUtf8, refl, ap, ◌∙◌, inl, inr}
-use Rattle.duration_str.proofs.Common.{cases_Bool, chars-append, width, Spells, IsSentenceOf, goes_on, tokens_from, lexemes_of, OneSentence, BlanksFree}
+use Rattle.duration_str.proofs.Common.{cases_Bool, chars-append, width, Spells, IsSentenceOf, goes_on, tokens_from}
+use Rattle.duration_str.proofs.Common.{lexemes_of, OneSentence, BlanksFree}
 use Rattle.uses.proofs.Common.{true≢false, Options, run-not_blank, with_line_feed, IsReadAsBefore}
 use Rattle.std.specs.Str.{chars}
 use Rattle.duration_str.proofs.LawProofs.SumOfTexts.{spells_both}

@@ -1,6 +1,7 @@
 -- Texts whose characters mean the same under several choices of options.
 use Rattle.std.proofs.Common.{◌≡◌, ◌↔◌, ◌&&◌, ◌||◌, ℕ, Bool, true, false, not, List, IsTrue, refl, arith, sym, subst}
-use Rattle.duration_str.proofs.Common.{is_ascii_uppercase, list_all, is_operator, is_chinese, IsRead, IsRefused, NoCalcAgrees, OptionsIdle, HasNoOperator, HasNoCapital, HasNoChinese}
+use Rattle.duration_str.proofs.Common.{is_ascii_uppercase, list_all, is_operator, is_chinese, IsRead, IsRefused}
+use Rattle.duration_str.proofs.Common.{NoCalcAgrees, OptionsIdle, HasNoOperator, HasNoCapital, HasNoChinese}
 use Rattle.uses.proofs.Common.{Options}
 use Rattle.std.proofs.Math.Bool.{beq}
 use Rattle.duration_str.proofs.Characters.CharacterLemmas.{all_weaker}

@@ -1,6 +1,7 @@
 -- Results of reading, given what the text is read as or refused for.
 use Rattle.std.proofs.Common.{◌≡◌, ℕ, List, Result, Ok, Err, IsOkAnd, IsErrAnd, map, ap, sym, ◌∙◌, chars}
-use Rattle.duration_str.proofs.Common.{as_nanos, IsRead, IsRefused, ParsesText, terminal_of, IsSentenceOf, tokens_of, lexemes_of, older_terminals, WasSentenceOf, OneReading, OneSentence, OlderTexts}
+use Rattle.duration_str.proofs.Common.{as_nanos, IsRead, IsRefused, ParsesText, terminal_of, IsSentenceOf, tokens_of}
+use Rattle.duration_str.proofs.Common.{lexemes_of, older_terminals, WasSentenceOf, OneReading, OneSentence, OlderTexts}
 use Rattle.uses.proofs.Common.{Duration, Options, Cause, Fault, Token}
 use Rattle.uses.specs.Stored.{unit_of_first}
 

@@ -12,8 +12,9 @@ use Rattle.duration_str.specs.Units.{off, unit_lengths}
 abbrev pub coarse : Limits
 coarse = record { largest = Year; smallest = Second; parts = 2 }
 
--- The text shows a time that is not more than what is left, and that has at most two parts; what is left is shown exactly
--- if it has so few itself. It is read as that time below 2^64 nanoseconds, which is shown as the same text again.
+-- The text shows a time that is not more than what is left, and that has at most two parts; what is left is shown
+-- exactly if it has so few itself. It is read as that time below 2^64 nanoseconds, which is shown as the same text
+-- again.
 pub record IsShown (left : ℕ) (text : List ℕ) (shown : ℕ) : Type 0 where
   pub never_more : shown ≤ left
   pub few : (counts : List ℕ) × IsGreatestBreakdown unit_lengths shown counts × (part_count counts ≤ 2)

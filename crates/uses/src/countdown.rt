@@ -9,8 +9,8 @@ use duration_str::laws::{all_parts, never_more};
 use duration_str::{Limits, TimeUnit, write_within};
 use std::time::Duration;
 
-/// The time that is left, in the caller's buffer: in two parts at most, and in no unit below the second; never more than
-/// is left.
+/// The time that is left, in the caller's buffer: in two parts at most, and in no unit below the second; never more
+/// than is left.
 ///
 /// ```text
 /// time_left(&Duration::new(5_400, 999_999_999), &mut buffer) // "1h 30min"

@@ -8,8 +8,8 @@ use super::ext::{printed, put_count, put_digit, put_space, put_text};
 use super::unit::{TimeUnit, UNITS};
 use core::time::Duration;
 
-/// In which units a duration is printed, and in how many parts at most. With no parts, or a largest unit that is shorter
-/// than the smallest, every duration prints as the zero.
+/// In which units a duration is printed, and in how many parts at most. With no parts, or a largest unit that is
+/// shorter than the smallest, every duration prints as the zero.
 ///
 /// ```
 /// use duration_str::{Limits, TimeUnit, write_within};
@@ -63,7 +63,8 @@ fn put_wide(buffer: &mut [u8; 64], at: usize, n: u128) -> usize {
     put_digit(buffer, end, (n % 10) as u64)
 }
 
-/// Writes a unit's name from `at` on, and returns where it ends. In each arm the name is known, so that no call copies it.
+/// Writes a unit's name from `at` on, and returns where it ends. In each arm the name is known, so that no call copies
+/// it.
 #[inline(always)]
 fn put_name(buffer: &mut [u8; 64], at: usize, unit: TimeUnit) -> usize {
     match unit {
@@ -153,10 +154,10 @@ fn fill_within(d: Duration, limits: Limits, buffer: &mut [u8; 64]) -> usize {
     end
 }
 
-/// Prints a duration within limits to the start of a buffer, whatever the buffer holds: the greatest duration, not above
-/// this one, that takes only these units and so few parts. If there are no parts it is `0` and the smallest unit's name,
-/// or `0s` where that is shorter than a second. The text has at most `MAX_PRINTED_LEN` bytes. Allocates nothing and
-/// cannot fail.
+/// Prints a duration within limits to the start of a buffer, whatever the buffer holds: the greatest duration, not
+/// above this one, that takes only these units and so few parts. If there are no parts it is `0` and the smallest
+/// unit's name, or `0s` where that is shorter than a second. The text has at most `MAX_PRINTED_LEN` bytes. Allocates
+/// nothing and cannot fail.
 ///
 /// ```
 /// use duration_str::{Limits, TimeUnit, write_within};

@@ -1,8 +1,8 @@
 // Made by tools/erase of crates/duration_str/src/options.rt.
 //! The choice of options.
 
-/// Which grammar is read, and which words name units. A literal ends with `..Options::off()`, as here, so that it stands
-/// when a later version has another option.
+/// Which grammar is read, and which words name units. A literal ends with `..Options::off()`, as here, so that it
+/// stands when a later version has another option.
 ///
 /// ```
 /// use duration_str::{Options, parse_with};

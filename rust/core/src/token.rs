@@ -249,8 +249,8 @@ impl<'a> Tokens<'a> {
         }
     }
 
-    /// What `sort_ahead` returns. After a number a word is most likely, so letters are tested first: `3m 13s 29ms` takes 5 %
-    /// fewer instructions.
+    /// What `sort_ahead` returns. After a number a word is most likely, so letters are tested first: `3m 13s 29ms`
+    /// takes 5 % fewer instructions.
     #[inline(always)]
     pub(crate) fn sort_after_number(&mut self) -> Option<Sort> {
         if self.head.is_some_and(|c| c.is_ascii_alphabetic()) {

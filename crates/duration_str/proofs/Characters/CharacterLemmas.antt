@@ -1,5 +1,9 @@
 -- The classes of characters exclude one another, and a run is of one class.
-use Rattle.duration_str.proofs.Common.{◌≡◌, ℕ, zero, suc, ◌+◌, ◌<◌, ◌≤◌, length, get_or, add-zero, Bool, true, false, ◌&&◌, ◌||◌, inl, inr, List, [], ◌∷◌, Some, IsTrue, arith, refl, nat_lt, false_from_ne_true, or_cases, and_parts, and_from, list_all, nat_tests, is_ascii_uppercase, Options, CondUnit, is_blank, is_digit, is_unit_letter, operator_of, are_of_one_run}
+use Rattle.duration_str.proofs.Common.{◌≡◌, ℕ, zero, suc, ◌+◌, ◌<◌, ◌≤◌, length, get_or, add-zero, Bool, true, false}
+use Rattle.duration_str.proofs.Common.{◌&&◌, ◌||◌, inl, inr, List, [], ◌∷◌, Some, IsTrue, arith, refl, nat_lt}
+use Rattle.duration_str.proofs.Common.{false_from_ne_true, or_cases, and_parts, and_from, list_all, nat_tests}
+use Rattle.duration_str.proofs.Common.{is_ascii_uppercase, Options, CondUnit, is_blank, is_digit, is_unit_letter}
+use Rattle.duration_str.proofs.Common.{operator_of, are_of_one_run}
 
 -- Characters that pass a test also pass a weaker one.
 pub all_weaker : (p q : ℕ → Bool) (cs : List ℕ) → ((c : ℕ) → p c ≡ true → q c ≡ true) → IsTrue (list_all p cs)

@@ -1,5 +1,7 @@
 -- A property that holds of each unit in the table holds of every unit.
-use Rattle.duration_str.proofs.Common.{◌≡◌, Bool, true, List, [], ◌∷◌, and_parts, ⊤, list_all, TimeUnit, Year, Quarter, Month, Week, Day, Hour, Minute, Second, MilliSecond, MicroSecond, NanoSecond, units}
+use Rattle.duration_str.proofs.Common.{◌≡◌, Bool, true, List, [], ◌∷◌, and_parts, ⊤, list_all, TimeUnit, Year, Quarter}
+use Rattle.duration_str.proofs.Common.{Month, Week, Day, Hour, Minute, Second, MilliSecond, MicroSecond, NanoSecond}
+use Rattle.duration_str.proofs.Common.{units}
 
 abbrev pub Each : (TimeUnit → Type 0) → List TimeUnit → Type 0
 Each P [] = ⊤

@@ -1,5 +1,12 @@
 -- Digits as std reads and writes them.
-use Rattle.duration_str.proofs.Common.{◌≡◌, ℕ, suc, ◌+◌, ◌-◌, ◌*◌, ◌%◌, ◌^◌, ◌<◌, ◌≤◌, Bool, true, false, ◌&&◌, ◌||◌, ◌==◌, nat_le, length, take, drop, get_or, Result, Ok, Err, Option, Some, decimal, List, [], ◌∷◌, ◌++◌, IsUtf8, IsTrue, refl, ap, sym, ◌∙◌, inl, inr, arith, rules, le-ltb, lt-ltb, chars, OkIff, mul-pos, pow-suc, drop-cons, take-append-drop, length-drop, cases_Bool, cases_lt, and_parts, cond-true, decimal_nonempty, encodes-IsAscii, encodes-chars, fits, list_all, list_all-append, nat_tests, Options, is_digit, IsNumber, number_after, number_of, number, terminal_of, u64_from, IsAscii-from_digits, digits_decimal, digits_value-decimal}
+use Rattle.duration_str.proofs.Common.{◌≡◌, ℕ, suc, ◌+◌, ◌-◌, ◌*◌, ◌%◌, ◌^◌, ◌<◌, ◌≤◌, Bool, true, false, ◌&&◌, ◌||◌}
+use Rattle.duration_str.proofs.Common.{◌==◌, nat_le, length, take, drop, get_or, Result, Ok, Err, Option, Some, decimal}
+use Rattle.duration_str.proofs.Common.{List, [], ◌∷◌, ◌++◌, IsUtf8, IsTrue, refl, ap, sym, ◌∙◌, inl, inr, arith, rules}
+use Rattle.duration_str.proofs.Common.{le-ltb, lt-ltb, chars, OkIff, mul-pos, pow-suc, drop-cons, take-append-drop}
+use Rattle.duration_str.proofs.Common.{length-drop, cases_Bool, cases_lt, and_parts, cond-true, decimal_nonempty}
+use Rattle.duration_str.proofs.Common.{encodes-IsAscii, encodes-chars, fits, list_all, list_all-append, nat_tests}
+use Rattle.duration_str.proofs.Common.{Options, is_digit, IsNumber, number_after, number_of, number, terminal_of}
+use Rattle.duration_str.proofs.Common.{u64_from, IsAscii-from_digits, digits_decimal, digits_value-decimal}
 use Rattle.std.proofs.lemmas.Str.Parse.{IsNumeralModel, digits_value_short, numerals_by_fold, parse_digits}
 use native.Mathlib.Nat.{pow-le-pow_right}
 use Rattle.std.specs.Bool.{then_some}

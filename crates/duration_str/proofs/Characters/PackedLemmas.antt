@@ -1,5 +1,15 @@
 -- Packed names and their slots.
-use Rattle.duration_str.proofs.Common.{◌≡◌, ℕ, zero, suc, ◌+◌, ◌-◌, ◌*◌, ◌/◌, ◌%◌, ◌^◌, ◌<◌, ◌≤◌, Bool, true, false, not, leb, eqb, ◌==◌, ◌&&◌, ◌||◌, List, [], ◌∷◌, map, length, get_or, Option, Some, None, refl, ap, sym, ◌∙◌, arith, inl, inr, lit<, add-zero, eq-eqb, eqb-true, leb-true, if◌then◌else◌, find, bytes_eq, pow-succ', cases_Bool, and_parts, and_from, false_from_ne_true, nat_tests, bytes_eq-Decides, same_from_decides, list_all, list_any, list_any-append, to_ascii_lowercase, is_ascii_alphabetic, is_ascii_uppercase, Options, TimeUnit, SPREAD, all_names, byte_len, chinese_letters, is_chinese, is_unit_letter, width, letter_number, number_in, units, row_of, comparison_form, is_named, unit_of_word, packed_number_after, packed_number, packs_to, pow-le-pow_right, or_cases, or_parts, length-reverse, reverse-reverse}
+use Rattle.duration_str.proofs.Common.{◌≡◌, ℕ, ◌+◌, ◌-◌, ◌*◌, ◌/◌, ◌%◌, ◌^◌, ◌<◌, ◌≤◌, Bool, true, false}
+use Rattle.duration_str.proofs.Common.{not, leb, eqb, ◌==◌, ◌&&◌, ◌||◌, List, [], ◌∷◌, map, length, get_or, Option}
+use Rattle.duration_str.proofs.Common.{Some, None, refl, ap, sym, ◌∙◌, arith, inl, inr, lit<, eq-eqb}
+use Rattle.duration_str.proofs.Common.{eqb-true, leb-true, if◌then◌else◌, bytes_eq, pow-succ', cases_Bool}
+use Rattle.duration_str.proofs.Common.{and_parts, and_from, false_from_ne_true, nat_tests, bytes_eq-Decides}
+use Rattle.duration_str.proofs.Common.{same_from_decides, list_all, list_any, list_any-append, to_ascii_lowercase}
+use Rattle.duration_str.proofs.Common.{is_ascii_alphabetic, is_ascii_uppercase, Options, TimeUnit, SPREAD, all_names}
+use Rattle.duration_str.proofs.Common.{byte_len, chinese_letters, is_chinese, is_unit_letter, width, letter_number}
+use Rattle.duration_str.proofs.Common.{number_in, units, row_of, comparison_form, is_named, unit_of_word}
+use Rattle.duration_str.proofs.Common.{packed_number_after, packed_number, packs_to, pow-le-pow_right, or_cases}
+use Rattle.duration_str.proofs.Common.{or_parts, length-reverse, reverse-reverse}
 use mathlib.Core.List.{reverse_aux, reverse}
 use Rattle.std.specs.List.{range_with_len}
 use Rattle.duration_str.specs.Internal.Packed.{unit_of_packed}
@@ -276,7 +286,8 @@ pub slot_found : (names : List ℕ) (table : List TimeUnit) (m : ℕ) (u : TimeU
     → Some (get_or table (slot n) u) ≡ unit_of_packed n
 slot_found names table m u n same right key =
     let there = get_or-map Some table (slot n) u None (omega (arith, same)) in
-    let here = get_or-map-range_with_len (found_at names table m u) 0 128 (slot n) (slot n) None (omega arith) (omega arith) in
+    let here = get_or-map-range_with_len (found_at names table m u) 0 128 (slot n) (slot n) None (omega arith)
+    (omega arith) in
     sym there ∙ ap (λ units. get_or units (slot n) None) (sym right) ∙ here ∙ rw (key, eq-eqb (slot n) _ refl) refl
 
 -- whether a name is in its slot

@@ -1,5 +1,10 @@
 -- Characters and bytes: widths, and the character at a place.
-use Rattle.duration_str.proofs.Common.{◌≡◌, ℕ, ◌+◌, ◌<◌, ◌≤◌, true, false, ◌&&◌, ◌⊎◌, inl, inr, List, [], ◌∷◌, ◌++◌, length, drop, get_or, IsUtf8, subst, arith, leb, encode_utf8, IsCharBoundary, chars, cases_Bool, and_parts, nat_tests, chars-nil, encode_ascii, scalars-chars, IsUtf8-drop, scalar, scalars, width, byte_len, ahead, StandsAt, drop_more, drop_all, len_utf8_ascii, len_utf8_bounds, IsCharBoundary-past_char, chars_past_char, drop_past_char, len_utf8, scalar_cases}
+use Rattle.duration_str.proofs.Common.{◌≡◌, ℕ, ◌+◌, ◌<◌, ◌≤◌, true, false, ◌&&◌, ◌⊎◌, inl, inr, List, [], ◌∷◌, ◌++◌}
+use Rattle.duration_str.proofs.Common.{length, drop, get_or, IsUtf8, subst, arith, leb, encode_utf8, IsCharBoundary}
+use Rattle.duration_str.proofs.Common.{chars, cases_Bool, and_parts, nat_tests, chars-nil, encode_ascii, scalars-chars}
+use Rattle.duration_str.proofs.Common.{IsUtf8-drop, scalar, scalars, width, byte_len, ahead, StandsAt, drop_more}
+use Rattle.duration_str.proofs.Common.{drop_all, len_utf8_ascii, len_utf8_bounds, IsCharBoundary-past_char}
+use Rattle.duration_str.proofs.Common.{chars_past_char, drop_past_char, len_utf8, scalar_cases}
 
 not_surrogate : (c : ℕ) → (c < 55296) ⊎ ((57344 ≤ c) × (c < 1114112)) → (leb 55296 c && leb c 57343) ≡ false
 not_surrogate c h = grind (arith, nat_tests)

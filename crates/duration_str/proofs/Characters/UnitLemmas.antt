@@ -1,5 +1,11 @@
 -- Words and names, as bytes and as characters, and their ASCII capitals.
-use Rattle.duration_str.proofs.Common.{◌≡◌, ◌+◌, ◌/◌, ◌%◌, ℕ, ◌≤◌, Bool, true, ltb, eqb, not, ◌||◌, Some, List, [], ◌∷◌, map, IsUtf8, refl, ap, ◌∙◌, arith, inl, inr, find, bytes_eq, chars, le-ltb, eqb-true, Bor, list_any, list_all, to_ascii_lowercase, bytes_eq-Decides, encodes-chars, encode_ascii, cases_Bool, cases_lt, and_parts, or_cases, nat_tests, same_from_decides, map-append, list_any-append, encodes, Options, TimeUnit, all_names, units, row_of, nanos_of, comparison_form, is_named, unit_of_word, AreEncoded, encodes_same}
+use Rattle.duration_str.proofs.Common.{◌≡◌, ◌+◌, ◌/◌, ◌%◌, ℕ, ◌≤◌, Bool, true, ltb, eqb, not, ◌||◌, Some, List, [], ◌∷◌}
+use Rattle.duration_str.proofs.Common.{map, IsUtf8, refl, ap, ◌∙◌, arith, inl, inr, find, bytes_eq, chars, le-ltb}
+use Rattle.duration_str.proofs.Common.{eqb-true, Bor, list_any, list_all, to_ascii_lowercase, bytes_eq-Decides}
+use Rattle.duration_str.proofs.Common.{encodes-chars, encode_ascii, cases_Bool, cases_lt, and_parts, or_cases}
+use Rattle.duration_str.proofs.Common.{nat_tests, same_from_decides, map-append, list_any-append, encodes, Options}
+use Rattle.duration_str.proofs.Common.{TimeUnit, all_names, units, row_of, nanos_of, comparison_form, is_named}
+use Rattle.duration_str.proofs.Common.{unit_of_word, AreEncoded, encodes_same}
 use Rattle.std.proofs.lemmas.Str.Ascii.{lowercase_ascii}
 use lib.Utf8.{encode, next}
 use Rattle.duration_str.proofs.Characters.EachUnit.{each_unit, all_units}

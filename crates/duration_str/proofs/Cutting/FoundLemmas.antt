@@ -1,5 +1,10 @@
 -- A token is found by cutting from a character before it.
-use Rattle.duration_str.proofs.Common.{◌≡◌, ℕ, ◌+◌, ◌-◌, ◌<◌, ◌≤◌, ◌==◌, inl, inr, true, false, List, [], ◌∷◌, ◌++◌, map, drop, take, Option, Some, None, IsUtf8, arith, refl, sym, ap, ◌∙◌, take-append-drop, length-take-le, drop-drop, add-zero, add_assoc, Bor, option_map, chars, IsCharBoundary, cases_Bool, nat_tests, chars-append, IsUtf8-take, Options, width, is_blank, byte_len, goes_on, tokens_from, tokens_of, token_at, IsSliceOf, Token, with_first_character}
+use Rattle.duration_str.proofs.Common.{◌≡◌, ℕ, ◌+◌, ◌-◌, ◌<◌, ◌≤◌, ◌==◌, inl, inr, true, false, List, [], ◌∷◌, ◌++◌}
+use Rattle.duration_str.proofs.Common.{map, drop, take, Option, Some, None, IsUtf8, arith, refl, sym, ap, ◌∙◌}
+use Rattle.duration_str.proofs.Common.{take-append-drop, length-take-le, drop-drop, add-zero, add_assoc, Bor}
+use Rattle.duration_str.proofs.Common.{option_map, chars, IsCharBoundary, cases_Bool, nat_tests, chars-append}
+use Rattle.duration_str.proofs.Common.{IsUtf8-take, Options, width, is_blank, byte_len, goes_on, tokens_from, tokens_of}
+use Rattle.duration_str.proofs.Common.{token_at, IsSliceOf, Token, with_first_character}
 use Rattle.duration_str.proofs.Characters.CharacterLemmas.{run-not_blank}
 use Rattle.duration_str.proofs.Characters.TextLemmas.{width_some}
 use Rattle.duration_str.proofs.OnePass.PlaceLemmas.{byte_count}

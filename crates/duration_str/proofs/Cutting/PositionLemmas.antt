@@ -1,5 +1,14 @@
 -- The steps of cutting, in terms of a text, the byte up to which it is cut, and the looks.
-use Rattle.duration_str.proofs.Common.{◌≡◌, ℕ, ◌+◌, ◌-◌, ◌*◌, ◌%◌, ◌<◌, ◌≤◌, ◌^◌, Bool, true, false, List, [], ◌∷◌, ◌++◌, length, take, drop, Option, Some, None, IsUtf8, refl, ap, sym, ◌∙◌, arith, nat_lt, ◌&&◌, ◌||◌, is_some, IsSome, IfSome, slice_range, if◌then◌else◌, IsCharBoundary, chars, take-append-drop, drop-drop, add-zero, length-append, append_assoc, length-drop, is_ascii_uppercase, and_from, list_any-append, list_all-append, ForSome, encodes-chars, chars-append, IsUtf8-take, IsUtf8-drop, Options, TimeUnit, tokens_from, IsLexeme, EndsRun, byte_len, is_blank, is_digit, is_unit_letter, number_after, number_of, unit_of_word, u64_from, unit_of_packed, ahead, StandsAt, Between, Passes, TakesDigits, TakesLetters, letter_number, packed_number_after, length-le-encodes, append_cancel_right}
+use Rattle.duration_str.proofs.Common.{◌≡◌, ℕ, ◌+◌, ◌-◌, ◌*◌, ◌%◌, ◌<◌, ◌≤◌, ◌^◌, Bool, true, false, List, [], ◌∷◌}
+use Rattle.duration_str.proofs.Common.{◌++◌, length, take, drop, Option, Some, None, IsUtf8, refl, ap, sym, ◌∙◌, arith}
+use Rattle.duration_str.proofs.Common.{nat_lt, ◌&&◌, ◌||◌, is_some, IsSome, IfSome, slice_range, if◌then◌else◌}
+use Rattle.duration_str.proofs.Common.{IsCharBoundary, chars, take-append-drop, drop-drop, add-zero, length-append}
+use Rattle.duration_str.proofs.Common.{append_assoc, length-drop, is_ascii_uppercase, and_from, list_any-append}
+use Rattle.duration_str.proofs.Common.{list_all-append, ForSome, encodes-chars, chars-append, IsUtf8-take, IsUtf8-drop}
+use Rattle.duration_str.proofs.Common.{Options, TimeUnit, tokens_from, IsLexeme, EndsRun, byte_len, is_blank, is_digit}
+use Rattle.duration_str.proofs.Common.{is_unit_letter, number_after, number_of, unit_of_word, u64_from, unit_of_packed}
+use Rattle.duration_str.proofs.Common.{ahead, StandsAt, Between, Passes, TakesDigits, TakesLetters, letter_number}
+use Rattle.duration_str.proofs.Common.{packed_number_after, length-le-encodes, append_cancel_right}
 use Rattle.std.proofs.Math.Bool.{or-false}
 pub use Rattle.duration_str.proofs.Cutting.TokenLemmas.{blanks_no_token, tokens_step}
 use Rattle.duration_str.proofs.Characters.CharacterLemmas.{capital_below}

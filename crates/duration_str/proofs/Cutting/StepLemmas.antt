@@ -1,9 +1,18 @@
 -- The steps of `Tokens`: what is ahead, and the next token.
-use Rattle.duration_str.proofs.Common.{◌≡◌, ℕ, ◌-◌, ◌<◌, ◌≤◌, drop, length-drop, arith, true, List, [], ◌∷◌, length, Option, Some, None, IsUtf8, refl, ap, sym, ◌∙◌, slice_range, IsCharBoundary, length-take-le, ForSome, IsUtf8-had, TimeUnit, CondUnit, Sort, Number, Word, Operator, Other, Tokens, Terminal, word, operator, other, operator_or_other, terminal_of, is_blank, is_digit, is_unit_letter, operator_of, number_of, tokens_from, ahead, StandsAt, Passes, Stops, TakesDigits, sort_of, u64_from, source, options_of, tokens_left, what_of, KeepsInput, YieldsNextToken, IsAhead, LooksAhead, IsSign, TakesToken, TakesTokenWith, TakesNumber, Token, cut_place}
+use Rattle.duration_str.proofs.Common.{◌≡◌, ℕ, ◌-◌, ◌<◌, ◌≤◌, drop, length-drop, arith, true, List, [], ◌∷◌, length}
+use Rattle.duration_str.proofs.Common.{Option, Some, None, IsUtf8, refl, ap, sym, ◌∙◌, slice_range, IsCharBoundary}
+use Rattle.duration_str.proofs.Common.{length-take-le, ForSome, IsUtf8-had, TimeUnit, CondUnit, Sort, Number, Word}
+use Rattle.duration_str.proofs.Common.{Operator, Other, Tokens, Terminal, word, operator, other, operator_or_other}
+use Rattle.duration_str.proofs.Common.{terminal_of, is_blank, is_digit, is_unit_letter, operator_of, number_of}
+use Rattle.duration_str.proofs.Common.{tokens_from, ahead, StandsAt, Passes, Stops, TakesDigits, sort_of, u64_from}
+use Rattle.duration_str.proofs.Common.{source, options_of, tokens_left, what_of, KeepsInput, YieldsNextToken, IsAhead}
+use Rattle.duration_str.proofs.Common.{LooksAhead, IsSign, TakesToken, TakesTokenWith, TakesNumber, Token, cut_place}
 use Rattle.duration_str.specs.declared.token.Token.{Token as RustToken}
 use Rattle.duration_str.proofs.Characters.NumberLemmas.{bytes_of_digits}
-use Rattle.duration_str.proofs.Cutting.PositionLemmas.{TakesWord, chars_between, blanks_passed, token_taken, place_at_end}
-use Rattle.duration_str.proofs.Cutting.SortLemmas.{StandsToken, number_stands, word_stands, sign_stands, digit_of_sort, letter_of_sort, sign_of_sort, first_token}
+use Rattle.duration_str.proofs.Cutting.PositionLemmas.{TakesWord, chars_between, blanks_passed, token_taken}
+use Rattle.duration_str.proofs.Cutting.PositionLemmas.{place_at_end}
+use Rattle.duration_str.proofs.Cutting.SortLemmas.{StandsToken, number_stands, word_stands, sign_stands, digit_of_sort}
+use Rattle.duration_str.proofs.Cutting.SortLemmas.{letter_of_sort, sign_of_sort, first_token}
 use Rattle.duration_str.proofs.Cutting.TerminalLemmas.{sign_sorts}
 use Rattle.duration_str.specs.declared.token.What.TheVariants as whats
 

@@ -1,6 +1,12 @@
 -- The possible terminals of a list of characters, and the sort of a lexeme's terminal.
-use Rattle.duration_str.proofs.Common.{◌≡◌, ℕ, Bool, true, false, ◌&&◌, inl, inr, List, [], ◌∷◌, Option, Some, None, IsTrue, if◌then◌else◌, refl, arith, cases_Bool, and_parts, and_from, or_cases, list_all, Options, CondUnit, is_blank, is_digit, is_unit_letter, operator_of, number_of, unit_of_word, are_of_one_run, goes_on, IsLexeme, Terminal, number, word, operator, other, terminal_of, sign_terminal, operator_or_other, sign_sort, sort_at, sort_of, or_right}
-use Rattle.duration_str.proofs.Characters.CharacterLemmas.{all_weaker, digit-not_blank, letter-not_blank, digit-not_letter, letter-not_digit}
+use Rattle.duration_str.proofs.Common.{◌≡◌, ℕ, Bool, true, false, ◌&&◌, inl, inr, List, [], ◌∷◌, Option, Some, None}
+use Rattle.duration_str.proofs.Common.{IsTrue, if◌then◌else◌, refl, arith, cases_Bool, and_parts, and_from, or_cases}
+use Rattle.duration_str.proofs.Common.{list_all, Options, CondUnit, is_blank, is_digit, is_unit_letter, operator_of}
+use Rattle.duration_str.proofs.Common.{number_of, unit_of_word, are_of_one_run, goes_on, IsLexeme, Terminal, number}
+use Rattle.duration_str.proofs.Common.{word, operator, other, terminal_of, sign_terminal, operator_or_other, sign_sort}
+use Rattle.duration_str.proofs.Common.{sort_at, sort_of, or_right}
+use Rattle.duration_str.proofs.Characters.CharacterLemmas.{all_weaker, digit-not_blank, letter-not_blank}
+use Rattle.duration_str.proofs.Characters.CharacterLemmas.{digit-not_letter, letter-not_digit}
 
 -- A property of characters and their terminal holds if it holds in five cases: no characters, digits, unit letters, an
 -- operator, and anything else.

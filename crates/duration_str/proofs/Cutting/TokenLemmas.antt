@@ -1,5 +1,8 @@
 -- `tokens_from` gives the tokens of a text, and a text has no others.
-use Rattle.duration_str.proofs.Common.{◌≡◌, ℕ, ◌+◌, Bool, true, false, List, [], ◌∷◌, ◌++◌, if◌then◌else◌, arith, refl, ap, sym, ◌∙◌, add_assoc, add-zero, append-nil, and_parts, and_from, list_all, Options, width, is_blank, IsBlank, byte_len, are_of_one_run, goes_on, IsLexeme, EndsRun, AreTokens, tokens_from, Token, with_first_character}
+use Rattle.duration_str.proofs.Common.{◌≡◌, ℕ, ◌+◌, Bool, true, false, List, [], ◌∷◌, ◌++◌, if◌then◌else◌, arith, refl}
+use Rattle.duration_str.proofs.Common.{ap, sym, ◌∙◌, add_assoc, add-zero, append-nil, and_parts, and_from, list_all}
+use Rattle.duration_str.proofs.Common.{Options, width, is_blank, IsBlank, byte_len, are_of_one_run, goes_on, IsLexeme}
+use Rattle.duration_str.proofs.Common.{EndsRun, AreTokens, tokens_from, Token, with_first_character}
 use Rattle.duration_str.proofs.Characters.CharacterLemmas.{same_run, run-not_blank}
 
 pub blanks_no_token : (o : Options) (at : ℕ) (blanks rest : List ℕ) → IsBlank blanks

@@ -1,5 +1,7 @@
 -- With all units and as many parts as there are units, the counts are those of the breakdown.
-use Rattle.duration_str.proofs.Common.{◌≡◌, ℕ, ◌-◌, ◌/◌, ◌%◌, ◌≤◌, ◌==◌, ◌∙◌, inl, inr, false, List, [], ◌∷◌, length, arith, refl, sym, ap, cases_Bool, nat_tests, unit_lengths, Limits, no_limits, counts_within, text_within, printed_counts, counts_of, AllParts}
+use Rattle.duration_str.proofs.Common.{◌≡◌, ℕ, ◌-◌, ◌/◌, ◌%◌, ◌≤◌, ◌==◌, ◌∙◌, inl, inr, false, List, [], ◌∷◌, length}
+use Rattle.duration_str.proofs.Common.{arith, refl, sym, ap, cases_Bool, nat_tests, unit_lengths, Limits, no_limits}
+use Rattle.duration_str.proofs.Common.{counts_within, text_within, printed_counts, counts_of, AllParts}
 use Rattle.duration_str.proofs.LawProofs.GreatestBreakdown.{greatest_breakdown_holds}
 use Rattle.duration_str.proofs.LawProofs.GreatestWithin.{left_whole, greatest_within, one_greatest_within}
 use Rattle.duration_str.proofs.Printer.PrintingLemmas.{counts_are}

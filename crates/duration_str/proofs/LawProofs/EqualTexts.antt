@@ -1,5 +1,6 @@
 -- Two durations print the same text exactly if they are equal.
-use Rattle.duration_str.proofs.Common.{◌≡◌, ℕ, List, FitsDuration, off, terminals_of, sum_of, terms_of, IsPrinted, EqualTexts}
+use Rattle.duration_str.proofs.Common.{◌≡◌, ℕ, List, FitsDuration, off, terminals_of, sum_of, terms_of, IsPrinted}
+use Rattle.duration_str.proofs.Common.{EqualTexts}
 use Rattle.duration_str.proofs.Sentences.SpellingLemmas.{sentence_terminals}
 use Rattle.duration_str.proofs.Printer.PrintingLemmas.{duration_lexemes, counts_are, printed_is_sum, duration_sum}
 

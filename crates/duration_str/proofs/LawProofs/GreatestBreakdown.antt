@@ -1,5 +1,7 @@
 -- The counts by quotients and remainders are the greatest breakdown, and the only one.
-use Rattle.duration_str.proofs.Common.{◌≡◌, ℕ, ◌+◌, ◌*◌, ◌/◌, ◌%◌, ◌≤◌, ◌⊎◌, inl, inr, List, [], ◌∷◌, length, arith, refl, sym, le-div_iff_mul-le, div-add-mod', cases_lt, unit_lengths, weighted_sum, IsBefore, IsGreatestBreakdown, counts_of, GreatestBreakdown}
+use Rattle.duration_str.proofs.Common.{◌≡◌, ℕ, ◌+◌, ◌*◌, ◌/◌, ◌%◌, ◌≤◌, ◌⊎◌, inl, inr, List, [], ◌∷◌, length, arith}
+use Rattle.duration_str.proofs.Common.{refl, sym, le-div_iff_mul-le, div-add-mod', cases_lt, unit_lengths, weighted_sum}
+use Rattle.duration_str.proofs.Common.{IsBefore, IsGreatestBreakdown, counts_of, GreatestBreakdown}
 
 -- Each length is above 0, and the last is 1.
 abbrev pub EndInOne : List ℕ → Type 0

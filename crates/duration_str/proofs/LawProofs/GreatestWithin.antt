@@ -1,5 +1,9 @@
 -- The counts within limits by quotients and remainders are the greatest.
-use Rattle.duration_str.proofs.Common.{◌≡◌, ℕ, ◌+◌, ◌-◌, ◌*◌, ◌/◌, ◌%◌, ◌≤◌, ◌<◌, ◌⊎◌, inl, inr, false, List, [], ◌∷◌, length, arith, refl, sym, ⊤, ◌==◌, cases_Bool, le-div_iff_mul-le, div-add-mod', cases_lt, leb, leb-true, map, TimeUnit, nanos_of, Limits, units_within, lengths_within, weighted_sum, IsBefore, part_count, IsGreatestWithin, counts_within, nat_tests}
+use Rattle.duration_str.proofs.Common.{◌≡◌, ℕ, ◌+◌, ◌-◌, ◌*◌, ◌/◌, ◌%◌, ◌≤◌, ◌<◌, ◌⊎◌, inl, inr, false, List, [], ◌∷◌}
+use Rattle.duration_str.proofs.Common.{length, arith, refl, sym, ⊤, ◌==◌, cases_Bool, le-div_iff_mul-le, div-add-mod'}
+use Rattle.duration_str.proofs.Common.{cases_lt, leb, leb-true, map, TimeUnit, nanos_of, Limits, units_within}
+use Rattle.duration_str.proofs.Common.{lengths_within, weighted_sum, IsBefore, part_count, IsGreatestWithin}
+use Rattle.duration_str.proofs.Common.{counts_within, nat_tests}
 use Rattle.duration_str.proofs.Characters.EachUnit.{all_units}
 use Rattle.duration_str.proofs.LawProofs.GreatestBreakdown.{not_before_each_other}
 
@@ -76,10 +80,11 @@ within_greatest (x ∷ lengths) most nanos (n ∷ others) h l f w =
               | inr before ↦ inr (inr (nothing, before))
             ])
             | inr some ↦ elim (cases_Bool (nanos / x == 0)) [
-              | inl none ↦ rw (some, none) (elim (within_greatest lengths most nanos others h.1 (omega arith) few no_more) [
-                | inl s ↦ inl cc
-                | inr before ↦ inr (inr (nothing, before))
-              ])
+              | inl none ↦ rw (some, none) (elim (within_greatest lengths most nanos others h.1
+                  (omega arith) few no_more) [
+                    | inl s ↦ inl cc
+                    | inr before ↦ inr (inr (nothing, before))
+                  ])
               | inr count ↦
                   let positive : 1 ≤ nanos / x = grind (arith, nat_tests) in
                   rw (some, count) (inr (inl (omega arith)))
@@ -110,7 +115,8 @@ lengths_positive [] = tt
 lengths_positive (u ∷ us) = (some_length u, lengths_positive us)
 
 pub greatest_within : (limits : Limits) (nanos : ℕ)
-    → IsGreatestWithin (lengths_within limits) limits.parts nanos (counts_within (lengths_within limits) limits.parts nanos)
+    → IsGreatestWithin (lengths_within limits) limits.parts nanos
+    (counts_within (lengths_within limits) limits.parts nanos)
 greatest_within limits nanos =
     let lengths : List ℕ = lengths_within limits in
     record {
@@ -120,11 +126,13 @@ greatest_within limits nanos =
         no_more = within_sum lengths limits.parts nanos;
       };
       greatest = λ others o.
-          within_greatest lengths limits.parts nanos others (lengths_positive (units_within limits)) o.one_each o.few o.no_more;
+          within_greatest lengths limits.parts nanos others
+          (lengths_positive (units_within limits)) o.one_each o.few o.no_more;
     }
 
 -- The counts within limits are those by quotients and remainders.
-pub one_greatest_within : (limits : Limits) (nanos : ℕ) (counts : List ℕ) → IsGreatestWithin (lengths_within limits) limits.parts nanos counts
+pub one_greatest_within : (limits : Limits) (nanos : ℕ) (counts : List ℕ)
+    → IsGreatestWithin (lengths_within limits) limits.parts nanos counts
     → counts ≡ counts_within (lengths_within limits) limits.parts nanos
 one_greatest_within limits nanos counts h =
     let own = greatest_within limits nanos in

@@ -1,9 +1,19 @@
 -- What is printed within limits is the greatest duration that they can show.
-use Rattle.duration_str.proofs.Common.{◌≡◌, ℕ, ◌+◌, ◌-◌, ◌*◌, ◌/◌, ◌%◌, ◌^◌, ◌≤◌, ◌<◌, ◌==◌, ◌∙◌, inl, inr, true, false, List, [], ◌∷◌, ◌++◌, length, map, if◌then◌else◌, arith, refl, sym, ap, subst, cases_Bool, cases_lt, nat_tests, le-div_iff_mul-le, div-add-mod', map-append, Options, TimeUnit, Year, nanos_of, units, nat_lt, Limits, units_within, units_from, units_down_to, lengths_within, zero_unit, counts_within, text_within, part_count, IsRead, IsGreatestBreakdown, counts_of, weighted_sum, terminal_of, NeverMore}
+use Rattle.duration_str.proofs.Common.{◌≡◌, ℕ, ◌+◌, ◌-◌, ◌*◌, ◌/◌, ◌%◌, ◌^◌, ◌≤◌, ◌<◌, ◌==◌, ◌∙◌, inl, inr, true, false}
+use Rattle.duration_str.proofs.Common.{List, [], ◌∷◌, ◌++◌, length, map, if◌then◌else◌, arith, refl, sym, ap, subst}
+use Rattle.duration_str.proofs.Common.{cases_Bool, cases_lt, nat_tests, le-div_iff_mul-le, div-add-mod', map-append}
+use Rattle.duration_str.proofs.Common.{Options, TimeUnit, Year, nanos_of, units, nat_lt, Limits, units_within}
+use Rattle.duration_str.proofs.Common.{units_from, units_down_to, lengths_within, zero_unit, counts_within, text_within}
+use Rattle.duration_str.proofs.Common.{part_count, IsRead, IsGreatestBreakdown, counts_of, weighted_sum, terminal_of}
+use Rattle.duration_str.proofs.Common.{NeverMore}
 use Rattle.std.proofs.Math.Nat.{div-eq_of_lt, div-eq_of_lt-le, mul-le-mul_right, le-mul_of_pos_right, zero-div}
 use Rattle.duration_str.proofs.LawProofs.GreatestBreakdown.{EndInOne, breakdown_of, one_greatest}
-use Rattle.duration_str.proofs.LawProofs.GreatestWithin.{ArePositive, below_length, left_whole, within_each, within_few, within_sum, lengths_positive, greatest_within, one_greatest_within}
-use Rattle.duration_str.proofs.Printer.PrintingLemmas.{kept, lexemes, terminals, or_zero, EachBelow, parts_kept, all_spelled, terminals_kept, terminals_or_zero, units_sentence, units_plus, sum_kept, sum_or_zero}
+use Rattle.duration_str.proofs.LawProofs.GreatestWithin.{ArePositive, below_length, left_whole, within_each, within_few}
+use Rattle.duration_str.proofs.LawProofs.GreatestWithin.{within_sum, lengths_positive, greatest_within}
+use Rattle.duration_str.proofs.LawProofs.GreatestWithin.{one_greatest_within}
+use Rattle.duration_str.proofs.Printer.PrintingLemmas.{kept, lexemes, terminals, or_zero, EachBelow, parts_kept}
+use Rattle.duration_str.proofs.Printer.PrintingLemmas.{all_spelled, terminals_kept, terminals_or_zero, units_sentence}
+use Rattle.duration_str.proofs.Printer.PrintingLemmas.{units_plus, sum_kept, sum_or_zero}
 use Rattle.duration_str.proofs.Sentences.SumReadings.{sum_read}
 
 -- ---- The duration that is printed
@@ -205,7 +215,8 @@ never_more_holds limits nanos text p =
     let counts : List ℕ = counts_within lengths limits.parts nanos in
     let positive : ArePositive lengths = lengths_positive (units_within limits) in
     let each = within_each lengths limits.parts nanos in
-    let same : text ≡ text_within limits counts = p.2 ∙ ap (text_within limits) (one_greatest_within limits nanos p.0 p.1) in
+    let same : text ≡ text_within limits counts =
+    p.2 ∙ ap (text_within limits) (one_greatest_within limits nanos p.0 p.1) in
     let split : whole ≡ lengths ++ more =
     ap (map nanos_of) (then_after limits.smallest (units_from limits.largest units)) ∙ map-append _ _ _ in
     let most : ℕ = shown lengths limits.parts nanos in
@@ -223,7 +234,8 @@ never_more_holds limits nanos text p =
         own = (
           counts ++ counts_of more 0,
           record {
-            breakdown = subst (λ cs. IsGreatestBreakdown whole most cs) own (breakdown_of whole most (from_end_in_one limits.largest));
+            breakdown = subst (λ cs. IsGreatestBreakdown whole most cs) own
+                (breakdown_of whole most (from_end_in_one limits.largest));
             few = rw (no_more_parts counts more) (within_few lengths limits.parts nanos);
             whole = sum_of_front lengths counts (counts_of more 0) each;
           },

@@ -1,5 +1,7 @@
 -- Without operators `no_calc` changes neither what is accepted nor its value.
-use Rattle.duration_str.proofs.Common.{ℕ, Bool, true, false, not, List, [], ◌∷◌, map, Some, ⊤, and_parts, Options, Terminal, number, word, operator, terminal_of, IsSentence, NoCalcAgrees, HasNoOperator, is_operator, IsRead}
+use Rattle.duration_str.proofs.Common.{ℕ, Bool, true, false, not, List, [], ◌∷◌, map, Some, ⊤, and_parts, Options}
+use Rattle.duration_str.proofs.Common.{Terminal, number, word, operator, terminal_of, IsSentence, NoCalcAgrees}
+use Rattle.duration_str.proofs.Common.{HasNoOperator, is_operator, IsRead}
 use Rattle.duration_str.proofs.Cutting.TerminalLemmas.{terminal_cases}
 use Rattle.duration_str.proofs.Sentences.SpellingLemmas.{EachPasses, lexemes_pass}
 

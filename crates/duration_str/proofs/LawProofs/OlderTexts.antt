@@ -1,5 +1,14 @@
 -- The law `older_texts`: a sentence over the units without the quarter is a sentence over all units.
-use Rattle.duration_str.proofs.Common.{◌≡◌, ℕ, Bool, true, false, List, [], ◌∷◌, map, Option, Some, None, IsTrue, refl, sym, ap, ap₂, ◌∙◌, append-nil, ◌⊎◌, inl, inr, true≢false, find, ⊤, and_parts, cases_Bool, list_all, Options, CondUnit, Plus, TimeUnit, Quarter, Cause, is_digit, is_unit_letter, operator_of, UnitRow, row_of, nanos_of, is_named, unit_of_word, Terminal, number, word, operator, operator_or_other, sign_terminal, terminal_by, terminal_of, IsSentence, IsSentenceOf, expected_after, allows, terms_by, terms_of, or_else, evaluation_fault, IsRead, IsRefusedAt, IsRefused, first_fault, early, late, older_row_of, older_units, was_named, older_nanos_of, older_unit_of_word, older_terminals, older_terms, WasSentenceOf, WasRead, WasRefused, sentence_fault, OlderTexts}
+use Rattle.duration_str.proofs.Common.{◌≡◌, ℕ, Bool, true, false, List, [], ◌∷◌, map, Option, Some, None, IsTrue, refl}
+use Rattle.duration_str.proofs.Common.{sym, ap, ap₂, ◌∙◌, append-nil, ◌⊎◌, inl, inr, true≢false, find, ⊤, and_parts}
+use Rattle.duration_str.proofs.Common.{cases_Bool, list_all, Options, CondUnit, Plus, TimeUnit, Quarter, Cause}
+use Rattle.duration_str.proofs.Common.{is_digit, is_unit_letter, operator_of, UnitRow, row_of, nanos_of, is_named}
+use Rattle.duration_str.proofs.Common.{unit_of_word, Terminal, number, word, operator, operator_or_other, sign_terminal}
+use Rattle.duration_str.proofs.Common.{terminal_by, terminal_of, IsSentence, IsSentenceOf, expected_after, allows}
+use Rattle.duration_str.proofs.Common.{terms_by, terms_of, or_else, evaluation_fault, IsRead, IsRefusedAt, IsRefused}
+use Rattle.duration_str.proofs.Common.{first_fault, early, late, older_row_of, older_units, was_named, older_nanos_of}
+use Rattle.duration_str.proofs.Common.{older_unit_of_word, older_terminals, older_terms, WasSentenceOf, WasRead}
+use Rattle.duration_str.proofs.Common.{WasRefused, sentence_fault, OlderTexts}
 use Rattle.duration_str.proofs.Characters.UnitLemmas.{named_unit}
 use Rattle.duration_str.proofs.Sentences.AnswerLemmas.{sentence_refused}
 use Rattle.duration_str.proofs.Sentences.FrontLemmas.{AreAllowed, sentence_allowed}
@@ -38,7 +47,8 @@ KeepLengths (word (Some u) ∷ terminals) = (older_nanos_of u ≡ nanos_of u) ×
 KeepLengths (terminal ∷ terminals) = KeepLengths terminals
 
 same_word : (o : Options) (last : Option Terminal) (w : List ℕ) (found : Option TimeUnit) (terminals : List Terminal)
-    → older_unit_of_word o w ≡ found → IsTrue (allows (expected_after o.no_calc last) (word found)) → KeepLengths terminals
+    → older_unit_of_word o w ≡ found → IsTrue (allows (expected_after o.no_calc last) (word found))
+    → KeepLengths terminals
     → (word found ≡ word (unit_of_word o w)) × KeepLengths (word found ∷ terminals)
 same_word o last w (Some u) terminals e a k =
     let named = still_named o w u (found_named o w older_units u e) in (rw (named_unit o w u named.0), (named.1, k))

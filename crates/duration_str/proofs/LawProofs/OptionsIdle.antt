@@ -1,5 +1,11 @@
 -- `lowercase` changes nothing without ASCII capitals, and `cn_unit` nothing without Chinese characters.
-use Rattle.duration_str.proofs.Common.{◌≡◌, ℕ, ◌+◌, Bool, true, false, not, ◌||◌, List, [], ◌∷◌, map, IsTrue, if◌then◌else◌, bytes_eq, arith, refl, sym, find, false_from_ne_true, and_parts, and_from, not-true, nat_tests, is_ascii_uppercase, to_ascii_lowercase, list_all, list_any, Options, TimeUnit, Cause, width, is_unit_letter, is_chinese, row_of, units, comparison_form, unit_of_word, terminal_of, goes_on, tokens_from, tokens_of, terminals_of, IsRead, IsRefused, OptionsIdle, HasNoCapital, HasNoChinese, IsIdle}
+use Rattle.duration_str.proofs.Common.{◌≡◌, ℕ, ◌+◌, Bool, true, false, not, ◌||◌, List, [], ◌∷◌, map, IsTrue}
+use Rattle.duration_str.proofs.Common.{if◌then◌else◌, bytes_eq, arith, refl, sym, find, false_from_ne_true, and_parts}
+use Rattle.duration_str.proofs.Common.{and_from, not-true, nat_tests, is_ascii_uppercase, to_ascii_lowercase, list_all}
+use Rattle.duration_str.proofs.Common.{list_any, Options, TimeUnit, Cause, width, is_unit_letter, is_chinese, row_of}
+use Rattle.duration_str.proofs.Common.{units, comparison_form, unit_of_word, terminal_of, goes_on, tokens_from}
+use Rattle.duration_str.proofs.Common.{tokens_of, terminals_of, IsRead, IsRefused, OptionsIdle, HasNoCapital}
+use Rattle.duration_str.proofs.Common.{HasNoChinese, IsIdle}
 use Rattle.duration_str.proofs.Characters.EachUnit.{all_units}
 use Rattle.duration_str.proofs.Characters.UnitLemmas.{named_passes}
 use Rattle.duration_str.proofs.Sentences.SpellingLemmas.{tokens_spell, EachPasses, lexemes_pass}

@@ -1,8 +1,14 @@
 -- A printed text is read back below 2^64 nanoseconds, and otherwise overflows.
-use Rattle.duration_str.proofs.Common.{◌≡◌, ℕ, ◌+◌, ◌*◌, ◌/◌, ◌^◌, ◌≤◌, ◌<◌, Bool, true, false, ◌==◌, List, [], ◌∷◌, map, drop, Some, None, arith, sym, ne_eqb, lt-ltb, le-ltb, FitsDuration, Options, Year, Overflow, units, nanos_of, unit_lengths, Terminal, number, word, terminal_of, sum_of, terms_of, early_fault, IsRead, early, IsRefused, IsPrinted, counts_of, ReadsBack}
+use Rattle.duration_str.proofs.Common.{◌≡◌, ℕ, ◌+◌, ◌*◌, ◌/◌, ◌^◌, ◌≤◌, ◌<◌, Bool, true, false, ◌==◌, List, [], ◌∷◌}
+use Rattle.duration_str.proofs.Common.{map, drop, Some, None, arith, sym, ne_eqb, lt-ltb, le-ltb, FitsDuration, Options}
+use Rattle.duration_str.proofs.Common.{Year, Overflow, units, nanos_of, unit_lengths, Terminal, number, word}
+use Rattle.duration_str.proofs.Common.{terminal_of, sum_of, terms_of, early_fault, IsRead, early, IsRefused, IsPrinted}
+use Rattle.duration_str.proofs.Common.{counts_of, ReadsBack}
 use Rattle.duration_str.proofs.Sentences.AnswerLemmas.{sentence_refused}
-use Rattle.duration_str.proofs.Sentences.SumReadings.{terms_of_lexemes, sum_read, EachFits, sum_fits_each, sum_overflows}
-use Rattle.duration_str.proofs.Printer.PrintingLemmas.{kept, terminals, duration_lexemes, terminals_of_duration, printed_is_sum, duration_sum}
+use Rattle.duration_str.proofs.Sentences.SumReadings.{terms_of_lexemes, sum_read, EachFits, sum_fits_each}
+use Rattle.duration_str.proofs.Sentences.SumReadings.{sum_overflows}
+use Rattle.duration_str.proofs.Printer.PrintingLemmas.{kept, terminals, duration_lexemes, terminals_of_duration}
+use Rattle.duration_str.proofs.Printer.PrintingLemmas.{printed_is_sum, duration_sum}
 
 abbrev years : ℕ → ℕ
 years nanos = nanos / nanos_of Year

@@ -1,5 +1,7 @@
 -- Sums with the same values of terms, each equally often, are equal.
-use Rattle.duration_str.proofs.Common.{◌≡◌, ℕ, ◌+◌, ◌≤◌, inl, inr, ◌==◌, List, [], ◌∷◌, map, if◌then◌else◌, arith, refl, ◌∙◌, eqb-true, eq-eqb, find, Some, cases_Bool, cond-true, Term, value_of_term, sum_of, Reorder, times_in}
+use Rattle.duration_str.proofs.Common.{◌≡◌, ℕ, ◌+◌, ◌≤◌, inl, inr, ◌==◌, List, [], ◌∷◌, map, if◌then◌else◌, arith, refl}
+use Rattle.duration_str.proofs.Common.{◌∙◌, eqb-true, eq-eqb, find, Some, cases_Bool, cond-true, Term, value_of_term}
+use Rattle.duration_str.proofs.Common.{sum_of, Reorder, times_in}
 use Rattle.std.specs.List.{sum_by}
 use Rattle.std.specs.Set.{remove_key}
 use Rattle.std.proofs.lemmas.List.Sums.{sum_by-cons}

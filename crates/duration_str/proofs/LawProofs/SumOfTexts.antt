@@ -1,10 +1,15 @@
 -- Two accepted texts without `*`, joined by a plus, have the sum of their values, or overflow.
-use Rattle.duration_str.proofs.Common.{◌≡◌, ℕ, inl, inr, ◌+◌, true, false, not, ◌==◌, List, [], ◌∷◌, ◌++◌, map, Some, codes, arith, refl, ◌∙◌, append_assoc, cases_Bool, and_parts, and_from, nat_tests, map-append, list_all-append, Options, CondUnit, Plus, IsBlank, operator_of, Terminal, number, word, operator, terminal_of, IsSentence, Spells, AllPlus, Term, sum_of, terms_of, terms_after, IsRead, SumOfTexts, HasNoStar}
+use Rattle.duration_str.proofs.Common.{◌≡◌, ℕ, inl, inr, ◌+◌, true, false, not, ◌==◌, List, [], ◌∷◌, ◌++◌, map, Some}
+use Rattle.duration_str.proofs.Common.{codes, arith, refl, ◌∙◌, append_assoc, cases_Bool, and_parts, and_from}
+use Rattle.duration_str.proofs.Common.{nat_tests, map-append, list_all-append, Options, CondUnit, Plus, IsBlank}
+use Rattle.duration_str.proofs.Common.{operator_of, Terminal, number, word, operator, terminal_of, IsSentence, Spells}
+use Rattle.duration_str.proofs.Common.{AllPlus, Term, sum_of, terms_of, terms_after, IsRead, SumOfTexts, HasNoStar}
 use Rattle.duration_str.proofs.Cutting.TerminalLemmas.{terminal_cases}
 use Rattle.duration_str.proofs.Sentences.SpellingLemmas.{EachPasses, lexemes_pass, begins_with}
 use Rattle.duration_str.proofs.Sentences.SumLemmas.{sum-append}
 use Rattle.duration_str.proofs.Sentences.AnswerLemmas.{read_below}
-use Rattle.duration_str.proofs.Sentences.SumReadings.{IsSumOf, terms_of_lexemes, sum_read, read_sum, EachFits, sum_fits_each, sum_overflows}
+use Rattle.duration_str.proofs.Sentences.SumReadings.{IsSumOf, terms_of_lexemes, sum_read, read_sum, EachFits}
+use Rattle.duration_str.proofs.Sentences.SumReadings.{sum_fits_each, sum_overflows}
 
 -- ---- The joined lexemes spell the joined text
 

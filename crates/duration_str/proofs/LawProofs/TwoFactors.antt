@@ -1,5 +1,7 @@
 -- A product of two terms is accepted exactly if both terms and their product fit, and so is the exchanged product.
-use Rattle.duration_str.proofs.Common.{◌≡◌, ◌↔◌, ℕ, ◌*◌, ◌/◌, ◌^◌, ◌<◌, List, [], ◌∷◌, Some, arith, refl, mul-div_cancel, mul_comm, Options, Star, IsSentenceOf, Term, value_of_term, value_of, second, IsRead, TwoFactors}
+use Rattle.duration_str.proofs.Common.{◌≡◌, ◌↔◌, ℕ, ◌*◌, ◌/◌, ◌^◌, ◌<◌, List, [], ◌∷◌, Some, arith, refl}
+use Rattle.duration_str.proofs.Common.{mul-div_cancel, mul_comm, Options, Star, IsSentenceOf, Term, value_of_term}
+use Rattle.duration_str.proofs.Common.{value_of, second, IsRead, TwoFactors}
 use Rattle.duration_str.proofs.Sentences.FaultLemmas.{no_fault}
 use Rattle.duration_str.proofs.Sentences.AnswerLemmas.{read_sentence}
 use Rattle.duration_str.proofs.Sentences.SumReadings.{terms_of_lexemes}

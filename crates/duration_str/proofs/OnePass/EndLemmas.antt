@@ -1,5 +1,9 @@
 -- Of a syntax fault no token is found exactly if it stands at the end of the text.
-use Rattle.duration_str.proofs.Common.{eq-eqb, ne_eqb, true≢false, chars, ◌≡◌, ◌↔◌, ℕ, zero, suc, ◌+◌, ◌<◌, ◌==◌, ap, ◌∙◌, List, [], ◌∷◌, length, Option, Some, None, IsUtf8, inl, inr, refl, arith, IsNone, Bor, cases_Bool, Options, Cause, Syntax, byte_len, Token, IsLexeme, AreTokens, tokens_of, token_at, found_token, IsSliceOf, IsMissingAtEnd, start_after}
+use Rattle.duration_str.proofs.Common.{eq-eqb, ne_eqb, true≢false, chars, ◌≡◌, ◌↔◌, ℕ, zero, suc, ◌+◌, ◌<◌, ◌==◌, ap}
+use Rattle.duration_str.proofs.Common.{◌∙◌, List, [], ◌∷◌, length, Option, Some, None, IsUtf8, inl, inr, refl, arith}
+use Rattle.duration_str.proofs.Common.{IsNone, Bor, cases_Bool, Options, Cause, Syntax, byte_len, Token, IsLexeme}
+use Rattle.duration_str.proofs.Common.{AreTokens, tokens_of, token_at, found_token, IsSliceOf, IsMissingAtEnd}
+use Rattle.duration_str.proofs.Common.{start_after}
 use Rattle.std.proofs.Math.Seq.{drop-nil}
 use Rattle.duration_str.proofs.Characters.TextLemmas.{width_some, byte_len-append}
 use Rattle.duration_str.proofs.Cutting.TokenLemmas.{tokens_are}

@@ -1,8 +1,15 @@
 -- Combining the later terms one by one gives their faults in the order of the whole list.
-use Rattle.duration_str.proofs.Common.{◌≡◌, ℕ, ◌+◌, ◌*◌, ◌^◌, ◌<◌, Bool, true, false, inl, inr, List, [], ◌∷◌, ◌++◌, Option, Some, None, Result, Ok, Err, IsTrue, if◌then◌else◌, unwrap_or, refl, ap, ◌∙◌, arith, append_assoc, append-nil, ok_or, lt-ltb, le-ltb, cases_Bool, cases_lt, CondUnit, Plus, Star, Cause, Overflow, Term, value_of_term, sum_of, later_total, combination, value_of, fits, or_else, unless, term_fault, fault_of_terms, evaluation_fault, u64_from, checked_term, first_fault, running_fault, fault_or, identity_of, checked_combination, sum_fault, with_term}
+use Rattle.duration_str.proofs.Common.{◌≡◌, ℕ, ◌+◌, ◌*◌, ◌^◌, ◌<◌, Bool, true, false, inl, inr, List, [], ◌∷◌, ◌++◌}
+use Rattle.duration_str.proofs.Common.{Option, Some, None, Result, Ok, Err, IsTrue, if◌then◌else◌, unwrap_or, refl, ap}
+use Rattle.duration_str.proofs.Common.{◌∙◌, arith, append_assoc, append-nil, ok_or, lt-ltb, le-ltb, cases_Bool}
+use Rattle.duration_str.proofs.Common.{cases_lt, CondUnit, Plus, Star, Cause, Overflow, Term, value_of_term, sum_of}
+use Rattle.duration_str.proofs.Common.{later_total, combination, value_of, fits, or_else, unless, term_fault}
+use Rattle.duration_str.proofs.Common.{fault_of_terms, evaluation_fault, u64_from, checked_term, first_fault}
+use Rattle.duration_str.proofs.Common.{running_fault, fault_or, identity_of, checked_combination, sum_fault, with_term}
 use Rattle.std.proofs.lemmas.List.Sums.{fold-append}
 use Rattle.duration_str.proofs.Sentences.FaultLemmas.{no_fault, is_same_operator-true}
-use Rattle.duration_str.proofs.Sentences.SumLemmas.{AreAdded, overflow, overflow_grows, sum-append, later_none, running_below, value_is_sum}
+use Rattle.duration_str.proofs.Sentences.SumLemmas.{AreAdded, overflow, overflow_grows, sum-append, later_none}
+use Rattle.duration_str.proofs.Sentences.SumLemmas.{running_below, value_is_sum}
 use Rattle.duration_str.proofs.Sentences.AnswerLemmas.{later_value}
 
 -- the answer to a text with these terms, given the syntax fault after them or `None`
@@ -101,7 +108,8 @@ answer_after_first no_calc first (t ∷ terms) syntax =
     answer_with no_calc first t.operator (identity_of t.operator) (t ∷ terms) syntax
 
 after_fault : (op : CondUnit) (first total : ℕ) (more : ℕ → Result ℕ Cause) (syntax a b : Option Cause)
-    (r : Result ℕ Cause) → (a ≡ None → more total ≡ fault_or syntax (checked_combination op first (fault_or (or_else a b) r)))
+    (r : Result ℕ Cause)
+    → (a ≡ None → more total ≡ fault_or syntax (checked_combination op first (fault_or (or_else a b) r)))
     → after_term false syntax more (fault_or a (Ok total))
     ≡ fault_or syntax (checked_combination op first (fault_or (or_else a b) r))
 after_fault op first total more syntax None b r h = h refl
@@ -114,7 +122,8 @@ default_left : (first : ℕ) (op : CondUnit) (before later : List Term) (syntax 
 default_left first op before [] syntax none = rw (append-nil, none)
 default_left first op before (t ∷ later) syntax none =
     let next = before ++ t ∷ [] in
-    let parts : fault_of_terms op [] (before ++ t ∷ later) ≡ or_else (fault_of_terms op [] next) (fault_of_terms op next later) =
+    let parts : fault_of_terms op [] (before ++ t ∷ later)
+    ≡ or_else (fault_of_terms op [] next) (fault_of_terms op next later) =
     rw append_assoc at (later_append op [] next later) in
     rw (one_more op before t none, parts)
     (after_fault op first (later_total op next) (λ total. answer_with false first op total later syntax) syntax

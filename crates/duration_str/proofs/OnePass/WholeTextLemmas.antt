@@ -1,5 +1,9 @@
 -- The result of reading everything from the start of a text is the text's answer.
-use Rattle.duration_str.proofs.Common.{◌≡◌, ◌==◌, ℕ, zero, suc, ◌<◌, false, sym, List, [], ◌∷◌, Result, Err, map, length, IsUtf8, refl, arith, chars, chars-nil, Options, Cause, Empty, Tokens, byte_len, terminal_of, tokens_of, lexemes_of, start_after, answer, rest_from, rest_of, start_left, terminals_in, answer_left, source, options_of, tokens_left, Token}
+use Rattle.duration_str.proofs.Common.{◌≡◌, ◌==◌, ℕ, zero, suc, ◌<◌, false, sym, List, [], ◌∷◌, Result, Err, map}
+use Rattle.duration_str.proofs.Common.{length, IsUtf8, refl, arith, chars, chars-nil, Options, Cause, Empty, Tokens}
+use Rattle.duration_str.proofs.Common.{byte_len, terminal_of, tokens_of, lexemes_of, start_after, answer, rest_from}
+use Rattle.duration_str.proofs.Common.{rest_of, start_left, terminals_in, answer_left, source, options_of, tokens_left}
+use Rattle.duration_str.proofs.Common.{Token}
 use Rattle.std.proofs.Math.Seq.{drop-nil}
 use Rattle.std.proofs.lemmas.Bool.{eqb-false}
 use Rattle.duration_str.proofs.OnePass.PlaceLemmas.{byte_count}

@@ -1,5 +1,8 @@
 -- The steps of writing a number in decimal, and its length.
-use Rattle.duration_str.proofs.Common.{◌≡◌, ℕ, suc, ◌+◌, ◌/◌, ◌%◌, ◌^◌, ◌<◌, ◌≤◌, ◌++◌, List, [], ◌∷◌, length, decimal, arith, append_assoc, ap, ◌∙◌, length-append, ltb, refl, ltb-true, decimal_digit, decimal_nonempty, length-decimal-le, pow-succ', TimeUnit, greatest_count, decimal_step, decimal_by_steps, take_more_set}
+use Rattle.duration_str.proofs.Common.{◌≡◌, ℕ, suc, ◌+◌, ◌/◌, ◌%◌, ◌^◌, ◌<◌, ◌≤◌, ◌++◌, List, [], ◌∷◌, length, decimal}
+use Rattle.duration_str.proofs.Common.{arith, append_assoc, ap, ◌∙◌, length-append, ltb, refl, ltb-true, decimal_digit}
+use Rattle.duration_str.proofs.Common.{decimal_nonempty, length-decimal-le, pow-succ', TimeUnit, greatest_count}
+use Rattle.duration_str.proofs.Common.{decimal_step, decimal_by_steps, take_more_set}
 use Rattle.duration_str.proofs.Characters.EachUnit.{all_units}
 
 pub length_one : (n : ℕ) → n < 10 → length (decimal n) ≡ 1

@@ -1,11 +1,21 @@
 -- The steps of printing within limits, and the most bytes that it takes.
-use Rattle.duration_str.proofs.Common.{zero, and_parts, rules, ◌≡◌, ℕ, ◌+◌, ◌-◌, ◌*◌, ◌/◌, ◌%◌, ◌^◌, ◌<◌, ◌≤◌, ◌==◌, ◌++◌, Bool, true, false, inl, inr, List, [], ◌∷◌, length, take, drop, map, decimal, encode_utf8_all, codes, arith, ap, ◌∙◌, sym, refl, lit<, suc, leb, leb-true, ltb, ltb-true, length-append, append_assoc, IsUtf8, cases_Bool, nat_tests, list_all, le-div_iff_mul-le, div-le_self, mod-le, pow-succ', decimal_digit, decimal_step_wide, decimal_by_steps_wide, length-decimal-le_wide, take_more_set, TimeUnit, Year, Quarter, Month, Week, Day, Hour, units, row_of, nanos_of, byte_len, Limits, units_down_to, units_within, lengths_within, zero_text, zero_unit, counts_within, text_within, with_space, with_part, with_counts, max_printed_len, IsUtf8-from_ascii, IsAscii-decimal_wide, ⊤}
+use Rattle.duration_str.proofs.Common.{zero, and_parts, rules, ◌≡◌, ℕ, ◌+◌, ◌-◌, ◌*◌, ◌/◌, ◌%◌, ◌^◌, ◌<◌, ◌≤◌, ◌==◌}
+use Rattle.duration_str.proofs.Common.{◌++◌, Bool, true, false, inl, inr, List, [], ◌∷◌, length, take, drop, map}
+use Rattle.duration_str.proofs.Common.{decimal, encode_utf8_all, codes, arith, ap, ◌∙◌, sym, refl, lit<, suc, leb}
+use Rattle.duration_str.proofs.Common.{leb-true, ltb, ltb-true, length-append, append_assoc, IsUtf8, cases_Bool}
+use Rattle.duration_str.proofs.Common.{nat_tests, list_all, le-div_iff_mul-le, div-le_self, mod-le, pow-succ'}
+use Rattle.duration_str.proofs.Common.{decimal_digit, decimal_step_wide, decimal_by_steps_wide, length-decimal-le_wide}
+use Rattle.duration_str.proofs.Common.{take_more_set, TimeUnit, Year, Quarter, Month, Week, Day, Hour, units, row_of}
+use Rattle.duration_str.proofs.Common.{nanos_of, byte_len, Limits, units_down_to, units_within, lengths_within}
+use Rattle.duration_str.proofs.Common.{zero_text, zero_unit, counts_within, text_within, with_space, with_part}
+use Rattle.duration_str.proofs.Common.{with_counts, max_printed_len, IsUtf8-from_ascii, IsAscii-decimal_wide, ⊤}
 use Rattle.std.specs.Prelude.{slice_index_or}
 use Rattle.std.proofs.lemmas.List.{take_rest}
 use Rattle.duration_str.proofs.Characters.EachUnit.{Each, each_unit, all_units}
 use Rattle.duration_str.proofs.Characters.NameLemmas.{length_name, scalar_name}
 use Rattle.duration_str.proofs.Printer.DigitLemmas.{length_one}
-use Rattle.duration_str.proofs.Printer.PrintedBytesLemmas.{AreShort, ended, ended_parts, encode_part, some_decimal, IsUtf8-spaced}
+use Rattle.duration_str.proofs.Printer.PrintedBytesLemmas.{AreShort, ended, ended_parts, encode_part, some_decimal}
+use Rattle.duration_str.proofs.Printer.PrintedBytesLemmas.{IsUtf8-spaced}
 use Rattle.duration_str.proofs.LawProofs.GreatestWithin.{some_length, below_length}
 use Rattle.duration_str.specs.Internal.PrintedBytes.{digits}
 use Rattle.duration_str.specs.Internal.UnitTable.{place_of}
@@ -20,7 +30,8 @@ slice_each parts Year = assumption
 slice_each parts l = assumption
 
 pub slice_within : (limits : Limits)
-    → mid_of (place_of limits.largest) (place_of limits.smallest + 1 - place_of limits.largest) units ≡ units_within limits
+    → mid_of (place_of limits.largest) (place_of limits.smallest + 1 - place_of limits.largest) units
+    ≡ units_within limits
 slice_within limits =
     each_unit (λ s. mid_of (place_of limits.largest) (place_of s + 1 - place_of limits.largest) units
     ≡ units_within (record { largest = limits.largest; smallest = s; parts = limits.parts }))
@@ -28,7 +39,8 @@ slice_within limits =
 
 pub none_within : (limits : Limits) → place_of limits.smallest < place_of limits.largest → [] ≡ units_within limits
 none_within limits h =
-    let none : place_of limits.smallest + 1 - place_of limits.largest ≡ 0 = omega arith in rw none at (slice_within limits)
+    let none : place_of limits.smallest + 1 - place_of limits.largest ≡ 0 = omega arith in
+    rw none at (slice_within limits)
 
 -- ---- The digits
 
@@ -52,7 +64,8 @@ below_power = decimal_by_steps_wide (λ n ds. n < 10 ^ length ds) (λ n small. o
 -- A smaller number has no more digits.
 length_smaller : (m n : ℕ) → m ≤ n → n < 10 ^ 64 → length (decimal m) ≤ length (decimal n)
 length_smaller m n h small =
-    length-decimal-le_wide (length (decimal n)) m (some_decimal n small) (omega (arith, below_power n small)) (omega arith)
+    length-decimal-le_wide (length (decimal n)) m (some_decimal n small) (omega (arith, below_power n small))
+    (omega arith)
 
 -- ---- The parts
 
@@ -105,7 +118,8 @@ space_more : (bytes : List ℕ) → length (with_space bytes) ≤ length bytes +
 space_more [] = omega arith
 space_more (b ∷ bytes) = simp length-append (omega arith)
 
-part_more : (bytes : List ℕ) (u : TimeUnit) (n most : ℕ) → n ≤ most → most < 10 ^ 64 → length (with_space (with_part bytes u n))
+part_more : (bytes : List ℕ) (u : TimeUnit) (n most : ℕ) → n ≤ most → most < 10 ^ 64
+    → length (with_space (with_part bytes u n))
     ≤ length (with_space bytes) + (length (decimal most) + byte_len (row_of u).printed + 1)
 part_more bytes u n most h small = elim (cases_Bool (n == 0)) [
   | inl e ↦ rw e (omega arith)
@@ -191,8 +205,10 @@ within_short (l ∷ lengths) most nanos h = elim (cases_Bool (most == 0)) [
   | inr some ↦ elim (cases_Bool (nanos / l == 0)) [
     | inl nothing ↦ rw (some, nothing) (omega arith, within_short lengths most nanos h)
     | inr count ↦
-        rw (some, count)
-        (omega (arith, div-le_self nanos l), within_short lengths (most - 1) (nanos % l) (omega (arith, mod-le nanos l)))
+        rw (some, count) (
+          omega (arith, div-le_self nanos l),
+          within_short lengths (most - 1) (nanos % l) (omega (arith, mod-le nanos l)),
+        )
   ]
 ]
 
@@ -205,7 +221,8 @@ pub within_ended : (limits : Limits) (nanos : ℕ) → nanos < 10 ^ 64
     (with_counts [] (units_within limits) (counts_within (lengths_within limits) limits.parts nanos))
     ≡ encode_utf8_all (text_within limits (counts_within (lengths_within limits) limits.parts nanos))
 within_ended limits nanos h =
-    ended_parts (zero_text limits.smallest) (units_within limits) _ (within_short (lengths_within limits) limits.parts nanos h)
+    ended_parts (zero_text limits.smallest) (units_within limits) _
+    (within_short (lengths_within limits) limits.parts nanos h)
 
 zero_utf8 : (u : TimeUnit) → IsUtf8 (encode_utf8_all (codes "0" ++ (row_of u).printed))
 zero_utf8 u = (codes "0" ++ (row_of u).printed, (scalar_name u, refl))

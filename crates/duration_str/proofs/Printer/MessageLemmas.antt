@@ -1,5 +1,9 @@
 -- The text of a fault is UTF-8, and its last byte is no line feed.
-use Rattle.duration_str.proofs.Common.{rules, ◌≡◌, ◌≢◌, ℕ, ◌<◌, ◌^◌, ◌==◌, true, false, List, [], ◌∷◌, ◌++◌, Option, Some, None, IsUtf8, decimal, encode_utf8_all, replicate, take, inl, inr, refl, lit<, IfSome, codes, cases_Bool, Plus, Star, Cause, Syntax, Mixed, NotText, IsAscii-decimal, IsUtf8-append, IsUtf8-from_ascii, EndsInsideLine, byte_text, caret_text, has_line_feed, placed_text, line_of}
+use Rattle.duration_str.proofs.Common.{rules, ◌≡◌, ◌≢◌, ℕ, ◌<◌, ◌^◌, ◌==◌, true, false, List, [], ◌∷◌, ◌++◌, Option}
+use Rattle.duration_str.proofs.Common.{Some, None, IsUtf8, decimal, encode_utf8_all, replicate, take, inl, inr, refl}
+use Rattle.duration_str.proofs.Common.{lit<, IfSome, codes, cases_Bool, Plus, Star, Cause, Syntax, Mixed, NotText}
+use Rattle.duration_str.proofs.Common.{IsAscii-decimal, IsUtf8-append, IsUtf8-from_ascii, EndsInsideLine, byte_text}
+use Rattle.duration_str.proofs.Common.{caret_text, has_line_feed, placed_text, line_of}
 use Rattle.std.proofs.lemmas.List.Elements.{All-replicate}
 use Rattle.std.proofs.lemmas.Str.Ascii.{IsAscii-from_all}
 use Rattle.std.specs.List.{last_or}

@@ -1,5 +1,12 @@
 -- The bytes built unit by unit are the UTF-8 of the printed text.
-use Rattle.duration_str.proofs.Common.{rules, ◌≡◌, ◌∙◌, ℕ, ◌+◌, ◌*◌, ◌/◌, ◌%◌, ◌^◌, ◌<◌, ◌≤◌, ◌==◌, List, [], ◌∷◌, ◌++◌, length, take, map, decimal, encode_utf8_all, refl, sym, inl, inr, arith, length-append, append_assoc, append-nil, lit<, flat_map, codes, IsUtf8, div-le_self, length-take-le, cases_Bool, encodes-append, encodes-IsAscii, TimeUnit, Year, Second, ⊤, units, row_of, nanos_of, unit_lengths, printed_counts, spaced_parts, counts_of, printed_parts, with_space, with_part, with_parts, with_counts, units_below_year, mod-le, IsAscii-decimal_wide, decimal_by_steps_wide, IsUtf8-append, IsUtf8-from_ascii, IsUtf8-nil}
+use Rattle.duration_str.proofs.Common.{rules, ◌≡◌, ◌∙◌, ℕ, ◌+◌, ◌*◌, ◌/◌, ◌%◌, ◌^◌, ◌<◌, ◌≤◌, ◌==◌, List, [], ◌∷◌, ◌++◌}
+use Rattle.duration_str.proofs.Common.{length, take, map, decimal, encode_utf8_all, refl, sym, inl, inr, arith}
+use Rattle.duration_str.proofs.Common.{length-append, append_assoc, append-nil, lit<, flat_map, codes, IsUtf8}
+use Rattle.duration_str.proofs.Common.{div-le_self, length-take-le, cases_Bool, encodes-append, encodes-IsAscii}
+use Rattle.duration_str.proofs.Common.{TimeUnit, Year, Second, ⊤, units, row_of, nanos_of, unit_lengths, printed_counts}
+use Rattle.duration_str.proofs.Common.{spaced_parts, counts_of, printed_parts, with_space, with_part, with_parts}
+use Rattle.duration_str.proofs.Common.{with_counts, units_below_year, mod-le, IsAscii-decimal_wide}
+use Rattle.duration_str.proofs.Common.{decimal_by_steps_wide, IsUtf8-append, IsUtf8-from_ascii, IsUtf8-nil}
 use Rattle.duration_str.proofs.Characters.NameLemmas.{scalar_name}
 
 pub encode_part : (n : ℕ) (name : List ℕ) → n < 10 ^ 64

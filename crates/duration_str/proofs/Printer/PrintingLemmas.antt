@@ -1,5 +1,10 @@
 -- A printed text is spelled by a sum whose total is the duration.
-use Rattle.duration_str.proofs.Common.{◌≡◌, ℕ, ◌%◌, ◌^◌, ◌<◌, inl, inr, Bool, true, false, ◌==◌, List, [], ◌∷◌, ◌++◌, map, drop, Some, if◌then◌else◌, decimal, codes, arith, refl, append_assoc, append-nil, sym, eqb-true, flat_map, ⊤, cases_Bool, decimal_digit, FitsDuration, Options, TimeUnit, Year, Second, row_of, units, nanos_of, unit_lengths, Terminal, number, word, terminal_of, IsSentence, Spells, AllPlus, sum_of, terms_of, weighted_sum, IsPrinted, counts_of, printed_parts, spaced_parts, printed_counts}
+use Rattle.duration_str.proofs.Common.{◌≡◌, ℕ, ◌%◌, ◌^◌, ◌<◌, inl, inr, Bool, true, false, ◌==◌, List, [], ◌∷◌, ◌++◌}
+use Rattle.duration_str.proofs.Common.{map, drop, Some, if◌then◌else◌, decimal, codes, arith, refl, append_assoc}
+use Rattle.duration_str.proofs.Common.{append-nil, sym, eqb-true, flat_map, ⊤, cases_Bool, decimal_digit, FitsDuration}
+use Rattle.duration_str.proofs.Common.{Options, TimeUnit, Year, Second, row_of, units, nanos_of, unit_lengths, Terminal}
+use Rattle.duration_str.proofs.Common.{number, word, terminal_of, IsSentence, Spells, AllPlus, sum_of, terms_of}
+use Rattle.duration_str.proofs.Common.{weighted_sum, IsPrinted, counts_of, printed_parts, spaced_parts, printed_counts}
 use Rattle.duration_str.proofs.Characters.NumberLemmas.{decimal_terminal}
 use Rattle.duration_str.proofs.LawProofs.GreatestBreakdown.{one_greatest, greatest_breakdown_holds}
 use Rattle.duration_str.proofs.Sentences.SumReadings.{IsSumOf, terms_of_lexemes}

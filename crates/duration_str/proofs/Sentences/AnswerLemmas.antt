@@ -1,9 +1,21 @@
 -- A text is read or refused, not both, and the computed answer says which.
-use Rattle.duration_str.proofs.Common.{◌≡◌, ℕ, ◌^◌, ◌<◌, ◌≤◌, Bool, true, false, ◌⊎◌, ◌↔◌, inl, inr, List, [], ◌∷◌, ◌++◌, map, length, Option, Some, None, Result, Ok, Err, if◌then◌else◌, arith, refl, sym, ap, ◌∙◌, append-nil, and_parts, cond-true, list_all, Options, CondUnit, Cause, Syntax, byte_len, Terminal, number, word, operator, other, terminal_of, IsSentence, IsSentenceOf, tokens_of, lexemes_of, IsFront, start_after, terminals_of, AllPlus, Term, value_of_term, combination, later_total, value_of, terms_of, fault_of_terms, evaluation_fault, is_same_operator, Evaluates, first_fault, early_fault, late_fault, IsRead, IsRefusedAt, early, syntax_fault, late, IsRefused, is_whole, fault_or, late_answer, answer, expected_after, last_of, OneReading, AnswerIsReading}
-use Rattle.duration_str.proofs.Sentences.FrontLemmas.{AreAllowed, sentence_allowed, no_operators, one_front, one_expected, table_front, front_allowed, ends_by_table, expected_by_table}
+use Rattle.duration_str.proofs.Common.{◌≡◌, ℕ, ◌^◌, ◌<◌, ◌≤◌, Bool, true, false, ◌⊎◌, ◌↔◌, inl, inr, List, [], ◌∷◌}
+use Rattle.duration_str.proofs.Common.{◌++◌, map, length, Option, Some, None, Result, Ok, Err, if◌then◌else◌, arith}
+use Rattle.duration_str.proofs.Common.{refl, sym, ap, ◌∙◌, append-nil, and_parts, cond-true, list_all, Options}
+use Rattle.duration_str.proofs.Common.{CondUnit, Cause, Syntax, byte_len, Terminal, number, word, operator, other}
+use Rattle.duration_str.proofs.Common.{terminal_of, IsSentence, IsSentenceOf, tokens_of, lexemes_of, IsFront}
+use Rattle.duration_str.proofs.Common.{start_after, terminals_of, AllPlus, Term, value_of_term, combination}
+use Rattle.duration_str.proofs.Common.{later_total, value_of, terms_of, fault_of_terms, evaluation_fault}
+use Rattle.duration_str.proofs.Common.{is_same_operator, Evaluates, first_fault, early_fault, late_fault, IsRead}
+use Rattle.duration_str.proofs.Common.{IsRefusedAt, early, syntax_fault, late, IsRefused, is_whole, fault_or}
+use Rattle.duration_str.proofs.Common.{late_answer, answer, expected_after, last_of, OneReading, AnswerIsReading}
+use Rattle.duration_str.proofs.Sentences.FrontLemmas.{AreAllowed, sentence_allowed, no_operators, one_front}
+use Rattle.duration_str.proofs.Sentences.FrontLemmas.{one_expected, table_front, front_allowed, ends_by_table}
+use Rattle.duration_str.proofs.Sentences.FrontLemmas.{expected_by_table}
 use Rattle.duration_str.proofs.Sentences.SpellingLemmas.{sentence_terminals, tokens_spell, empty_no_sentence}
 use Rattle.duration_str.proofs.Sentences.FaultLemmas.{no_fault, or_else-none, is_same_operator-true}
-use Rattle.duration_str.proofs.Sentences.SumLemmas.{terms_added, has_terms, running_none, running_below, below_evaluate, evaluate_below}
+use Rattle.duration_str.proofs.Sentences.SumLemmas.{terms_added, has_terms, running_none, running_below, below_evaluate}
+use Rattle.duration_str.proofs.Sentences.SumLemmas.{evaluate_below}
 
 -- ---- The faults of a sentence
 

@@ -1,5 +1,7 @@
 -- When there is no fault: a set of equivalences for `simp`.
-use Rattle.duration_str.proofs.Common.{◌≡◌, ℕ, ◌^◌, ◌≤◌, ◌<◌, ◌↔◌, Bool, true, false, Option, Some, None, arith, refl, lt-ltb, ltb-true, CondUnit, Plus, Star, Cause, Term, value_of_term, fits, or_else, unless, term_fault, is_same_operator}
+use Rattle.duration_str.proofs.Common.{◌≡◌, ℕ, ◌^◌, ◌≤◌, ◌<◌, ◌↔◌, Bool, true, false, Option, Some, None, arith, refl}
+use Rattle.duration_str.proofs.Common.{lt-ltb, ltb-true, CondUnit, Plus, Star, Cause, Term, value_of_term, fits}
+use Rattle.duration_str.proofs.Common.{or_else, unless, term_fault, is_same_operator}
 
 pub or_else-none : (a b : Option Cause) → (or_else a b ≡ None) ↔ ((a ≡ None) × (b ≡ None))
 or_else-none None b = (λ h. (refl, h), λ h. h.1)

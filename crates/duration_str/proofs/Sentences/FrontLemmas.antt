@@ -1,5 +1,11 @@
 -- Sentences in terms of the table of what may follow a terminal, and the front of a list of terminals.
-use Rattle.duration_str.proofs.Common.{◌≡◌, ℕ, suc, zero, ◌≤◌, Bool, true, false, ◌↔◌, inl, inr, List, [], ◌∷◌, ◌++◌, Option, Some, None, take, drop, length, IsTrue, arith, refl, sym, ap, zero-le, le_antisymm, suc-le-suc, le_of_suc-le-suc, take-append-drop, take_at, drop_at, length-append, ⊤, same_from_decides, cases_Bool, not-true, and_from, and_parts, Second, Plus, Expected, Terminal, number, word, operator, IsSentence, BeginsSentence, CanFollow, IsFront, expected_after, allows, last_of, front_after, front_of, not_from_false, not_from_true}
+use Rattle.duration_str.proofs.Common.{◌≡◌, ℕ, suc, zero, ◌≤◌, Bool, true, false, ◌↔◌, inl, inr, List, [], ◌∷◌, ◌++◌}
+use Rattle.duration_str.proofs.Common.{Option, Some, None, take, drop, length, IsTrue, arith, refl, sym, ap, zero-le}
+use Rattle.duration_str.proofs.Common.{le_antisymm, suc-le-suc, le_of_suc-le-suc, take-append-drop, take_at, drop_at}
+use Rattle.duration_str.proofs.Common.{length-append, ⊤, same_from_decides, cases_Bool, not-true, and_from, and_parts}
+use Rattle.duration_str.proofs.Common.{Second, Plus, Expected, Terminal, number, word, operator, IsSentence}
+use Rattle.duration_str.proofs.Common.{BeginsSentence, CanFollow, IsFront, expected_after, allows, last_of, front_after}
+use Rattle.duration_str.proofs.Common.{front_of, not_from_false, not_from_true}
 
 -- The table allows each terminal after the one before it, and the first one after `last`.
 abbrev pub AreAllowed : Bool → Option Terminal → List Terminal → Type 0

@@ -1,5 +1,6 @@
 -- The result of a call, in terms of the sentences of the text.
-use Rattle.duration_str.proofs.Common.{ℕ, List, Result, Ok, Err, IfOk, ◌^◌, ◌<◌, refl, chars, as_nanos, Options, Fault, answer, ReturnsAnswer, ParsesText}
+use Rattle.duration_str.proofs.Common.{ℕ, List, Result, Ok, Err, IfOk, ◌^◌, ◌<◌, refl, chars, as_nanos, Options}
+use Rattle.duration_str.proofs.Common.{Fault, answer, ReturnsAnswer, ParsesText}
 use Rattle.std.specs.declared.time.Duration.{Duration}
 use Rattle.duration_str.proofs.Sentences.AnswerLemmas.{answer_is_reading_holds}
 

@@ -1,8 +1,14 @@
 -- A sentence spells a text exactly if its lexemes are those of the text's tokens.
-use Rattle.duration_str.proofs.Common.{◌≡◌, ℕ, ◌+◌, Bool, true, false, List, [], ◌∷◌, ◌++◌, map, Option, Some, None, IsTrue, refl, sym, ◌∙◌, ⊤, and_parts, false_from_ne_true, list_all-append, list_all, Options, Expected, is_blank, IsBlank, byte_len, Terminal, number, word, operator, other, terminal_of, IsSentenceOf, BeginsWith, Spells, are_of_one_run, goes_on, IsLexeme, EndsRun, AreTokens, tokens_of, lexemes_of, terminals_of, expected_after, allows, sort_of, Token}
+use Rattle.duration_str.proofs.Common.{◌≡◌, ℕ, ◌+◌, Bool, true, false, List, [], ◌∷◌, ◌++◌, map, Option, Some, None}
+use Rattle.duration_str.proofs.Common.{IsTrue, refl, sym, ◌∙◌, ⊤, and_parts, false_from_ne_true, list_all-append}
+use Rattle.duration_str.proofs.Common.{list_all, Options, Expected, is_blank, IsBlank, byte_len, Terminal, number, word}
+use Rattle.duration_str.proofs.Common.{operator, other, terminal_of, IsSentenceOf, BeginsWith, Spells, are_of_one_run}
+use Rattle.duration_str.proofs.Common.{goes_on, IsLexeme, EndsRun, AreTokens, tokens_of, lexemes_of, terminals_of}
+use Rattle.duration_str.proofs.Common.{expected_after, allows, sort_of, Token}
 use Rattle.duration_str.proofs.Characters.CharacterLemmas.{operator-not_blank, run-not_blank}
 use Rattle.duration_str.proofs.Cutting.TokenLemmas.{tokens_once, tokens_are}
-use Rattle.duration_str.proofs.Cutting.TerminalLemmas.{terminal_cases, digits_are_lexeme, letters_are_lexeme, lexeme_sort, run_sort}
+use Rattle.duration_str.proofs.Cutting.TerminalLemmas.{terminal_cases, digits_are_lexeme, letters_are_lexeme}
+use Rattle.duration_str.proofs.Cutting.TerminalLemmas.{lexeme_sort, run_sort}
 use Rattle.duration_str.proofs.Sentences.FrontLemmas.{AreAllowed, sentence_allowed}
 
 pub begins_with : {lexeme text : List ℕ} {IsRest : List ℕ → Type 0} (blanks rest : List ℕ) → IsBlank blanks

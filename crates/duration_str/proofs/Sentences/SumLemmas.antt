@@ -1,5 +1,11 @@
 -- Terms that are added evaluate exactly if their sum is below 2^64, and the sum is their value.
-use Rattle.duration_str.proofs.Common.{ℕ, ◌≡◌, ◌+◌, ◌^◌, ◌≤◌, ◌<◌, inl, inr, lt-ltb, le-ltb, Option, Bool, true, leb, List, [], ◌∷◌, ◌++◌, length, Some, None, arith, refl, ap, append_assoc, append-nil, leb-true, ⊤, cases_lt, cases_Bool, Cause, first_fault, list_all, TimeUnit, CondUnit, Plus, Overflow, nanos_of, Terminal, number, word, operator, IsSentence, AllPlus, Term, value_of_term, combination, sum_of, later_total, value_of, terms_of, terms_after, fits, unless, or_else, fault_of_terms, evaluation_fault, is_same_operator, Evaluates, running_fault, place_after}
+use Rattle.duration_str.proofs.Common.{ℕ, ◌≡◌, ◌+◌, ◌^◌, ◌≤◌, ◌<◌, inl, inr, lt-ltb, le-ltb, Option, Bool, true, leb}
+use Rattle.duration_str.proofs.Common.{List, [], ◌∷◌, ◌++◌, length, Some, None, arith, refl, ap, append_assoc}
+use Rattle.duration_str.proofs.Common.{append-nil, leb-true, ⊤, cases_lt, cases_Bool, Cause, first_fault, list_all}
+use Rattle.duration_str.proofs.Common.{TimeUnit, CondUnit, Plus, Overflow, nanos_of, Terminal, number, word, operator}
+use Rattle.duration_str.proofs.Common.{IsSentence, AllPlus, Term, value_of_term, combination, sum_of, later_total}
+use Rattle.duration_str.proofs.Common.{value_of, terms_of, terms_after, fits, unless, or_else, fault_of_terms}
+use Rattle.duration_str.proofs.Common.{evaluation_fault, is_same_operator, Evaluates, running_fault, place_after}
 use Rattle.duration_str.proofs.Sentences.FaultLemmas.{no_fault, is_same_operator-true, term_below_no_fault}
 use Rattle.duration_str.proofs.Characters.EachUnit.{all_units}
 

@@ -1,6 +1,10 @@
 -- A text that a sum spells is read as the sum if it is below 2^64, and otherwise refused as an overflow.
-use Rattle.duration_str.proofs.Common.{length, ◌≡◌, ℕ, ◌^◌, ◌≤◌, ◌<◌, Bool, true, false, List, [], map, Some, None, ap, ◌∙◌, append-nil, le-ltb, Options, Overflow, Terminal, terminal_of, IsSentence, IsSentenceOf, AllPlus, Term, terms_of, sum_of, IsRead, IsRefusedAt, early, late, IsRefused}
-use Rattle.duration_str.proofs.Sentences.SumLemmas.{AreAdded, terms_added, has_terms, running_overflow, added_overflow, below_evaluate, value_is_sum}
+use Rattle.duration_str.proofs.Common.{length, ◌≡◌, ℕ, ◌^◌, ◌≤◌, ◌<◌, Bool, true, false, List, [], map, Some, None, ap}
+use Rattle.duration_str.proofs.Common.{◌∙◌, append-nil, le-ltb, Options, Overflow, Terminal, terminal_of, IsSentence}
+use Rattle.duration_str.proofs.Common.{IsSentenceOf, AllPlus, Term, terms_of, sum_of, IsRead, IsRefusedAt, early, late}
+use Rattle.duration_str.proofs.Common.{IsRefused}
+use Rattle.duration_str.proofs.Sentences.SumLemmas.{AreAdded, terms_added, has_terms, running_overflow, added_overflow}
+use Rattle.duration_str.proofs.Sentences.SumLemmas.{below_evaluate, value_is_sum}
 pub use Rattle.duration_str.proofs.Sentences.SumLemmas.{EachFits, sum_fits_each}
 use Rattle.duration_str.proofs.Sentences.AnswerLemmas.{read_sentence, sentence_refused}
 

@@ -69,8 +69,8 @@ impl Read for Blanks {
     }
 }
 
-/// Takes at most `step` bytes per call into a fixed buffer, and counts the flushes. The call after `calls` calls fails, or
-/// the first flush if `flushes` is not set, and later ones work again.
+/// Takes at most `step` bytes per call into a fixed buffer, and counts the flushes. The call after `calls` calls fails,
+/// or the first flush if `flushes` is not set, and later ones work again.
 #[derive(Drop)]
 struct Sink {
     held: [u8; 64],
@@ -132,8 +132,8 @@ impl Write for Sink {
     }
 }
 
-/// Whether a run with all options off ends with this answer, and has then written this, and flushed it if all went well.
-/// Once a call failed, no other may be made.
+/// Whether a run with all options off ends with this answer, and has then written this, and flushed it if all went
+/// well. Once a call failed, no other may be made.
 fn ends(
     alloc: Global,
     mut source: Source<'_>,

@@ -8,7 +8,8 @@ returns-then-end-eq0-clause-text c =
     let whole = printed_from_seconds (as_nanos c.args.d) (omega arith) c.as_secs-secs.ensures
     (c.from.ensures ∙ c.subsec_nanos.ensures) c.nanos-second.ensures c.nanos.ensures c.put_part-years.ensures.text
     c.put_units-end.ensures.text in
-    c.put_text.ensures.text ∙ ap (λ n. ended (codes "0s") (take n c.put_units-end.new.buffer)) (sym c.if-end-eq0.true) ∙ whole
+    c.put_text.ensures.text ∙ ap (λ n. ended (codes "0s") (take n c.put_units-end.new.buffer))
+    (sym c.if-end-eq0.true) ∙ whole
 
 pub returns-then-end-eq0-clause-utf8 : goal.returns-then-end-eq0-clause-utf8
 returns-then-end-eq0-clause-utf8 c =

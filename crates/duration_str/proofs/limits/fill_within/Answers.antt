@@ -1,4 +1,5 @@
-use Rattle.duration_str.proofs.Common.{take, length, length-take-le, encode_utf8_all, arith, sym, ap, ◌∙◌, as_nanos, zero_text, zero_unit}
+use Rattle.duration_str.proofs.Common.{take, length, length-take-le, encode_utf8_all, arith, sym, ap, ◌∙◌, as_nanos}
+use Rattle.duration_str.proofs.Common.{zero_text, zero_unit}
 use Rattle.duration_str.proofs.Printer.PrintedBytesLemmas.{ended, ended_take}
 use Rattle.duration_str.proofs.Printer.LimitsLemmas.{within_fits, sixty, within_ended, within_utf8, encode_zero}
 use Rattle.duration_str.proofs.limits.fill_within.Goals as goal

@@ -11,6 +11,7 @@ returns-then-limits-eq0-clause-text c =
 pub put_wide_part-end-requires-clause-room : goal.put_wide_part-end-requires-clause-room
 put_wide_part-end-requires-clause-room c =
     let positive = some_length (slice_index_or c.units-units.result.now 0 Year) in
-    first_room c.units-units.result.now [] c.args.limits.parts c.args.nanos c.from-length.result c.in-len1-up.len_at_least
+    first_room c.units-units.result.now [] c.args.limits.parts c.args.nanos c.from-length.result
+    c.in-len1-up.len_at_least
     (omega arith) (c.from-length.ensures ∙ c.nanos.ensures) (omega arith) (omega arith)
     (rw c.units-units.ensures c.requires.room)

@@ -1,4 +1,5 @@
-use Rattle.duration_str.proofs.Common.{sym, ◌∙◌, chars_from_encodes, as_nanos, lengths_within, counts_within, text_within}
+use Rattle.duration_str.proofs.Common.{sym, ◌∙◌, chars_from_encodes, as_nanos, lengths_within, counts_within}
+use Rattle.duration_str.proofs.Common.{text_within}
 use Rattle.duration_str.proofs.LawProofs.GreatestWithin.{greatest_within}
 use Rattle.duration_str.proofs.limits.write_within.Goals as goal
 

@@ -1,4 +1,5 @@
-use Rattle.duration_str.proofs.Common.{ℕ, List, arith, inl, inr, cases_lt, as_nanos, chars, off, IsMostWithin, IsPrintedWithin}
+use Rattle.duration_str.proofs.Common.{ℕ, List, arith, inl, inr, cases_lt, as_nanos, chars, off, IsMostWithin}
+use Rattle.duration_str.proofs.Common.{IsPrintedWithin}
 use Rattle.uses.specs.Countdown.{coarse}
 use Rattle.uses.proofs.countdown.time_left.Goals as goal
 

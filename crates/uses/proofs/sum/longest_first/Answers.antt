@@ -1,5 +1,6 @@
 use Rattle.std.proofs.Common.{rules, sym, ap, subst, ◌∙◌, reverse}
-use Rattle.uses.proofs.Common.{IsPermutation, IsNonDecreasingBy, reverse-reverse, IsPermutation-trans, IsPermutation-sym, IsNonDecreasingBy-from_sort_by_key, nanos_in}
+use Rattle.uses.proofs.Common.{IsPermutation, IsNonDecreasingBy, reverse-reverse, IsPermutation-trans}
+use Rattle.uses.proofs.Common.{IsPermutation-sym, IsNonDecreasingBy-from_sort_by_key, nanos_in}
 use Rattle.uses.proofs.SumLemmas.{permuted_read}
 use Rattle.uses.proofs.sum.longest_first.Goals as goal
 

@@ -1,7 +1,8 @@
 use Rattle.duration_str.proofs.Common.{◌≡◌, ◌&&◌, false, refl, arith, options_of}
 use Rattle.duration_str.proofs.Cutting.PositionLemmas.{capital_word, long_word, short_word}
 use Rattle.duration_str.proofs.Cutting.StepLemmas.{takes_word}
-use Rattle.duration_str.proofs.token.Tokens.take_word.Goals.{else-self-via-then-self+else-letters, else-self-via-else-self}
+use Rattle.duration_str.proofs.token.Tokens.take_word.Goals.{else-self-via-then-self+else-letters}
+use Rattle.duration_str.proofs.token.Tokens.take_word.Goals.{else-self-via-else-self}
 use Rattle.duration_str.proofs.token.Tokens.take_word.Goals as goal
 
 pub returns-then-letters : goal.returns-then-letters
