@@ -4,13 +4,14 @@ ghost use Rattle.std.specs.Duration.{as_nanos};
 ghost use Rattle.std.specs.Str.{chars};
 ghost use Rattle.duration_str.specs.Answer.{answer};
 ghost use Rattle.duration_str.specs.Results.{ParsesText, ReachesPlace};
-ghost use Rattle.duration_str.specs.Internal.Rest.{ReturnsAnswer};
+ghost use Rattle.duration_str.specs.Iteration.{source, cut_place};
+ghost use Rattle.duration_str.specs.Internal.Rest.{BeginsText, ReturnsAnswer, IsPlacedUpTo};
 ghost use Rattle.duration_str.specs.Units.{off};
 
 pub use crate::cause::{Cause, Expected};
 pub use crate::fault::Fault;
 use crate::options::Options;
-use crate::reader::read;
+use crate::reader::{Begun, read_first, read_rest};
 use crate::token::Tokens;
 use std::time::Duration;
 
@@ -30,8 +31,9 @@ use std::time::Duration;
 pub fn parse(input: &str) -> Result<Duration, Fault<'_>>
     ensures { ParsesText off input.now result }
 {
-    let (answer, _) = read_text(input, Options::off());
-    answer
+    let off = Options::off();
+    let (mut tokens, begun) = begin(input, off);
+    finish(input, &mut tokens, off, begun)
 }
 
 /// What `parse` returns.
@@ -77,8 +79,8 @@ pub fn parse_with(input: &str, o: Options) -> Result<Duration, Fault<'_>>
 fn parse_chosen(input: &str, o: Options) -> Result<Duration, Fault<'_>>
     ensures { ParsesText o input.now result }
 {
-    let (answer, _) = read_text(input, o);
-    answer
+    let (mut tokens, begun) = begin(input, o);
+    finish(input, &mut tokens, o, begun)
 }
 
 /// What `parse_with` returns, and how many times a character of the text was looked at.
@@ -95,30 +97,45 @@ pub fn parse_looked(input: &str, o: Options) -> (Result<Duration, Fault<'_>>, u6
     ensures whole { OnOk result.0 (result.1 ≡ length (chars input.now)) }
     ensures reaches { IfErr result.0 (λ f. ReachesPlace input.now f.cause result.1) }
 {
-    read_text(input, o)
+    let (mut tokens, begun) = begin(input, o);
+    let result = finish(input, &mut tokens, o, begun);
+    (result, tokens.looked())
 }
 
-/// The computed answer, and the looks.
+/// The tokens of the text as far as `read_first` takes them, and what it returns.
 #[inline(always)]
-fn read_text(input: &str, o: Options) -> (Result<Duration, Fault<'_>>, u64)
-    ensures answer { ReturnsAnswer (answer o (chars input.now)) input.now result.0 }
-    ensures fits { IfOk result.0 (λ d. as_nanos d < 2 ^ 64) }
-    ensures once { result.1 ≤ length (chars input.now) }
-    ensures whole { OnOk result.0 (result.1 ≡ length (chars input.now)) }
-    ensures reaches { IfErr result.0 (λ f. ReachesPlace input.now f.cause result.1) }
+fn begin(input: &str, o: Options) -> (Tokens<'_>, Begun)
+    ensures { BeginsText o input.now result.0 result.1 }
 {
-    if input.is_empty() {
-        let fault = Fault {
-            text: input,
-            cause: Cause::Empty,
-        };
-        return (Err(fault), 0);
-    }
     let mut tokens = Tokens::new(input, o);
-    let answer = read(&mut tokens, o.no_calc);
-    let looked = tokens.looked();
+    if input.is_empty() {
+        return (tokens, Err(Cause::Empty));
+    }
+    let begun = read_first(&mut tokens, o.no_calc);
+    (tokens, begun)
+}
+
+/// What the text means, given what `begin` returns of it. The tokens are read to their end, or to a fault.
+#[inline(always)]
+fn finish<'a>(
+    input: &'a str,
+    tokens: &mut Tokens<'_>,
+    o: Options,
+    begun: Begun,
+) -> Result<Duration, Fault<'a>>
+    requires { BeginsText o input.now tokens.old begun }
+    ensures answer { ReturnsAnswer (answer o (chars input.now)) input.now result }
+    ensures fits { IfOk result (λ d. as_nanos d < 2 ^ 64) }
+    ensures same_source { source tokens.new ≡ input.now }
+    ensures whole { OnOk result (cut_place tokens.new ≡ length input.now) }
+    ensures reached { IfErr result (λ f. IsPlacedUpTo (cut_place tokens.new) f.cause) }
+{
+    let answer = match begun {
+        Ok((first, operator)) => read_rest(tokens, o.no_calc, first, operator),
+        Err(cause) => return Err(Fault { text: input, cause }),
+    };
     match answer {
-        Ok(nanos) => (Ok(Duration::from_nanos(nanos)), looked),
-        Err(cause) => (Err(Fault { text: input, cause }), looked),
+        Ok(nanos) => Ok(Duration::from_nanos(nanos)),
+        Err(cause) => Err(Fault { text: input, cause }),
     }
 }

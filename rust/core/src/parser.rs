@@ -4,7 +4,7 @@
 pub use super::cause::{Cause, Expected};
 pub use super::fault::Fault;
 use super::options::Options;
-use super::reader::read;
+use super::reader::{Begun, read_first, read_rest};
 use super::token::Tokens;
 use core::time::Duration;
 
@@ -22,8 +22,9 @@ use core::time::Duration;
 /// ```
 #[inline(never)]
 pub fn parse(input: &str) -> Result<Duration, Fault<'_>> {
-    let (answer, _) = read_text(input, Options::off());
-    answer
+    let off = Options::off();
+    let (mut tokens, begun) = begin(input, off);
+    finish(input, &mut tokens, off, begun)
 }
 
 /// What `parse` returns.
@@ -63,8 +64,8 @@ pub fn parse_with(input: &str, o: Options) -> Result<Duration, Fault<'_>> {
 /// What `parse_with` returns where an option is on.
 #[inline(never)]
 fn parse_chosen(input: &str, o: Options) -> Result<Duration, Fault<'_>> {
-    let (answer, _) = read_text(input, o);
-    answer
+    let (mut tokens, begun) = begin(input, o);
+    finish(input, &mut tokens, o, begun)
 }
 
 /// What `parse_with` returns, and how many times a character of the text was looked at.
@@ -76,24 +77,36 @@ fn parse_chosen(input: &str, o: Options) -> Result<Duration, Fault<'_>> {
 /// parse_looked("3m 13s", Options::off()) // (Ok(Duration::from_secs(193)), 6)
 /// ```
 pub fn parse_looked(input: &str, o: Options) -> (Result<Duration, Fault<'_>>, u64) {
-    read_text(input, o)
+    let (mut tokens, begun) = begin(input, o);
+    let result = finish(input, &mut tokens, o, begun);
+    (result, tokens.looked())
 }
 
-/// The computed answer, and the looks.
+/// The tokens of the text as far as `read_first` takes them, and what it returns.
 #[inline(always)]
-fn read_text(input: &str, o: Options) -> (Result<Duration, Fault<'_>>, u64) {
-    if input.is_empty() {
-        let fault = Fault {
-            text: input,
-            cause: Cause::Empty,
-        };
-        return (Err(fault), 0);
-    }
+fn begin(input: &str, o: Options) -> (Tokens<'_>, Begun) {
     let mut tokens = Tokens::new(input, o);
-    let answer = read(&mut tokens, o.no_calc);
-    let looked = tokens.looked();
+    if input.is_empty() {
+        return (tokens, Err(Cause::Empty));
+    }
+    let begun = read_first(&mut tokens, o.no_calc);
+    (tokens, begun)
+}
+
+/// What the text means, given what `begin` returns of it. The tokens are read to their end, or to a fault.
+#[inline(always)]
+fn finish<'a>(
+    input: &'a str,
+    tokens: &mut Tokens<'_>,
+    o: Options,
+    begun: Begun,
+) -> Result<Duration, Fault<'a>> {
+    let answer = match begun {
+        Ok((first, operator)) => read_rest(tokens, o.no_calc, first, operator),
+        Err(cause) => return Err(Fault { text: input, cause }),
+    };
     match answer {
-        Ok(nanos) => (Ok(Duration::from_nanos(nanos)), looked),
-        Err(cause) => (Err(Fault { text: input, cause }), looked),
+        Ok(nanos) => Ok(Duration::from_nanos(nanos)),
+        Err(cause) => Err(Fault { text: input, cause }),
     }
 }

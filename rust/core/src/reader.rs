@@ -6,14 +6,30 @@ use super::operator::CondUnit;
 use super::token::{Sort, Tokens};
 use super::unit::TimeUnit;
 
-/// The value of the tokens that are left, or the cause of their refusal.
+/// The value of the first term with the operator after it, `None` at the end, or the fault for which they are refused.
+pub(crate) type Begun = Result<(u64, Option<CondUnit>), Cause>;
+
+/// Reads the first term and the operator after it. The other terms are read by `read_rest`: both in one function would
+/// be too long for the toolchain's compiler to inline.
 #[inline(always)]
-pub(crate) fn read(tokens: &mut Tokens<'_>, no_calc: bool) -> Result<u64, Cause> {
+pub(crate) fn read_first(tokens: &mut Tokens<'_>, no_calc: bool) -> Begun {
     expect_number(tokens)?;
     let number = tokens.take_number();
     let unit = read_unit(tokens, no_calc)?;
     let first = unit.times(number, Some(0))?;
-    match read_operator(tokens, no_calc)? {
+    let operator = read_operator(tokens, no_calc)?;
+    Ok((first, operator))
+}
+
+/// The value of the tokens, or the cause of their refusal, once the first term and the operator after it are read.
+#[inline(always)]
+pub(crate) fn read_rest(
+    tokens: &mut Tokens<'_>,
+    no_calc: bool,
+    first: u64,
+    operator: Option<CondUnit>,
+) -> Result<u64, Cause> {
+    match operator {
         None => Ok(first),
         Some(operator) => read_later(tokens, no_calc, first, operator),
     }
@@ -44,8 +60,8 @@ fn read_later(
     }
 }
 
-/// The fault of a later term that was read. Under `no_calc` it stands at once; else the syntax is read to its end first,
-/// whose fault precedes it.
+/// The fault of a later term that was read. Under `no_calc` it stands at once; else the syntax is read to its end
+/// first, whose fault precedes it.
 #[inline(always)]
 fn read_on(tokens: &mut Tokens<'_>, no_calc: bool, fault: Cause) -> Result<u64, Cause> {
     if !no_calc {

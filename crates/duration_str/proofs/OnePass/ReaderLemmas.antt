@@ -1,5 +1,10 @@
 -- The reader's steps: what comes next, by the sort ahead, and what is left after it.
-use Rattle.duration_str.proofs.Common.{◌≡◌, ℕ, Bool, true, false, length, Option, Some, None, Result, Ok, Err, IsTrue, refl, sym, ap, ◌∙◌, if◌then◌else◌, TimeUnit, CondUnit, Plus, Cause, Syntax, Sort, Tokens, Terminal, number, word, operator, other, terminal_of, expected_at_start, sort_of, source, options_of, tokens_left, LooksAhead, is_number, TakesToken, TakesSign, Rest, terminal_at, end_at, rest_from, rest_of, number_fault, fault_or, ReadItem, leaving, operator_read}
+use Rattle.duration_str.proofs.Common.{◌≡◌, ℕ, Bool, true, false, length, Option, Some, None, Result, Ok, Err, IsTrue}
+use Rattle.duration_str.proofs.Common.{refl, sym, ap, ◌∙◌, if◌then◌else◌, TimeUnit, CondUnit, Plus, Cause, Syntax, Sort}
+use Rattle.duration_str.proofs.Common.{Tokens, Terminal, number, word, operator, other, terminal_of, expected_at_start}
+use Rattle.duration_str.proofs.Common.{sort_of, source, options_of, tokens_left, LooksAhead, is_number, TakesToken}
+use Rattle.duration_str.proofs.Common.{TakesSign, Rest, terminal_at, end_at, rest_from, rest_of, number_fault, fault_or}
+use Rattle.duration_str.proofs.Common.{ReadItem, leaving, operator_read, IfSome}
 use Rattle.duration_str.specs.Iteration.{cut_place}
 use Rattle.duration_str.proofs.Cutting.StepLemmas.{none_left, first_left}
 use Rattle.duration_str.specs.declared.token.Sort.TheVariants as sorts
@@ -72,8 +77,9 @@ operator_of (Ok r) = r.item
 operator_of (Err cause) = None
 
 -- Under `no_calc` the only operator is a plus that is left out.
-pub plus_alone : {after : Rest} {op : CondUnit} (no_calc : Bool) (rest : Rest)
-    → leaving after (Ok (Some op)) ≡ operator_read no_calc rest → IsTrue no_calc → op ≡ Plus
-plus_alone no_calc (end_at at) e h = let none = ap operator_of e in absurd cc
-plus_alone no_calc (terminal_at at (number n) rest) e h = let same = ap operator_of e in cc
-plus_alone no_calc _ e h = absurd cc
+pub plus_alone : {after : Rest} (op : Option CondUnit) (no_calc : Bool) (rest : Rest)
+    → leaving after (Ok op) ≡ operator_read no_calc rest → IsTrue no_calc → IfSome op (λ op. op ≡ Plus)
+plus_alone None no_calc rest e h = tt
+plus_alone (Some op) no_calc (end_at at) e h = let none = ap operator_of e in absurd cc
+plus_alone (Some op) no_calc (terminal_at at (number n) rest) e h = let same = ap operator_of e in cc
+plus_alone (Some op) no_calc _ e h = absurd cc

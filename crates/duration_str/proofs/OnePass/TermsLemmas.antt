@@ -1,11 +1,23 @@
 -- The terms that are left while a text is read, and the answer that they give.
-use Rattle.duration_str.proofs.Common.{◌≡◌, ℕ, ◌^◌, ◌<◌, Bool, true, false, List, [], ◌∷◌, ◌++◌, length, take, drop, is_some, Option, Some, None, Result, Ok, Err, if◌then◌else◌, IsTrue, refl, sym, ap, subst, ◌∙◌, arith, TimeUnit, NanoSecond, CondUnit, Plus, Cause, Number, Tokens, nanos_of, Terminal, number, operator, AllPlus, Term, value_of_term, terms_of, terms_after, unless, checked_term, term_of, without_last_number, complete_terminals, late_answer, answer_at, expected_after, last_of, front_of, IsAhead, LooksAhead, TakesNumber, Rest, terminal_at, rest_of, start_left, terminals_in, ReadItem, leaving, unit_read, operator_read, answer_left, first_term, fault_or, fault_at, fault_left, identity_of, sum_fault, with_term, Second, word}
+use Rattle.duration_str.proofs.Common.{◌≡◌, ℕ, ◌^◌, ◌<◌, Bool, true, false, List, [], ◌∷◌, ◌++◌, length, take, drop}
+use Rattle.duration_str.proofs.Common.{is_some, Option, Some, None, Result, Ok, Err, if◌then◌else◌, IsTrue, refl, sym}
+use Rattle.duration_str.proofs.Common.{ap, subst, ◌∙◌, arith, TimeUnit, NanoSecond, CondUnit, Plus, Cause, Number}
+use Rattle.duration_str.proofs.Common.{Tokens, nanos_of, Terminal, number, operator, AllPlus, Term, value_of_term}
+use Rattle.duration_str.proofs.Common.{terms_of, terms_after, unless, checked_term, term_of, without_last_number}
+use Rattle.duration_str.proofs.Common.{complete_terminals, late_answer, answer_at, expected_after, last_of, front_of}
+use Rattle.duration_str.proofs.Common.{IsAhead, LooksAhead, TakesNumber, Rest, terminal_at, rest_of, start_left}
+use Rattle.duration_str.proofs.Common.{terminals_in, ReadItem, leaving, unit_read, operator_read, answer_left}
+use Rattle.duration_str.proofs.Common.{first_term, fault_or, fault_at, fault_left, identity_of, sum_fault, with_term}
+use Rattle.duration_str.proofs.Common.{Second, word}
+use Rattle.std.specs.Prelude.{IfSome}
+use Rattle.duration_str.specs.Internal.Rest.{answer_begun}
 use Rattle.duration_str.specs.Iteration.{cut_place}
 use Rattle.duration_str.proofs.Sentences.FaultLemmas.{term_below_no_fault}
 use Rattle.duration_str.proofs.Sentences.FrontLemmas.{begins_allowed, table_front}
 use Rattle.duration_str.proofs.Sentences.SumLemmas.{AreAdded, terms_added}
 use Rattle.duration_str.proofs.Sentences.AnswerLemmas.{allowed_plus}
-use Rattle.duration_str.proofs.OnePass.EvaluationLemmas.{answer_of, checked_term_is, after_term, answer_with, answer_after_first, one_by_one}
+use Rattle.duration_str.proofs.OnePass.EvaluationLemmas.{answer_of, checked_term_is, after_term, answer_with}
+use Rattle.duration_str.proofs.OnePass.EvaluationLemmas.{answer_after_first, one_by_one}
 use Rattle.duration_str.proofs.OnePass.ReaderLemmas.{starts, after_token}
 use Rattle.duration_str.proofs.Cutting.StepLemmas.{keeps_all}
 
@@ -252,3 +264,10 @@ from_later no_calc first op rest below plus =
       none,
       value,
     )
+
+-- The answer, once the first term and the operator after it are read.
+pub begun_answer : (no_calc : Bool) (first : ℕ) (op : Option CondUnit) (rest : Rest) → first < 2 ^ 64
+    → (IsTrue no_calc → IfSome op (λ op. op ≡ Plus))
+    → total_of no_calc first (next_terms no_calc op rest) ≡ answer_begun no_calc rest (Ok (first, op))
+begun_answer no_calc first None rest below plus = refl
+begun_answer no_calc first (Some op) rest below plus = from_later no_calc first op rest below plus

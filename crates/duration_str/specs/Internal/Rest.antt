@@ -1,8 +1,9 @@
 -- What is left of a text while it is read: the next thing to read, and the answer.
 use Rattle.std.specs.Prelude.{◌≡◌, ℕ, zero, suc, ◌+◌, ◌≤◌, Bool, false, List, [], ◌∷◌, ◌++◌, length, take}
-use Rattle.std.specs.Prelude.{drop, Option, Some, None, Result, Ok, Err, IfErr, if◌then◌else◌}
+use Rattle.std.specs.Prelude.{drop, Option, Some, None, Result, Ok, Err, IfOk, IfErr, IfSome, IsTrue, if◌then◌else◌}
 use Rattle.std.specs.Option.{ForSome, ok_or}
 use Rattle.std.specs.Duration.{as_nanos}
+use Rattle.std.specs.Str.{chars}
 use Rattle.std.specs.declared.time.Duration.{Duration}
 use Rattle.duration_str.specs.declared.options.Options.{Options}
 use Rattle.duration_str.specs.declared.unit.TimeUnit.{TimeUnit}
@@ -19,7 +20,7 @@ use Rattle.duration_str.specs.Grammar.{Terminal, number, word, operator, termina
 use Rattle.duration_str.specs.Tokens.{Token}
 use Rattle.duration_str.specs.Value.{second, combination, fits, is_same_operator, unless, fault_or}
 use Rattle.duration_str.specs.Internal.Numbers.{u64_from, checked_term}
-use Rattle.duration_str.specs.Answer.{answer_at, expected_at_start, expected_after_number}
+use Rattle.duration_str.specs.Answer.{answer, answer_at, expected_at_start, expected_after_number}
 use Rattle.duration_str.specs.Answer.{expected_after_unit, expected_after, last_of, front_after, front_of}
 use Rattle.duration_str.specs.Faults.{place_of}
 use Rattle.duration_str.specs.Iteration.{source, options_of, cut_place, tokens_left}
@@ -167,3 +168,24 @@ pub record CutsOn {A : Type 0} (old new : Tokens) (result : Result A Cause) : Ty
 abbrev pub IsFollowed : Tokens → Option CondUnit → Type 0
 IsFollowed s None = cut_place s ≡ length (source s)
 IsFollowed s (Some op) = IsAhead s (Some Number)
+
+-- ---- Once the first term is read
+
+-- the answer, given the first value with the operator after it, or its fault, and this rest
+abbrev pub answer_begun : Bool → Rest → Result (ℕ × Option CondUnit) Cause → Result ℕ Cause
+answer_begun no_calc rest (Ok (first, None)) = Ok first
+answer_begun no_calc rest (Ok (first, Some op)) = answer_left no_calc (first_term first op) rest
+answer_begun no_calc rest (Err cause) = Err cause
+
+-- After the operator a number is ahead, and without one the whole source is cut. Under `no_calc` it is a plus.
+pub record IsBegun (no_calc : Bool) (s : Tokens) (op : Option CondUnit) : Type 0 where
+  pub next : IsFollowed s op
+  pub plus : IsTrue no_calc → IfSome op (λ op. op ≡ Plus)
+
+-- The tokens are those of the text, read up to the operator after the first term, or up to the fault before it.
+pub record BeginsText (o : Options) (bytes : List ℕ) (s : Tokens) (r : Result (ℕ × Option CondUnit) Cause)
+    : Type 0 where
+  pub same_source : source s ≡ bytes
+  pub same_answer : answer o (chars bytes) ≡ answer_begun o.no_calc (rest_of s) r
+  pub next : IfOk r (λ begun. IsBegun o.no_calc s begun.1)
+  pub reached : IfErr r (IsPlacedUpTo (cut_place s))

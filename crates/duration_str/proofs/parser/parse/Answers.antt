@@ -3,4 +3,4 @@ use Rattle.duration_str.proofs.parser.parse.Goals as goal
 
 pub returns : goal.returns
 returns c =
-    let is = c.read_text.ensures in rw c.off.ensures at (parses_text _ c.args.input.now _ is.answer is.fits)
+    let is = c.finish.ensures in rw c.off-off.ensures at (parses_text _ c.args.input.now _ is.answer is.fits)
