@@ -113,9 +113,6 @@ export type Result =
     | { readonly ok: true; readonly value: bigint; readonly fault?: undefined }
     | { readonly ok: false; readonly value?: undefined; readonly fault: Fault };
 
-/** Which library is inside: the proved one that the Rattle toolchain built, or the one that cargo built of the same source. */
-export const library: string;
-
 /**
  * The value of a text in nanoseconds, which is exact: `parse("3m + 13s + 29ms")` is `193029000000n`. To read an array write
  * `texts.map((text) => parse(text))`, since `map` hands in the index as well.

@@ -1,6 +1,5 @@
-"""Builds the extension module over the library for C: the archive that DURATION_STR_LIB names; else in a checkout, where
-the Rattle toolchain's command rt is on the path, the one that make proves and builds; else the one that cargo builds of
-the proved sources without their contracts, which the sdist has. Each build is made anew, in a temporary folder.
+"""Builds the extension module over the library for C: the archive that DURATION_STR_LIB names, or else the one that cargo
+builds of the proved sources without their contracts. Each build is made anew, in a temporary folder.
 """
 
 import atexit
@@ -33,7 +32,8 @@ def demand(is_there, what):
 def by_cargo(room):
     """The archive that cargo builds in this folder."""
     demand(shutil.which("cargo"), "Rust 1.85 or later, with cargo on the path; or name the library in DURATION_STR_LIB")
-    words = ["cargo", "build", "--quiet", "--release", "--manifest-path", CRATES / "c/Cargo.toml", "--target-dir", room]
+    words = ["cargo", "build", "--quiet", "--release", "-p", "duration-str-c",
+             "--manifest-path", CRATES / "Cargo.toml", "--target-dir", room]
     demand(not subprocess.run(words).returncode, "Rust 1.85 or later: cargo could not build the library for C")
     return pathlib.Path(room, "release", "duration_str.lib" if sys.platform == "win32" else "libduration_str.a")
 
@@ -44,10 +44,6 @@ def archive(room):
     if named:
         demand(os.path.isfile(named), f"the library: DURATION_STR_LIB names {named}, which is no file")
         return pathlib.Path(named)
-    if IS_CHECKOUT and shutil.which("rt"):
-        words = ["make", "--silent", "--directory", CHECKOUT, "library"]
-        folder = subprocess.check_output(words, env={**os.environ, "MAKEFLAGS": ""}, text=True).strip()
-        return CHECKOUT / folder / "libduration_str.a"
     return by_cargo(room)
 
 
@@ -60,9 +56,6 @@ class Linked(build_ext):
         compiler = getattr(self.compiler, "compiler_so", [sys.executable])[0]
         demand(shutil.which(compiler), f"a C compiler: {compiler} is missing")
         file = archive(os.path.join(self.build_temp, "cargo")).resolve()
-        # So rt names a function in the archive that it makes.
-        is_proved = b"duration_str::parser::parse" in file.read_bytes()
-        extension.define_macros = [("IS_PROVED", str(int(is_proved)))]
         extension.extra_objects = [str(file)]
         if sys.platform == "linux":
             extension.extra_link_args = ["-s", "-Wl,-z,now,--exclude-libs,ALL,--gc-sections"]
@@ -74,9 +67,9 @@ class Sources(sdist):
 
     def make_release_tree(self, base_dir, files):
         super().make_release_tree(base_dir, files)
-        for name in ["c/src", "rust/core/src"]:
+        for name in ["c/src", "program/src", "rust/core/src"]:
             shutil.copytree(CRATES / name, pathlib.Path(base_dir, name))
-        for name in ["c/Cargo.toml", "c/build.rs", "rust/core/Cargo.toml", "rust/vectors.json"]:
+        for name in ["Cargo.toml", "c/Cargo.toml", "c/build.rs", "program/Cargo.toml", "rust/Cargo.toml", "rust/core/Cargo.toml", "rust/vectors.json"]:
             shutil.copy(CRATES / name, pathlib.Path(base_dir, name))
         for name in ["tests", "examples"]:
             shutil.copytree(HERE / name, pathlib.Path(base_dir, name), ignore=shutil.ignore_patterns("__pycache__"))

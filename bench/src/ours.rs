@@ -1,7 +1,7 @@
 //! The calls that are measured: those of the Rust crate, and those of the archive through C.
 use crate::counting::counted;
 use crate::texts::{EXPRESSION, long_text, refused, repeat};
-use duration_str::{HumanFormat, Limits, Options, parse, parse_duration, parse_with, write_human, write_within};
+use duration_str::{Format, HumanFormat, Options, parse, parse_duration, parse_with, write_human, write_within};
 use std::hint::black_box;
 use std::time::Duration;
 
@@ -19,7 +19,7 @@ pub trait Library {
     /// A duration printed into a buffer.
     fn printing(length: Duration) -> [u8; 64];
     /// A duration printed into a buffer in at most so many parts, where the library does so.
-    fn printing_parts(_: Duration, _: u32) -> [u8; 64] {
+    fn printing_parts(_: Duration, _: u32) -> [u8; 144] {
         unimplemented!()
     }
     /// A duration printed into a `String`, where the library does so.
@@ -59,10 +59,10 @@ impl Library for Crate {
     }
 
     #[inline(always)]
-    fn printing_parts(length: Duration, parts: u32) -> [u8; 64] {
-        let mut buffer = [0; 64];
-        let limits = Limits { parts: parts as usize, ..Limits::none() };
-        black_box(write_within(&length, limits, &mut buffer).len());
+    fn printing_parts(length: Duration, parts: u32) -> [u8; 144] {
+        let mut buffer = [0; 144];
+        let format = Format { parts: parts as usize, ..Format::whole() };
+        black_box(write_within(&length, format, &mut buffer).len());
         buffer
     }
 
@@ -167,8 +167,8 @@ impl Library for Archive {
     }
 
     #[inline(always)]
-    fn printing_parts(length: Duration, parts: u32) -> [u8; 64] {
-        let mut buffer = [0; 64];
+    fn printing_parts(length: Duration, parts: u32) -> [u8; 144] {
+        let mut buffer = [0; 144];
         let (secs, nanos) = (length.as_secs(), length.subsec_nanos());
         // SAFETY: the buffer has the 64 bytes that may be written.
         let end = unsafe { duration_str_format_within(secs, nanos, 0, 10, parts, buffer.as_mut_ptr()) };

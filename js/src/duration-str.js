@@ -23,21 +23,15 @@ const AROUND = 80;
 
 const { memory, __heap_base: heap, ...calls } = new WebAssembly.Instance(new WebAssembly.Module(bytes)).exports;
 
-// Pointers and lengths are bigints at the border of the module that was made of one with 64-bit addresses, and numbers at
-// that of cargo's; in the memory such a field has 8 bytes or 4.
-const [size, SIZE] = typeof heap.value === "bigint" ? [BigInt, 8] : [Number, 4];
-
 // In the memory above the module's own stands a `struct duration_str_answer`, whose fields have the offsets below, and
 // after it the text; what is written about the text comes last.
-const ANSWER = Math.ceil(Number(heap.value) / 8) * 8;
+const ANSWER = Math.ceil(heap.value / 8) * 8;
 const PLACE = ANSWER + 8;
-const FOUND_LENGTH = PLACE + SIZE;
-const CAUSE = FOUND_LENGTH + SIZE;
+const FOUND_LENGTH = PLACE + 4;
+const CAUSE = FOUND_LENGTH + 4;
 const EXPECTED = CAUSE + 4;
 const HAS_PLACE = EXPECTED + 4;
-const TEXT = ANSWER + 40;
-const ANSWER_POINTER = size(ANSWER);
-const TEXT_POINTER = size(TEXT);
+const TEXT = ANSWER + 32;
 /** The bytes of the buffer that `duration_str_format` takes. */
 const PRINTED = 64;
 
@@ -70,10 +64,10 @@ function decoded(start, length) {
 
 /** What a call writes into a buffer, of which it is given the pointer and the size; the buffer is `start` bytes after TEXT. */
 function written(start, call) {
-    const length = call(size(0), size(0));
-    reserve(start + Number(length));
-    call(size(TEXT + start), length);
-    return decoded(start, Number(length));
+    const length = call(0, 0);
+    reserve(start + length);
+    call(TEXT + start, length);
+    return decoded(start, length);
 }
 
 /** A refused text. What is wrong is the error's cause, which survives a structured clone, and has all its fields. */
@@ -141,7 +135,7 @@ function faultOf(text, length, bits) {
         ...place,
         found: foundLength ? decoded(place.byte, foundLength) : null,
         expected: expectedOf(fields.getUint32(EXPECTED, true)),
-        line: written(length, (buffer, room) => calls.duration_str_line(TEXT_POINTER, size(length), bits, buffer, room)),
+        line: written(length, (buffer, room) => calls.duration_str_line(TEXT, length, bits, buffer, room)),
     });
 }
 
@@ -208,14 +202,12 @@ function bitsOf(options) {
     return bits;
 }
 
-export const library = LIBRARY;
-
 export function tryParse(text, options) {
     if (typeof text !== "string") throw new TypeError(`a duration's text must be a string, not ${typeOf(text)}`);
     const bits = bitsOf(options);
     const { length, lone } = write(text);
     if (lone >= 0) return { ok: false, fault: noText(text, lone) };
-    if (!calls.duration_str_parse_with(TEXT_POINTER, size(length), bits, ANSWER_POINTER)) {
+    if (!calls.duration_str_parse_with(TEXT, length, bits, ANSWER)) {
         return { ok: false, fault: faultOf(text, length, bits) };
     }
     return { ok: true, value: fields.getBigUint64(ANSWER, true) };
@@ -263,9 +255,9 @@ function printed(nanoseconds, value, options) {
     if (nanoseconds >= LIMIT) throw new RangeError("a duration of 2^64 nanoseconds or more has no text");
     const [secs, nanos] = [nanoseconds / SECOND, Number(nanoseconds % SECOND)];
     const length = options === undefined
-        ? calls.duration_str_format(secs, nanos, TEXT_POINTER)
-        : calls.duration_str_format_within(secs, nanos, ...limitsOf(options), TEXT_POINTER);
-    return decoded(0, Number(length));
+        ? calls.duration_str_format(secs, nanos, TEXT)
+        : calls.duration_str_format_within(secs, nanos, ...limitsOf(options), TEXT);
+    return decoded(0, length);
 }
 
 export function format(nanoseconds, options) {

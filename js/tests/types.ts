@@ -1,6 +1,6 @@
 // The types of the package, by the compiler alone: what has to be wrong stands below a line that expects an error.
 import {
-    after, before, type Cause, DurationError, type Expected, type Fault, format, library, formatMs, type Options, parse, parseMs, tryParse,
+    after, before, type Cause, DurationError, type Expected, type Fault, format, formatMs, type Options, parse, parseMs, tryParse,
 } from "duration-str";
 import * as wasm from "duration-str/wasm";
 
@@ -58,7 +58,7 @@ const wrong: number = parse("1s");
 const result = tryParse("1s");
 const read: bigint | string = result.ok ? result.value : result.fault.line;
 const fault: Fault | undefined = result.fault;
-const lines: string[] = [library, result.fault?.message ?? ""];
+const lines: string[] = [result.fault?.message ?? ""];
 const memory: ArrayBuffer = wasm.memory.buffer;
 const version: number = wasm.duration_str_version();
 

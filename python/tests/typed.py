@@ -28,7 +28,6 @@ assert_type(duration_str.parse_many(["1m", None], errors="coerce"), "tuple[array
 assert_type(duration_str.parse_buffers(b"1m", array("q", [0, 2])), "array[int]")
 duration_str.parse_many(["1m"], errors="ignore")  # type: ignore[call-overload]
 duration_str.to_timedelta(["1m"], errors="ignore")  # type: ignore[arg-type]
-assert_type(duration_str.library, str)
 timeout: duration_str.Duration = datetime.timedelta(1)
 try:
     duration_str.parse("1x")

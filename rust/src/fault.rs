@@ -1,6 +1,5 @@
 //! A refused text, with the options under which it was read.
 use crate::error::DError;
-use crate::one_line::OneLine;
 use alloc::string::{String, ToString};
 use core::fmt;
 use duration_str_core::{self as proved, Cause, Expected, Options};
@@ -111,8 +110,7 @@ impl<'a> Fault<'a> {
         self.cause().line()
     }
 
-    /// One line for a log: what is wrong, at which column, and at most 40 characters of the text, with control characters
-    /// escaped. The column counts characters from 1.
+    /// What prints the fault in one line, as [`Fault::write_one_line`] writes it.
     ///
     /// ```
     /// use duration_str::{Options, parse_with};
@@ -122,7 +120,22 @@ impl<'a> Fault<'a> {
     /// ```
     #[must_use]
     pub fn one_line(&self) -> OneLine<'a> {
-        OneLine(*self)
+        OneLine(self.fault)
+    }
+
+    /// Writes one line for a log or a terminal to the start of a buffer: what is wrong, at which column, and at most 40
+    /// characters of the text, escaped where they are not safe within a line. The column counts characters from 1. The
+    /// line has at most [`MAX_ONE_LINE_LEN`](crate::MAX_ONE_LINE_LEN) bytes. Takes no memory and cannot fail.
+    ///
+    /// ```
+    /// use duration_str::{Options, parse_with};
+    ///
+    /// let fault = parse_with("3h 2 hurs", Options::off()).unwrap_err();
+    /// assert_eq!(fault.write_one_line(&mut [0; 384]), r#"unknown unit "hurs" at column 6"#);
+    /// ```
+    #[must_use]
+    pub fn write_one_line<'b>(&self, buffer: &'b mut [u8; 384]) -> &'b str {
+        self.fault.write_one_line(buffer)
     }
 
     /// The length of the message in bytes.
@@ -202,7 +215,18 @@ impl fmt::Debug for Fault<'_> {
 
 impl core::error::Error for Fault<'_> {}
 
-/// A [`Fault`] that owns its text. It prints as that does, and has the same methods.
+/// What prints a fault in one line.
+#[derive(Clone, Copy, Debug)]
+pub struct OneLine<'a>(proved::Fault<'a>);
+
+impl fmt::Display for OneLine<'_> {
+    fn fmt(&self, f: &mut fmt::Formatter<'_>) -> fmt::Result {
+        f.write_str(self.0.write_one_line(&mut [0; 384]))
+    }
+}
+
+/// A [`Fault`] that owns its text, with the same methods. It prints in one line, and [`OwnedFault::as_fault`] as
+/// the message with the caret.
 ///
 /// ```
 /// use duration_str::{HumanDuration, OwnedFault};
@@ -214,7 +238,8 @@ impl core::error::Error for Fault<'_> {}
 /// let error = timeout("3h 2 hurs").unwrap_err();
 /// let fault: &OwnedFault = error.downcast_ref().unwrap();
 /// assert_eq!((fault.place(), fault.found()), (Some(5), Some("hurs")));
-/// assert!(fault.to_string().starts_with("3h 2 hurs\n     ^\nexpected "));
+/// assert_eq!(fault.to_string(), r#"unknown unit "hurs" at column 6"#);
+/// assert!(fault.as_fault().to_string().starts_with("3h 2 hurs\n     ^\nexpected "));
 /// ```
 #[derive(Clone, PartialEq, Eq)]
 pub struct OwnedFault {
@@ -307,11 +332,11 @@ impl OwnedFault {
     ///
     /// ```
     /// let line = duration_str::parse_duration("600y").unwrap_err().one_line().to_string();
-    /// assert_eq!(line, r#"duration of 2^64 nanoseconds or more at column 1, found "600y""#);
+    /// assert_eq!(line, r#"duration of 2^64 nanoseconds or more in "600y""#);
     /// ```
     #[must_use]
     pub fn one_line(&self) -> OneLine<'_> {
-        OneLine(self.as_fault())
+        self.as_fault().one_line()
     }
 
     /// The length of the message in bytes.
@@ -348,7 +373,7 @@ impl OwnedFault {
 
 impl fmt::Display for OwnedFault {
     fn fmt(&self, f: &mut fmt::Formatter<'_>) -> fmt::Result {
-        self.as_fault().fmt(f)
+        self.one_line().fmt(f)
     }
 }
 

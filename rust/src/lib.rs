@@ -62,7 +62,6 @@ mod fault;
 #[cfg(feature = "serde")]
 pub mod human;
 mod human_duration;
-mod one_line;
 mod parser;
 mod printed_within;
 #[cfg(feature = "serde")]
@@ -75,16 +74,15 @@ pub use dates::{
 };
 #[doc(inline)]
 pub use duration_str_core::{
-    Cause, CondUnit, Expected, Limits, MAX_PRINTED_LEN, Options, TimeUnit, Token, Tokens, What,
-    write_human, write_within,
+    Cause, CondUnit, Expected, Format, MAX_LONG_LEN, MAX_ONE_LINE_LEN, MAX_PRINTED_LEN, Options,
+    Style, TimeUnit, Token, Tokens, What, write_human, write_within,
 };
 #[cfg(feature = "macros")]
 pub use duration_str_macros::duration;
 pub use error::{DError, DResult};
 pub use ext::HumanFormat;
-pub use fault::{DurationError, Fault, OwnedFault};
+pub use fault::{DurationError, Fault, OneLine, OwnedFault};
 pub use human_duration::{FormattedDuration, HumanDuration, format_duration};
-pub use one_line::OneLine;
 #[cfg(feature = "chrono")]
 pub use parser::parse_chrono;
 #[cfg(feature = "time")]

@@ -91,7 +91,7 @@ pub fn parse(input: impl AsRef<str>) -> Result<Duration, String> {
 /// }
 ///
 /// assert_eq!(timeout("1m 30s").unwrap(), Duration::from_secs(90));
-/// assert_eq!(timeout("").unwrap_err().to_string(), "Empty input");
+/// assert_eq!(timeout("").unwrap_err().to_string(), "empty text");
 /// ```
 pub fn parse_duration(input: &str) -> Result<Duration, OwnedFault> {
     parse_with(input, Options::of_features()).map_err(Fault::into_owned)

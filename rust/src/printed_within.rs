@@ -2,7 +2,7 @@
 use crate::human_duration::{HumanDuration, pad};
 use core::fmt;
 use core::time::Duration;
-use duration_str_core::{Limits, TimeUnit, write_within};
+use duration_str_core::{Format, TimeUnit, write_within};
 
 /// A duration that is printed in some units, and in so many parts at most: the greatest duration, not above it, that is
 /// printed so. [`format_duration`](crate::format_duration) begins it.
@@ -19,7 +19,7 @@ use duration_str_core::{Limits, TimeUnit, write_within};
 #[derive(Clone, Copy, Debug, PartialEq, Eq, Hash)]
 pub struct PrintedWithin {
     duration: Duration,
-    limits: Limits,
+    format: Format,
 }
 
 impl PrintedWithin {
@@ -34,11 +34,11 @@ impl PrintedWithin {
     /// ```
     #[must_use]
     pub const fn parts(self, parts: usize) -> PrintedWithin {
-        let limits = Limits {
+        let format = Format {
             parts,
-            ..self.limits
+            ..self.format
         };
-        PrintedWithin { limits, ..self }
+        PrintedWithin { format, ..self }
     }
 
     /// Printed in this unit and shorter ones.
@@ -52,11 +52,11 @@ impl PrintedWithin {
     /// ```
     #[must_use]
     pub const fn largest(self, largest: TimeUnit) -> PrintedWithin {
-        let limits = Limits {
+        let format = Format {
             largest,
-            ..self.limits
+            ..self.format
         };
-        PrintedWithin { limits, ..self }
+        PrintedWithin { format, ..self }
     }
 
     /// Printed in this unit and longer ones. If all of the duration is left out, `0` and the unit's name are printed, or
@@ -71,19 +71,19 @@ impl PrintedWithin {
     /// ```
     #[must_use]
     pub const fn smallest(self, smallest: TimeUnit) -> PrintedWithin {
-        let limits = Limits {
+        let format = Format {
             smallest,
-            ..self.limits
+            ..self.format
         };
-        PrintedWithin { limits, ..self }
+        PrintedWithin { format, ..self }
     }
 }
 
 impl HumanDuration {
-    const fn within(self, limits: Limits) -> PrintedWithin {
+    const fn within(self, format: Format) -> PrintedWithin {
         PrintedWithin {
             duration: self.0,
-            limits,
+            format,
         }
     }
 
@@ -98,7 +98,7 @@ impl HumanDuration {
     /// ```
     #[must_use]
     pub const fn parts(self, parts: usize) -> PrintedWithin {
-        self.within(Limits::none()).parts(parts)
+        self.within(Format::whole()).parts(parts)
     }
 
     /// The duration, printed in this unit and shorter ones.
@@ -112,7 +112,7 @@ impl HumanDuration {
     /// ```
     #[must_use]
     pub const fn largest(self, largest: TimeUnit) -> PrintedWithin {
-        self.within(Limits::none()).largest(largest)
+        self.within(Format::whole()).largest(largest)
     }
 
     /// The duration, printed in this unit and longer ones, as [`PrintedWithin::smallest`] says.
@@ -126,13 +126,13 @@ impl HumanDuration {
     /// ```
     #[must_use]
     pub const fn smallest(self, smallest: TimeUnit) -> PrintedWithin {
-        self.within(Limits::none()).smallest(smallest)
+        self.within(Format::whole()).smallest(smallest)
     }
 }
 
 /// Width and fill pad the text, and a precision is ignored.
 impl fmt::Display for PrintedWithin {
     fn fmt(&self, f: &mut fmt::Formatter<'_>) -> fmt::Result {
-        pad(f, write_within(&self.duration, self.limits, &mut [0; 64]))
+        pad(f, write_within(&self.duration, self.format, &mut [0; 144]))
     }
 }

@@ -236,7 +236,7 @@ fn subtracts_a_longer_duration(rt: HostRuntime) {
 
 #[test]
 fn shows_no_more_than_is_left(rt: HostRuntime) {
-    let mut buffer = [0u8; 64];
+    let mut buffer = [0u8; 144];
     for (secs, nanos, shown) in [
         (5_400, 999_999_999, "1h 30min"),
         (5_401, 0, "1h 30min"),

@@ -1,6 +1,7 @@
 -- Limits whose units are given by number.
 use Rattle.std.specs.Prelude.{ℕ, slice_index_or}
-use Rattle.duration_str.specs.declared.limits.Limits.{Limits}
+use Rattle.duration_str.specs.declared.format.Format.{Format}
+use Rattle.duration_str.specs.declared.format.Style.TheVariants.{Short}
 use Rattle.duration_str.specs.declared.unit.TimeUnit.{TimeUnit}
 use Rattle.duration_str.specs.declared.unit.TimeUnit.TheVariants.{NanoSecond}
 use Rattle.duration_str.specs.Units.{units}
@@ -9,7 +10,7 @@ use Rattle.duration_str.specs.Units.{units}
 abbrev pub unit_numbered : ℕ → TimeUnit
 unit_numbered number = slice_index_or units number NanoSecond
 
--- the limits with these units and so many parts
-abbrev pub limits_numbered : ℕ → ℕ → ℕ → Limits
+-- the short style in these units and so many parts
+abbrev pub limits_numbered : ℕ → ℕ → ℕ → Format
 limits_numbered largest smallest parts =
-    record { largest = unit_numbered largest; smallest = unit_numbered smallest; parts = parts }
+    record { largest = unit_numbered largest; smallest = unit_numbered smallest; parts = parts; style = Short }

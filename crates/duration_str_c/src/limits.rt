@@ -2,17 +2,16 @@
 ghost use Rattle.std.specs.Prelude.{◌≡◌, ◌+◌, ◌*◌, ◌<◌, ◌≤◌, ◌⊎◌, IfSome, IfNone, IsUtf8, take};
 ghost use Rattle.std.specs.Str.{chars};
 ghost use Rattle.duration_str.specs.Limits.{IsPrintedWithin};
-ghost use Rattle.duration_str.specs.declared.ext.TheConstants.{MAX_PRINTED_LEN};
+ghost use Rattle.duration_str.specs.declared.printing.TheConstants.{MAX_PRINTED_LEN};
 ghost use Rattle.duration_str_c.specs.Limits.{unit_numbered, limits_numbered};
 
-use duration_str::{Limits, TimeUnit, write_within};
+use duration_str::{Format, Style, TimeUnit, write_within};
 use std::time::Duration;
 
 /// Prints a duration within limits to the start of the buffer, and returns the length of the text. The units are given
 /// by number, from 0 for the year to 10 for the nanosecond. If `nanos` is a second or more or a number is above 10,
 /// returns 0, and the buffer is unchanged.
-#[unsafe(no_mangle)]
-pub extern "C" fn duration_str_format_within(
+pub fn duration_str_format_within(
     secs: u64,
     nanos: u32,
     largest: u32,
@@ -34,13 +33,14 @@ pub extern "C" fn duration_str_format_within(
     let (Some(largest), Some(smallest)) = (unit_numbered(largest), unit_numbered(smallest)) else {
         return 0;
     };
-    let limits = Limits {
+    let format = Format {
         largest,
         smallest,
         parts: parts as usize,
+        style: Style::Short,
     };
-    let mut printed = [0; 64];
-    let text = write_within(&Duration::new(secs, nanos), limits, &mut printed);
+    let mut printed = [0; 144];
+    let text = write_within(&Duration::new(secs, nanos), format, &mut printed);
     let end = text.len();
     buffer[..end].copy_from_slice(text.as_bytes());
     end

@@ -4,14 +4,13 @@ ghost use Rattle.duration_str.specs.Messages.{message_of, line_of};
 ghost use Rattle.duration_str_c.specs.Answers.{options_of_bits};
 ghost use Rattle.duration_str_c.specs.Messages.{IsShown, ShowsRefusal};
 
-use crate::{options_of_bits, text_of};
-use duration_str::{Cause, Fault, parse_with};
+use crate::{options_of_bits, read, text_of};
+use duration_str::{Cause, Fault};
 
 /// Writes the message about the text's refusal under the options whose bits are set to the start of the buffer, and
 /// returns its length in bytes; 0 for a text that is read. If the message is longer than the buffer, nothing is
 /// written.
-#[unsafe(no_mangle)]
-pub extern "C" fn duration_str_message(text: &[u8], options: u32, buffer: &mut [u8]) -> usize
+pub fn duration_str_message(text: &[u8], options: u32, buffer: &mut [u8]) -> usize
     ensures text { IsUtf8 text.now → ShowsRefusal (message_of text.now)
         (options_of_bits options) text.now buffer.old result buffer.new }
     ensures not_text { ¬ (IsUtf8 text.now)
@@ -21,15 +20,14 @@ pub extern "C" fn duration_str_message(text: &[u8], options: u32, buffer: &mut [
     let Some(text) = text_of(text) else {
         return show_not_text(buffer);
     };
-    match parse_with(text, options_of_bits(options)) {
+    match read(text, options_of_bits(options)) {
         Ok(_) => 0,
         Err(fault) => show_message(&fault, buffer),
     }
 }
 
 /// Writes the line that says what is wrong, in the same way as `duration_str_message` writes the message.
-#[unsafe(no_mangle)]
-pub extern "C" fn duration_str_line(text: &[u8], options: u32, buffer: &mut [u8]) -> usize
+pub fn duration_str_line(text: &[u8], options: u32, buffer: &mut [u8]) -> usize
     ensures text { IsUtf8 text.now → ShowsRefusal (λ cause. encode_utf8_all (line_of cause))
         (options_of_bits options) text.now buffer.old result buffer.new }
     ensures not_text { ¬ (IsUtf8 text.now)
@@ -39,7 +37,7 @@ pub extern "C" fn duration_str_line(text: &[u8], options: u32, buffer: &mut [u8]
     let Some(text) = text_of(text) else {
         return show_not_text(buffer);
     };
-    match parse_with(text, options_of_bits(options)) {
+    match read(text, options_of_bits(options)) {
         Ok(_) => 0,
         Err(fault) => show_line(fault.cause(), buffer),
     }

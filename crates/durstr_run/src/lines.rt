@@ -13,7 +13,7 @@ fn line_end(bytes: &[u8]) -> Option<usize>
 }
 
 /// The first line, and the bytes after its line feed.
-pub fn first_line(bytes: &[u8]) -> (&[u8], &[u8])
+pub(crate) fn first_line(bytes: &[u8]) -> (&[u8], &[u8])
     requires { 0 < length bytes.now }
     ensures lines { lines_of bytes.now ≡ result.0.now ∷ lines_of result.1.now }
     ensures shorter { length result.1.now < length bytes.now }

@@ -30,9 +30,6 @@ The units, and their Chinese names, which are read with `cn_unit`:
 in `__all__`, so that `from duration_str import *` leaves the builtin function. `parse_many` reads a column of texts by few calls,
 `parse_buffers` one that stands in buffers, `to_timedelta` one for NumPy or pandas, and `format_many` prints a column.
 `Duration` is a field of pydantic's models, and `duration_str.click.DURATION` a type of Click's options.
-
-`library` is the version of the library inside, and how it was made: `0.19.0, proved` by the Rattle toolchain, or of the
-same sources without their contracts, by rustc.
 """
 
 from __future__ import annotations
@@ -41,7 +38,6 @@ from ._arrays import format_many, to_timedelta
 from ._columns import parse_buffers, parse_many
 from ._models import Duration
 from ._native import format as format
-from ._native import library as library
 from ._native import parse, parse_ns, parse_seconds
 from ._texts import Cause, DurationError, DurationTypeError, Expected
 

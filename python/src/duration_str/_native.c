@@ -631,16 +631,6 @@ static PyObject *member(const char *module, const char *name) {
     return taken;
 }
 
-/* Says which library the module is linked with. */
-static int add_library(PyObject *module) {
-    const unsigned version = duration_str_version();
-    PyObject *told = PyUnicode_FromFormat("%u.%u.%u, %s", version / 1000000, version / 1000 % 1000, version % 1000,
-                                          IS_PROVED ? "proved" : "the proved sources without their contracts, by rustc");
-    const int status = told ? PyModule_AddObjectRef(module, "library", told) : -1;
-    Py_XDECREF(told);
-    return status;
-}
-
 static int begin(PyObject *module) {
     struct state *state = PyModule_GetState(module);
     int is_there = 1;
@@ -662,7 +652,7 @@ static int begin(PyObject *module) {
     state->kept[A_SECOND] = PyLong_FromLong(SECOND);
     for (int at = 0; at < KEPT; at++)
         is_there = is_there && state->kept[at];
-    return is_there ? add_library(module) : -1;
+    return is_there ? 0 : -1;
 }
 
 static void end(void *module) {

@@ -1,7 +1,7 @@
 // Made by tools/erase of crates/duration_str/src/cause.rt.
 //! Why a text is refused: what could stand at the place of a syntax fault, the cause, and its line.
 
-use super::operator::CondUnit;
+use crate::operator::CondUnit;
 
 /// What could stand at the place of a syntax fault.
 ///

@@ -14,16 +14,16 @@ mod impls; // Written by hand.
 
 #[forbid(unsafe_code)]
 mod cause;
-#[allow(unsafe_code)] // Blocks: 1.
-mod ext;
 #[forbid(unsafe_code)]
 mod eye;
 #[forbid(unsafe_code)]
 mod fault;
 #[forbid(unsafe_code)]
-mod limits;
+mod format;
 #[allow(unsafe_code)] // Blocks: 1.
 mod message;
+#[allow(unsafe_code)] // Blocks: 1.
+mod one_line;
 #[forbid(unsafe_code)]
 mod operator;
 #[forbid(unsafe_code)]
@@ -32,6 +32,8 @@ mod options;
 mod packed;
 #[forbid(unsafe_code)]
 mod parser;
+#[allow(unsafe_code)] // Blocks: 1.
+mod printing;
 #[forbid(unsafe_code)]
 mod reader;
 #[forbid(unsafe_code)]
@@ -39,8 +41,9 @@ mod token;
 #[forbid(unsafe_code)]
 mod unit;
 
-pub use self::ext::{MAX_PRINTED_LEN, write_human};
-pub use self::limits::{Limits, write_within};
-pub use self::parser::{Cause, Expected, Fault, parse, parse_looked, parse_std, parse_with};
+pub use self::format::{Format, Style};
+pub use self::one_line::MAX_ONE_LINE_LEN;
+pub use self::parser::{Cause, Expected, Fault, parse, parse_looked, parse_nanos, parse_std, parse_with};
+pub use self::printing::{MAX_LONG_LEN, MAX_PRINTED_LEN, write_human, write_within};
 pub use self::token::{Token, Tokens, What};
 pub use self::unit::{CondUnit, Options, TimeUnit};

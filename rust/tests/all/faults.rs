@@ -191,16 +191,32 @@ fn tells_in_one_line() {
             "expected a number at column 4, found the end".to_string(),
         ),
         (
+            "3h 2 hurs",
+            r#"unknown unit "hurs" at column 6"#.to_string(),
+        ),
+        (
+            "30 mins",
+            r#"unknown unit "mins" at column 4: write "min""#.to_string(),
+        ),
+        (
+            "1 h\u{a0}2\u{3bc}s",
+            r#"expected a number, '+', '*' or the end at column 4, found "\u{00a0}""#.to_string(),
+        ),
+        (
+            "1\u{3bc}s",
+            "unknown unit \"\u{3bc}s\" at column 2: write \"µs\"".to_string(),
+        ),
+        (
             "-1",
             r#"expected a number at column 1, found "-""#.to_string(),
         ),
         (
             "1µs\r\n\u{7}x",
-            r#"expected a number, '+', '*' or the end at column 6, found "\u{7}""#.to_string(),
+            r#"expected a number, '+', '*' or the end at column 6, found "\u{0007}""#.to_string(),
         ),
         (
             "600y",
-            r#"duration of 2^64 nanoseconds or more at column 1, found "600y""#.to_string(),
+            r#"duration of 2^64 nanoseconds or more in "600y""#.to_string(),
         ),
         (
             "1s 600y",
@@ -248,7 +264,7 @@ fn takes_as_much_memory_as_the_message_is_long() {
         let fault = parse_duration(text).unwrap_err();
         assert_eq!(
             (&message, message.capacity()),
-            (&fault.to_string(), fault.message_len())
+            (&fault.as_fault().to_string(), fault.message_len())
         );
     }
 }

@@ -33,7 +33,7 @@ fn owns_what_the_fault_tells() {
             );
             assert_eq!(
                 (owned.found(), owned.to_string()),
-                (fault.found(), fault.to_string())
+                (fault.found(), fault.one_line().to_string())
             );
             assert_eq!(
                 (owned.line(), owned.message_len(), owned.to_derror()),

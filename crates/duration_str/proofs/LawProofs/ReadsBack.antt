@@ -4,6 +4,11 @@ use Rattle.duration_str.proofs.Common.{map, drop, Some, None, arith, sym, ne_eqb
 use Rattle.duration_str.proofs.Common.{Year, Overflow, units, nanos_of, unit_lengths, Terminal, number, word}
 use Rattle.duration_str.proofs.Common.{terminal_of, sum_of, terms_of, early_fault, IsRead, early, IsRefused, IsPrinted}
 use Rattle.duration_str.proofs.Common.{counts_of, ReadsBack}
+use Rattle.duration_str.proofs.Common.{Style, Format, IsPrintedWithin, whole_format, text_within, ap, ◌∙◌}
+use Rattle.duration_str.proofs.LawProofs.AllParts.{all_counts}
+use Rattle.duration_str.proofs.LawProofs.GreatestBreakdown.{greatest_breakdown_holds}
+use Rattle.duration_str.proofs.LawProofs.GreatestWithin.{one_greatest_within}
+use Rattle.duration_str.proofs.LawProofs.NeverMore.{reads}
 use Rattle.duration_str.proofs.Sentences.AnswerLemmas.{sentence_refused}
 use Rattle.duration_str.proofs.Sentences.SumReadings.{terms_of_lexemes, sum_read, EachFits, sum_fits_each}
 use Rattle.duration_str.proofs.Sentences.SumReadings.{sum_overflows}
@@ -56,5 +61,21 @@ overflows_far_above o nanos text low high p =
     sentence_refused o text (duration_lexemes nanos) (Overflow (Some 0)) (printed_is_sum o nanos text high p).sentence
     (λ place. early (rw (← terminals) fault))
 
+-- In each style the counts are those of the breakdown.
+reads_each : (o : Options) (style : Style) (nanos : ℕ) (text : List ℕ) → nanos < 2 ^ 64
+    → IsPrintedWithin (record whole_format { style = style }) nanos text → IsRead o text nanos
+reads_each o style nanos text h p =
+    let counts : List ℕ = counts_of unit_lengths nanos in
+    let format : Format = record whole_format { style = style } in
+    let same = one_greatest_within format nanos p.0 p.1 ∙ all_counts unit_lengths 11 nanos (omega arith) in
+    let whole = (greatest_breakdown_holds nanos).breakdown in
+    rw (← whole.whole) (reads o format counts text whole.one_each (rw whole.whole h)
+    (p.2 ∙ ap (text_within format) same))
+
 pub reads_back_holds : ReadsBack
-reads_back_holds = record { below = reads_below; above = overflows_above; far_above = overflows_far_above }
+reads_back_holds = record {
+  below = reads_below;
+  above = overflows_above;
+  far_above = overflows_far_above;
+  each_style = reads_each;
+}

@@ -52,14 +52,14 @@ mod tests {
         for option in ["--timeout", "--pause"] {
             let refusal = told(&[option, "5 minuts"], "").unwrap_err();
             assert!(
-                refusal.contains("'5 minuts'") && refusal.contains("\n  ^\nexpected ["),
+                refusal.contains("'5 minuts'")
+                    && refusal.contains("unknown unit \"minuts\" at column 3"),
                 "{refusal}"
             );
         }
         let refusal = told(&[], r#"{ "timeout": "600y" }"#).unwrap_err();
         assert!(
-            refusal
-                .starts_with("duration of 2^64 nanoseconds or more at column 1, found \"600y\" at"),
+            refusal.starts_with("duration of 2^64 nanoseconds or more in \"600y\" at"),
             "{refusal}"
         );
     }

@@ -1,0 +1,53 @@
+// Made by tools/erase of crates/duration_str_c/src/limits.rt.
+//! Durations printed within limits.
+
+use duration_str_core::{Format, Style, TimeUnit, write_within};
+use core::time::Duration;
+
+/// Prints a duration within limits to the start of the buffer, and returns the length of the text. The units are given
+/// by number, from 0 for the year to 10 for the nanosecond. If `nanos` is a second or more or a number is above 10,
+/// returns 0, and the buffer is unchanged.
+pub fn duration_str_format_within(
+    secs: u64,
+    nanos: u32,
+    largest: u32,
+    smallest: u32,
+    parts: u32,
+    buffer: &mut [u8; 64],
+) -> usize {
+    if nanos >= 1_000_000_000 {
+        return 0;
+    }
+    let (Some(largest), Some(smallest)) = (unit_numbered(largest), unit_numbered(smallest)) else {
+        return 0;
+    };
+    let format = Format {
+        largest,
+        smallest,
+        parts: parts as usize,
+        style: Style::Short,
+    };
+    let mut printed = [0; 144];
+    let text = write_within(&Duration::new(secs, nanos), format, &mut printed);
+    let end = text.len();
+    buffer[..end].copy_from_slice(text.as_bytes());
+    end
+}
+
+/// The unit with this number, from 0 for the year to 10 for the nanosecond.
+fn unit_numbered(number: u32) -> Option<TimeUnit> {
+    match number {
+        0 => Some(TimeUnit::Year),
+        1 => Some(TimeUnit::Quarter),
+        2 => Some(TimeUnit::Month),
+        3 => Some(TimeUnit::Week),
+        4 => Some(TimeUnit::Day),
+        5 => Some(TimeUnit::Hour),
+        6 => Some(TimeUnit::Minute),
+        7 => Some(TimeUnit::Second),
+        8 => Some(TimeUnit::MilliSecond),
+        9 => Some(TimeUnit::MicroSecond),
+        10 => Some(TimeUnit::NanoSecond),
+        _ => None,
+    }
+}

@@ -1,0 +1,13 @@
+use Rattle.duration_str.proofs.Common.{◌≡◌, ◌≤◌, ◌++◌, IsUtf8, chars, take, length}
+use Rattle.std.specs.Str.Iter.{chars_rest}
+use Rattle.duration_str.specs.OneLine.{quoted, quoted_end}
+use Rattle.duration_str.proofs.one_line.put_quoted.Given as goal
+
+-- what is written and what is left make the whole
+abbrev pub invariant-loop-c : goal.invariant-loop-c
+invariant-loop-c l = record {
+  utf8 : IsUtf8 (chars_rest l.rest);
+  inside : l.end ≤ length l.buffer;
+  whole : take l.end l.buffer ++ quoted_end l.left (chars (chars_rest l.rest))
+      ≡ take l.at l.fn.buffer ++ quoted (chars l.text);
+}
