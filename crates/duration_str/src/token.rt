@@ -411,8 +411,7 @@ fn first_number(c: char, o: Options) -> u64
 }
 
 /// The number of a unit letter beyond ASCII: `µ`, and those that the option `cn_unit` adds; 0 of any other character.
-#[cold]
-#[inline(never)]
+#[inline]
 fn wide_number(c: char, cn_unit: bool) -> u64
     ensures { result ≡ (if c == 0xB5 || (cn_unit && is_chinese c) then wide_number c else 0) }
 {

@@ -59,17 +59,22 @@ fn expect_number(tokens: &mut Tokens<'_>) -> Result<(), Cause> {
 /// Reads the unit after a number. Seconds if an operator or the end follows, which is not taken.
 #[inline(always)]
 fn read_unit(tokens: &mut Tokens<'_>, no_calc: bool) -> Result<TimeUnit, Cause> {
-    let ahead = tokens.sort_after_number();
-    let fault = Cause::syntax(tokens.place(), Expected::after_number(no_calc));
-    let Some(sort) = ahead else {
+    let Some(sort) = tokens.sort_after_number() else {
         return Ok(TimeUnit::Second);
     };
+    let place = tokens.place();
     match sort {
-        TokenStart::Word => tokens.take_word().ok_or(fault),
+        TokenStart::Word => tokens.take_word().ok_or(no_unit(place, no_calc)),
         TokenStart::Operator(_) if !no_calc => Ok(TimeUnit::Second),
-        TokenStart::Operator(_) => Err(fault),
-        TokenStart::Number | TokenStart::Other => Err(fault),
+        TokenStart::Operator(_) => Err(no_unit(place, no_calc)),
+        TokenStart::Number | TokenStart::Other => Err(no_unit(place, no_calc)),
     }
+}
+
+/// The fault of what stands after a number and is neither a unit nor what may follow seconds.
+#[inline(always)]
+fn no_unit(place: usize, no_calc: bool) -> Cause {
+    Cause::syntax(place, Expected::after_number(no_calc))
 }
 
 /// Reads the operator after a unit, up to the number that must follow: a plus if it is left out, `None` at the end.
