@@ -32,9 +32,14 @@
     (DURATION_STR_VERSION_MAJOR * 1000000 + DURATION_STR_VERSION_MINOR * 1000 + DURATION_STR_VERSION_PATCH)
 #define DURATION_STR_VERSION "0.19.0"
 
-/* The most bytes that a printed duration has, and the bytes of the buffer into which it is printed. */
+/* The most bytes that a printed duration has, and the bytes of the buffer into which it is printed; then those in any
+ * style, and those of a refusal in one line. */
 #define DURATION_STR_MAX_PRINTED_LEN 60
 #define DURATION_STR_FORMAT_BUFFER_SIZE 64
+#define DURATION_STR_MAX_STYLED_LEN 134
+#define DURATION_STR_STYLED_BUFFER_SIZE 144
+#define DURATION_STR_MAX_ONE_LINE_LEN 365
+#define DURATION_STR_ONE_LINE_BUFFER_SIZE 384
 
 /* What GCC and Clang are told: which pointers may not be null, and which results must be used. */
 #ifdef __GNUC__
@@ -92,6 +97,13 @@ enum duration_str_unit {
     DURATION_STR_NANOSECOND = 10
 };
 
+/* How a duration is printed. */
+enum duration_str_style {
+    DURATION_STR_SHORT = 0,   /* `1h 30min` */
+    DURATION_STR_COMPACT = 1, /* `1h30min` */
+    DURATION_STR_LONG = 2     /* `1 hour 30 minutes` */
+};
+
 /* What a text is read as, or why and where it is refused. Fields that a case does not use are 0. */
 struct duration_str_answer {
     uint64_t nanos;      /* the value in nanoseconds, if `cause` is DURATION_STR_READ */
@@ -134,6 +146,13 @@ DURATION_STR_MUST_USE DURATION_STR_NONNULL(6)
 size_t duration_str_format_within(uint64_t secs, uint32_t nanos, uint32_t largest, uint32_t smallest, uint32_t parts,
                                   uint8_t *buffer);
 
+/* Prints a duration as duration_str_format_within does, in a style of `enum duration_str_style`; a long zero is `0 seconds`.
+ * Returns its length, at most DURATION_STR_MAX_STYLED_LEN; `buffer` has DURATION_STR_STYLED_BUFFER_SIZE bytes. Returns 0,
+ * with the buffer unchanged, if `style` is above 2 too. */
+DURATION_STR_MUST_USE DURATION_STR_NONNULL(7)
+size_t duration_str_format_styled(uint64_t secs, uint32_t nanos, uint32_t largest, uint32_t smallest, uint32_t parts,
+                                  uint32_t style, uint8_t *buffer);
+
 /* Reads a text under these options, and writes its value to `*answer`, or why and where it is refused. Returns true if
  * it is read. */
 DURATION_STR_NONNULL(4)
@@ -166,6 +185,15 @@ DURATION_STR_MUST_USE DURATION_STR_NONNULL(4, 5)
 bool duration_str_before(const uint8_t *text, size_t length, uint32_t options, struct duration_str_moment *moment,
                          struct duration_str_answer *answer);
 
+/* Reads a text under these options as duration_str_parse_with does, and writes what is wrong with a refused one to the
+ * start of `buffer`, in one line for people: `unknown unit "hurs" at column 6`. Returns the length of the line, at most
+ * DURATION_STR_MAX_ONE_LINE_LEN; 0 if the text is read. `buffer` has DURATION_STR_ONE_LINE_BUFFER_SIZE bytes, and what
+ * stands in it after the line is unchanged. At most 40 characters of the text are quoted, and each that could do harm in a
+ * terminal or a log is escaped. */
+DURATION_STR_NONNULL(4, 5)
+size_t duration_str_one_line(const uint8_t *text, size_t length, uint32_t options, struct duration_str_answer *answer,
+                             uint8_t *buffer);
+
 /* Reads a text under these options, and writes the message about its refusal to the start of `buffer`, which has room
  * for `room` bytes. Returns the length of the message in bytes; 0 if the text is read. If the length is more than `room`,
  * nothing is written: with room 0 a caller asks for the length. A length of 2^64 bytes or more, which no memory has, is
@@ -177,7 +205,8 @@ bool duration_str_before(const uint8_t *text, size_t length, uint32_t options, s
  * line is `date out of range`. */
 size_t duration_str_message(const uint8_t *text, size_t length, uint32_t options, uint8_t *buffer, size_t room);
 
-/* Writes only the line of the message, such as `expected number`, in the same way as duration_str_message. */
+/* Writes only the last line of the message, such as `expected number`, in the same way as duration_str_message: without
+ * the place or the text, which duration_str_one_line has. */
 size_t duration_str_line(const uint8_t *text, size_t length, uint32_t options, uint8_t *buffer, size_t room);
 
 /* The version of the library, in the form of DURATION_STR_VERSION_NUMBER: 19000 is 0.19.0. */

@@ -31,6 +31,13 @@ extern "C" fn duration_str_format_within(
 }
 
 #[unsafe(no_mangle)]
+extern "C" fn duration_str_format_styled(
+    secs: u64, nanos: u32, largest: u32, smallest: u32, parts: u32, style: u32, buffer: &mut [u8; 144],
+) -> usize {
+    limits::duration_str_format_styled(secs, nanos, largest, smallest, parts, style, buffer)
+}
+
+#[unsafe(no_mangle)]
 unsafe extern "C" fn duration_str_parse_with(
     text: *const u8, len: usize, bits: u32, answer: &mut MaybeUninit<Answer>,
 ) -> bool {
@@ -58,6 +65,13 @@ unsafe extern "C" fn duration_str_before(
     text: *const u8, len: usize, bits: u32, moment: &mut Moment, answer: &mut MaybeUninit<Answer>,
 ) -> bool {
     unsafe { moment::duration_str_before(array(text, len), bits, moment, answer.write(zeroed())) }
+}
+
+#[unsafe(no_mangle)]
+unsafe extern "C" fn duration_str_one_line(
+    text: *const u8, len: usize, bits: u32, answer: &mut MaybeUninit<Answer>, out: &mut [u8; 384],
+) -> usize {
+    unsafe { message::duration_str_one_line(array(text, len), bits, answer.write(zeroed()), out) }
 }
 
 #[unsafe(no_mangle)]
