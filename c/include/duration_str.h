@@ -119,7 +119,8 @@ bool duration_str_parse(const uint8_t *text, size_t length, uint64_t *nanos);
 
 /* Prints a duration of `secs` seconds and `nanos` nanoseconds, which are below 1,000,000,000, to the start of `buffer`,
  * such as `3min 13s 29ms`, and returns its length, at most DURATION_STR_MAX_PRINTED_LEN. `buffer` has
- * DURATION_STR_FORMAT_BUFFER_SIZE bytes. Returns 0 if `nanos` is 1,000,000,000 or more; then the buffer is unchanged. */
+ * DURATION_STR_FORMAT_BUFFER_SIZE bytes, and those after the text are unchanged: it is not ended by a zero. Returns 0 if
+ * `nanos` is 1,000,000,000 or more; then the whole buffer is unchanged. */
 DURATION_STR_MUST_USE DURATION_STR_NONNULL(3)
 size_t duration_str_format(uint64_t secs, uint32_t nanos, uint8_t *buffer);
 

@@ -54,8 +54,8 @@ pub fn duration_str_parse(text: &[u8], nanos: &mut u64) -> bool {
     }
 }
 
-/// Prints a duration to the start of the buffer, and returns the length of the text. If `nanos` is a second or more,
-/// returns 0, and the buffer is unchanged.
+/// Prints a duration to the start of the buffer, and returns the length of the text. The rest of the buffer is
+/// unchanged; so is all of it if `nanos` is a second or more, and then it returns 0.
 pub fn duration_str_format(secs: u64, nanos: u32, buffer: &mut [u8; 64]) -> usize {
     if nanos >= 1_000_000_000 {
         return 0;

@@ -5,8 +5,8 @@ use duration_str_core::{Format, Style, TimeUnit, write_within};
 use core::time::Duration;
 
 /// Prints a duration within limits to the start of the buffer, and returns the length of the text. The units are given
-/// by number, from 0 for the year to 10 for the nanosecond. If `nanos` is a second or more or a number is above 10,
-/// returns 0, and the buffer is unchanged.
+/// by number, from 0 for the year to 10 for the nanosecond. The rest of the buffer is unchanged; so is all of it if
+/// `nanos` is a second or more or a number is above 10, and then it returns 0.
 pub fn duration_str_format_within(
     secs: u64,
     nanos: u32,

@@ -4,7 +4,7 @@
 #![tactic(auto)]
 
 ghost use Rattle.std.specs.Prelude.{◌≡◌, ℕ, ◌+◌, ◌*◌, ◌<◌, ◌≤◌, ◌==◌, false, IsTrue};
-ghost use Rattle.std.specs.Prelude.{IsFalse, IfSome, IfNone, IsUtf8, take};
+ghost use Rattle.std.specs.Prelude.{IsFalse, IfSome, IfNone, IsUtf8, take, drop};
 ghost use Rattle.std.specs.Bool.{MatchBool};
 ghost use Rattle.std.specs.Int.Bits.{bit_and};
 ghost use Rattle.std.specs.Str.{chars};
@@ -64,12 +64,13 @@ pub fn duration_str_parse(text: &[u8], nanos: &mut u64) -> bool
     }
 }
 
-/// Prints a duration to the start of the buffer, and returns the length of the text. If `nanos` is a second or more,
-/// returns 0, and the buffer is unchanged.
+/// Prints a duration to the start of the buffer, and returns the length of the text. The rest of the buffer is
+/// unchanged; so is all of it if `nanos` is a second or more, and then it returns 0.
 pub fn duration_str_format(secs: u64, nanos: u32, buffer: &mut [u8; 64]) -> usize
     ensures text { nanos < 1_000_000_000
         → IsPrinted (secs * 1_000_000_000 + nanos) (chars (take result buffer.new)) }
     ensures utf8 { IsUtf8 (take result buffer.new) }
+    ensures rest { drop result buffer.new ≡ drop result buffer.old }
     ensures short { result ≤ MAX_PRINTED_LEN }
     ensures refused { 1_000_000_000 ≤ nanos → (result ≡ 0) × (buffer.new ≡ buffer.old) }
 {

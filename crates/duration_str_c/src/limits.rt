@@ -1,5 +1,5 @@
 //! Durations printed within limits.
-ghost use Rattle.std.specs.Prelude.{◌≡◌, ◌+◌, ◌*◌, ◌<◌, ◌≤◌, ◌⊎◌, IfSome, IfNone, IsUtf8, take};
+ghost use Rattle.std.specs.Prelude.{◌≡◌, ◌+◌, ◌*◌, ◌<◌, ◌≤◌, ◌⊎◌, IfSome, IfNone, IsUtf8, take, drop};
 ghost use Rattle.std.specs.Str.{chars};
 ghost use Rattle.duration_str.specs.Limits.{IsPrintedWithin};
 ghost use Rattle.duration_str.specs.declared.printing.TheConstants.{MAX_PRINTED_LEN};
@@ -9,8 +9,8 @@ use duration_str::{Format, Style, TimeUnit, write_within};
 use std::time::Duration;
 
 /// Prints a duration within limits to the start of the buffer, and returns the length of the text. The units are given
-/// by number, from 0 for the year to 10 for the nanosecond. If `nanos` is a second or more or a number is above 10,
-/// returns 0, and the buffer is unchanged.
+/// by number, from 0 for the year to 10 for the nanosecond. The rest of the buffer is unchanged; so is all of it if
+/// `nanos` is a second or more or a number is above 10, and then it returns 0.
 pub fn duration_str_format_within(
     secs: u64,
     nanos: u32,
@@ -23,6 +23,7 @@ pub fn duration_str_format_within(
         → IsPrintedWithin (limits_numbered largest smallest parts) (secs * 1_000_000_000 + nanos)
         (chars (take result buffer.new)) }
     ensures utf8 { IsUtf8 (take result buffer.new) }
+    ensures rest { drop result buffer.new ≡ drop result buffer.old }
     ensures short { result ≤ MAX_PRINTED_LEN }
     ensures refused { (1_000_000_000 ≤ nanos) ⊎ ((10 < largest) ⊎ (10 < smallest))
         → (result ≡ 0) × (buffer.new ≡ buffer.old) }
