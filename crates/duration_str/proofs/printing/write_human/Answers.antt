@@ -1,4 +1,4 @@
-use Rattle.duration_str.proofs.Common.{◌∙◌, arith, chars, as_nanos, IsPrintedWithin}
+use Rattle.duration_str.proofs.Common.{◌∙◌, arith, chars, as_nanos, IsPrintedWithin, Short}
 use Rattle.duration_str.proofs.LawProofs.AllParts.{all_parts_holds, printed_below_day}
 use Rattle.duration_str.proofs.Printer.LimitsLemmas.{printed_within}
 use Rattle.duration_str.proofs.printing.write_human.Goals as goal
@@ -14,5 +14,5 @@ returns-clause-text c =
       | then-as_secs-lt86400 w ↦
           printed_below_day _ _ (omega arith) (rw (c.whole.ensures, w.largest-is) at printed)
       | else-as_secs-lt86400 w ↦
-          (all_parts_holds 11 _ _ (omega arith)).0 (rw (c.whole.ensures, w.largest-is) at printed)
+          (all_parts_holds Short 11 _ _ (omega arith)).0 (rw (c.whole.ensures, w.largest-is) at printed)
     ]
