@@ -1,7 +1,7 @@
 // Made by tools/erase of crates/duration_str_c/src/limits.rt.
 //! Durations printed within limits.
 
-use duration_str_core::{Format, Style, TimeUnit, write_within};
+use duration_str_core::{Format, TimeUnit, write_within};
 use core::time::Duration;
 
 /// Prints a duration within limits to the start of the buffer, and returns the length of the text. The units are given
@@ -21,12 +21,10 @@ pub fn duration_str_format_within(
     let (Some(largest), Some(smallest)) = (unit_numbered(largest), unit_numbered(smallest)) else {
         return 0;
     };
-    let format = Format {
-        largest,
-        smallest,
-        parts: parts as usize,
-        style: Style::Short,
-    };
+    let format = Format::whole()
+        .largest(largest)
+        .smallest(smallest)
+        .parts(parts as usize);
     let mut printed = [0; 144];
     let text = write_within(&Duration::new(secs, nanos), format, &mut printed);
     let end = text.len();

@@ -34,11 +34,10 @@ impl PrintedWithin {
     /// ```
     #[must_use]
     pub const fn parts(self, parts: usize) -> PrintedWithin {
-        let format = Format {
-            parts,
-            ..self.format
-        };
-        PrintedWithin { format, ..self }
+        PrintedWithin {
+            format: self.format.parts(parts),
+            ..self
+        }
     }
 
     /// Printed in this unit and shorter ones.
@@ -52,11 +51,10 @@ impl PrintedWithin {
     /// ```
     #[must_use]
     pub const fn largest(self, largest: TimeUnit) -> PrintedWithin {
-        let format = Format {
-            largest,
-            ..self.format
-        };
-        PrintedWithin { format, ..self }
+        PrintedWithin {
+            format: self.format.largest(largest),
+            ..self
+        }
     }
 
     /// Printed in this unit and longer ones. If all of the duration is left out, `0` and the unit's name are printed, or
@@ -71,11 +69,10 @@ impl PrintedWithin {
     /// ```
     #[must_use]
     pub const fn smallest(self, smallest: TimeUnit) -> PrintedWithin {
-        let format = Format {
-            smallest,
-            ..self.format
-        };
-        PrintedWithin { format, ..self }
+        PrintedWithin {
+            format: self.format.smallest(smallest),
+            ..self
+        }
     }
 }
 

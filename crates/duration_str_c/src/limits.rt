@@ -5,7 +5,7 @@ ghost use Rattle.duration_str.specs.Limits.{IsPrintedWithin};
 ghost use Rattle.duration_str.specs.declared.printing.TheConstants.{MAX_PRINTED_LEN};
 ghost use Rattle.duration_str_c.specs.Limits.{unit_numbered, limits_numbered};
 
-use duration_str::{Format, Style, TimeUnit, write_within};
+use duration_str::{Format, TimeUnit, write_within};
 use std::time::Duration;
 
 /// Prints a duration within limits to the start of the buffer, and returns the length of the text. The units are given
@@ -34,12 +34,10 @@ pub fn duration_str_format_within(
     let (Some(largest), Some(smallest)) = (unit_numbered(largest), unit_numbered(smallest)) else {
         return 0;
     };
-    let format = Format {
-        largest,
-        smallest,
-        parts: parts as usize,
-        style: Style::Short,
-    };
+    let format = Format::whole()
+        .largest(largest)
+        .smallest(smallest)
+        .parts(parts as usize);
     let mut printed = [0; 144];
     let text = write_within(&Duration::new(secs, nanos), format, &mut printed);
     let end = text.len();

@@ -20,12 +20,11 @@ pub fn time_left<'b>(left: &Duration, buffer: &'b mut [u8; 144]) -> &'b str
     ensures { (shown : ℕ) × IsShown (as_nanos left.now) (chars result.now) shown }
 {
     never_more();
-    let format = Format {
-        smallest: TimeUnit::Second,
-        parts: 2,
-        ..Format::whole()
-    };
-    write_within(left, format, buffer)
+    write_within(
+        left,
+        Format::whole().smallest(TimeUnit::Second).parts(2),
+        buffer,
+    )
 }
 
 /// The duration in so many parts at most and in a style, in the caller's buffer. From eleven parts on all of it is
@@ -39,10 +38,5 @@ pub fn in_parts<'b>(
     ensures { 11 ≤ parts → IsPrintedIn style (as_nanos length.now) (chars result.now) }
 {
     all_parts();
-    let format = Format {
-        parts,
-        style,
-        ..Format::whole()
-    };
-    write_within(length, format, buffer)
+    write_within(length, Format::whole().parts(parts).style(style), buffer)
 }

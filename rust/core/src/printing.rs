@@ -40,11 +40,7 @@ pub fn write_human<'b>(d: &Duration, buffer: &'b mut [u8; 64]) -> &'b str {
     } else {
         TimeUnit::Year
     };
-    let format = Format {
-        largest,
-        ..Format::whole()
-    };
-    let end = fill(*d, format, buffer);
+    let end = fill(*d, Format::whole().largest(largest), buffer);
     printed(buffer, end)
 }
 
@@ -64,11 +60,11 @@ pub const MAX_LONG_LEN: usize = 134;
 ///
 /// let build = Duration::new(193, 29_000_000);
 /// let mut buffer = [0; 144];
-/// let two_parts = Format { parts: 2, ..Format::whole() };
+/// let two_parts = Format::whole().parts(2);
 /// assert_eq!(write_within(&build, two_parts, &mut buffer), "3min 13s");
-/// let hours = Format { smallest: TimeUnit::Hour, ..Format::whole() };
+/// let hours = Format::whole().smallest(TimeUnit::Hour);
 /// assert_eq!(write_within(&build, hours, &mut buffer), "0h");
-/// let long = Format { style: Style::Long, ..two_parts };
+/// let long = two_parts.style(Style::Long);
 /// assert_eq!(write_within(&build, long, &mut buffer), "3 minutes 13 seconds");
 /// ```
 #[inline(always)]
