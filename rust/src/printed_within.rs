@@ -4,8 +4,9 @@ use core::fmt;
 use core::time::Duration;
 use duration_str_core::{Format, TimeUnit, write_within};
 
-/// A duration that is printed in some units, and in so many parts at most: the greatest duration, not above it, that is
-/// printed so. [`format_duration`](crate::format_duration) begins it.
+/// A duration that is printed within limits: as the lexicographically greatest breakdown with only these units and so few
+/// parts that is not above the duration. If all its counts are 0, it is printed as the zero: `0` and the smallest unit's
+/// name, or `0s` for a unit shorter than a second. [`format_duration`](crate::format_duration) begins it.
 ///
 /// ```
 /// use duration_str::{TimeUnit, format_duration};
@@ -40,7 +41,7 @@ impl PrintedWithin {
         }
     }
 
-    /// Printed in this unit and shorter ones.
+    /// Printed in this unit and shorter ones; as the zero if it is shorter than the smallest.
     ///
     /// ```
     /// use duration_str::{TimeUnit, format_duration};
@@ -57,8 +58,7 @@ impl PrintedWithin {
         }
     }
 
-    /// Printed in this unit and longer ones. If all of the duration is left out, `0` and the unit's name are printed, or
-    /// `0s` for a unit shorter than a second.
+    /// Printed in this unit and longer ones; as the zero if it is longer than the largest.
     ///
     /// ```
     /// use duration_str::{TimeUnit, format_duration};
@@ -84,7 +84,7 @@ impl HumanDuration {
         }
     }
 
-    /// The duration, printed in at most so many parts: never as more than it is.
+    /// The duration, printed in at most so many parts, as [`PrintedWithin`] says.
     ///
     /// ```
     /// use duration_str::format_duration;
@@ -112,7 +112,7 @@ impl HumanDuration {
         self.within(Format::whole()).largest(largest)
     }
 
-    /// The duration, printed in this unit and longer ones, as [`PrintedWithin::smallest`] says.
+    /// The duration, printed in this unit and longer ones.
     ///
     /// ```
     /// use duration_str::{TimeUnit, format_duration};

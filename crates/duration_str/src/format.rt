@@ -16,7 +16,8 @@ use crate::unit::{TimeUnit, UNITS};
 /// ```
 #[derive(Clone, Copy, Debug, PartialEq, Eq, Hash)]
 pub struct Format {
-    /// The largest unit that is printed. If it is shorter than the smallest, every duration prints as the zero.
+    /// The largest unit that is printed. If it is shorter than the smallest, every duration prints as the zero, as
+    /// [`write_within`](crate::write_within) says.
     pub largest: TimeUnit,
     /// The smallest unit that is printed.
     pub smallest: TimeUnit,

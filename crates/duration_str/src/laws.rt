@@ -74,7 +74,8 @@ pub fn greatest_breakdown()
     ensures { GreatestBreakdown }
 {}
 
-/// Two durations print the same text in a style exactly if they are equal. So `3min 31s` is printed for 211 seconds only.
+/// Two durations print the same text in a style exactly if they are equal. So `3min 31s` is printed for 211 seconds
+/// only.
 pub fn equal_texts()
     ensures { EqualTexts }
 {}

@@ -64,10 +64,11 @@ pub fn write_human<'b>(d: &Duration, buffer: &'b mut [u8; 64]) -> &'b str
 /// 999 microseconds 999 nanoseconds`.
 pub const MAX_LONG_LEN: usize = 134;
 
-/// Prints a duration within limits and in a style to the start of a buffer, whatever the buffer holds: the greatest
-/// duration, not above this one, that takes only these units and so few parts. If there are no parts it is `0` and the
-/// smallest unit's name, or that of the second where the unit is shorter. The text has at most `MAX_PRINTED_LEN` bytes,
-/// in the long style `MAX_LONG_LEN`. Allocates nothing and cannot fail.
+/// Prints a duration within limits and in a style to the start of a buffer, whatever the buffer holds: the
+/// lexicographically greatest breakdown with only these units and so few parts that is not above the duration. If all
+/// its counts are 0, the text is the zero: `0` and the smallest unit's name, or that of the second where the unit is
+/// shorter. So it is for every duration if the largest unit is shorter than the smallest, or there are no parts. The
+/// text has at most `MAX_PRINTED_LEN` bytes, in the long style `MAX_LONG_LEN`. Allocates nothing and cannot fail.
 ///
 /// ```
 /// use duration_str::{Format, Style, TimeUnit, write_within};
@@ -79,6 +80,7 @@ pub const MAX_LONG_LEN: usize = 134;
 /// assert_eq!(write_within(&build, two_parts, &mut buffer), "3min 13s");
 /// let hours = Format::whole().smallest(TimeUnit::Hour);
 /// assert_eq!(write_within(&build, hours, &mut buffer), "0h");
+/// assert_eq!(write_within(&build, hours.largest(TimeUnit::Minute), &mut buffer), "0h");
 /// let long = two_parts.style(Style::Long);
 /// assert_eq!(write_within(&build, long, &mut buffer), "3 minutes 13 seconds");
 /// ```

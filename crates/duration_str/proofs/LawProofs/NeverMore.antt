@@ -1,4 +1,4 @@
--- What is printed within limits is the greatest duration that they can show.
+-- What is printed within limits is the greatest duration whose own breakdown keeps within them.
 use Rattle.duration_str.proofs.Common.{◌≡◌, ℕ, ◌+◌, ◌-◌, ◌*◌, ◌/◌, ◌%◌, ◌^◌, ◌≤◌, ◌<◌, ◌==◌, ◌∙◌, inl, inr, true, false}
 use Rattle.duration_str.proofs.Common.{List, [], ◌∷◌, ◌++◌, length, map, if◌then◌else◌, arith, refl, sym, ap, subst}
 use Rattle.duration_str.proofs.Common.{cases_Bool, cases_lt, nat_tests, le-div_iff_mul-le, div-add-mod', map-append}
