@@ -4,9 +4,9 @@ use core::fmt;
 use core::time::Duration;
 use duration_str_core::{Format, TimeUnit, write_within};
 
-/// A duration that is printed within limits: as the lexicographically greatest breakdown with only these units and so few
-/// parts that is not above the duration. If all its counts are 0, it is printed as the zero: `0` and the smallest unit's
-/// name, or `0s` for a unit shorter than a second. [`format_duration`](crate::format_duration) begins it.
+/// A duration that is printed within limits: as the lexicographically greatest breakdown with only these units and so
+/// few parts that is not above the duration. If all its counts are 0, it is printed as the zero: `0` and the smallest
+/// unit's name, or `0s` for a unit shorter than a second. [`format_duration`](crate::format_duration) begins it.
 ///
 /// ```
 /// use duration_str::{TimeUnit, format_duration};

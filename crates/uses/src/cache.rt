@@ -59,8 +59,8 @@ pub fn share_entry<'a>(text: &'a str, other: &'a str) -> Result<bool, Fault<'a>>
     )
 }
 
-/// What reading the printed text of a duration, in any style, answers under every choice of options. The text is neither
-/// made nor read, so a program can ask before it stores a duration as its text.
+/// What reading the printed text of a duration, in any style, answers under every choice of options. The text is
+/// neither made nor read, so a program can ask before it stores a duration as its text.
 ///
 /// ```text
 /// read_back(Duration::new(18_446_744_073, 709_551_615)) // Ok, the same duration

@@ -4,9 +4,9 @@ use Rattle.duration_str.proofs.Common.{map, drop, Some, if◌then◌else◌, dec
 use Rattle.duration_str.proofs.Common.{append-nil, eqb-true, flat_map, ⊤, cases_Bool, FitsDuration}
 use Rattle.duration_str.proofs.Common.{Options, TimeUnit, Year, Second, row_of, units, nanos_of, unit_lengths, Terminal}
 use Rattle.duration_str.proofs.Common.{number, word, terminal_of, IsSentence, Spells, AllPlus, sum_of, terms_of}
-use Rattle.duration_str.proofs.Common.{weighted_sum, IsPrintedIn, counts_of, printed_parts, joined_parts, printed_counts}
+use Rattle.duration_str.proofs.Common.{weighted_sum, IsPrintedIn, counts_of, printed_parts, joined_parts}
 use Rattle.duration_str.proofs.Common.{Style, Short, Compact, Long, IsBlank, ap, between, before_name, name_in}
-use Rattle.duration_str.proofs.Common.{printed_part}
+use Rattle.duration_str.proofs.Common.{printed_part, printed_counts}
 use Rattle.duration_str.proofs.Characters.NumberLemmas.{decimal_terminal}
 use Rattle.duration_str.proofs.LawProofs.GreatestBreakdown.{one_greatest, greatest_breakdown_holds}
 use Rattle.duration_str.proofs.Sentences.SumReadings.{IsSumOf, terms_of_lexemes}

@@ -12,7 +12,8 @@ pub returns-then-end-eq0-clause-text : goal.returns-then-end-eq0-clause-text
 returns-then-end-eq0-clause-text c =
     let zero = part_bytes c.args.format.style 0 (zero_unit c.args.format.smallest) in
     let parts = rw c.as_nanos.ensures at c.put_within-end.ensures.text in
-    c.put_zero.ensures.text ∙ ap (λ n. ended zero (take n c.put_within-end.new.buffer)) (sym c.if-end-eq0.true) ∙ ap (ended zero) parts
+    c.put_zero.ensures.text
+    ∙ ap (λ n. ended zero (take n c.put_within-end.new.buffer)) (sym c.if-end-eq0.true) ∙ ap (ended zero) parts
     ∙ within_ended c.args.format (as_nanos c.args.d) (omega arith)
 
 pub returns-then-end-eq0-clause-utf8 : goal.returns-then-end-eq0-clause-utf8
