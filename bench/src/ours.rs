@@ -61,7 +61,7 @@ impl Library for Crate {
     #[inline(always)]
     fn printing_parts(length: Duration, parts: u32) -> [u8; 144] {
         let mut buffer = [0; 144];
-        let format = Format { parts: parts as usize, ..Format::whole() };
+        let format = Format::whole().parts(parts as usize);
         black_box(write_within(&length, format, &mut buffer).len());
         buffer
     }

@@ -137,11 +137,11 @@ DURATION_STR_MUST_USE DURATION_STR_NONNULL(3)
 size_t duration_str_format(uint64_t secs, uint32_t nanos, uint8_t *buffer);
 
 /* Prints a duration in the same way, but only in the units from `largest` to `smallest`, each a number of
- * `enum duration_str_unit`, and in at most `parts` parts: the greatest count of the largest unit, then of the next in
- * what is left, and so on. The rest is left out, so the text is never of more than the duration: in two parts from days
- * to seconds, 90,061 seconds are `1d 1h`. If there are no parts, the text is `0` and the name of the smallest unit, or
- * `0s` where that is shorter than a second; so it is if `parts` is 0 or `largest` is shorter than `smallest`. Returns 0
- * if `nanos` is 1,000,000,000 or more or a unit's number is above 10; then the buffer is unchanged. */
+ * `enum duration_str_unit`, and in at most `parts` parts: the lexicographically greatest breakdown with only these units
+ * and so few parts that is not above the duration. In two parts from days to seconds, 90,061 seconds are `1d 1h`. If all
+ * counts are 0, the text is `0` and the name of the smallest unit, or `0s` where that is shorter than a second; so it is
+ * for every duration if `largest` is shorter than `smallest` or `parts` is 0. Returns 0 if `nanos` is 1,000,000,000 or
+ * more or a unit's number is above 10; then the whole buffer is unchanged. */
 DURATION_STR_MUST_USE DURATION_STR_NONNULL(6)
 size_t duration_str_format_within(uint64_t secs, uint32_t nanos, uint32_t largest, uint32_t smallest, uint32_t parts,
                                   uint8_t *buffer);

@@ -56,12 +56,10 @@ fn put_within(secs: u64, nanos: u32, format: Format, buffer: &mut [u8]) -> usize
 
 /// The format in this style whose units have these numbers; `None` if one is above 10.
 fn format_numbered(largest: u32, smallest: u32, parts: u32, style: Style) -> Option<Format> {
-    Some(Format {
-        largest: unit_numbered(largest)?,
-        smallest: unit_numbered(smallest)?,
-        parts: parts as usize,
-        style,
-    })
+    let units = Format::whole()
+        .largest(unit_numbered(largest)?)
+        .smallest(unit_numbered(smallest)?);
+    Some(units.parts(parts as usize).style(style))
 }
 
 /// The style with this number: 0 short, 1 compact, 2 long.

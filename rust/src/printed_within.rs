@@ -4,8 +4,9 @@ use core::fmt;
 use core::time::Duration;
 use duration_str_core::{Format, TimeUnit, write_within};
 
-/// A duration that is printed in some units, and in so many parts at most: the greatest duration, not above it, that is
-/// printed so. [`format_duration`](crate::format_duration) begins it.
+/// A duration that is printed within limits: as the lexicographically greatest breakdown with only these units and so
+/// few parts that is not above the duration. If all its counts are 0, it is printed as the zero: `0` and the smallest
+/// unit's name, or `0s` for a unit shorter than a second. [`format_duration`](crate::format_duration) begins it.
 ///
 /// ```
 /// use duration_str::{TimeUnit, format_duration};
@@ -34,14 +35,13 @@ impl PrintedWithin {
     /// ```
     #[must_use]
     pub const fn parts(self, parts: usize) -> PrintedWithin {
-        let format = Format {
-            parts,
-            ..self.format
-        };
-        PrintedWithin { format, ..self }
+        PrintedWithin {
+            format: self.format.parts(parts),
+            ..self
+        }
     }
 
-    /// Printed in this unit and shorter ones.
+    /// Printed in this unit and shorter ones; as the zero if it is shorter than the smallest.
     ///
     /// ```
     /// use duration_str::{TimeUnit, format_duration};
@@ -52,15 +52,13 @@ impl PrintedWithin {
     /// ```
     #[must_use]
     pub const fn largest(self, largest: TimeUnit) -> PrintedWithin {
-        let format = Format {
-            largest,
-            ..self.format
-        };
-        PrintedWithin { format, ..self }
+        PrintedWithin {
+            format: self.format.largest(largest),
+            ..self
+        }
     }
 
-    /// Printed in this unit and longer ones. If all of the duration is left out, `0` and the unit's name are printed, or
-    /// `0s` for a unit shorter than a second.
+    /// Printed in this unit and longer ones; as the zero if it is longer than the largest.
     ///
     /// ```
     /// use duration_str::{TimeUnit, format_duration};
@@ -71,11 +69,10 @@ impl PrintedWithin {
     /// ```
     #[must_use]
     pub const fn smallest(self, smallest: TimeUnit) -> PrintedWithin {
-        let format = Format {
-            smallest,
-            ..self.format
-        };
-        PrintedWithin { format, ..self }
+        PrintedWithin {
+            format: self.format.smallest(smallest),
+            ..self
+        }
     }
 }
 
@@ -87,7 +84,7 @@ impl HumanDuration {
         }
     }
 
-    /// The duration, printed in at most so many parts: never as more than it is.
+    /// The duration, printed in at most so many parts, as [`PrintedWithin`] says.
     ///
     /// ```
     /// use duration_str::format_duration;
@@ -115,7 +112,7 @@ impl HumanDuration {
         self.within(Format::whole()).largest(largest)
     }
 
-    /// The duration, printed in this unit and longer ones, as [`PrintedWithin::smallest`] says.
+    /// The duration, printed in this unit and longer ones.
     ///
     /// ```
     /// use duration_str::{TimeUnit, format_duration};

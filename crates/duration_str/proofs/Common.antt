@@ -72,11 +72,11 @@ pub use Rattle.duration_str.specs.declared.format.Style.TheVariants.{Compact, Lo
 pub use Rattle.duration_str.specs.declared.printing.TheConstants.{MAX_LONG_LEN, MAX_PRINTED_LEN}
 pub use Rattle.duration_str.specs.Limits.{IsGreatestWithin, IsPrintedWithin, IsWithin, counts_within, lengths_within}
 pub use Rattle.duration_str.specs.Limits.{most_len, part_count, text_within, units_down_to, units_from, units_within}
-pub use Rattle.duration_str.specs.Limits.{whole_format, zero_text, zero_unit}
+pub use Rattle.duration_str.specs.Limits.{whole_format, zero_unit}
 pub use Rattle.duration_str.specs.Place.{BeginsSentence, CanFollow, IsFront, start_after, terminals_of}
-pub use Rattle.duration_str.specs.Printing.{IsBefore, IsGreatestBreakdown, IsPrinted, counts_of, printed_counts}
+pub use Rattle.duration_str.specs.Printing.{IsBefore, IsGreatestBreakdown, IsPrinted, IsPrintedIn, counts_of}
 pub use Rattle.duration_str.specs.Printing.{before_name, between, joined_parts, long_name, name_in, printed_part}
-pub use Rattle.duration_str.specs.Printing.{printed_parts, weighted_sum}
+pub use Rattle.duration_str.specs.Printing.{printed_counts, printed_parts, weighted_sum}
 pub use Rattle.duration_str.specs.Reading.{IsRead, IsRefused, IsRefusedAt, complete_terminals, complete_terms, early}
 pub use Rattle.duration_str.specs.Reading.{early_fault, first_fault, late, late_fault, place_after, running_fault}
 pub use Rattle.duration_str.specs.Reading.{syntax_fault, without_last_number}

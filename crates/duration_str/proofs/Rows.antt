@@ -3,7 +3,7 @@ use Rattle.duration_str.proofs.Common.{◌≡◌, ℕ, Bool, true, false, List, 
 use Rattle.duration_str.proofs.Common.{length, flat_map, map, encode_utf8_all, codes, Options, TimeUnit, Quarter, Plus}
 use Rattle.duration_str.proofs.Common.{Star, Empty, Syntax, NumberTooLarge, Overflow, Mixed, Expected, off, row_of}
 use Rattle.duration_str.proofs.Common.{units, unit_of_word, unit_lengths, older_units, older_unit_of_word}
-use Rattle.duration_str.proofs.Common.{Style, Compact, Long, MAX_LONG_LEN, whole_format, text_within, printed_counts}
+use Rattle.duration_str.proofs.Common.{Style, Compact, Long, Short, MAX_LONG_LEN, printed_counts}
 use Rattle.duration_str.proofs.Common.{counts_of, MAX_PRINTED_LEN, answer, message_of}
 use Rattle.duration_str.proofs.Characters.EachUnit.{Each}
 use Rattle.std.specs.Fmt.{digits}
@@ -141,11 +141,11 @@ overflows-first _ _ _ = refl
 
 -- ---- What faults and durations print
 
-abbrev printed : ℕ → List ℕ
-printed nanos = printed_counts (counts_of unit_lengths nanos)
-
 abbrev styled : Style → ℕ → List ℕ
-styled style nanos = text_within (record whole_format { style = style }) (counts_of unit_lengths nanos)
+styled style nanos = printed_counts style (counts_of unit_lengths nanos)
+
+abbrev printed : ℕ → List ℕ
+printed = styled Short
 
 abbrev longest_long : List ℕ
 longest_long =

@@ -23,7 +23,7 @@ use Rattle.duration_str.specs.Reading.{IsRead, IsRefused}
 use Rattle.duration_str.specs.Messages.{EndsInsideLine, message_of, line_of}
 use Rattle.duration_str.specs.Answer.{answer, expected_after, last_of, front_of}
 use Rattle.duration_str.specs.Older.{older_row_of, older_terminals, WasSentenceOf, WasRead, WasRefused}
-use Rattle.duration_str.specs.Printing.{IsPrinted, IsGreatestBreakdown, counts_of, weighted_sum}
+use Rattle.duration_str.specs.Printing.{IsPrintedIn, IsGreatestBreakdown, counts_of, weighted_sum}
 use Rattle.duration_str.specs.declared.format.Format.{Format}
 use Rattle.duration_str.specs.declared.format.Style.{Style}
 use Rattle.duration_str.specs.Limits.{whole_format, units_from, lengths_within, part_count, IsPrintedWithin}
@@ -152,21 +152,20 @@ pub record TwoFactors : Type 0 where
 abbrev pub GreatestBreakdown : Type 0
 GreatestBreakdown = (nanos : ℕ) → IsGreatestBreakdown unit_lengths nanos (counts_of unit_lengths nanos)
 
--- Two durations print the same text exactly if they are equal.
+-- Two durations print the same text in a style exactly if they are equal.
 abbrev pub EqualTexts : Type 0
-EqualTexts = (m n : ℕ) (a b : List ℕ) → FitsDuration m → FitsDuration n → IsPrinted m a → IsPrinted n b
-    → (a ≡ b ↔ m ≡ n)
+EqualTexts = (style : Style) (m n : ℕ) (a b : List ℕ) → FitsDuration m → FitsDuration n
+    → IsPrintedIn style m a → IsPrintedIn style n b → (a ≡ b ↔ m ≡ n)
 
--- A printed text is read back as its duration if that is below 2^64 nanoseconds. Otherwise it overflows: from 585 years
--- on in its first term.
+-- A text printed in any style is read back as its duration if that is below 2^64 nanoseconds. Otherwise it overflows:
+-- from 585 years on in its first term.
 pub record ReadsBack : Type 0 where
-  pub below : (o : Options) (nanos : ℕ) (text : List ℕ) → nanos < 2 ^ 64 → IsPrinted nanos text → IsRead o text nanos
-  pub above : (o : Options) (nanos : ℕ) (text : List ℕ) → 2 ^ 64 ≤ nanos → nanos < 585 * nanos_of Year
-      → IsPrinted nanos text → IsRefused o text (Overflow None)
-  pub far_above : (o : Options) (nanos : ℕ) (text : List ℕ) → 585 * nanos_of Year ≤ nanos → FitsDuration nanos
-      → IsPrinted nanos text → IsRefused o text (Overflow (Some 0))
-  pub each_style : (o : Options) (style : Style) (nanos : ℕ) (text : List ℕ)
-      → nanos < 2 ^ 64 → IsPrintedWithin (record whole_format { style = style }) nanos text → IsRead o text nanos
+  pub below : (o : Options) (style : Style) (nanos : ℕ) (text : List ℕ) → nanos < 2 ^ 64
+      → IsPrintedIn style nanos text → IsRead o text nanos
+  pub above : (o : Options) (style : Style) (nanos : ℕ) (text : List ℕ) → 2 ^ 64 ≤ nanos → nanos < 585 * nanos_of Year
+      → IsPrintedIn style nanos text → IsRefused o text (Overflow None)
+  pub far_above : (o : Options) (style : Style) (nanos : ℕ) (text : List ℕ) → 585 * nanos_of Year ≤ nanos
+      → FitsDuration nanos → IsPrintedIn style nanos text → IsRefused o text (Overflow (Some 0))
 
 -- Neither the line of a cause nor the text of a fault ends with a line feed.
 pub record LastLine : Type 0 where
@@ -187,8 +186,8 @@ pub record OlderTexts : Type 0 where
 
 -- With all units and at least as many parts as there are units, a duration prints as without limits.
 abbrev pub AllParts : Type 0
-AllParts = (parts nanos : ℕ) (text : List ℕ) → length units ≤ parts
-    → (IsPrintedWithin (record whole_format { parts = parts }) nanos text ↔ IsPrinted nanos text)
+AllParts = (style : Style) (parts nanos : ℕ) (text : List ℕ) → length units ≤ parts
+    → (IsPrintedWithin (record whole_format { parts = parts; style = style }) nanos text ↔ IsPrintedIn style nanos text)
 
 -- Broken down into the largest unit of the limits and all shorter ones, the duration has no more parts than they allow,
 -- and none shorter than their smallest unit.

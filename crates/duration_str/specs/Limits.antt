@@ -1,7 +1,7 @@
 -- A duration printed within limits, in the units from a largest to a smallest and in so many parts at most, and in a
 -- style.
-use Rattle.std.specs.Prelude.{◌≡◌, ℕ, ◌+◌, ◌-◌, ◌/◌, ◌%◌, ◌≤◌, List, [], ◌∷◌, ◌++◌, if◌then◌else◌, length, ◌⊎◌, ◌==◌}
-use Rattle.std.specs.Prelude.{false, nat_lt, map, codes}
+use Rattle.std.specs.Prelude.{◌≡◌, ℕ, ◌+◌, ◌-◌, ◌/◌, ◌%◌, ◌≤◌, List, [], ◌∷◌, if◌then◌else◌, length, ◌⊎◌, ◌==◌}
+use Rattle.std.specs.Prelude.{nat_lt, map}
 use Rattle.duration_str.specs.declared.format.Format.{Format}
 use Rattle.duration_str.specs.declared.unit.TimeUnit.{TimeUnit}
 use Rattle.duration_str.specs.declared.unit.TimeUnit.TheVariants.{Year, Second, NanoSecond}
@@ -9,7 +9,7 @@ use Rattle.duration_str.specs.Units.{units, nanos_of}
 use Rattle.duration_str.specs.declared.format.Style.{Style}
 use Rattle.duration_str.specs.declared.format.Style.TheVariants.{Long, Short}
 use Rattle.duration_str.specs.declared.printing.TheConstants.{MAX_LONG_LEN, MAX_PRINTED_LEN}
-use Rattle.duration_str.specs.Printing.{weighted_sum, IsBefore, before_name, name_in, printed_parts, joined_parts}
+use Rattle.duration_str.specs.Printing.{weighted_sum, IsBefore, printed_parts, joined_parts}
 
 -- all units, as many parts as there are units, and the short style
 abbrev pub whole_format : Format
@@ -54,14 +54,10 @@ pub record IsGreatestWithin (lengths : List ℕ) (parts nanos : ℕ) (counts : L
 abbrev pub zero_unit : TimeUnit → TimeUnit
 zero_unit smallest = if nat_lt (nanos_of smallest) (nanos_of Second) then Second else smallest
 
--- `0` and that unit's name
-abbrev pub zero_text : Style → TimeUnit → List ℕ
-zero_text style smallest = codes "0" ++ (before_name style ++ name_in style false (zero_unit smallest))
-
 -- the text that prints these counts
 abbrev pub text_within : Format → List ℕ → List ℕ
 text_within format counts =
-    joined_parts format.style (zero_text format.style format.smallest)
+    joined_parts format.style (zero_unit format.smallest)
     (printed_parts format.style (units_within format) counts)
 
 -- A duration of `nanos` nanoseconds prints in this format as this text.

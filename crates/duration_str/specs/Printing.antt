@@ -1,8 +1,6 @@
 -- The breakdown of a duration, and its printed text.
 use Rattle.std.specs.Prelude.{◌≡◌, ℕ, Bool, ◌+◌, ◌*◌, ◌/◌, ◌%◌, ◌<◌, List, [], ◌∷◌, ◌++◌}
-use Rattle.std.specs.Prelude.{if◌then◌else◌, length, ◌⊎◌, ◌==◌, codes}
-use Rattle.std.specs.List.{flat_map}
-use Rattle.std.specs.Fmt.{decimal}
+use Rattle.std.specs.Prelude.{if◌then◌else◌, length, ◌⊎◌, ◌==◌, codes, decimal, flat_map}
 use Rattle.duration_str.specs.declared.unit.TimeUnit.{TimeUnit}
 use Rattle.duration_str.specs.declared.unit.TimeUnit.TheVariants.{Year, Quarter, Month, Week, Day, Hour, Minute, Second}
 use Rattle.duration_str.specs.declared.unit.TimeUnit.TheVariants.{MilliSecond, MicroSecond, NanoSecond}
@@ -69,19 +67,22 @@ printed_parts style (u ∷ us) (n ∷ counts) =
     if n == 0 then printed_parts style us counts else printed_part style n u ∷ printed_parts style us counts
 printed_parts style _ _ = []
 
--- the parts, one after another; this text if there are none
-abbrev pub joined_parts : Style → List ℕ → List (List ℕ) → List ℕ
-joined_parts style zero [] = zero
-joined_parts style zero (part ∷ parts) = part ++ flat_map (λ p. between style ++ p) parts
+-- the parts, one after another; no such unit if there are none
+abbrev pub joined_parts : Style → TimeUnit → List (List ℕ) → List ℕ
+joined_parts style u [] = printed_part style 0 u
+joined_parts style u (part ∷ parts) = part ++ flat_map (λ p. between style ++ p) parts
 
--- the text that prints these counts
-abbrev pub printed_counts : List ℕ → List ℕ
-printed_counts counts = joined_parts Short (codes "0s") (printed_parts Short units counts)
+-- the text that prints these counts in a style
+abbrev pub printed_counts : Style → List ℕ → List ℕ
+printed_counts style counts = joined_parts style Second (printed_parts style units counts)
 
--- A duration of `nanos` nanoseconds prints as this text.
+-- A duration of `nanos` nanoseconds prints as this text: in this style, or in the short one where none is named.
+abbrev pub IsPrintedIn : Style → ℕ → List ℕ → Type 0
+IsPrintedIn style nanos text =
+    (counts : List ℕ) × IsGreatestBreakdown unit_lengths nanos counts × (text ≡ printed_counts style counts)
+
 abbrev pub IsPrinted : ℕ → List ℕ → Type 0
-IsPrinted nanos text =
-    (counts : List ℕ) × IsGreatestBreakdown unit_lengths nanos counts × (text ≡ printed_counts counts)
+IsPrinted = IsPrintedIn Short
 
 -- how often each length goes into what the longer lengths leave
 abbrev pub counts_of : List ℕ → ℕ → List ℕ

@@ -74,13 +74,14 @@ pub fn greatest_breakdown()
     ensures { GreatestBreakdown }
 {}
 
-/// Two durations print the same text exactly if they are equal. So `3min 31s` is printed for 211 seconds only.
+/// Two durations print the same text in a style exactly if they are equal. So `3min 31s` is printed for 211 seconds
+/// only.
 pub fn equal_texts()
     ensures { EqualTexts }
 {}
 
-/// A printed duration is read back as itself if it is below 2^64 nanoseconds, and otherwise is refused as an overflow:
-/// without a place below 585 years, and with place 0 from there on. So
+/// A duration printed in any style, without limits, is read back as itself if it is below 2^64 nanoseconds, and
+/// otherwise is refused as an overflow: without a place below 585 years, and with place 0 from there on. So
 /// `584y 3q 2mon 1w 3d 23h 34min 33s 709ms 551µs 615ns` is read as 2^64 - 1 nanoseconds, and with `616ns` it overflows.
 #[tactic(auto, using(crate::proofs::LawProofs::ReadsBack::reads_back_holds))]
 pub fn reads_back()
@@ -103,8 +104,8 @@ pub fn older_texts()
     ensures { OlderTexts }
 {}
 
-/// With all units and at least as many parts as there are units, `write_within` prints what `write_human` prints. So
-/// eleven parts of 193,029 milliseconds are `3min 13s 29ms`.
+/// With all units and at least as many parts as there are units, `write_within` prints the whole duration in its style,
+/// in the short one as `write_human` does. So eleven parts of 193,029 milliseconds are `3min 13s 29ms`.
 pub fn all_parts()
     ensures { AllParts }
 {}

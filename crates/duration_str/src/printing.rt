@@ -55,11 +55,7 @@ pub fn write_human<'b>(d: &Duration, buffer: &'b mut [u8; 64]) -> &'b str
     } else {
         TimeUnit::Year
     };
-    let format = Format {
-        largest,
-        ..Format::whole()
-    };
-    let end = fill(*d, format, buffer);
+    let end = fill(*d, Format::whole().largest(largest), buffer);
     printed(buffer, end)
 }
 
@@ -68,10 +64,11 @@ pub fn write_human<'b>(d: &Duration, buffer: &'b mut [u8; 64]) -> &'b str
 /// 999 microseconds 999 nanoseconds`.
 pub const MAX_LONG_LEN: usize = 134;
 
-/// Prints a duration within limits and in a style to the start of a buffer, whatever the buffer holds: the greatest
-/// duration, not above this one, that takes only these units and so few parts. If there are no parts it is `0` and the
-/// smallest unit's name, or that of the second where the unit is shorter. The text has at most `MAX_PRINTED_LEN` bytes,
-/// in the long style `MAX_LONG_LEN`. Allocates nothing and cannot fail.
+/// Prints a duration within limits and in a style to the start of a buffer, whatever the buffer holds: the
+/// lexicographically greatest breakdown with only these units and so few parts that is not above the duration. If all
+/// its counts are 0, the text is the zero: `0` and the smallest unit's name, or that of the second where the unit is
+/// shorter. So it is for every duration if the largest unit is shorter than the smallest, or there are no parts. The
+/// text has at most `MAX_PRINTED_LEN` bytes, in the long style `MAX_LONG_LEN`. Allocates nothing and cannot fail.
 ///
 /// ```
 /// use duration_str::{Format, Style, TimeUnit, write_within};
@@ -79,11 +76,12 @@ pub const MAX_LONG_LEN: usize = 134;
 ///
 /// let build = Duration::new(193, 29_000_000);
 /// let mut buffer = [0; 144];
-/// let two_parts = Format { parts: 2, ..Format::whole() };
+/// let two_parts = Format::whole().parts(2);
 /// assert_eq!(write_within(&build, two_parts, &mut buffer), "3min 13s");
-/// let hours = Format { smallest: TimeUnit::Hour, ..Format::whole() };
+/// let hours = Format::whole().smallest(TimeUnit::Hour);
 /// assert_eq!(write_within(&build, hours, &mut buffer), "0h");
-/// let long = Format { style: Style::Long, ..two_parts };
+/// assert_eq!(write_within(&build, hours.largest(TimeUnit::Minute), &mut buffer), "0h");
+/// let long = two_parts.style(Style::Long);
 /// assert_eq!(write_within(&build, long, &mut buffer), "3 minutes 13 seconds");
 /// ```
 #[inline(always)]

@@ -91,12 +91,10 @@ fn format_numbered(largest: u32, smallest: u32, parts: u32, style: Style) -> Opt
         × (format ≡ format_numbered largest smallest parts style)) }
     ensures none { IfNone result ((10 < largest) ⊎ (10 < smallest)) }
 {
-    Some(Format {
-        largest: unit_numbered(largest)?,
-        smallest: unit_numbered(smallest)?,
-        parts: parts as usize,
-        style,
-    })
+    let units = Format::whole()
+        .largest(unit_numbered(largest)?)
+        .smallest(unit_numbered(smallest)?);
+    Some(units.parts(parts as usize).style(style))
 }
 
 /// The style with this number: 0 short, 1 compact, 2 long.

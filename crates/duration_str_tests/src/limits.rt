@@ -1,6 +1,6 @@
 // Texts printed within limits.
 use duration_str::{
-    Cause, Format, MAX_PRINTED_LEN, Options, Style, TimeUnit, parse_with, write_human, write_within,
+    Cause, Format, MAX_PRINTED_LEN, Options, TimeUnit, parse_with, write_human, write_within,
 };
 use std::time::Duration;
 
@@ -27,15 +27,9 @@ fn prints(nanos: u64, format: Format, text: &str) -> bool {
 
 #[test]
 fn prints_about_the_length_of_each_unit(rt: HostRuntime) {
-    let one = Format {
-        parts: 1,
-        ..Format::whole()
-    };
+    let one = Format::whole().parts(1);
     for (unit, nanos, text, below, zero) in UNITS {
-        let down_to = Format {
-            smallest: unit,
-            ..Format::whole()
-        };
+        let down_to = Format::whole().smallest(unit);
         assert!(rt; prints(nanos - 1, one, below), "{below}");
         assert!(rt; prints(nanos - 1, down_to, zero), "{zero}");
         assert!(rt; prints(nanos, one, text), "{text}");
@@ -43,10 +37,7 @@ fn prints_about_the_length_of_each_unit(rt: HostRuntime) {
     }
     for (unit, nanos, text, _, _) in UNITS.iter().copied().take(10) {
         let above = nanos.saturating_add(1);
-        let down_to = Format {
-            smallest: unit,
-            ..Format::whole()
-        };
+        let down_to = Format::whole().smallest(unit);
         assert!(rt; prints(above, one, text), "{text}");
         assert!(rt; prints(above, down_to, text), "{text}");
     }
@@ -121,12 +112,10 @@ fn leaves_out_the_rest(rt: HostRuntime) {
         ),
         (193_029_000_000, TimeUnit::Second, TimeUnit::Hour, 3, "0h"),
     ] {
-        let format = Format {
-            largest,
-            smallest,
-            parts,
-            style: Style::Short,
-        };
+        let format = Format::whole()
+            .largest(largest)
+            .smallest(smallest)
+            .parts(parts);
         assert!(rt; prints(nanos, format, text), "{text}");
     }
 }
@@ -151,12 +140,10 @@ fn prints_the_longest_duration_within_all_limits(rt: HostRuntime) {
     for (largest, longest, _, _, _) in UNITS {
         for (smallest, shortest, _, _, _) in UNITS {
             for parts in 0..13usize {
-                let format = Format {
-                    largest,
-                    smallest,
-                    parts,
-                    style: Style::Short,
-                };
+                let format = Format::whole()
+                    .largest(largest)
+                    .smallest(smallest)
+                    .parts(parts);
                 let text = write_within(&Duration::MAX, format, &mut buffer);
                 assert!(rt; text.len() <= MAX_PRINTED_LEN, "{text}");
                 assert!(rt;

@@ -4,11 +4,7 @@ use std::time::Duration;
 
 /// Whether the duration prints in the style as this text, which is read back as it.
 fn prints(length: Duration, style: Style, text: &str) -> bool {
-    let format = Format {
-        style,
-        ..Format::whole()
-    };
-    write_within(&length, format, &mut [0xff; 144]) == text
+    write_within(&length, Format::whole().style(style), &mut [0xff; 144]) == text
         && parse_with(text, Options::off()) == Ok(length)
 }
 
@@ -54,11 +50,7 @@ fn prints_the_zero_of_the_smallest_unit(rt: HostRuntime) {
         (Style::Compact, "0h"),
         (Style::Short, "0h"),
     ] {
-        let hours = Format {
-            smallest: TimeUnit::Hour,
-            style,
-            ..Format::whole()
-        };
+        let hours = Format::whole().smallest(TimeUnit::Hour).style(style);
         assert!(rt;
             write_within(&minute, hours, &mut [0; 144]) == zero,
             "{zero}"
@@ -69,10 +61,7 @@ fn prints_the_zero_of_the_smallest_unit(rt: HostRuntime) {
 #[test]
 fn reaches_the_greatest_length(rt: HostRuntime) {
     let longest = Duration::new(3_153_600_000_031_190_399, 999_999_999);
-    let format = Format {
-        style: Style::Long,
-        ..Format::whole()
-    };
+    let format = Format::whole().style(Style::Long);
     let text = write_within(&longest, format, &mut [0; 144]).len();
     assert_eq!(rt; text, MAX_LONG_LEN);
 }

@@ -3,23 +3,25 @@
 
 use crate::unit::{TimeUnit, UNITS};
 
-/// How a duration is printed: in which units, in how many parts at most, and in which style. With no parts, or a
-/// largest unit that is shorter than the smallest, every duration prints as the zero.
+/// How a duration is printed: in which units, in how many parts at most, and in which style. It begins with
+/// [`Format::whole`], since a later version may have more fields.
 ///
 /// ```
 /// use duration_str::{Format, TimeUnit, write_within};
 /// use std::time::Duration;
 ///
-/// let days = Format { largest: TimeUnit::Day, ..Format::whole() };
+/// let days = Format::whole().largest(TimeUnit::Day);
 /// assert_eq!(write_within(&Duration::new(120 * 86_400, 5), days, &mut [0; 144]), "120d 5ns");
 /// ```
 #[derive(Clone, Copy, Debug, PartialEq, Eq, Hash)]
+#[non_exhaustive]
 pub struct Format {
-    /// The largest unit that is printed.
+    /// The largest unit that is printed. If it is shorter than the smallest, every duration prints as the zero, as
+    /// [`write_within`](crate::write_within) says.
     pub largest: TimeUnit,
     /// The smallest unit that is printed.
     pub smallest: TimeUnit,
-    /// How many parts are printed at most.
+    /// How many parts are printed at most. If it is 0, every duration prints as the zero.
     pub parts: usize,
     /// How the parts are written.
     pub style: Style,
@@ -27,6 +29,7 @@ pub struct Format {
 
 /// How the parts of a printed duration are written.
 #[derive(Clone, Copy, Debug, PartialEq, Eq, Hash)]
+#[non_exhaustive]
 pub enum Style {
     /// `1h 30min`
     Short,
@@ -51,6 +54,67 @@ impl Format {
             parts: UNITS.len(),
             style: Style::Short,
         }
+    }
+
+    /// The same format with this largest unit.
+    ///
+    /// ```
+    /// use duration_str::{Format, TimeUnit, write_within};
+    /// use std::time::Duration;
+    ///
+    /// let minutes = Format::whole().largest(TimeUnit::Minute);
+    /// assert_eq!(write_within(&Duration::new(5_430, 0), minutes, &mut [0; 144]), "90min 30s");
+    /// ```
+    #[inline]
+    #[must_use]
+    pub const fn largest(self, largest: TimeUnit) -> Format {
+        Format { largest, ..self }
+    }
+
+    /// The same format with this smallest unit.
+    ///
+    /// ```
+    /// use duration_str::{Format, TimeUnit, write_within};
+    /// use std::time::Duration;
+    ///
+    /// let minutes = Format::whole().smallest(TimeUnit::Minute);
+    /// assert_eq!(write_within(&Duration::new(5_430, 0), minutes, &mut [0; 144]), "1h 30min");
+    /// assert_eq!(write_within(&Duration::new(30, 0), minutes, &mut [0; 144]), "0min");
+    /// ```
+    #[inline]
+    #[must_use]
+    pub const fn smallest(self, smallest: TimeUnit) -> Format {
+        Format { smallest, ..self }
+    }
+
+    /// The same format with so many parts at most.
+    ///
+    /// ```
+    /// use duration_str::{Format, write_within};
+    /// use std::time::Duration;
+    ///
+    /// let one_part = Format::whole().parts(1);
+    /// assert_eq!(write_within(&Duration::new(5_430, 0), one_part, &mut [0; 144]), "1h");
+    /// ```
+    #[inline]
+    #[must_use]
+    pub const fn parts(self, parts: usize) -> Format {
+        Format { parts, ..self }
+    }
+
+    /// The same format in this style.
+    ///
+    /// ```
+    /// use duration_str::{Format, Style, write_within};
+    /// use std::time::Duration;
+    ///
+    /// let long = Format::whole().style(Style::Long);
+    /// assert_eq!(write_within(&Duration::new(5_430, 0), long, &mut [0; 144]), "1 hour 30 minutes 30 seconds");
+    /// ```
+    #[inline]
+    #[must_use]
+    pub const fn style(self, style: Style) -> Format {
+        Format { style, ..self }
     }
 
     /// The units from the largest to the smallest.

@@ -1,8 +1,8 @@
 //! Printed durations.
 use crate::vectors::vectors;
 use duration_str::{
-    Cause, Format, HumanFormat, Options, PrintedWithin, Style, TimeUnit, format_duration,
-    parse_with, write_human, write_within,
+    Cause, Format, HumanFormat, Options, PrintedWithin, TimeUnit, format_duration, parse_with,
+    write_human, write_within,
 };
 use proptest::prelude::*;
 use std::time::Duration;
@@ -43,12 +43,10 @@ fn prints_the_longest() {
 
 /// The duration printed within limits by each call, which have to agree.
 fn within(length: Duration, largest: TimeUnit, smallest: TimeUnit, parts: usize) -> String {
-    let format = Format {
-        largest,
-        smallest,
-        parts,
-        style: Style::Short,
-    };
+    let format = Format::whole()
+        .largest(largest)
+        .smallest(smallest)
+        .parts(parts);
     let human = format_duration(length);
     let printed = write_within(&length, format, &mut [0xff; 144]).to_string();
     for other in [

@@ -1,7 +1,7 @@
 -- With all units and as many parts as there are units, the counts are those of the breakdown.
 use Rattle.duration_str.proofs.Common.{◌≡◌, ℕ, ◌-◌, ◌/◌, ◌%◌, ◌≤◌, ◌==◌, ◌∙◌, inl, inr, false, List, [], ◌∷◌, length}
 use Rattle.duration_str.proofs.Common.{arith, refl, sym, ap, cases_Bool, nat_tests, unit_lengths, Format, whole_format}
-use Rattle.duration_str.proofs.Common.{counts_within, text_within, printed_counts, counts_of, AllParts}
+use Rattle.duration_str.proofs.Common.{counts_within, text_within, printed_counts, counts_of, AllParts, Short}
 use Rattle.duration_str.proofs.Common.{⊤, ◌++◌, ◌<◌, map, take, nanos_of, Day, Hour, IsPrinted, IsPrintedWithin}
 use Rattle.duration_str.proofs.Common.{lengths_within}
 use Rattle.std.proofs.Math.Nat.{div-eq_of_lt}
@@ -27,8 +27,8 @@ all_counts (l ∷ lengths) most nanos h =
     ]
 
 pub all_parts_holds : AllParts
-all_parts_holds parts nanos text enough =
-    let format : Format = record whole_format { parts = parts } in
+all_parts_holds style parts nanos text enough =
+    let format : Format = record whole_format { parts = parts; style = style } in
     let same = all_counts unit_lengths parts nanos enough in (
       λ p. (
         counts_of unit_lengths nanos,
@@ -38,7 +38,7 @@ all_parts_holds parts nanos text enough =
       λ p. (
         counts_within unit_lengths parts nanos,
         greatest_within format nanos,
-        counts_are nanos text p ∙ ap printed_counts (sym same),
+        counts_are style nanos text p ∙ ap (printed_counts style) (sym same),
       ),
     )
 
@@ -61,5 +61,5 @@ printed_below_day nanos text h p =
       counts_of unit_lengths nanos,
       greatest_breakdown_holds nanos,
       p.2 ∙ ap (text_within format) (one_greatest_within format nanos p.0 p.1
-          ∙ all_counts lengths format.parts nanos (omega arith)) ∙ ap printed_counts (sym all),
+          ∙ all_counts lengths format.parts nanos (omega arith)) ∙ ap (printed_counts Short) (sym all),
     )

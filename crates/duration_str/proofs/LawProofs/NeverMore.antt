@@ -1,4 +1,4 @@
--- What is printed within limits is the greatest duration that they can show.
+-- What is printed within limits is the greatest duration whose own breakdown keeps within them.
 use Rattle.duration_str.proofs.Common.{◌≡◌, ℕ, ◌+◌, ◌-◌, ◌*◌, ◌/◌, ◌%◌, ◌^◌, ◌≤◌, ◌<◌, ◌==◌, ◌∙◌, inl, inr, true, false}
 use Rattle.duration_str.proofs.Common.{List, [], ◌∷◌, ◌++◌, length, map, if◌then◌else◌, arith, refl, sym, ap, subst}
 use Rattle.duration_str.proofs.Common.{cases_Bool, cases_lt, nat_tests, le-div_iff_mul-le, div-add-mod', map-append}
@@ -192,7 +192,7 @@ each_below (l ∷ lengths) (n ∷ counts) h e small =
     let product : n ≤ n * l = le-mul_of_pos_right n h.0 in
     (omega arith, each_below lengths counts h.1 (omega arith) (omega arith))
 
-pub reads : (o : Options) (format : Format) (counts text : List ℕ) → length counts ≡ length (lengths_within format)
+reads : (o : Options) (format : Format) (counts text : List ℕ) → length counts ≡ length (lengths_within format)
     → weighted_sum (lengths_within format) counts < 2 ^ 64 → text ≡ text_within format counts
     → IsRead o text (weighted_sum (lengths_within format) counts)
 reads o format counts text each small same =

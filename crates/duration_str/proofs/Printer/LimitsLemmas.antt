@@ -4,18 +4,17 @@ use Rattle.duration_str.proofs.Common.{◌++◌, false, inl, inr, List, [], ◌�
 use Rattle.duration_str.proofs.Common.{decimal, encode_utf8_all, arith, refl, leb}
 use Rattle.duration_str.proofs.Common.{leb-true, ltb, ltb-true, length-append, IsUtf8, cases_Bool}
 use Rattle.duration_str.proofs.Common.{nat_tests, list_all, le-div_iff_mul-le, div-le_self, mod-le}
-use Rattle.duration_str.proofs.Common.{decimal_digit}
 use Rattle.duration_str.proofs.Common.{TimeUnit, Year, units}
 use Rattle.duration_str.proofs.Common.{nanos_of, Format, units_within, lengths_within}
-use Rattle.duration_str.proofs.Common.{zero_text, zero_unit, counts_within, with_part}
+use Rattle.duration_str.proofs.Common.{zero_unit, counts_within, with_part}
 use Rattle.duration_str.proofs.Common.{with_counts}
 use Rattle.duration_str.proofs.Common.{true, ap, sym, chars, chars_from_encodes, Style, Short, Compact, Long, between}
 use Rattle.duration_str.proofs.Common.{with_gap, part_bytes, name_part, most_len, text_within, IsPrintedWithin}
 use Rattle.duration_str.proofs.Characters.EachUnit.{Each, each_unit, all_units}
 use Rattle.duration_str.proofs.Characters.NameLemmas.{length_part, name_len}
 use Rattle.duration_str.proofs.Printer.DigitLemmas.{length_smaller, length_one}
-use Rattle.duration_str.proofs.Printer.PrintedBytesLemmas.{AreShort, ended, ended_parts, encode_part}
-use Rattle.duration_str.proofs.Printer.PrintedBytesLemmas.{IsUtf8-joined, no_gap, utf8_part}
+use Rattle.duration_str.proofs.Printer.PrintedBytesLemmas.{AreShort, ended, ended_parts}
+use Rattle.duration_str.proofs.Printer.PrintedBytesLemmas.{IsUtf8-joined, no_gap}
 use Rattle.duration_str.proofs.LawProofs.GreatestWithin.{some_length, below_length, greatest_within}
 use Rattle.duration_str.specs.Internal.PrintedBytes.{digits}
 use Rattle.duration_str.specs.Internal.UnitTable.{rank_of}
@@ -254,25 +253,18 @@ within_short (l ∷ lengths) most nanos h = elim (cases_Bool (most == 0)) [
   ]
 ]
 
-pub encode_zero : (style : Style) (smallest : TimeUnit)
-    → part_bytes style 0 (zero_unit smallest) ≡ encode_utf8_all (zero_text style smallest)
-encode_zero style smallest =
-    rw (← encode_part style 0 (zero_unit smallest) (omega arith), decimal_digit 0 (omega arith))
-
 pub within_ended : (format : Format) (nanos : ℕ) → nanos < 10 ^ 64
-    → ended (encode_utf8_all (zero_text format.style format.smallest))
+    → ended (part_bytes format.style 0 (zero_unit format.smallest))
     (with_counts format.style [] (units_within format) (counts_within (lengths_within format) format.parts nanos))
     ≡ encode_utf8_all (text_within format (counts_within (lengths_within format) format.parts nanos))
 within_ended format nanos h =
-    ended_parts format.style (zero_text format.style format.smallest) (units_within format) _
+    ended_parts format.style (zero_unit format.smallest) (units_within format) _
     (within_short (lengths_within format) format.parts nanos h)
 
 pub within_utf8 : (format : Format) (nanos : ℕ) → nanos < 10 ^ 64
     → IsUtf8 (encode_utf8_all (text_within format (counts_within (lengths_within format) format.parts nanos)))
 within_utf8 format nanos h =
-    IsUtf8-joined format.style (zero_text format.style format.smallest) (units_within format) _
-    (rw (← encode_zero format.style format.smallest)
-    (utf8_part format.style 0 (zero_unit format.smallest) (omega arith)))
+    IsUtf8-joined format.style (zero_unit format.smallest) (units_within format) _
     (within_short (lengths_within format) format.parts nanos h)
 
 -- The bytes of such a text print the duration.

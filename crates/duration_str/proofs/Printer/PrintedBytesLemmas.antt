@@ -72,8 +72,8 @@ ended_some : (zero bytes : List ℕ) → 0 < length bytes → ended zero bytes �
 ended_some zero [] h = absurd (omega arith)
 ended_some zero (b ∷ bytes) h = refl
 
-pub ended_parts : (style : Style) (zero : List ℕ) (us : List TimeUnit) (counts : List ℕ) → AreShort counts
-    → ended (encode_utf8_all zero) (with_counts style [] us counts)
+pub ended_parts : (style : Style) (zero : TimeUnit) (us : List TimeUnit) (counts : List ℕ) → AreShort counts
+    → ended (part_bytes style 0 zero) (with_counts style [] us counts)
     ≡ encode_utf8_all (joined_parts style zero (printed_parts style us counts))
 ended_parts style zero (u ∷ us) (n ∷ counts) short =
     let first = part_bytes style n u in
@@ -82,10 +82,10 @@ ended_parts style zero (u ∷ us) (n ∷ counts) short =
       | inl e ↦ rw e (ended_parts style zero us counts short.1)
       | inr e ↦
           rw (e, no_gap style, parts_after style us first counts some short.1)
-          (ended_some (encode_utf8_all zero) (first ++ _) (omega (arith, length-append {A = ℕ}, some))
+          (ended_some (part_bytes style 0 zero) (first ++ _) (omega (arith, length-append {A = ℕ}, some))
           ∙ rw (encodes-append (printed_part style n u), encode_part style n u short.0))
     ]
-ended_parts style zero _ _ short = refl
+ended_parts style zero _ _ short = sym (encode_part style 0 zero (omega arith))
 
 pub ended_take : (zero : List ℕ) (end : ℕ) (buffer : List ℕ) → 0 < end → end ≤ length buffer
     → ended zero (take end buffer) ≡ take end buffer
@@ -116,10 +116,9 @@ utf8_ended : (zero bytes : List ℕ) → IsUtf8 zero → IsUtf8 bytes → IsUtf8
 utf8_ended zero [] zero_utf8 utf8 = zero_utf8
 utf8_ended zero (b ∷ bytes) zero_utf8 utf8 = utf8
 
--- The text that prints short counts is UTF-8 if the zero is.
-pub IsUtf8-joined : (style : Style) (zero : List ℕ) (us : List TimeUnit) (counts : List ℕ)
-    → IsUtf8 (encode_utf8_all zero) → AreShort counts
+-- The text that prints short counts is UTF-8.
+pub IsUtf8-joined : (style : Style) (zero : TimeUnit) (us : List TimeUnit) (counts : List ℕ) → AreShort counts
     → IsUtf8 (encode_utf8_all (joined_parts style zero (printed_parts style us counts)))
-IsUtf8-joined style zero us counts utf8 short =
-    rw (← ended_parts style zero us counts short)
-    (utf8_ended (encode_utf8_all zero) _ utf8 (utf8_parts style us [] counts IsUtf8-nil short))
+IsUtf8-joined style zero us counts short =
+    rw (← ended_parts style zero us counts short) (utf8_ended (part_bytes style 0 zero) _
+    (utf8_part style 0 zero (omega arith)) (utf8_parts style us [] counts IsUtf8-nil short))

@@ -1,12 +1,12 @@
 -- A printed text is spelled by a sum whose total is the duration.
 use Rattle.duration_str.proofs.Common.{◌≡◌, ℕ, ◌%◌, ◌^◌, ◌<◌, inl, inr, Bool, true, false, ◌==◌, List, [], ◌∷◌, ◌++◌}
-use Rattle.duration_str.proofs.Common.{map, drop, Some, if◌then◌else◌, decimal, codes, arith, refl, append_assoc}
-use Rattle.duration_str.proofs.Common.{append-nil, sym, eqb-true, flat_map, ⊤, cases_Bool, decimal_digit, FitsDuration}
+use Rattle.duration_str.proofs.Common.{map, drop, Some, if◌then◌else◌, decimal, arith, refl, append_assoc}
+use Rattle.duration_str.proofs.Common.{append-nil, eqb-true, flat_map, ⊤, cases_Bool, FitsDuration}
 use Rattle.duration_str.proofs.Common.{Options, TimeUnit, Year, Second, row_of, units, nanos_of, unit_lengths, Terminal}
 use Rattle.duration_str.proofs.Common.{number, word, terminal_of, IsSentence, Spells, AllPlus, sum_of, terms_of}
-use Rattle.duration_str.proofs.Common.{weighted_sum, IsPrinted, counts_of, printed_parts, joined_parts, printed_counts}
+use Rattle.duration_str.proofs.Common.{weighted_sum, IsPrintedIn, counts_of, printed_parts, joined_parts}
 use Rattle.duration_str.proofs.Common.{Style, Short, Compact, Long, IsBlank, ap, between, before_name, name_in}
-use Rattle.duration_str.proofs.Common.{printed_part}
+use Rattle.duration_str.proofs.Common.{printed_part, printed_counts}
 use Rattle.duration_str.proofs.Characters.NumberLemmas.{decimal_terminal}
 use Rattle.duration_str.proofs.LawProofs.GreatestBreakdown.{one_greatest, greatest_breakdown_holds}
 use Rattle.duration_str.proofs.Sentences.SumReadings.{IsSumOf, terms_of_lexemes}
@@ -35,8 +35,8 @@ terminals (p ∷ ps) = number p.0 ∷ word (Some p.1) ∷ terminals ps
 abbrev pub printed : ℕ → List (ℕ × TimeUnit)
 printed nanos = or_zero Second (kept units (counts_of unit_lengths nanos))
 
-abbrev pub duration_lexemes : ℕ → List (List ℕ)
-duration_lexemes nanos = lexemes Short (printed nanos)
+abbrev pub duration_lexemes : Style → ℕ → List (List ℕ)
+duration_lexemes style nanos = lexemes style (printed nanos)
 
 -- ---- The lexemes spell the text
 
@@ -77,12 +77,8 @@ later_spelled style (p ∷ ps) =
 
 pub all_spelled : (style : Style) (u : TimeUnit) (ps : List (ℕ × TimeUnit))
     → Spells (lexemes style (or_zero u ps))
-    (joined_parts style (codes "0" ++ (before_name style ++ name_in style false u)) (map (part style) ps))
-all_spelled style u [] =
-    let name = name_in style false u in
-    begins_with [] (before_name style ++ name) refl (rw (decimal_digit 0 (omega arith)))
-    (begins_with (before_name style) [] (blank_before style)
-    (ap (λ bytes. before_name style ++ bytes) (sym (append-nil name))) refl)
+    (joined_parts style u (map (part style) ps))
+all_spelled style u [] = rw append-nil at (part_spelled style [] [] (0, u) [] refl refl)
 all_spelled style u (p ∷ ps) = part_spelled style [] _ p ps refl (later_spelled style ps)
 
 -- ---- The lexemes have these terminals
@@ -149,10 +145,10 @@ counts_below : (lengths : List ℕ) (nanos : ℕ) → nanos < 2 ^ 64 → EachBel
 counts_below [] nanos h = tt
 counts_below (l ∷ lengths) nanos h = (omega arith, counts_below lengths (nanos % l) (omega arith))
 
-pub terminals_of_duration : (o : Options) (nanos : ℕ) → FitsDuration nanos
-    → map (terminal_of o) (duration_lexemes nanos) ≡ terminals (printed nanos)
-terminals_of_duration o nanos h =
-    terminals_or_zero o Short Second _ (terminals_kept o Short units (counts_of unit_lengths nanos)
+pub terminals_of_duration : (o : Options) (style : Style) (nanos : ℕ) → FitsDuration nanos
+    → map (terminal_of o) (duration_lexemes style nanos) ≡ terminals (printed nanos)
+terminals_of_duration o style nanos h =
+    terminals_or_zero o style Second _ (terminals_kept o style units (counts_of unit_lengths nanos)
     (omega arith, counts_below (drop 1 unit_lengths) (nanos % nanos_of Year) (omega arith)))
 
 -- ---- The terminals are a sentence without operators
@@ -167,22 +163,23 @@ pub units_plus : (ps : List (ℕ × TimeUnit)) → AllPlus (terminals ps)
 units_plus [] = tt
 units_plus (p ∷ ps) = units_plus ps
 
-pub counts_are : (nanos : ℕ) (text : List ℕ) → IsPrinted nanos text
-    → text ≡ printed_counts (counts_of unit_lengths nanos)
-counts_are nanos text p =
+pub counts_are : (style : Style) (nanos : ℕ) (text : List ℕ) → IsPrintedIn style nanos text
+    → text ≡ printed_counts style (counts_of unit_lengths nanos)
+counts_are style nanos text p =
     let same = one_greatest unit_lengths nanos p.0 (counts_of unit_lengths nanos) p.1
     (greatest_breakdown_holds nanos) in cc (p.2)
 
-pub printed_is_sum : (o : Options) (nanos : ℕ) (text : List ℕ) → FitsDuration nanos → IsPrinted nanos text
-    → IsSumOf o (duration_lexemes nanos) text
-printed_is_sum o nanos text h p =
+pub printed_is_sum : (o : Options) (style : Style) (nanos : ℕ) (text : List ℕ) → FitsDuration nanos
+    → IsPrintedIn style nanos text → IsSumOf o (duration_lexemes style nanos) text
+printed_is_sum o style nanos text h p =
     let counts : List ℕ = counts_of unit_lengths nanos in
     record {
       sentence = (
-        rw (terminals_of_duration o nanos h) (units_sentence o.no_calc Second (kept units counts)),
-        rw (counts_are nanos text p, parts_kept Short units counts) (all_spelled Short Second (kept units counts)),
+        rw (terminals_of_duration o style nanos h) (units_sentence o.no_calc Second (kept units counts)),
+        rw (counts_are style nanos text p, parts_kept style units counts)
+            (all_spelled style Second (kept units counts)),
       );
-      plus = rw (terminals_of_duration o nanos h) (units_plus (printed nanos));
+      plus = rw (terminals_of_duration o style nanos h) (units_plus (printed nanos));
     }
 
 -- ---- The total is the duration
@@ -200,9 +197,9 @@ pub sum_or_zero : (u : TimeUnit) (ps : List (ℕ × TimeUnit))
 sum_or_zero u [] = omega arith
 sum_or_zero u (p ∷ ps) = refl
 
-pub duration_sum : (o : Options) (nanos : ℕ) → FitsDuration nanos
-    → sum_of (terms_of_lexemes o (duration_lexemes nanos)) ≡ nanos
-duration_sum o nanos h =
+pub duration_sum : (o : Options) (style : Style) (nanos : ℕ) → FitsDuration nanos
+    → sum_of (terms_of_lexemes o (duration_lexemes style nanos)) ≡ nanos
+duration_sum o style nanos h =
     let counts : List ℕ = counts_of unit_lengths nanos in
-    rw (terminals_of_duration o nanos h, sum_or_zero Second (kept units counts), sum_kept units counts)
+    rw (terminals_of_duration o style nanos h, sum_or_zero Second (kept units counts), sum_kept units counts)
     (greatest_breakdown_holds nanos).breakdown.whole
