@@ -43,7 +43,7 @@ cargo = tools/cargo-for $(target) $(1) --quiet --profile $(profile) --target-dir
 static =
 
 # Where nothing can be written, what is there serves if it is current: $(call serves,FILE,FOLDER)
-serves = [ ! -w . ] && [ -e $(1) ] && [ -z "$$(find Cargo.toml $(2) rust/core -newer $(1) -print -quit)" ]
+serves = { [ ! -w . ] && [ -e $(1) ] && [ -z "$$(find Cargo.toml $(2) rust/core -newer $(1) -print -quit)" ]; }
 
 program:
 	@program=$(built)/durstr
