@@ -41,6 +41,7 @@ target = $(shell rustc -vV 2>/dev/null | sed -n 's/^host: //p')
 built = out/cargo/$(target)/$(profile)
 cargo = tools/cargo-for $(target) $(1) --quiet --profile $(profile) --target-dir out/cargo
 static =
+comma := ,
 
 # Where nothing can be written, what is there serves if it is current: $(call serves,FILE,FOLDER)
 serves = { [ ! -w . ] && [ -e $(1) ] && [ -z "$$(find Cargo.toml $(2) rust/core -newer $(1) -print -quit)" ]; }

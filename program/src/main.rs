@@ -16,7 +16,8 @@ fn ended() -> (u8, &'static str) {
             None => return (2, "durstr: unknown word"),
         }
     }
-    ending(run(Heap, &mut io::stdin().lock(), &mut io::stdout().lock(), options))
+    let (mut input, mut output) = (io::stdin().lock(), io::stdout().lock());
+    ending(run(Heap, &mut input, &mut output, options))
 }
 
 fn main() -> ExitCode {
