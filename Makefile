@@ -54,7 +54,7 @@ program:
 	    [ -x $$program ] || echo 'durstr: cargo builds it, in seconds' >&2
 	    $(if $(static),RUSTFLAGS="$${RUSTFLAGS-} -C target-feature=+crt-static") \
 	        $(call cargo,std$(comma)panic_abort build) -p durstr
-	elif type -P rt >/dev/null && [ -z "$(target)" ]; then
+	elif type -P rt >/dev/null && [ $(origin target) = file ]; then
 	    program=crates/durstr/out/durstr
 	    [ -x $$program ] || echo 'durstr: there is no cargo, so rt proves and builds it, which takes minutes' >&2
 	    said=$$(cd crates/durstr && rt run </dev/null 2>&1) || { tail <<<"$$said" >&2; exit 1; }
