@@ -1,8 +1,9 @@
 # make                 builds the program and the library for C, and says where they lie
 # make program         the program alone
 # make library         the library alone: an archive and a shared library, or a WebAssembly module
+# make setup           installs what the tests need, on Debian, as root or where sudo asks for no password
 # make prove           proves everything, by the Rattle toolchain's command rt
-# make check           proves and tests everything, in half an hour to an hour
+# make check           proves everything, where there is rt, and tests what is built, in half an hour to an hour
 # make quick           proves what has changed and runs the tests that take seconds
 # make install         puts both, the header and the manual pages below prefix=/usr/local, or into bindir=, libdir=,
 #                      includedir=, mandir= and docdir=, all below DESTDIR= if that is set
@@ -12,13 +13,13 @@
 # make clean           removes what was built and proved here, except dist/
 #
 # cargo builds all of this, from Rust 1.85 on, of the proved sources without their contracts, and without a network; for
-# another machine with target=TARGET, by rustc's name, as aarch64-unknown-linux-gnu. Where there is rt and no cargo, it
-# builds the program.
+# another machine with target=TARGET, by rustc's name, as aarch64-unknown-linux-gnu; with static=yes the program needs no
+# shared library. Where there is rt and no cargo, it builds the program.
 SHELL := bash
 .SHELLFLAGS := -euo pipefail -c
 .ONESHELL:
 .NOTPARALLEL:
-.PHONY: all program library prove check quick install uninstall release page clean help installable
+.PHONY: all program library setup prove check quick install uninstall release page clean help installable
 unexport MAKEFLAGS CDPATH
 MAKEFLAGS += --no-builtin-rules --no-print-directory
 
@@ -34,24 +35,28 @@ help:
 
 # ---- What is built
 
-target =
+# ./durstr takes the profile `quick`; what is installed and released, the other.
+profile = release
+target = $(shell rustc -vV 2>/dev/null | sed -n 's/^host: //p')
+built = out/cargo/$(target)/$(profile)
+cargo = tools/cargo-for $(target) $(1) --quiet --profile $(profile) --target-dir out/cargo
+static =
 comma := ,
-# No file of what is built names the folder where it was.
-export CARGO_ENCODED_RUSTFLAGS = --remap-path-prefix=$(CURDIR)=.
-release = out/cargo/$(if $(target),$(target)/)release
-cargo = $(if $(target),tools/cargo-for $(target) $(1) $(2),cargo $(2) --offline) --quiet --release --target-dir out/cargo
 
-# Where nothing can be written, what is there serves.
+# Where nothing can be written, what is there serves if it is current: $(call serves,FILE,FOLDER)
+serves = { [ ! -w . ] && [ -e $(1) ] && [ -z "$$(find Cargo.toml $(2) rust/core -newer $(1) -print -quit)" ]; }
+
 program:
-	@program=$(release)/durstr
-	if [ ! -w . ] && [ -x $$program ]; then
+	@program=$(built)/durstr
+	if $(call serves,$$program,program); then
 	    :
 	elif type -P cargo >/dev/null; then
 	    [ -x $$program ] || echo 'durstr: cargo builds it, in seconds' >&2
-	    $(call cargo,std$(comma)panic_abort,build) -p durstr
-	elif type -P rt >/dev/null && [ -z "$(target)" ]; then
+	    $(if $(static),RUSTFLAGS="$${RUSTFLAGS-} -C target-feature=+crt-static") \
+	        $(call cargo,std$(comma)panic_abort build) -p durstr
+	elif type -P rt >/dev/null && [ $(origin target) = file ]; then
 	    program=crates/durstr/out/durstr
-	    [ -x $$program ] || echo 'durstr: there is no cargo, so rt builds it, which proves it first, in minutes' >&2
+	    [ -x $$program ] || echo 'durstr: there is no cargo, so rt proves and builds it, which takes minutes' >&2
 	    said=$$(cd crates/durstr && rt run </dev/null 2>&1) || { tail <<<"$$said" >&2; exit 1; }
 	else
 	    echo 'durstr: needs cargo, with Rust 1.85 or later, or else the Rattle toolchain (see README.md)' >&2
@@ -61,11 +66,12 @@ program:
 
 # Of rustc's own archive 4.3 MB are helpers that nothing calls; the object has all that is needed.
 library:
-	@type -P cargo >/dev/null || { echo 'library: needs cargo, with Rust 1.85 or later (see README.md)' >&2; exit 1; }
-	object=$(release)/duration_str.o
-	$(call cargo,core,rustc) -p duration-str-c -- $(if $(filter wasm%,$(target)),,--emit obj=$$object)
-	[ ! -e $$object ] || { rm -f $(release)/libduration_str.a && ar rcs $(release)/libduration_str.a $$object; }
-	echo $(release)
+	@archive=$(built)/libduration_str.a
+	if ! $(call serves,$$archive,c); then
+	    $(call cargo,core rustc) -p duration-str-c -- $(if $(filter wasm%,$(target)),,--emit obj=$(built)/duration_str.o)
+	    [ ! -e $(built)/duration_str.o ] || { rm -f $$archive && ar rcs $$archive $(built)/duration_str.o; }
+	fi
+	echo $(built)
 
 page:
 	@tools/page
@@ -122,7 +128,7 @@ installable:
 
 install: installable
 	@$(put)
-	program=$$($(MAKE) --silent program target=$(target))
+	program=$$($(MAKE) --silent program target=$(target) static=$(static))
 	libraries=$$($(MAKE) --silent library target=$(target))
 	$(INSTALL_PROGRAM) -v -D "$$program" "$$DESTDIR$(bindir)/durstr"
 	$(call page,docs/man/durstr.1.in) | put /dev/stdin $(mandir)/man1/durstr.1
@@ -151,6 +157,9 @@ dist = dist
 prove:
 	@type -P rt >/dev/null || { echo 'prove: needs the Rattle toolchain: its command rt is not on the path' >&2; exit 1; }
 	rt ci
+
+setup:
+	@tools/setup-debian
 
 check:
 	@tests/check

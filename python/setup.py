@@ -35,7 +35,8 @@ def by_cargo(room):
     words = ["cargo", "build", "--quiet", "--release", "-p", "duration-str-c",
              "--manifest-path", CRATES / "Cargo.toml", "--target-dir", room]
     demand(not subprocess.run(words).returncode, "Rust 1.85 or later: cargo could not build the library for C")
-    return pathlib.Path(room, "release", "duration_str.lib" if sys.platform == "win32" else "libduration_str.a")
+    # CARGO_BUILD_TARGET adds a folder.
+    return next(pathlib.Path(room).glob(f"**/release/{'duration_str.lib' if sys.platform == 'win32' else 'libduration_str.a'}"))
 
 
 def archive(room):

@@ -3,8 +3,6 @@
 //!
 //! Nothing is allocated. Bytes that are not UTF-8 are refused.
 #![no_std]
-// The toolchain writes some things otherwise.
-#![allow(clippy::manual_ok_err)]
 
 mod abi; // Written by hand, as the next two.
 mod bare;

@@ -4,7 +4,7 @@
 #[forbid(unsafe_code)]
 mod outside; // Written by hand.
 
-pub use self::outside::{Again, Heap};
+pub use self::outside::Heap;
 
 #[forbid(unsafe_code)]
 mod fault;

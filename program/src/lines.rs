@@ -1,11 +1,9 @@
 // Made by tools/erase of crates/durstr_run/src/lines.rt.
 //! Cutting bytes into lines.
 
-use crate::outside::memchr_iter;
-
-/// The offset of the first line feed. Most lines are short, and the iterator first looks at the next 32 bytes.
+/// The offset of the first line feed.
 fn line_end(bytes: &[u8]) -> Option<usize> {
-    memchr_iter(b'\n', bytes).next()
+    bytes.iter().position(|b| *b == b'\n')
 }
 
 /// The first line, and the bytes after its line feed.

@@ -3,7 +3,7 @@
 #![forbid(unsafe_code)]
 
 use duration_str_core::Options;
-use durstr_run::{Again, Heap, ending, run, with_word};
+use durstr_run::{Heap, ending, run, with_word};
 use std::io::{self, Write};
 use std::process::ExitCode;
 
@@ -16,7 +16,7 @@ fn ended() -> (u8, &'static str) {
             None => return (2, "durstr: unknown word"),
         }
     }
-    let (mut input, mut output) = (Again(io::stdin().lock()), Again(io::stdout().lock()));
+    let (mut input, mut output) = (io::stdin().lock(), io::stdout().lock());
     ending(run(Heap, &mut input, &mut output, options))
 }
 

@@ -4,7 +4,6 @@
 use crate::fault::RunFault;
 use crate::lines::first_line;
 use duration_str_core::{Options, parse_with, write_human};
-use crate::outside::Buffer;
 use crate::outside::{AllocError, Allocator, String};
 use std::io::Write;
 use std::time::Duration;
@@ -20,12 +19,9 @@ fn text_of(bytes: &[u8]) -> Option<&str> {
 /// Adds the nanoseconds, a space, the printed duration and a line feed.
 fn push_value<A: Allocator>(out: &mut String<A>, duration: Duration) -> Result<(), AllocError> {
     let nanos = duration.as_nanos() as u64;
-    let mut digits = Buffer::new();
-    let mut human = [0; 64];
-    out.push_str(digits.format(nanos))?;
-    out.push(' ')?;
-    out.push_str(write_human(&duration, &mut human))?;
-    out.push('\n')?;
+    let mut buffer = [0; 64];
+    let human = write_human(&duration, &mut buffer);
+    writeln!(out, "{nanos} {human}")?;
     Ok(())
 }
 

@@ -2,14 +2,12 @@
 ghost use Rattle.std.specs.Prelude.{◌≡◌, ◌==◌, ◌<◌, ◌∷◌, length, position, All, IfNone, false};
 ghost use Rattle.durstr_run.specs.Lines.{lines_of};
 
-use memchr::memchr_iter;
-
-/// The offset of the first line feed. Most lines are short, and the iterator first looks at the next 32 bytes.
+/// The offset of the first line feed.
 fn line_end(bytes: &[u8]) -> Option<usize>
     ensures value { result ≡ position (λ b. b == 10) bytes.now }
     ensures none { IfNone result (All (λ b. (b == 10) ≡ false) bytes.now) }
 {
-    memchr_iter(b'\n', bytes).next()
+    bytes.iter().position(|b| *b == b'\n')
 }
 
 /// The first line, and the bytes after its line feed.

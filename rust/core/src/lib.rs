@@ -1,13 +1,6 @@
 // Made by tools/erase of crates/duration_str/src/lib.rt.
 //! Duration expressions such as `3m + 13s + 29ms`, read and printed.
 #![no_std]
-#![deny(unsafe_code, missing_docs)]
-// The toolchain writes some things otherwise.
-#![allow(
-    clippy::precedence,
-    clippy::question_mark,
-    clippy::while_let_on_iterator
-)]
 
 #[forbid(unsafe_code)]
 mod impls; // Written by hand.
