@@ -1,23 +1,22 @@
 //! A fault in one line: what is wrong, at which column, and what stands there.
-ghost use Rattle.std.specs.Prelude.{◌≡◌, ◌≤◌, ◌++◌, length, take, Some, IfSome, IsUtf8};
-ghost use Rattle.std.specs.Str.{chars, IsCharBoundary};
-ghost use Rattle.std.specs.Prelude.{IsTrue};
-ghost use Rattle.std.specs.List.{list_all};
+ghost use Rattle.std.specs.Prelude.{◌≡◌, ◌≤◌, ◌+◌, ◌-◌, ◌%◌, ◌++◌, false, length, take, map, IsTrue, IsUtf8, if◌then◌else◌, []};
+ghost use Rattle.std.specs.Char.{digit_char, to_ascii_lowercase};
+ghost use Rattle.std.specs.List.{list_all, take_while};
+ghost use Rattle.std.specs.Str.{chars, bytes_eq, IsCharBoundary};
 ghost use Rattle.duration_str.specs.Buffers.{IsInFront};
-ghost use Rattle.duration_str.specs.Text.{ahead};
-ghost use Rattle.duration_str.specs.OneLine.{one_line_of, is_plain, is_letter, are_alike, first_piece, escaped};
-ghost use Rattle.duration_str.specs.OneLine.{quoted, code_of, at_column, found_line, unknown_line, syntax_line};
-ghost use Rattle.duration_str.specs.OneLine.{text_line, expected_words, begins_with_letter, found_words};
-ghost use Rattle.duration_str.specs.OneLine.{advice_of, near_unit};
+ghost use Rattle.duration_str.specs.Text.{ahead, is_blank};
+ghost use Rattle.duration_str.specs.OneLine.{one_line_of, is_plain, is_letter, is_of, first_piece, escaped, quoted};
+ghost use Rattle.duration_str.specs.OneLine.{code_of, at_column, found_line, found_words, unknown_line, syntax_line};
+ghost use Rattle.duration_str.specs.OneLine.{text_line, expected_words, begins_with_letter, near_advice, last_byte};
+ghost use Rattle.duration_str.specs.OneLine.{is_letter_byte, notation_help, help_at};
+ghost use Rattle.duration_str.specs.declared.one_line.Kind.TheVariants.{Clear};
 ghost use Rattle.duration_str.specs.declared.one_line.TheConstants.{MAX_ONE_LINE_LEN};
-ghost use Rattle.std.specs.Prelude.{◌%◌};
-ghost use Rattle.std.specs.Char.{digit_char};
 
 use crate::cause::{Cause, Expected};
 use crate::fault::Fault;
 use crate::message::{chars_before, put, put_decimal};
 use crate::operator::CondUnit;
-use crate::unit::TimeUnit;
+use crate::token::is_blank;
 
 /// The most bytes of a line: of a duration that is too large, with 40 tabs before it.
 ///
@@ -70,7 +69,7 @@ impl Fault<'_> {
             Cause::NumberTooLarge { place } => match place {
                 Some(place) => {
                     let piece = first_piece(&text[place..]);
-                    put_found(buffer, "number of 2^64 or more", text, place, piece)
+                    put_found(buffer, "number of 2^64 or more", text, place, piece, "")
                 }
                 None => put_text_line(buffer, "number of 2^64 or more", text),
             },
@@ -81,9 +80,7 @@ impl Fault<'_> {
                 CondUnit::Plus => put_text_line(buffer, "'+' after '*'", text),
                 CondUnit::Star => put_text_line(buffer, "'*' after '+'", text),
             },
-            Cause::OutOfRange | Cause::NotText { .. } => {
-                put(buffer, 0, self.cause.line().as_bytes())
-            }
+            Cause::OutOfRange | Cause::NotText { .. } => { put_text(buffer, 0, self.cause.line()) }
         }
     }
 }
@@ -96,78 +93,154 @@ fn put_syntax(buffer: &mut [u8], text: &str, place: usize, expected: Expected) -
 {
     let piece = first_piece(&text[place..]);
     if expected.unit_word && begins_with_letter(piece) {
-        put_unknown(buffer, text, place, piece, near_unit(piece))
+        put_unknown(buffer, text, place, piece, near_advice(piece))
     } else {
-        put_found(buffer, expected_words(expected), text, place, piece)
+        let help = help_at(text.as_bytes(), place, piece);
+        put_found(buffer, expected_words(expected), text, place, piece, help)
     }
 }
 
-/// Writes that the word is no unit, its column, and what to write for the unit that it is near.
-fn put_unknown(
-    buffer: &mut [u8],
-    text: &str,
-    place: usize,
-    word: &str,
-    near: Option<TimeUnit>,
-) -> Option<usize>
+/// Writes that the word is no unit, its column, and the help.
+fn put_unknown(buffer: &mut [u8], text: &str, place: usize, word: &str, help: &str) -> Option<usize>
     requires { IsCharBoundary text.now place }
-    ensures { IsInFront (unknown_line text.now place (chars word.now) near) result buffer.new }
+    ensures { IsInFront (unknown_line text.now place (chars word.now) help.now) result buffer.new }
 {
     let start = put(buffer, 0, b"unknown unit ")?;
     let end = put_quoted(buffer, start, word)?;
     let column = put_column(buffer, end, text, place)?;
-    put_advice(buffer, column, near)
+    put_text(buffer, column, help)
 }
 
-/// Writes what to write for a unit.
-fn put_advice(buffer: &mut [u8], at: usize, unit: Option<TimeUnit>) -> Option<usize>
-    requires { at ≤ length buffer.old }
-    ensures { IsInFront (take at buffer.old ++ advice_of unit) result buffer.new }
-{
-    let Some(unit) = unit else {
-        return Some(at);
-    };
-    let start = put(buffer, at, b": write \"")?;
-    let end = put(buffer, start, unit.name().as_bytes())?;
-    put(buffer, end, b"\"")
-}
-
-/// The unit for which people write a word that isn't read, if any. The last one for microseconds has a Greek mu.
+/// What to write for a word that is near a unit's name, the last one for microseconds with a Greek mu; otherwise nothing.
 #[tactic(auto, unfolding(std::specs::Prelude::encode_utf8))]
-fn near_unit(word: &str) -> Option<TimeUnit>
-    ensures { result ≡ near_unit word.now }
+fn near_advice(word: &str) -> &'static str
+    ensures { result.now ≡ near_advice word.now }
 {
-    match word {
-        "yr" | "yrs" => Some(TimeUnit::Year),
-        "qtr" | "qtrs" => Some(TimeUnit::Quarter),
-        "mo" | "mos" | "mth" | "mths" => Some(TimeUnit::Month),
-        "wk" | "wks" => Some(TimeUnit::Week),
-        "hrs" => Some(TimeUnit::Hour),
-        "mins" => Some(TimeUnit::Minute),
-        "secs" => Some(TimeUnit::Second),
-        "msecs" | "millis" => Some(TimeUnit::MilliSecond),
-        "usecs" | "micros" | "µsecs" | "μs" => Some(TimeUnit::MicroSecond),
-        "nsecs" | "nanos" => Some(TimeUnit::NanoSecond),
-        _ => None,
+    if word == "mo" || word == "mos" || is_word(word, "mth") || is_word(word, "mths") {
+        r#": write "mon""#
+    } else if is_word(word, "yr") || is_word(word, "yrs") {
+        r#": write "y""#
+    } else if is_word(word, "qtr") || is_word(word, "qtrs") {
+        r#": write "q""#
+    } else if is_word(word, "wk") || is_word(word, "wks") {
+        r#": write "w""#
+    } else if is_word(word, "hrs") {
+        r#": write "h""#
+    } else if is_word(word, "mins") {
+        r#": write "min""#
+    } else if is_word(word, "secs") {
+        r#": write "s""#
+    } else if is_word(word, "msecs") || is_word(word, "millis") {
+        r#": write "ms""#
+    } else if is_word(word, "usecs") || is_word(word, "micros") || is_word(word, "µsecs") {
+        r#": write "µs""#
+    } else if is_word(word, "nsecs") || is_word(word, "nanos") {
+        r#": write "ns""#
+    } else if is_word(word, "μs")
+        || is_word(word, "μsec")
+        || is_word(word, "μsecs")
+        || is_word(word, "μsecond")
+    {
+        r#": write "us""#
+    } else {
+        ""
     }
 }
 
-/// Writes what is wrong, the column, and what stands there.
+/// Whether a word is this one, apart from ASCII capitals.
+#[inline(never)]
+fn is_word(word: &str, name: &str) -> bool
+    ensures { result ≡ bytes_eq (map to_ascii_lowercase word.now)
+        (map to_ascii_lowercase name.now) }
+{
+    word.eq_ignore_ascii_case(name)
+}
+
+/// The help for the piece at a place, if a digit follows it; otherwise nothing.
+fn help_at(text: &[u8], place: usize, piece: &str) -> &'static str
+    requires { place ≤ length text.now }
+    ensures { result.now ≡ help_at text.now place piece.now }
+{
+    match text.get(place + piece.len()) {
+        Some(b'0'..=b'9') => notation_help(&text[..place], piece),
+        _ => "",
+    }
+}
+
+/// The help for a piece before a digit, after these bytes; nothing if it is of no notation that people write.
+fn notation_help(before: &[u8], piece: &str) -> &'static str
+    ensures { result.now ≡ notation_help before.now piece.now }
+{
+    let last = last_byte(before);
+    let is_first = are_blank(before);
+    if piece == "." {
+        words_if(!is_letter_byte(last), DIGITS_ALONE)
+    } else if piece == "," {
+        words_if(last.is_ascii_digit(), DIGITS_ALONE)
+    } else if piece == ":" {
+        let words = ": clock times are not read: give each number its unit";
+        words_if(last.is_ascii_digit(), words)
+    } else if piece == "-" {
+        words_if(is_first, ": negative durations are not read")
+    } else if is_word(piece, "p") || is_word(piece, "pt") {
+        let words = ": ISO 8601 is not read: write each number before its unit";
+        words_if(is_first, words)
+    } else {
+        ""
+    }
+}
+
+/// These words if they apply; otherwise nothing.
+fn words_if(apply: bool, words: &'static str) -> &'static str
+    ensures { result.now ≡ (if apply then words.now else []) }
+{
+    if apply { words } else { "" }
+}
+
+/// The help for a number with a point or a comma.
+const DIGITS_ALONE: &str = ": a number has digits alone, no point or comma";
+
+/// Whether all of these bytes are blanks.
+fn are_blank(bytes: &[u8]) -> bool
+    ensures { result ≡ list_all is_blank bytes.now }
+{
+    bytes.iter().all(|b| is_blank(char::from(*b)))
+}
+
+/// The last of these bytes, 0 if there are none.
+fn last_byte(bytes: &[u8]) -> u8
+    ensures { result ≡ last_byte bytes.now }
+{
+    match bytes.last() {
+        Some(b) => *b,
+        None => 0,
+    }
+}
+
+/// An ASCII letter, or a byte of a character beyond ASCII.
+fn is_letter_byte(b: u8) -> bool
+    ensures { result ≡ is_letter_byte b }
+{
+    b.is_ascii_alphabetic() || b >= 0x80
+}
+
+/// Writes what is wrong, the column, what stands there, and the help.
 fn put_found(
     buffer: &mut [u8],
     problem: &str,
     text: &str,
     place: usize,
     piece: &str,
+    help: &str,
 ) -> Option<usize>
     requires { IsCharBoundary text.now place }
-    ensures { IsInFront (found_line problem.now text.now place (chars piece.now))
+    ensures { IsInFront (found_line problem.now text.now place (chars piece.now) help.now)
         result buffer.new }
 {
-    let start = put(buffer, 0, problem.as_bytes())?;
+    let start = put_text(buffer, 0, problem)?;
     let column = put_column(buffer, start, text, place)?;
-    let found = put(buffer, column, b", found ")?;
-    put_words(buffer, found, piece)
+    let end = put_words(buffer, column, piece)?;
+    put_text(buffer, end, help)
 }
 
 /// Writes what stands at a place.
@@ -176,17 +249,17 @@ fn put_words(buffer: &mut [u8], at: usize, piece: &str) -> Option<usize>
     ensures { IsInFront (take at buffer.old ++ found_words (chars piece.now)) result buffer.new }
 {
     if piece.is_empty() {
-        put(buffer, at, b"the end")
-    } else {
-        put_quoted(buffer, at, piece)
+        return put(buffer, at, b", found the end");
     }
+    let found = put(buffer, at, b", found ")?;
+    put_quoted(buffer, found, piece)
 }
 
 /// Writes what is wrong, and the text.
 fn put_text_line(buffer: &mut [u8], problem: &str, text: &str) -> Option<usize>
     ensures { IsInFront (text_line problem.now text.now) result buffer.new }
 {
-    let start = put(buffer, 0, problem.as_bytes())?;
+    let start = put_text(buffer, 0, problem)?;
     let before = put(buffer, start, b" in ")?;
     put_quoted(buffer, before, text)
 }
@@ -201,34 +274,46 @@ fn put_column(buffer: &mut [u8], at: usize, text: &str, place: usize) -> Option<
     put_decimal(buffer, number, chars_before(text, place) + 1)
 }
 
-/// Writes the first 40 characters of a text in quotes.
+/// Writes a text as it is.
+fn put_text(buffer: &mut [u8], at: usize, text: &str) -> Option<usize>
+    requires { at ≤ length buffer.old }
+    ensures { IsInFront (take at buffer.old ++ text.now) result buffer.new }
+{
+    put(buffer, at, text.as_bytes())
+}
+
+/// Writes the first 40 characters of a text in quotes. Those that are quoted as they are are copied in runs.
 fn put_quoted(buffer: &mut [u8], at: usize, text: &str) -> Option<usize>
     requires { at ≤ length buffer.old }
     ensures { IsInFront (take at buffer.old ++ quoted (chars text.now)) result buffer.new }
 {
     let mut end = put(buffer, at, b"\"")?;
     let mut left = MOST_QUOTED;
-    let mut rest = text.chars();
-    while let Some(c) = rest.next() {
-        if left == 0 {
+    let mut rest = text;
+    loop {
+        let run = run_of(rest, Kind::Clear, left);
+        end = put(buffer, end, run.text.as_bytes())?;
+        let mut chars = run.rest.chars();
+        let Some(c) = chars.next() else {
+            return put(buffer, end, b"\"");
+        };
+        if run.left == 0 {
             return put(buffer, end, b"\"...");
         }
         end = put_escaped(buffer, end, c)?;
-        left -= 1;
+        left = run.left - 1;
+        rest = chars.as_str();
     }
-    put(buffer, end, b"\"")
 }
 
-/// Writes a character, escaped if it isn't safe in a line.
+/// Writes a character that isn't quoted as it is.
 fn put_escaped(buffer: &mut [u8], at: usize, c: char) -> Option<usize>
-    requires { at ≤ length buffer.old }
+    requires room { at ≤ length buffer.old }
+    requires kind { is_of Clear c ≡ false }
     ensures { IsInFront (take at buffer.old ++ escaped c) result buffer.new }
 {
     if c == '"' || c == '\\' {
         return put(buffer, at, &[b'\\', c as u8]);
-    }
-    if is_plain(c) {
-        return put(buffer, at, c.encode_utf8(&mut [0; 4]).as_bytes());
     }
     put_code(buffer, at, c as u32)
 }
@@ -238,14 +323,13 @@ fn put_code(buffer: &mut [u8], at: usize, code: u32) -> Option<usize>
     requires { at ≤ length buffer.old }
     ensures { IsInFront (take at buffer.old ++ code_of code) result buffer.new }
 {
-    let start = put(buffer, at, b"\\u{")?;
-    let high = put(
+    let (third, second) = (hex_digit(code / 0x1000), hex_digit(code / 0x100));
+    let (first, last) = (hex_digit(code / 0x10), hex_digit(code));
+    put(
         buffer,
-        start,
-        &[hex_digit(code / 0x1000), hex_digit(code / 0x100)],
-    )?;
-    let low = put(buffer, high, &[hex_digit(code / 0x10), hex_digit(code)])?;
-    put(buffer, low, b"}")
+        at,
+        &[b'\\', b'u', b'{', third, second, first, last, b'}'],
+    )
 }
 
 /// The last hexadecimal digit of a number.
@@ -260,7 +344,7 @@ fn hex_digit(n: u32) -> u8
     }
 }
 
-/// The digits or letters that a text begins with, or its first character.
+/// The digits or letters that a text begins with, or its first character; at most one character more than is quoted.
 fn first_piece(text: &str) -> &str
     ensures { chars result.now ≡ first_piece (chars text.now) }
 {
@@ -268,21 +352,69 @@ fn first_piece(text: &str) -> &str
     let Some(first) = chars.next() else {
         return text;
     };
-    let mut rest = chars.as_str();
+    if first.is_ascii_digit() {
+        run_of(text, Kind::Digit, MOST_QUOTED + 1).text
+    } else if is_letter(first) {
+        run_of(text, Kind::Letter, MOST_QUOTED + 1).text
+    } else {
+        &text[..text.len() - chars.as_str().len()]
+    }
+}
+
+/// Kinds of characters: digits, letters, and those that are quoted as they are.
+#[derive(Clone, Copy)]
+enum Kind {
+    Digit,
+    Letter,
+    Clear,
+}
+
+impl Kind {
+    /// Whether a character is of this kind.
+    fn has(self, c: char) -> bool
+        ensures { result ≡ is_of self c }
+    {
+        match self {
+            Kind::Digit => c.is_ascii_digit(),
+            Kind::Letter => is_letter(c),
+            Kind::Clear => is_plain(c) && c != '"' && c != '\\',
+        }
+    }
+}
+
+/// The characters of a kind at the start of a text, what follows them, and how many more there could have been.
+#[derive(Clone, Copy)]
+struct Run<'a> {
+    text: &'a str,
+    rest: &'a str,
+    left: usize,
+}
+
+/// The characters of this kind that a text begins with, at most so many.
+#[inline(never)]
+fn run_of(text: &str, kind: Kind, most: usize) -> Run<'_>
+    ensures characters { chars result.text.now
+        ≡ take most (take_while (is_of kind) (chars text.now)) }
+    ensures parts { text.now ≡ result.text.now ++ result.rest.now }
+    ensures utf8 { IsUtf8 result.rest.now }
+    ensures left { length (chars result.text.now) + result.left ≡ most }
+    ensures ends { take result.left (take_while (is_of kind) (chars result.rest.now)) ≡ [] }
+{
+    let mut chars = text.chars();
+    let mut rest = text;
+    let mut left = most;
     while let Some(c) = chars.next() {
-        if !are_alike(first, c) {
+        if left == 0 || !kind.has(c) {
             break;
         }
         rest = chars.as_str();
+        left -= 1;
     }
-    &text[..text.len() - rest.len()]
-}
-
-/// Whether both are digits, or both are letters.
-fn are_alike(c: char, d: char) -> bool
-    ensures { result ≡ are_alike c d }
-{
-    c.is_ascii_digit() && d.is_ascii_digit() || is_letter(c) && is_letter(d)
+    Run {
+        text: &text[..text.len() - rest.len()],
+        rest,
+        left,
+    }
 }
 
 /// Whether a text begins with a letter.
@@ -307,7 +439,15 @@ fn is_letter(c: char) -> bool
 fn is_plain(c: char) -> bool
     ensures { result ≡ is_plain c }
 {
-    matches!(c, ' '..='~' | '\u{a1}'..='\u{1fff}' | '\u{2070}'..)
+    !matches!(
+        c,
+        '\0'..='\x1f'
+            | '\x7f'..='\u{a0}'
+            | '\u{61c}'
+            | '\u{2000}'..='\u{206f}'
+            | '\u{feff}'
+            | '\u{fff9}'..='\u{fffb}'
+    )
 }
 
 /// What was expected.

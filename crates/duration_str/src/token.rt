@@ -446,7 +446,7 @@ static BLANKS: [bool; 33] = [
 
 /// Space, tab, carriage return, line feed.
 #[inline]
-fn is_blank(c: char) -> bool
+pub(crate) fn is_blank(c: char) -> bool
     ensures { result ≡ is_blank c }
 {
     c <= ' ' && BLANKS[c as usize]

@@ -355,7 +355,7 @@ static BLANKS: [bool; 33] = [
 
 /// Space, tab, carriage return, line feed.
 #[inline]
-fn is_blank(c: char) -> bool {
+pub(crate) fn is_blank(c: char) -> bool {
     c <= ' ' && BLANKS[c as usize]
 }
 

@@ -204,11 +204,30 @@ fn tells_in_one_line() {
         ),
         (
             "1\u{3bc}s",
-            "unknown unit \"\u{3bc}s\" at column 2: write \"µs\"".to_string(),
+            "unknown unit \"\u{3bc}s\" at column 2: write \"us\"".to_string(),
+        ),
+        (
+            "2 Hrs",
+            r#"unknown unit "Hrs" at column 3: write "h""#.to_string(),
+        ),
+        ("6 Mo", r#"unknown unit "Mo" at column 3"#.to_string()),
+        (
+            "1.5h",
+            r#"expected a unit, '+', '*' or the end at column 2, found ".": a number has digits alone, no point or comma"#
+                .to_string(),
         ),
         (
             "-1",
+            r#"expected a number at column 1, found "-": negative durations are not read"#.to_string(),
+        ),
+        (
+            "- 1",
             r#"expected a number at column 1, found "-""#.to_string(),
+        ),
+        (
+            "PT5M",
+            r#"expected a number at column 1, found "PT": ISO 8601 is not read: write each number before its unit"#
+                .to_string(),
         ),
         (
             "1µs\r\n\u{7}x",

@@ -7,7 +7,7 @@ use Rattle.duration_str.proofs.Common.{IsUtf8, IsCharBoundary, chars, encode_utf
 use Rattle.duration_str.proofs.Common.{sym, refl, ap, arith, append_assoc, append-nil, encodes-append, encodes-chars}
 use Rattle.duration_str.proofs.Common.{length-le-encodes, length-append, IsUtf8-take, chars_past_char}
 use Rattle.duration_str.proofs.Common.{chars_from_encodes}
-use Rattle.duration_str.proofs.Common.{length-take-le, chars-nil, lit<, codes}
+use Rattle.duration_str.proofs.Common.{length-take-le, chars-nil, lit<, codes, chars-append}
 use Rattle.duration_str.proofs.Common.{length-decimal-le, scalar, scalars, and_parts, scalars-chars}
 use Rattle.duration_str.proofs.Common.{length-encode, len_utf8_bounds, cases_Bool, decimal, ahead, IsUtf8-drop, ForSome}
 use Rattle.duration_str.proofs.Common.{Cause, Empty, Syntax, NumberTooLarge, Overflow, Mixed, NotText, Plus, Star}
@@ -17,6 +17,8 @@ use Rattle.std.proofs.Common.{lit≤, nat_lt}
 use Rattle.std.proofs.lemmas.List.{nil_from_length, length-take}
 use Rattle.std.proofs.Math.Seq.{take-append_seam}
 use Rattle.std.specs.Char.{digit_char}
+use Rattle.std.specs.List.{take_while}
+use Rattle.std.proofs.lemmas.List.Sums.{take_while-cons}
 use Rattle.duration_str.specs.declared.cause.Cause.TheVariants.{OutOfRange}
 use Rattle.duration_str.specs.Faults.{place_of}
 use Rattle.duration_str.specs.Messages.{chars_before, line_of}
@@ -24,13 +26,13 @@ use Rattle.duration_str.proofs.Common.{TimeUnit, row_of, Option}
 use Rattle.duration_str.proofs.Characters.NameLemmas.{length_name}
 use Rattle.duration_str.proofs.Common.{leb-true, nat_le, byte_len}
 use Rattle.duration_str.proofs.Characters.EachUnit.{all_units}
-use Rattle.duration_str.specs.OneLine.{advice_of, near_unit}
-use Rattle.duration_str.specs.OneLine.{are_alike, first_piece, run_after, quoted_end, escaped, quoted, is_plain}
-use Rattle.duration_str.specs.OneLine.{code_of}
-use Rattle.duration_str.specs.OneLine.{found_words, found_line, unknown_line, at_column, expected_words, syntax_line}
-use Rattle.duration_str.specs.OneLine.{begins_with_letter, text_line, one_line_of}
-use Rattle.duration_str.proofs.Common.{or_cases, or_parts, or_right, is_digit}
-use Rattle.duration_str.specs.OneLine.{is_letter}
+use Rattle.std.specs.Option.{option_map_or}
+use Rattle.duration_str.specs.declared.one_line.Kind.TheVariants.{Clear}
+use Rattle.duration_str.specs.OneLine.{advice_of, near_advice, first_piece, quoted_end, escaped, quoted, is_plain, is_of}
+use Rattle.duration_str.specs.OneLine.{code_of, found_words, found_line, unknown_line, at_column, expected_words}
+use Rattle.duration_str.specs.OneLine.{syntax_line, text_line, one_line_of, is_letter, help_at, words_if, notation_help}
+use Rattle.duration_str.specs.OneLine.{begins_with_letter}
+use Rattle.duration_str.proofs.Common.{is_digit, Month, not-true, if◌then◌else◌, false_from_ne_true}
 use Rattle.duration_str.proofs.Common.{list_all-append, decimal_by_steps, encode_ascii, IsTrue}
 use Rattle.std.proofs.Math.Utf8.{low_scalar}
 use Rattle.std.proofs.lemmas.Str.{chars-encodes}
@@ -40,7 +42,7 @@ pub chars_of_none : (text : List ℕ) → length text ≡ 0 → chars text ≡ [
 chars_of_none text none = ap chars (nil_from_length text none) ∙ chars-nil
 
 found_chars : (cs bytes : List ℕ) → encode_utf8_all cs ≡ bytes → (length bytes == 0) ≡ false
-    → found_words cs ≡ quoted cs
+    → found_words cs ≡ codes ", found " ++ quoted cs
 found_chars [] bytes is some = absurd (true≢false (ap (λ bytes. length bytes == 0) is ∙ some))
 found_chars (c ∷ cs) bytes is some = refl
 
@@ -112,19 +114,30 @@ byte_good b e =
     let plain : is_plain b ≡ true = grind (arith, nat_tests) in
     rw (low_scalar b (omega (arith, small)), plain) refl
 
--- Bytes that are plain characters of ASCII.
-literal : (bytes : List ℕ) → list_all is_plain_byte bytes ≡ true → IsShort (length bytes) bytes
-literal [] e = record { characters = []; good = refl; spells = refl; short = omega arith }
-literal (b ∷ bytes) e =
+plain_bytes : (bytes : List ℕ) → list_all is_plain_byte bytes ≡ true → IsShort (length bytes) bytes
+plain_bytes [] e = record { characters = []; good = refl; spells = refl; short = omega arith }
+plain_bytes (b ∷ bytes) e =
     let both = and_parts (is_plain_byte b) (list_all is_plain_byte bytes) e in
     let small = ltb-true b 127 (and_parts (nat_le 32 b) (nat_lt b 127) both.0).1 in
-    let rest = literal bytes both.1 in
+    let rest = plain_bytes bytes both.1 in
     record {
       characters = b ∷ rest.characters;
       good = rw (byte_good b both.0, rest.good) refl;
       spells = rw (encode_ascii b (omega (arith, small)), rest.spells) refl;
       short = omega arith;
     }
+
+-- Bytes that are plain characters of ASCII, at most so many.
+literal : (most : ℕ) (bytes : List ℕ) → (nat_le (length bytes) most && list_all is_plain_byte bytes) ≡ true
+    → IsShort most bytes
+literal most bytes e =
+    let both = and_parts (nat_le (length bytes) most) (list_all is_plain_byte bytes) e in
+    less (length bytes) most bytes (leb-true _ _ both.0) (plain_bytes bytes both.1)
+
+chosen : (most : ℕ) (b : Bool) {xs ys : List ℕ} → IsShort most xs → IsShort most ys
+    → IsShort most (if b then xs else ys)
+chosen most true first second = first
+chosen most false first second = second
 
 digit_plain : (n : ℕ) → n < 10 → list_all is_plain_byte ((48 + n) ∷ []) ≡ true
 digit_plain n h = let e : is_plain_byte (48 + n) ≡ true = grind (arith, nat_tests) in rw e refl
@@ -135,121 +148,103 @@ decimal_plain n h =
     (λ n ds big e. rw (list_all-append is_plain_byte ds ((48 + n % 10) ∷ []), e)
     (digit_plain (n % 10) (omega arith))) n h
 
-digit_short : (n : ℕ) → IsShort 1 (digit_char (n % 16) ∷ [])
-digit_short n =
-    let e : is_plain_byte (digit_char (n % 16)) ≡ true = grind (arith, nat_tests) in
-    literal (digit_char (n % 16) ∷ []) (rw e refl)
-
 code_short : (c : ℕ) → IsShort 8 (code_of c)
 code_short c =
-    joined 3 5 _ _ (literal (codes "\\u{") refl)
-    (joined 1 4 _ _ (digit_short (c / 0x1000)) (joined 1 3 _ _ (digit_short (c / 0x100))
-    (joined 1 2 _ _ (digit_short (c / 0x10)) (joined 1 1 _ _ (digit_short c) (literal (codes "}") refl)))))
+    let third : is_plain_byte (digit_char (c / 0x1000 % 16)) ≡ true = grind (arith, nat_tests) in
+    let second : is_plain_byte (digit_char (c / 0x100 % 16)) ≡ true = grind (arith, nat_tests) in
+    let first : is_plain_byte (digit_char (c / 0x10 % 16)) ≡ true = grind (arith, nat_tests) in
+    let last : is_plain_byte (digit_char (c % 16)) ≡ true = grind (arith, nat_tests) in
+    literal 8 (code_of c) (rw (third, second, first, last) refl)
 
-encode_short : (c : ℕ) → scalar c ≡ true → is_plain c ≡ true → IsShort 4 (encode_utf8 c)
-encode_short c e plain = record {
-  characters = c ∷ [];
-  good = rw (e, plain) refl;
-  spells = append-nil _;
-  short = omega (arith, length-encode c, len_utf8_bounds c);
-}
-
-mark_plain : (c : ℕ) → (c == 34 || c == 92) ≡ true → is_plain_byte c ≡ true
-mark_plain c mark = grind (arith, nat_tests)
+clear_short : (c : ℕ) → scalar c ≡ true → is_of Clear c ≡ true → IsShort 4 (escaped c)
+clear_short c e clear =
+    let both = and_parts (is_plain c) _ clear in
+    rw (not-true _ both.1, both.0) (record {
+      characters = c ∷ [];
+      good = rw (e, both.0) refl;
+      spells = append-nil _;
+      short = omega (arith, length-encode c, len_utf8_bounds c);
+    })
 
 escaped_short : (c : ℕ) → scalar c ≡ true → IsShort 8 (escaped c)
-escaped_short c e = elim (cases_Bool (c == 34 || c == 92)) [
-  | inl mark ↦ rw mark (less 2 8 _ (lit≤ tt) (literal (92 ∷ c ∷ []) (rw (mark_plain c mark) refl)))
-  | inr no_mark ↦ elim (cases_Bool (is_plain c)) [
-    | inl plain ↦ rw (no_mark, plain) (less 4 8 _ (lit≤ tt) (encode_short c e plain))
-    | inr not_plain ↦ rw (no_mark, not_plain) (code_short c)
+escaped_short c e = elim (cases_Bool (is_of Clear c)) [
+  | inl clear ↦ less 4 8 _ (lit≤ tt) (clear_short c e clear)
+  | inr other ↦ elim (cases_Bool (c == 34 || c == 92)) [
+    | inl mark ↦
+        let plain : is_plain_byte c ≡ true = grind (arith, nat_tests) in
+        rw mark (literal 8 (92 ∷ c ∷ []) (rw plain refl))
+    | inr no_mark ↦
+        let hidden = false_from_ne_true (is_plain c) (λ plain. let clash = rw (plain, no_mark) at other in absurd cc) in
+        rw (no_mark, hidden) (code_short c)
   ]
 ]
 
-quoted_end_short : (most : ℕ) (cs : List ℕ) → scalars cs ≡ true → IsShort (8 * most + 4) (quoted_end most cs)
-quoted_end_short most [] e = less 1 _ _ (omega arith) (literal (codes "\"") refl)
-quoted_end_short zero (c ∷ cs) e = literal (codes "\"...") refl
-quoted_end_short (suc most) (c ∷ cs) e =
-    let both = and_parts (scalar c) (scalars cs) e in
-    less (8 + (8 * most + 4)) _ _ (omega arith)
-    (joined 8 (8 * most + 4) _ _ (escaped_short c both.0) (quoted_end_short most cs both.1))
+-- Characters that pass a test, each of which is written in at most `wide` bytes.
+quoted_end_short : (wide : ℕ) (test : ℕ → Bool) → ((c : ℕ) → test c ≡ true → IsShort wide (escaped c))
+    → (most : ℕ) (cs : List ℕ) → list_all test cs ≡ true → IsShort (wide * most + 4) (quoted_end most cs)
+quoted_end_short wide test each most [] e = less 4 _ _ (omega arith) (literal 4 (codes "\"") refl)
+quoted_end_short wide test each zero (c ∷ cs) e = less 4 _ _ (omega arith) (literal 4 (codes "\"...") refl)
+quoted_end_short wide test each (suc most) (c ∷ cs) e =
+    let both = and_parts (test c) (list_all test cs) e in
+    less (wide + (wide * most + 4)) _ _ (omega arith)
+    (joined wide (wide * most + 4) _ _ (each c both.0) (quoted_end_short wide test each most cs both.1))
+
+all_scalars : (cs : List ℕ) → scalars cs ≡ true → list_all scalar cs ≡ true
+all_scalars [] e = refl
+all_scalars (c ∷ cs) e = let both = and_parts (scalar c) (scalars cs) e in rw both.0 (all_scalars cs both.1)
 
 quoted_short : (cs : List ℕ) → scalars cs ≡ true → IsShort 325 (quoted cs)
-quoted_short cs e = joined 1 324 _ _ (literal (codes "\"") refl) (quoted_end_short 40 cs e)
+quoted_short cs e =
+    joined 1 324 _ _ (literal 1 (codes "\"") refl) (quoted_end_short 8 scalar escaped_short 40 cs (all_scalars cs e))
 
-run_scalars : (c : ℕ) (cs : List ℕ) → scalars cs ≡ true → scalars (run_after c cs) ≡ true
-run_scalars c [] e = refl
-run_scalars c (d ∷ cs) e =
-    let both = and_parts (scalar d) (scalars cs) e in
-    elim (cases_Bool (are_alike c d)) [
-      | inl alike ↦ rw (alike, both.0) (run_scalars c cs both.1)
-      | inr other ↦ rw other refl
+-- whether a number is a character that passes a test
+abbrev is_passing : (ℕ → Bool) → ℕ → Bool
+is_passing test c = scalar c && test c
+
+run_passes : (test : ℕ → Bool) (most : ℕ) (cs : List ℕ) → scalars cs ≡ true
+    → list_all (is_passing test) (take most (take_while test cs)) ≡ true
+run_passes test zero cs e = refl
+run_passes test (suc most) [] e = refl
+run_passes test (suc most) (c ∷ cs) e =
+    let both = and_parts (scalar c) (scalars cs) e in
+    elim (cases_Bool (test c)) [
+      | inl passes ↦ rw (take_while-cons test c cs, passes, both.0, passes) (run_passes test most cs both.1)
+      | inr fails ↦ rw (take_while-cons test c cs, fails) refl
     ]
 
-piece_scalars : (cs : List ℕ) → scalars cs ≡ true → scalars (first_piece cs) ≡ true
-piece_scalars [] e = refl
-piece_scalars (c ∷ cs) e =
-    let both = and_parts (scalar c) (scalars cs) e in rw both.0 (run_scalars c cs both.1)
+-- A run of clear characters.
+run_short : (test : ℕ → Bool) → ((c : ℕ) → test c ≡ true → is_of Clear c ≡ true) → (cs : List ℕ) → scalars cs ≡ true
+    → IsShort 165 (quoted (take 41 (take_while test cs)))
+run_short test clear cs e =
+    let each = λ (c : ℕ) (passes : is_passing test c ≡ true).
+    let both = and_parts (scalar c) (test c) passes in clear_short c both.0 (clear c both.1) in
+    joined 1 164 _ _ (literal 1 (codes "\"") refl)
+    (quoted_end_short 4 (is_passing test) each 40 (take 41 (take_while test cs)) (run_passes test 41 cs e))
 
--- whether a character belongs to a run
-abbrev in_run : ℕ → Bool
-in_run c = is_digit c || is_letter c
+digit_clear : (c : ℕ) → is_digit c ≡ true → is_of Clear c ≡ true
+digit_clear c digit = grind (arith, nat_tests)
 
-run_char_short : (c : ℕ) → scalar c ≡ true → in_run c ≡ true → IsShort 4 (escaped c)
-run_char_short c e run =
-    let no_mark : (c == 34 || c == 92) ≡ false = grind (arith, nat_tests) in
-    let plain : is_plain c ≡ true = grind (arith, nat_tests) in
-    rw (no_mark, plain) (encode_short c e plain)
-
-quoted_run : (most : ℕ) (cs : List ℕ) → scalars cs ≡ true → list_all in_run cs ≡ true
-    → IsShort (4 * most + 4) (quoted_end most cs)
-quoted_run most [] e run = less 1 _ _ (omega arith) (literal (codes "\"") refl)
-quoted_run zero (c ∷ cs) e run = literal (codes "\"...") refl
-quoted_run (suc most) (c ∷ cs) e run =
-    let both = and_parts (scalar c) (scalars cs) e in
-    let runs = and_parts (in_run c) (list_all in_run cs) run in
-    less (4 + (4 * most + 4)) _ _ (omega arith)
-    (joined 4 (4 * most + 4) _ _ (run_char_short c both.0 runs.0) (quoted_run most cs both.1 runs.1))
-
-alike_run : (c d : ℕ) → are_alike c d ≡ true → in_run d ≡ true
-alike_run c d alike = elim (or_cases (is_digit c && is_digit d) (is_letter c && is_letter d) alike) [
-  | inl digits ↦ rw (and_parts (is_digit c) (is_digit d) digits).1 refl
-  | inr letters ↦ or_right (is_digit d) (is_letter d) (and_parts (is_letter c) (is_letter d) letters).1
-]
-
-run_runs : (c : ℕ) (cs : List ℕ) → list_all in_run (run_after c cs) ≡ true
-run_runs c [] = refl
-run_runs c (d ∷ cs) = elim (cases_Bool (are_alike c d)) [
-  | inl alike ↦ rw (alike, alike_run c d alike) (run_runs c cs)
-  | inr other ↦ rw other refl
-]
-
-none_alike : (c d : ℕ) → in_run c ≡ false → are_alike c d ≡ false
-none_alike c d other = let parts = or_parts (is_digit c) (is_letter c) other in rw (parts.0, parts.1) refl
-
-run_none : (c : ℕ) (cs : List ℕ) → in_run c ≡ false → run_after c cs ≡ []
-run_none c [] other = refl
-run_none c (d ∷ cs) other = rw (none_alike c d other) refl
+letter_clear : (c : ℕ) → is_letter c ≡ true → is_of Clear c ≡ true
+letter_clear c letter = grind (arith, nat_tests)
 
 -- A quoted piece is a run, or one character.
 piece_short : (cs : List ℕ) → scalars cs ≡ true → IsShort 165 (quoted (first_piece cs))
-piece_short [] e = less 2 165 _ (lit≤ tt) (literal (codes "\"\"") refl)
+piece_short [] e = literal 165 (codes "\"\"") refl
 piece_short (c ∷ cs) e =
     let both = and_parts (scalar c) (scalars cs) e in
-    elim (cases_Bool (in_run c)) [
-      | inl run ↦
-          joined 1 164 _ _ (literal (codes "\"") refl)
-          (quoted_run 40 (first_piece (c ∷ cs)) (piece_scalars (c ∷ cs) e) (rw (run, run_runs c cs) refl))
-      | inr other ↦
-          rw (run_none c cs other)
-          (less 10 165 _ (lit≤ tt)
-          (joined 1 9 _ _ (literal (codes "\"") refl)
-          (joined 8 1 _ _ (escaped_short c both.0) (literal (codes "\"") refl))))
-    ]
+    let single = joined 1 9 _ _ (literal 1 (codes "\"") refl)
+    (joined 8 1 _ _ (escaped_short c both.0) (literal 1 (codes "\"") refl)) in
+    picked (is_digit c) _ _ (run_short is_digit digit_clear (c ∷ cs) e)
+    (picked (is_letter c) _ _ (run_short is_letter letter_clear (c ∷ cs) e) (less 10 165 (quoted (c ∷ [])) (lit≤ tt) single))
+  where
+    picked : (b : Bool) (xs ys : List ℕ) → IsShort 165 (quoted xs) → IsShort 165 (quoted ys)
+        → IsShort 165 (quoted (if b then xs else ys))
+    picked true xs ys first second = first
+    picked false xs ys first second = second
 
-words_short : (cs : List ℕ) → scalars cs ≡ true → IsShort 165 (found_words (first_piece cs))
-words_short [] e = less 7 165 _ (lit≤ tt) (literal (codes "the end") refl)
-words_short (c ∷ cs) e = piece_short (c ∷ cs) e
+found_short : (piece : List ℕ) → IsShort 165 (quoted piece) → IsShort 173 (found_words piece)
+found_short [] is = literal 173 (codes ", found the end") refl
+found_short (c ∷ piece) is = joined 8 165 _ _ (literal 8 (codes ", found ") refl) is
 
 -- The text is short enough for memory, and the place is in it.
 pub record IsPlaced (text : List ℕ) (place : ℕ) : Type 0 where
@@ -262,19 +257,21 @@ column_short text place is =
     let column = chars_before text place + 1 in
     let small : column < 2 ^ 64 =
     omega (arith, chars_before_le text place is.utf8 is.boundary, is.small, is.boundary.0) in
-    joined 11 20 _ _ (literal (codes " at column ") refl)
+    joined 11 20 _ _ (literal 11 (codes " at column ") refl)
     (less _ 20 _ (length-decimal-le 20 column (lit< tt) (omega arith) small)
-    (literal (decimal column) (decimal_plain column small)))
+    (plain_bytes (decimal column) (decimal_plain column small)))
 
-ahead_scalars : (text : List ℕ) (place : ℕ) → IsPlaced text place → scalars (ahead text place) ≡ true
-ahead_scalars text place is = scalars-chars (drop place text) (IsUtf8-drop text place is.utf8 is.boundary)
+ahead_short : (text : List ℕ) (place : ℕ) → IsPlaced text place → IsShort 165 (quoted (first_piece (ahead text place)))
+ahead_short text place is =
+    piece_short (ahead text place) (scalars-chars (drop place text) (IsUtf8-drop text place is.utf8 is.boundary))
 
-found_short : (m : ℕ) (problem text : List ℕ) (place : ℕ) → IsPlaced text place → IsShort m problem
-    → IsShort (m + 204) (found_line problem text place (first_piece (ahead text place)))
-found_short m problem text place is first =
-    joined m 204 _ _ first
-    (joined 31 173 _ _ (column_short text place is)
-    (joined 8 165 _ _ (literal (codes ", found ") refl) (words_short (ahead text place) (ahead_scalars text place is))))
+found_line_short : (m : ℕ) (problem text : List ℕ) (place : ℕ) (help : List ℕ) → IsPlaced text place
+    → IsShort m problem → IsShort 57 help
+    → IsShort (m + 261) (found_line problem text place (first_piece (ahead text place)) help)
+found_line_short m problem text place help is first last =
+    joined m 261 _ _ first
+    (joined 31 230 _ _ (column_short text place is)
+    (joined 173 57 _ _ (found_short _ (ahead_short text place is)) last))
 
 name_short : (u : TimeUnit) → IsShort 3 (encode_utf8_all (row_of u).printed)
 name_short u = record {
@@ -284,105 +281,127 @@ name_short u = record {
   short = omega (arith, length_name u, leb-true _ 3 (all_units (λ u. nat_le (byte_len (row_of u).printed) 3) refl u));
 }
 
-advice_short : (unit : Option TimeUnit) → IsShort 13 (advice_of unit)
-advice_short None = less 0 13 [] (lit≤ tt) (literal [] refl)
-advice_short (Some u) =
-    joined 9 4 _ _ (literal (codes ": write \"") refl) (joined 3 1 _ _ (name_short u) (literal (codes "\"") refl))
+advice_short : (u : TimeUnit) → IsShort 13 (advice_of (row_of u).printed)
+advice_short u =
+    joined 9 4 _ _ (literal 9 (codes ": write \"") refl)
+    (joined 3 1 _ _ (name_short u) (literal 1 (codes "\"") refl))
 
-unknown_short : (text : List ℕ) (place : ℕ) (near : Option TimeUnit) → IsPlaced text place
-    → IsShort 365 (unknown_line text place (first_piece (ahead text place)) near)
-unknown_short text place near is =
-    less 222 365 _ (lit≤ tt)
-    (joined 13 209 _ _ (literal (codes "unknown unit ") refl)
-    (joined 165 44 _ _ (piece_short (ahead text place) (ahead_scalars text place is))
-    (joined 31 13 _ _ (column_short text place is) (advice_short near))))
+near_short : (word : List ℕ) → IsShort 13 (near_advice word)
+unfolding lib.Utf8.encode
+near_short word =
+    chosen 13 _ (advice_short Month) (chosen 13 _ (literal 13 (advice_of (codes "us")) refl) (by_unit _))
+  where
+    by_unit : (unit : Option TimeUnit) → IsShort 13 (option_map_or (λ u. advice_of (row_of u).printed) unit [])
+    by_unit None = literal 13 [] refl
+    by_unit (Some u) = advice_short u
+
+unknown_short : (text : List ℕ) (place : ℕ) (help : List ℕ) → IsPlaced text place → IsShort 13 help
+    → IsShort 222 (unknown_line text place (first_piece (ahead text place)) help)
+unknown_short text place help is last =
+    joined 13 209 _ _ (literal 13 (codes "unknown unit ") refl)
+    (joined 165 44 _ _ (ahead_short text place is) (joined 31 13 _ _ (column_short text place is) last))
 
 expected_short : (expected : Expected) → IsShort 38 (expected_words expected)
-expected_short expected = elim (cases_Bool expected.unit_word) [
-  | inl unit ↦ elim (cases_Bool expected.operator) [
-    | inl operator ↦
-        rw (unit, operator) (less 36 38 _ (lit≤ tt) (literal (codes "expected a unit, '+', '*' or the end") refl))
-    | inr none ↦ rw (unit, none) (less 26 38 _ (lit≤ tt) (literal (codes "expected a unit or the end") refl))
-  ]
-  | inr no_unit ↦ elim (cases_Bool expected.operator) [
-    | inl operator ↦ rw (no_unit, operator) (literal (codes "expected a number, '+', '*' or the end") refl)
-    | inr none ↦ elim (cases_Bool expected.text_end) [
-      | inl text_end ↦
-          rw (no_unit, none, text_end) (less 28 38 _ (lit≤ tt) (literal (codes "expected a number or the end") refl))
-      | inr no_end ↦ rw (no_unit, none, no_end) (less 17 38 _ (lit≤ tt) (literal (codes "expected a number") refl))
-    ]
-  ]
-]
+expected_short expected =
+    chosen 38 expected.unit_word (chosen 38 expected.operator (literal 38 _ refl) (literal 38 _ refl))
+    (chosen 38 expected.operator (literal 38 _ refl)
+    (chosen 38 expected.text_end (literal 38 _ refl) (literal 38 _ refl)))
+
+words_short : (apply : Bool) (words : List ℕ) → (nat_le (length words) 57 && list_all is_plain_byte words) ≡ true
+    → IsShort 57 (words_if apply words)
+words_short apply words e = chosen 57 apply (literal 57 words e) (literal 57 [] refl)
+
+notation_short : (before piece : List ℕ) → IsShort 57 (notation_help before piece)
+notation_short before piece = search (chosen, words_short, literal) depth 20
+
+help_short : (text : List ℕ) (place : ℕ) (piece : List ℕ) → IsShort 57 (help_at text place piece)
+help_short text place piece = chosen 57 _ (notation_short (take place text) piece) (literal 57 [] refl)
 
 syntax_short : (text : List ℕ) (place : ℕ) (expected : Expected) → IsPlaced text place
     → IsShort 365 (syntax_line text place expected (first_piece (ahead text place)))
 syntax_short text place expected is =
-    let piece = first_piece (ahead text place) in
-    elim (cases_Bool (expected.unit_word && begins_with_letter piece)) [
-      | inl word ↦ rw word (unknown_short text place (near_unit (encode_utf8_all piece)) is)
-      | inr other ↦
-          rw other (less 242 365 _ (lit≤ tt) (found_short 38 _ text place is (expected_short expected)))
-    ]
+    chosen 365 _ (less 222 365 _ (lit≤ tt) (unknown_short text place _ is (near_short _)))
+    (less 299 365 _ (lit≤ tt) (found_line_short 38 _ text place _ is (expected_short expected) (help_short text place _)))
 
 text_short : (problem text : List ℕ) → IsUtf8 text → IsShort 36 problem → IsShort 365 (text_line problem text)
 text_short problem text utf8 first =
     joined 36 329 _ _ first
-    (joined 4 325 _ _ (literal (codes " in ") refl) (quoted_short (chars text) (scalars-chars text utf8)))
-
-out_of_range_short : IsShort 17 (encode_utf8_all (line_of OutOfRange))
-unfolding lib.Utf8.encode
-out_of_range_short = literal (codes "date out of range") refl
-
-not_text_short : (optional : Bool) → IsShort 46 (encode_utf8_all (line_of (NotText optional)))
-unfolding lib.Utf8.encode
-not_text_short true = literal (codes "expect duration string, null, or missing field") refl
-not_text_short false = less 38 46 _ (lit≤ tt) (literal (codes "expect duration string, e.g: '1min+30'") refl)
+    (joined 4 325 _ _ (literal 4 (codes " in ") refl) (quoted_short (chars text) (scalars-chars text utf8)))
 
 -- The line has plain characters alone, and at most 365 bytes.
 pub one_line_short : (text : List ℕ) (cause : Cause) → IsUtf8 text → length text < 2 ^ 63
     → ForSome (place_of cause) (IsCharBoundary text) → IsShort 365 (one_line_of text cause)
-one_line_short text Empty utf8 small placed = less 10 365 _ (lit≤ tt) (literal (codes "empty text") refl)
+unfolding lib.Utf8.encode
+one_line_short text Empty utf8 small placed = literal 365 (codes "empty text") refl
 one_line_short text (Syntax place expected) utf8 small placed =
-    let is : IsPlaced text place = record { utf8 = utf8; small = small; boundary = placed place refl } in
-    syntax_short text place expected is
+    syntax_short text place expected (record { utf8 = utf8; small = small; boundary = placed place refl })
 one_line_short text (NumberTooLarge (Some place)) utf8 small placed =
     let is : IsPlaced text place = record { utf8 = utf8; small = small; boundary = placed place refl } in
-    less 226 365 _ (lit≤ tt) (found_short 22 _ text place is (literal (codes "number of 2^64 or more") refl))
+    less 283 365 _ (lit≤ tt)
+    (found_line_short 22 _ text place [] is (literal 22 (codes "number of 2^64 or more") refl) (literal 57 [] refl))
 one_line_short text (NumberTooLarge None) utf8 small placed =
-    text_short _ text utf8 (less 22 36 _ (lit≤ tt) (literal (codes "number of 2^64 or more") refl))
+    text_short _ text utf8 (literal 36 (codes "number of 2^64 or more") refl)
 one_line_short text (Overflow place) utf8 small placed =
-    text_short _ text utf8 (literal (codes "duration of 2^64 nanoseconds or more") refl)
+    text_short _ text utf8 (literal 36 (codes "duration of 2^64 nanoseconds or more") refl)
 one_line_short text (Mixed first Plus) utf8 small placed =
-    text_short _ text utf8 (less 13 36 _ (lit≤ tt) (literal (codes "'+' after '*'") refl))
+    text_short _ text utf8 (literal 36 (codes "'+' after '*'") refl)
 one_line_short text (Mixed first Star) utf8 small placed =
-    text_short _ text utf8 (less 13 36 _ (lit≤ tt) (literal (codes "'*' after '+'") refl))
-one_line_short text OutOfRange utf8 small placed = less 17 365 _ (lit≤ tt) out_of_range_short
-one_line_short text (NotText optional) utf8 small placed = less 46 365 _ (lit≤ tt) (not_text_short optional)
+    text_short _ text utf8 (literal 36 (codes "'*' after '+'") refl)
+one_line_short text OutOfRange utf8 small placed = literal 365 (encode_utf8_all (line_of OutOfRange)) refl
+one_line_short text (NotText true) utf8 small placed = literal 365 (encode_utf8_all (line_of (NotText true))) refl
+one_line_short text (NotText false) utf8 small placed = literal 365 (encode_utf8_all (line_of (NotText false))) refl
 
--- A word stands where a unit could.
-pub unknown_unit : (text : List ℕ) (place : ℕ) (expected : Expected) (piece : List ℕ) → expected.unit_word ≡ true
-    → begins_with_letter piece ≡ true
-    → unknown_line text place piece (near_unit (encode_utf8_all piece)) ≡ syntax_line text place expected piece
-unknown_unit text place expected piece unit letter = rw (unit, letter) refl
+-- No word stands where a unit could.
+pub no_unit_word : (text : List ℕ) (place : ℕ) (expected : Expected) (piece : List ℕ)
+    → (expected.unit_word && begins_with_letter piece) ≡ false
+    → found_line (expected_words expected) text place piece (help_at text place (encode_utf8_all piece))
+    ≡ syntax_line text place expected piece
+no_unit_word text place expected piece no_word = rw no_word refl
 
 -- ---- A quote
 
--- A character is written.
-pub quoted_more : (written new whole rest after : List ℕ) (left c : ℕ) → left ≢ 0 → IsUtf8 rest
-    → rest ≡ encode_utf8 c ++ after → new ≡ written ++ escaped c → written ++ quoted_end left (chars rest) ≡ whole
-    → new ++ quoted_end (left - 1) (chars after) ≡ whole
-quoted_more written new whole rest after zero c some utf8 parts is all = absurd (some refl)
-quoted_more written new whole rest after (suc left) c some utf8 parts is all =
-    let e : suc left - 1 ≡ left = omega arith in
-    rw (e, is, append_assoc) (rw (chars_past_char rest after c utf8 parts) at all)
+-- Clear characters are written as they are.
+quoted_front : (run rest : List ℕ) (more : ℕ) → list_all (is_passing (is_of Clear)) run ≡ true
+    → quoted_end (length run + more) (run ++ rest) ≡ encode_utf8_all run ++ quoted_end more rest
+quoted_front [] rest more e = let all : 0 + more ≡ more = omega arith in rw all refl
+quoted_front (c ∷ run) rest more e =
+    let both = and_parts (is_passing (is_of Clear) c) (list_all (is_passing (is_of Clear)) run) e in
+    let clear = and_parts (is_plain c) _ (and_parts (scalar c) (is_of Clear c) both.0).1 in
+    let next : suc (length run) + more ≡ suc (length run + more) = omega arith in
+    rw (next, not-true _ clear.1, clear.0, quoted_front run rest more both.1) (sym (append_assoc (encode_utf8 c) _ _))
 
--- There is no room for a character.
-pub quoted_stops : (written whole rest after : List ℕ) (left c room : ℕ) → left ≢ 0 → IsUtf8 rest
-    → rest ≡ encode_utf8 c ++ after → room < length (written ++ escaped c)
-    → written ++ quoted_end left (chars rest) ≡ whole → room < length whole
-quoted_stops written whole rest after left c room some utf8 parts full all =
-    let more = quoted_more written _ whole rest after left c some utf8 parts refl all in
-    omega (arith, full, ap length more, length-append (written ++ escaped c) (quoted_end (left - 1) (chars after)))
+-- A run is written.
+pub quoted_run : (written whole rest run after : List ℕ) (left more : ℕ) → IsUtf8 rest → IsUtf8 run
+    → rest ≡ run ++ after → chars run ≡ take left (take_while (is_of Clear) (chars rest))
+    → length (chars run) + more ≡ left → written ++ quoted_end left (chars rest) ≡ whole
+    → (written ++ run) ++ quoted_end more (chars after) ≡ whole
+quoted_run written whole rest run after left more utf8 utf8_run parts are count all =
+    let clear = rw (← are) at (run_passes (is_of Clear) left (chars rest) (scalars-chars rest utf8)) in
+    let cut = rw (encodes-chars run utf8_run) at (quoted_front (chars run) (chars after) more clear) in
+    append_assoc written run _
+    ∙ ap (λ bytes. written ++ bytes) (sym (rw (← count, parts, chars-append run after utf8_run) cut)) ∙ all
+
+-- The character after a run that is not full fails the test.
+pub run_stopped : (test : ℕ → Bool) (after rest : List ℕ) (left c : ℕ) → IsUtf8 after → after ≡ encode_utf8 c ++ rest
+    → left ≢ 0 → take left (take_while test (chars after)) ≡ [] → test c ≡ false
+run_stopped test after rest zero c utf8 parts some none = absurd (some refl)
+run_stopped test after rest (suc left) c utf8 parts some none =
+    false_from_ne_true (test c) (λ passes.
+    let more = rw (chars_past_char after rest c utf8 parts, take_while-cons test c (chars rest), passes) at none in absurd cc)
+
+-- A character is written.
+pub quoted_more : (written whole rest after : List ℕ) (left c : ℕ) → left ≢ 0 → IsUtf8 rest
+    → rest ≡ encode_utf8 c ++ after → written ++ quoted_end left (chars rest) ≡ whole
+    → (written ++ escaped c) ++ quoted_end (left - 1) (chars after) ≡ whole
+quoted_more written whole rest after zero c some utf8 parts all = absurd (some refl)
+quoted_more written whole rest after (suc left) c some utf8 parts all =
+    let e : suc left - 1 ≡ left = omega arith in
+    rw (e, append_assoc) (rw (chars_past_char rest after c utf8 parts) at all)
+
+-- There is no room for what is to be written.
+pub quoted_stops : (written after whole : List ℕ) (room : ℕ) → written ++ after ≡ whole → room < length written
+    → room < length whole
+quoted_stops written after whole room all full = omega (arith, full, ap length all, length-append written after)
 
 -- What is written is in the buffer.
 pub end_inside : (bytes buffer : List ℕ) (end : ℕ) → end ≡ length bytes → take end buffer ≡ bytes → end ≤ length buffer
@@ -400,63 +419,73 @@ pub quoted_all : (written whole rest : List ℕ) (left : ℕ) → length rest �
     → written ++ quoted_end left (chars rest) ≡ whole → written ++ codes "\"" ≡ whole
 quoted_all written whole rest left none all = rw (chars_of_none rest none) at all
 
-pub found_none : (piece : List ℕ) → (length piece == 0) ≡ true → found_words (chars piece) ≡ codes "the end"
+pub found_none : (piece : List ℕ) → (length piece == 0) ≡ true
+    → found_words (chars piece) ≡ codes ", found the end"
 found_none piece none = rw (chars_of_none piece (eqb-true (length piece) 0 none)) refl
 
 pub found_some : (piece : List ℕ) → (length piece == 0) ≡ false → IsUtf8 piece
-    → found_words (chars piece) ≡ quoted (chars piece)
+    → found_words (chars piece) ≡ codes ", found " ++ quoted (chars piece)
 found_some piece some utf8 = found_chars (chars piece) piece (encodes-chars piece utf8) some
 
--- ---- A piece
+-- ---- A run
 
--- These characters were passed, and belong to the piece.
-pub record Passed (text : List ℕ) (first : ℕ) (rest : List ℕ) : Type 0 where
-  pub passed : List ℕ
-  pub parts : text ≡ encode_utf8_all passed ++ rest
-  pub piece : first_piece (chars text) ≡ passed ++ run_after first (chars rest)
+-- These characters of a text were taken for a run of at most so many, and so many more may follow.
+pub record Taken (test : ℕ → Bool) (most : ℕ) (text rest : List ℕ) (left : ℕ) : Type 0 where
+  pub taken : List ℕ
+  pub parts : text ≡ encode_utf8_all taken ++ rest
+  pub count : length taken + left ≡ most
+  pub whole : take most (take_while test (chars text)) ≡ taken ++ take left (take_while test (chars rest))
 
--- The first character is passed.
-pub passed_first : (text rest : List ℕ) (c : ℕ) → IsUtf8 text → text ≡ encode_utf8 c ++ rest → Passed text c rest
-passed_first text rest c utf8 parts = record {
-  passed = c ∷ [];
-  parts = parts ∙ search (rules, append-nil);
-  piece = rw (chars_past_char text rest c utf8 parts) refl;
-}
+pub taken_none : (test : ℕ → Bool) (most : ℕ) (text : List ℕ) → Taken test most text text most
+taken_none test most text = record { taken = []; parts = refl; count = omega arith; whole = refl }
 
--- One more is passed.
-pub passed_more : (text rest after : List ℕ) (first c : ℕ) → IsUtf8 rest → rest ≡ encode_utf8 c ++ after
-    → are_alike first c ≡ true → Passed text first rest → Passed text first after
-passed_more text rest after first c utf8 parts alike before = record {
-  passed = before.passed ++ c ∷ [];
-  parts = before.parts ∙ rw (parts, encodes-append before.passed) (simp append_assoc);
-  piece = before.piece ∙ rw (chars_past_char rest after c utf8 parts, alike) (simp append_assoc);
-}
+-- One more is taken.
+pub taken_more : (test : ℕ → Bool) (most : ℕ) (text rest after : List ℕ) (left c : ℕ) → IsUtf8 rest
+    → rest ≡ encode_utf8 c ++ after → left ≢ 0 → test c ≡ true
+    → Taken test most text rest left → Taken test most text after (left - 1)
+taken_more test most text rest after zero c utf8 parts some passes before = absurd (some refl)
+taken_more test most text rest after (suc left) c utf8 parts some passes before =
+    let e : suc left - 1 ≡ left = omega arith in
+    rw e (record {
+      taken = before.taken ++ c ∷ [];
+      parts = before.parts ∙ rw (parts, encodes-append before.taken) (simp append_assoc);
+      count = omega (arith, before.count, length-append before.taken (c ∷ []));
+      whole = before.whole
+          ∙ rw (chars_past_char rest after c utf8 parts, take_while-cons test c (chars after), passes) (simp append_assoc);
+    })
 
--- Nothing follows.
-pub passed_all : (text rest result : List ℕ) (first : ℕ) → IsUtf8 result → run_after first (chars rest) ≡ []
-    → result ≡ slice_range text 0 (length text - length rest) → Passed text first rest
-    → chars result ≡ first_piece (chars text)
-passed_all text rest result first utf8 ends is before =
-    let bytes = encode_utf8_all before.passed in
-    let long : length text - length rest - 0 ≡ length bytes =
-    omega (arith, ap length before.parts, length-append bytes rest) in
-    let same : result ≡ bytes = is ∙ rw (long, before.parts) (take-append_seam bytes rest) in
-    sym (chars_from_encodes before.passed result utf8 (sym same)) ∙ sym (append-nil _) ∙ rw (← ends) (sym before.piece)
-
--- The next character is of another kind.
-pub run_stops : (rest after : List ℕ) (first c : ℕ) → IsUtf8 rest → rest ≡ encode_utf8 c ++ after
-    → are_alike first c ≡ false → run_after first (chars rest) ≡ []
-run_stops rest after first c utf8 parts other = rw (chars_past_char rest after c utf8 parts, other) refl
+-- The next character fails the test.
+pub run_stops : (test : ℕ → Bool) (rest after : List ℕ) (left c : ℕ) → IsUtf8 rest → rest ≡ encode_utf8 c ++ after
+    → test c ≡ false → take left (take_while test (chars rest)) ≡ []
+run_stops test rest after zero c utf8 parts other = refl
+run_stops test rest after (suc left) c utf8 parts other =
+    rw (chars_past_char rest after c utf8 parts, take_while-cons test c (chars after), other) refl
 
 -- The text ends.
-pub run_ends : (rest : List ℕ) (first : ℕ) → length rest ≡ 0 → run_after first (chars rest) ≡ []
-run_ends rest first none = rw (chars_of_none rest none) refl
+pub run_ends : (test : ℕ → Bool) (rest : List ℕ) (left : ℕ) → length rest ≡ 0
+    → take left (take_while test (chars rest)) ≡ []
+run_ends test rest zero none = refl
+run_ends test rest (suc left) none = rw (chars_of_none rest none) refl
 
--- A piece ends where a character begins.
-pub passed_boundary : (text rest : List ℕ) (first : ℕ) → IsUtf8 rest → Passed text first rest
-    → IsCharBoundary text (length text - length rest)
-passed_boundary text rest first utf8 before =
-    let bytes = encode_utf8_all before.passed in
-    let long : length text - length rest ≡ length bytes =
-    omega (arith, ap length before.parts, length-append bytes rest) in
-    rw long (IsCharBoundary-at_seam text bytes rest before.parts utf8)
+-- The first character is taken.
+pub first_taken : (text rest : List ℕ) (c : ℕ) → text ≡ encode_utf8 c ++ rest
+    → text ≡ encode_utf8_all (c ∷ []) ++ rest
+first_taken text rest c parts = parts ∙ search (rules, append-nil)
+
+-- The characters of a run are those that were taken.
+pub taken_all : (taken run : List ℕ) → IsUtf8 run → run ≡ encode_utf8_all taken → chars run ≡ taken
+taken_all taken run utf8 is = sym (chars_from_encodes taken run utf8 (sym is))
+
+module _ (text rest taken : List ℕ) (parts : text ≡ encode_utf8_all taken ++ rest) where
+  taken_long : length text - length rest ≡ length (encode_utf8_all taken)
+  taken_long = omega (arith, ap length parts, length-append (encode_utf8_all taken) rest)
+
+  -- A run is the bytes of what was taken.
+  pub taken_bytes : (run : List ℕ) → run ≡ slice_range text 0 (length text - length rest) → run ≡ encode_utf8_all taken
+  taken_bytes run is =
+      let long : length text - length rest - 0 ≡ length (encode_utf8_all taken) = omega (arith, taken_long) in
+      is ∙ rw (long, parts) (take-append_seam (encode_utf8_all taken) rest)
+
+  -- It ends where a character begins.
+  pub taken_boundary : IsUtf8 rest → IsCharBoundary text (length text - length rest)
+  taken_boundary utf8 = rw taken_long (IsCharBoundary-at_seam text (encode_utf8_all taken) rest parts utf8)
