@@ -265,6 +265,7 @@ fn put_text_line(buffer: &mut [u8], problem: &str, text: &str) -> Option<usize>
 }
 
 /// Writes the column of a place.
+#[inline(never)]
 fn put_column(buffer: &mut [u8], at: usize, text: &str, place: usize) -> Option<usize>
     requires room { at ≤ length buffer.old }
     requires boundary { IsCharBoundary text.now place }
@@ -439,10 +440,12 @@ fn is_letter(c: char) -> bool
 fn is_plain(c: char) -> bool
     ensures { result ≡ is_plain c }
 {
+    if c <= '~' {
+        return c >= ' ';
+    }
     !matches!(
         c,
-        '\0'..='\x1f'
-            | '\x7f'..='\u{a0}'
+        '\x7f'..='\u{a0}'
             | '\u{61c}'
             | '\u{2000}'..='\u{206f}'
             | '\u{feff}'

@@ -213,6 +213,7 @@ fn put_text_line(buffer: &mut [u8], problem: &str, text: &str) -> Option<usize> 
 }
 
 /// Writes the column of a place.
+#[inline(never)]
 fn put_column(buffer: &mut [u8], at: usize, text: &str, place: usize) -> Option<usize> {
     let number = put(buffer, at, b" at column ")?;
     put_decimal(buffer, number, chars_before(text, place) + 1)
@@ -351,10 +352,12 @@ fn is_letter(c: char) -> bool {
 
 /// Whether a character is safe and seen within a line.
 fn is_plain(c: char) -> bool {
+    if c <= '~' {
+        return c >= ' ';
+    }
     !matches!(
         c,
-        '\0'..='\x1f'
-            | '\x7f'..='\u{a0}'
+        '\x7f'..='\u{a0}'
             | '\u{61c}'
             | '\u{2000}'..='\u{206f}'
             | '\u{feff}'
