@@ -37,7 +37,8 @@ help:
 
 # ./durstr takes the profile `quick`; what is installed and released, the other.
 profile = release
-target = $(shell rustc -vV 2>/dev/null | sed -n 's/^host: //p')
+host := $(shell rustc -vV 2>/dev/null | sed -n 's/^host: //p')
+target = $(host)
 built = out/cargo/$(target)/$(profile)
 cargo = tools/cargo-for $(target) $(1) --quiet --profile $(profile) --target-dir out/cargo
 static =
@@ -52,8 +53,7 @@ program:
 	    :
 	elif type -P cargo >/dev/null; then
 	    [ -x $$program ] || echo 'durstr: cargo builds it, in seconds' >&2
-	    $(if $(static),RUSTFLAGS="$${RUSTFLAGS-} -C target-feature=+crt-static") \
-	        $(call cargo,std$(comma)panic_abort build) -p durstr
+	    $(call cargo,std$(comma)panic_abort rustc) -p durstr --bin durstr -- $(if $(static),-C target-feature=+crt-static)
 	elif type -P rt >/dev/null && [ $(origin target) = file ]; then
 	    program=crates/durstr/out/durstr
 	    [ -x $$program ] || echo 'durstr: there is no cargo, so rt proves and builds it, which takes minutes' >&2
