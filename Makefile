@@ -37,9 +37,10 @@ help:
 
 # ./durstr takes the profile `quick`; what is installed and released, the other.
 profile = release
-target = $(shell rustc -vV 2>/dev/null | sed -n 's/^host: //p')
+host := $(shell rustc -vV 2>/dev/null | sed -n 's/^host: //p')
+target = $(host)
 built = out/cargo/$(target)/$(profile)
-cargo = tools/cargo-for $(target) $(1) --quiet --profile $(profile) --target-dir out/cargo
+cargo = tools/cargo-for $(call quoted,$(target)) $(1) --quiet --profile $(profile) --target-dir out/cargo
 static =
 comma := ,
 
@@ -47,13 +48,12 @@ comma := ,
 serves = { [ ! -w . ] && [ -e $(1) ] && [ -z "$$(find Cargo.toml $(2) rust/core -newer $(1) -print -quit)" ]; }
 
 program:
-	@program=$(built)/durstr
-	if $(call serves,$$program,program); then
+	@program="$(built)/durstr"
+	if $(call serves,"$$program",program); then
 	    :
 	elif type -P cargo >/dev/null; then
-	    [ -x $$program ] || echo 'durstr: cargo builds it, in seconds' >&2
-	    $(if $(static),RUSTFLAGS="$${RUSTFLAGS-} -C target-feature=+crt-static") \
-	        $(call cargo,std$(comma)panic_abort build) -p durstr
+	    [ -x "$$program" ] || echo 'durstr: cargo builds it, in seconds' >&2
+	    $(call cargo,std$(comma)panic_abort rustc) -p durstr --bin durstr -- $(if $(static),-C target-feature=+crt-static)
 	elif type -P rt >/dev/null && [ $(origin target) = file ]; then
 	    program=crates/durstr/out/durstr
 	    [ -x $$program ] || echo 'durstr: there is no cargo, so rt proves and builds it, which takes minutes' >&2
@@ -66,8 +66,8 @@ program:
 
 # Of rustc's own archive 4.3 MB are helpers that nothing calls; the object has all that is needed.
 library:
-	@archive=$(built)/libduration_str.a
-	if ! $(call serves,$$archive,c); then
+	@archive="$(built)/libduration_str.a"
+	if ! $(call serves,"$$archive",c); then
 	    $(call cargo,core rustc) -p duration-str-c -- $(if $(filter wasm%,$(target)),,--emit obj=$(built)/duration_str.o)
 	    [ ! -e $(built)/duration_str.o ] || { rm -f $$archive && ar rcs $$archive $(built)/duration_str.o; }
 	fi
