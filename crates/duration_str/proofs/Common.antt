@@ -60,7 +60,7 @@ pub use Rattle.duration_str.specs.Grammar.{BeginsWith, IsSentence, IsSentenceOf,
 pub use Rattle.duration_str.specs.Grammar.{operator_or_other, other, sign_terminal, terminal_by, terminal_of, word}
 pub use Rattle.duration_str.specs.Laws.{AllParts, BlanksFree, EqualTexts, GreatestBreakdown, HasNoCapital, HasNoChinese}
 pub use Rattle.duration_str.specs.Laws.{HasNoOperator, HasNoStar, AnswerIsReading, IsIdle, IsMostWithin, KeepsWithin}
-pub use Rattle.duration_str.specs.Laws.{NeverMore, NoCalcAgrees, OlderTexts, OneReading, OneCut, OneSentence}
+pub use Rattle.duration_str.specs.Laws.{NearWords, NeverMore, NoCalcAgrees, OlderTexts, OneReading, OneCut, OneSentence}
 pub use Rattle.duration_str.specs.Laws.{OptionsIdle, PlaceAndKinds, ReadsBack, Reorder, SumOfTexts, TwoFactors}
 pub use Rattle.duration_str.specs.Laws.{is_operator, times_in}
 pub use Rattle.duration_str.specs.Older.{WasRead, WasRefused, WasSentenceOf, older_nanos_of, older_row_of}

@@ -14,7 +14,8 @@ use Rattle.duration_str.specs.declared.cause.Cause.{Cause}
 use Rattle.duration_str.specs.declared.cause.Cause.TheVariants.{Overflow}
 use Rattle.duration_str.specs.declared.cause.Expected.{Expected}
 use Rattle.duration_str.specs.Text.{operator_of, is_chinese}
-use Rattle.duration_str.specs.Units.{UnitRow, row_of, unit_lengths, nanos_of, units}
+use Rattle.duration_str.specs.Units.{UnitRow, row_of, unit_lengths, nanos_of, units, unit_of_word}
+use Rattle.duration_str.specs.OneLine.{near_advice}
 use Rattle.duration_str.specs.Grammar.{Terminal, operator, IsSentence, IsSentenceOf, Spells, terminal_of}
 use Rattle.duration_str.specs.Tokens.{Token, tokens_of, lexemes_of, AreTokens}
 use Rattle.duration_str.specs.Place.{BeginsSentence, CanFollow, IsFront}
@@ -210,3 +211,7 @@ pub record IsMostWithin (format : Format) (nanos : ℕ) (text : List ℕ) (most 
 abbrev pub NeverMore : Type 0
 NeverMore = (format : Format) (nanos : ℕ) (text : List ℕ) → IsPrintedWithin format nanos text
     → (most : ℕ) × IsMostWithin format nanos text most
+
+-- A word for which the line advises a unit's name names no unit, under any options.
+abbrev pub NearWords : Type 0
+NearWords = (o : Options) (word : List ℕ) → near_advice (encode_utf8_all word) ≢ [] → unit_of_word o word ≡ None

@@ -2,7 +2,7 @@
 ghost use Rattle.duration_str.specs.Laws.{OneSentence, OneCut, OneReading, AnswerIsReading, PlaceAndKinds};
 ghost use Rattle.duration_str.specs.Laws.{NoCalcAgrees, OptionsIdle, BlanksFree, SumOfTexts, Reorder, TwoFactors};
 ghost use Rattle.duration_str.specs.Laws.{GreatestBreakdown, EqualTexts, ReadsBack, LastLine, OlderTexts, AllParts};
-ghost use Rattle.duration_str.specs.Laws.{NeverMore};
+ghost use Rattle.duration_str.specs.Laws.{NeverMore, NearWords};
 
 /// At most one sentence spells a text, and its lexemes are those of the text's tokens; a text is read as one value or
 /// refused for one cause, not both, and the computed answer says which. So `3m31s` is spelled by `3`, `m`, `31`, `s`
@@ -117,4 +117,11 @@ pub fn all_parts()
 #[tactic(auto, using(crate::proofs::LawProofs::NeverMore::never_more_holds))]
 pub fn never_more()
     ensures { NeverMore }
+{}
+
+/// A word for which a fault's line advises a unit's name is no unit under any options. So whoever is told to write `min`
+/// for `mins` can't have it read by other options.
+#[tactic(auto, using(crate::proofs::LawProofs::NearWords::near_words_hold))]
+pub fn near_words()
+    ensures { NearWords }
 {}

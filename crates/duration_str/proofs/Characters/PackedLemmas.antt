@@ -240,7 +240,7 @@ unit_by_number o w folded letters = simp (λ (u : TimeUnit). named_by_number o w
 -- ---- words that name no unit
 
 -- All names pass the test, and the word fails it.
-no_name : (o : Options) (w : List ℕ) (test : List ℕ → Bool) → list_all (λ u. list_all test (all_names u)) units ≡ true
+pub no_name : (o : Options) (w : List ℕ) (test : List ℕ → Bool) → list_all (λ u. list_all test (all_names u)) units ≡ true
     → test (comparison_form o w) ≡ false → None ≡ unit_of_word o w
 no_name o w test all fails =
     let unnamed = λ (u : TimeUnit). false_from_ne_true (is_named o w u) (λ t. cc (
