@@ -453,13 +453,21 @@ def search_small_worlds():
             assert counts_within(nanos, lengths, parts) == max(allowed), (lengths, nanos, parts)
 
 
-def printed_within(nanos, largest, smallest, parts):
-    """What a duration prints as in the units from one place in UNITS to another, and in at most so many parts."""
+def printed_part(count, unit, style):
+    """A count with its unit's printed name; in the long style with a space and the last of its names, or for one the last
+    but one."""
+    one, many = unit.names.split()[-2:]
+    return f"{count} {one if count == 1 else many}" if style == "long" else f"{count}{unit.printed}"
+
+
+def printed_within(nanos, largest, smallest, parts, style="short"):
+    """What a duration prints as in the units from one place in UNITS to another, in at most so many parts and in one of
+    the styles short, compact and long."""
     units = UNITS[largest : smallest + 1]
     counts = counts_within(nanos, tuple(unit.length for unit in units), parts)
-    printed_parts = [f"{count}{unit.printed}" for count, unit in zip(counts, units) if count]
+    printed_parts = [printed_part(count, unit, style) for count, unit in zip(counts, units) if count]
     zero = UNITS[smallest] if UNITS[smallest].length > SECOND else next(unit for unit in UNITS if unit.length == SECOND)
-    return " ".join(printed_parts) or f"0{zero.printed}"
+    return ("" if style == "compact" else " ").join(printed_parts) or printed_part(0, zero, style)
 
 
 def line_of(answer):
