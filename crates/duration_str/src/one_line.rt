@@ -429,7 +429,6 @@ fn begins_with_letter(text: &str) -> bool
 }
 
 /// An ASCII letter, or any plain character beyond ASCII.
-#[inline(never)]
 fn is_letter(c: char) -> bool
     ensures { result ≡ is_letter c }
 {

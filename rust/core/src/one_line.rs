@@ -345,7 +345,6 @@ fn begins_with_letter(text: &str) -> bool {
 }
 
 /// An ASCII letter, or any plain character beyond ASCII.
-#[inline(never)]
 fn is_letter(c: char) -> bool {
     c.is_ascii_alphabetic() || c >= '\u{80}' && is_plain(c)
 }
