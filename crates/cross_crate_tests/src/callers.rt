@@ -45,7 +45,10 @@ fn totals_as_the_joined_text_is_read(rt: HostRuntime) {
 fn has_one_key_for_each_value(rt: HostRuntime) {
     let mut buffer = [0u8; 144];
     for text in ["30 + 1m", "45s*2", "1Min 30", "90000ms"] {
-        assert_eq!(rt; canonical(text, Style::Short, &mut buffer).ok(), Some("1min 30s"));
+        assert_eq!(rt;
+            canonical(text, Style::Short, &mut buffer).ok(),
+            Some("1min 30s")
+        );
         assert_eq!(rt; share_entry(text, "90s").ok(), Some(true));
     }
     assert_eq!(rt; share_entry("90s", "91s").ok(), Some(false));
