@@ -30,8 +30,9 @@ fn prints_about_the_length_of_each_unit(rt: HostRuntime) {
     let one = Format::whole().parts(1);
     for (unit, nanos, text, below, zero) in UNITS {
         let down_to = Format::whole().smallest(unit);
-        assert!(rt; prints(nanos - 1, one, below), "{below}");
-        assert!(rt; prints(nanos - 1, down_to, zero), "{zero}");
+        let under = nanos.saturating_sub(1);
+        assert!(rt; prints(under, one, below), "{below}");
+        assert!(rt; prints(under, down_to, zero), "{zero}");
         assert!(rt; prints(nanos, one, text), "{text}");
         assert!(rt; prints(nanos, down_to, text), "{text}");
     }
