@@ -102,13 +102,11 @@ installed = $(bindir)/durstr $(mandir)/man1/durstr.1 $(includedir)/duration_str.
 # put FROM TO: copies the file to where TO is to be installed
 put = put() { $(INSTALL_DATA) -v -D "$$1" "$$DESTDIR$$2"; }
 
-# What the header says of the grammar's units, each sentence on lines of its own, as manual pages want it
-units = sed -n '/^ \* Units: /,/^ \*\//s|^ \*/\{0,1\} \{0,1\}||p' $(header) | paste -sd ' ' | \
-    sed 's/ Numbers are .*//; s/\. /.\n/g' | fold -s -w 40 | sed 's/ *$$//'
-
-# The manual page in that file, for what is installed
-page = sed -e '/^@TEXTS@$$/{r docs/man/texts.in' -e 'd}' $(1) | \
-    sed -e '/^@UNITS@$$/{r '<($(units)) -e 'd}' -e 's/@VERSION@/$(version)/'
+# The manual page in that file, for what is installed: with the calls, the header and its units
+description = LC_ALL=C awk -f c/manual-page.awk $(header)
+page = sed -e '/^@CALLS@$$/{r '<(printf '.Nm %s ,\n' $(calls) | sed '$$s/ ,//') -e 'd}' \
+    -e '/^@HEADER@$$/{r '<($(description)) -e 'd}' \
+    -e '/^@UNITS@$$/{r '<($(description) | sed -n '/^Units: /,/^A year has/p') -e 'd}' -e 's/@VERSION@/$(version)/' $(1)
 
 # The template in that file, for what is installed; VARIABLE stands for the prefix: $(call filled,FILE,VARIABLE)
 filled = sed 's|@PREFIX@|$(prefix)|; s|@VERSION@|$(version)|; s|@LIBDIR@|$(call below,$(libdir),$(2))|; \
