@@ -108,10 +108,16 @@ page = sed -e '/^@CALLS@$$/{r '<(printf '.Nm %s ,\n' $(calls) | sed '$$s/ ,//') 
     -e '/^@HEADER@$$/{r '<($(description)) -e 'd}' \
     -e '/^@UNITS@$$/{r '<($(description) | sed -n '/^Units: /,/^A year has/p') -e 'd}' -e 's/@VERSION@/$(version)/' $(1)
 
-# The template in that file, for what is installed; VARIABLE stands for the prefix: $(call filled,FILE,VARIABLE)
-filled = sed 's|@PREFIX@|$(prefix)|; s|@VERSION@|$(version)|; s|@LIBDIR@|$(call below,$(libdir),$(2))|; \
+# From a folder of what is installed up to the prefix, so that all of it can be moved; the prefix where the folder is not
+# below it: $(call up,FOLDER,FROM), where FROM stands for the folder
+space := $() $()
+up = $(if $(filter $(prefix)/%,$(1)),$(2)$(subst $(space),,$(patsubst %,/..,$(subst /, ,$(1:$(prefix)/%=%)))),$(prefix))
+
+# The template in that file, for what is installed there; VARIABLE stands for the prefix: $(call filled,FILE,VARIABLE,PREFIX)
+filled = sed 's|@PREFIX@|$(3)|; s|@VERSION@|$(version)|; s|@LIBDIR@|$(call below,$(libdir),$(2))|; \
     s|@INCLUDEDIR@|$(call below,$(includedir),$(2))|' c/$(1).in
 below = $(patsubst $(prefix)/%,$${$(2)}/%,$(1))
+cmake_up = $(call up,$(libdir)/cmake/duration_str,$${CMAKE_CURRENT_LIST_DIR})
 
 # Some characters pkg-config takes for something else, and others it quotes, so that compilers misread them.
 installable:
@@ -135,8 +141,9 @@ install: installable
 	put "$$libraries/libduration_str.so" $(libdir)/libduration_str.so.$(version)
 	ln -sf libduration_str.so.$(version) "$$DESTDIR$(libdir)/$(soname)"
 	ln -sf $(soname) "$$DESTDIR$(libdir)/libduration_str.so"
-	$(call filled,duration_str.pc,prefix) | put /dev/stdin $(libdir)/pkgconfig/duration_str.pc
-	$(foreach file,$(cmake_files),$(call filled,$(notdir $(file)),duration_str_prefix) | put /dev/stdin $(libdir)/$(file);)
+	$(call filled,duration_str.pc,prefix,$(call up,$(libdir)/pkgconfig,$${pcfiledir})) | put /dev/stdin $(libdir)/pkgconfig/duration_str.pc
+	$(foreach file,$(cmake_files),$(call filled,$(notdir $(file)),duration_str_prefix,$(cmake_up)) | \
+	    put /dev/stdin $(libdir)/$(file);)
 	$(call page,c/duration_str.3.in) | put /dev/stdin $(mandir)/man3/duration_str.3
 	for call in $(calls); do echo '.so man3/duration_str.3' | put /dev/stdin "$(mandir)/man3/$$call.3"; done
 	for file in LICENSE NOTICE; do put "$$file" "$(docdir)/$$file"; done
