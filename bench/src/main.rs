@@ -32,10 +32,12 @@ impl Library for Humantime {
         Humantime::reading(text)
     }
 
-    fn printing(length: Duration) -> [u8; 64] {
+    fn printing(length: Duration) -> usize {
         let mut buffer = [0; 64];
-        write!(&mut buffer[..], "{}", humantime::format_duration(length)).expect("a text of at most 64 bytes");
-        buffer
+        let mut rest = &mut buffer[..];
+        write!(rest, "{}", humantime::format_duration(length)).expect("a text of at most 64 bytes");
+        let left = rest.len();
+        black_box(&buffer).len() - left
     }
 
     fn printing_string(length: Duration) -> String {
