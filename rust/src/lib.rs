@@ -56,13 +56,16 @@ extern crate alloc;
 #[cfg(feature = "chrono")]
 mod dates;
 mod error;
-mod ext;
 mod fault;
+mod formatted;
 #[cfg(feature = "serde")]
 pub mod human;
 mod human_duration;
+mod human_format;
+#[cfg(feature = "serde")]
+pub mod human_or_seconds;
 mod parser;
-mod printed_within;
+mod sealed;
 #[cfg(feature = "serde")]
 mod serde_texts;
 
@@ -73,21 +76,21 @@ pub use dates::{
 };
 #[doc(inline)]
 pub use duration_str_core::{
-    Cause, CondUnit, Expected, Format, MAX_LONG_LEN, MAX_ONE_LINE_LEN, MAX_PRINTED_LEN, Options,
-    Style, TimeUnit, Token, Tokens, What, write_human, write_within,
+    Cause, CondUnit, Expected, Format, MAX_LONG_LEN, MAX_PRINTED_LEN, Options, Style, TimeUnit,
+    UnknownUnit, write_human, write_within,
 };
 #[cfg(feature = "macros")]
 pub use duration_str_macros::duration;
 pub use error::{DError, DResult};
-pub use ext::HumanFormat;
-pub use fault::{DurationError, Fault, OneLine, OwnedFault};
-pub use human_duration::{FormattedDuration, HumanDuration, format_duration};
+pub use fault::{Fault, OwnedFault};
+pub use formatted::{FormattedDuration, format_duration};
+pub use human_duration::HumanDuration;
+pub use human_format::HumanFormat;
 #[cfg(feature = "chrono")]
 pub use parser::parse_chrono;
 #[cfg(feature = "time")]
 pub use parser::parse_time;
 pub use parser::{parse, parse_duration, parse_std, parse_with};
-pub use printed_within::PrintedWithin;
 #[cfg(feature = "serde")]
 #[allow(deprecated)]
 pub use serde_texts::{DeserializeDuration, deserialize_duration, deserialize_option_duration};

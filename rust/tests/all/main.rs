@@ -4,6 +4,7 @@ mod config;
 #[cfg(feature = "chrono")]
 mod dates;
 mod faults;
+mod features;
 #[cfg(feature = "serde")]
 mod human;
 #[cfg(feature = "macros")]
@@ -23,3 +24,10 @@ fn all_options() -> impl Iterator<Item = Options> {
         cn_unit: bits & 4 != 0,
     })
 }
+
+/// The options that the features turn on, under which the calls of `duration-str` 0.19.0 read.
+const FEATURES: Options = Options {
+    no_calc: cfg!(feature = "no_calc"),
+    lowercase: cfg!(feature = "lowercase"),
+    cn_unit: cfg!(feature = "cn_unit"),
+};
