@@ -64,6 +64,7 @@ mod human_duration;
 mod human_format;
 #[cfg(feature = "serde")]
 pub mod human_or_seconds;
+pub mod humantime;
 mod parser;
 mod sealed;
 #[cfg(feature = "serde")]

@@ -7,6 +7,7 @@ mod faults;
 mod features;
 #[cfg(feature = "serde")]
 mod human;
+mod humantime;
 #[cfg(feature = "macros")]
 mod macros;
 mod owned;
