@@ -7,7 +7,7 @@ mod faults;
 mod features;
 #[cfg(feature = "serde")]
 mod human;
-mod humantime;
+mod humantime_items;
 #[cfg(feature = "macros")]
 mod macros;
 mod owned;
@@ -15,7 +15,7 @@ mod printing;
 mod values;
 mod vectors;
 
-use duration_str::Options;
+use duration_str::{Options, humantime};
 
 /// The eight choices of options.
 fn all_options() -> impl Iterator<Item = Options> {

@@ -1,6 +1,8 @@
-//! Every item of humantime 2.1 for durations and each of their traits, but for the variants of its error.
-use duration_str::humantime;
-use humantime::{Duration, DurationError, FormattedDuration, format_duration, parse_duration};
+//! Every item of humantime 2.1 for durations and each of their traits, but for the variants of its error. The example of a
+//! service compiles this over humantime too.
+use crate::humantime::{
+    format_duration, parse_duration, Duration, DurationError, FormattedDuration,
+};
 use std::collections::HashSet;
 use std::error::Error;
 use std::time::Duration as StdDuration;
