@@ -1,5 +1,5 @@
 //! For `#[serde(with = "duration_str::human")]`: durations as text, printed as
-//! [`format_duration`](crate::format_duration) prints and read as [`parse_duration`](crate::parse_duration) reads.
+//! [`format_duration`](crate::format_duration) prints and read as [`parse_duration`] reads.
 //!
 //! The field is a duration of `std`, `chrono` or `time`, or an `Option` or a `Vec` of what can be such a field; in other
 //! collections, such as a map, [`HumanDuration`] needs no `with`. One rule holds for all of them: the format is asked for a
@@ -66,9 +66,19 @@ use serde::de::{self, Deserialize, Deserializer, Unexpected, Visitor};
 use serde::ser::{self, Serialize, Serializer};
 
 /// The types of the fields that this module and [`human_or_seconds`](crate::human_or_seconds) write and read.
+///
+/// A map needs no `with`:
+///
+/// ```
+/// use duration_str::HumanDuration;
+/// use std::collections::HashMap;
+///
+/// let pauses: HashMap<String, HumanDuration> = serde_json::from_str(r#"{ "first": "5s" }"#).unwrap();
+/// assert_eq!(pauses["first"].as_secs(), 5);
+/// ```
 #[diagnostic::on_unimplemented(
     message = "`duration_str::human` has no fields of the type `{Self}`",
-    note = "it has durations of std, chrono and time, and `Option` and `Vec` of them",
+    label = "no duration of std, chrono or time, and no `Option` or `Vec` of them",
     note = "a map can be a `HashMap<String, HumanDuration>`, without `with`"
 )]
 pub trait HumanText: Sealed + Sized {

@@ -1,7 +1,7 @@
 //! Every item of humantime 2.1 for durations and each of their traits, but for the variants of its error. The example of a
 //! service compiles this over humantime too.
 use crate::humantime::{
-    format_duration, parse_duration, Duration, DurationError, FormattedDuration,
+    Duration, DurationError, FormattedDuration, format_duration, parse_duration,
 };
 use std::collections::HashSet;
 use std::error::Error;
@@ -16,21 +16,20 @@ fn has_the_functions() {
     let print: fn(StdDuration) -> FormattedDuration = format_duration;
     let length = read("2h 37min").unwrap();
     assert_eq!(length, StdDuration::new(9_420, 0));
-    let printed = print(length).clone();
+    let printed = Clone::clone(&print(length));
     assert_eq!(*printed.get_ref(), length);
     assert_eq!(parse_duration(&printed.to_string()), Ok(length));
     assert!(!format!("{printed:?}").is_empty());
 }
 
 #[test]
-#[allow(clippy::clone_on_copy)]
 fn has_the_traits_of_durations() {
     let length: Duration = "12h 5min 2ns".parse().unwrap();
     let std: StdDuration = length.into();
     assert_eq!(std, StdDuration::new(12 * 3600 + 5 * 60, 2));
     assert_eq!((length.as_secs(), *length), (43_500, std));
     let of_std: &StdDuration = length.as_ref();
-    assert_eq!(Duration::from(*of_std), length.clone());
+    assert_eq!(Duration::from(*of_std), Clone::clone(&length));
     assert_eq!(length.to_string(), format_duration(std).to_string());
     assert_eq!(HashSet::from([length, length]).len(), 1);
     assert!(!format!("{length:?}").is_empty());
