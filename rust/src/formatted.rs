@@ -30,7 +30,8 @@ use duration_str_core::{Format, Style, TimeUnit, write_human, write_within};
 pub struct FormattedDuration {
     is_negative: bool,
     magnitude: Duration,
-    format: Format,
+    /// `None` is whole: most are printed so, which takes less time apart.
+    chosen: Option<Format>,
 }
 
 /// The duration as what prints it. It has the name of humantime's function.
@@ -52,7 +53,7 @@ impl FormattedDuration {
         FormattedDuration {
             is_negative,
             magnitude,
-            format: Format::whole(),
+            chosen: None,
         }
     }
 
@@ -77,8 +78,12 @@ macro_rules! chooses {
             $(#[$doc])*
             #[must_use]
             pub const fn $name(self, $name: $Value) -> FormattedDuration {
+                let format = match self.chosen {
+                    Some(format) => format,
+                    None => Format::whole(),
+                };
                 FormattedDuration {
-                    format: self.format.$name($name),
+                    chosen: Some(format.$name($name)),
                     ..self
                 }
             }
@@ -145,18 +150,23 @@ chooses! {
 /// A minus where the duration is negative, and the text of its magnitude.
 impl fmt::Display for FormattedDuration {
     fn fmt(&self, f: &mut fmt::Formatter<'_>) -> fmt::Result {
-        // Most are printed whole, which takes less time.
-        if self.format != Format::whole() {
-            self.pad(f, write_within(&self.magnitude, self.format, &mut [0; 144]))
-        } else if self.magnitude.is_zero() {
-            self.pad(f, "0s")
-        } else {
-            self.pad(f, write_human(&self.magnitude, &mut [0; 64]))
+        if let Some(format) = self.chosen {
+            return self.write_within(f, format);
         }
+        if self.magnitude.is_zero() {
+            return self.pad(f, "0s");
+        }
+        self.pad(f, write_human(&self.magnitude, &mut [0; 64]))
     }
 }
 
 impl FormattedDuration {
+    /// Writes it in the units, parts and style that were chosen.
+    #[inline(never)]
+    fn write_within(&self, f: &mut fmt::Formatter<'_>, format: Format) -> fmt::Result {
+        self.pad(f, write_within(&self.magnitude, format, &mut [0; 144]))
+    }
+
     /// Writes the sign and the magnitude with the width and the fill that are asked for. A precision, which
     /// `Formatter::pad` cuts at, is ignored.
     #[inline]
