@@ -98,6 +98,7 @@ pub enum Cause {
     /// The date is out of range.
     OutOfRange,
     /// A configuration value is not a text.
+    #[doc(hidden)]
     NotText {
         /// Whether the value may be missing.
         optional: bool,

@@ -5,6 +5,8 @@
 #[forbid(unsafe_code)]
 mod impls; // Written by hand.
 
+pub use self::impls::UnknownUnit;
+
 #[forbid(unsafe_code)]
 mod cause;
 #[forbid(unsafe_code)]

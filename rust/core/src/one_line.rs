@@ -10,7 +10,7 @@ use crate::token::is_blank;
 /// The most bytes of a line: of a duration that is too large, with 40 tabs before it.
 ///
 /// ```
-/// use duration_str::{MAX_ONE_LINE_LEN, Options, parse_with};
+/// use duration_str_core::{MAX_ONE_LINE_LEN, Options, parse_with};
 ///
 /// let text = "\t".repeat(40) + "600y";
 /// let fault = parse_with(&text, Options::off()).unwrap_err();
@@ -27,7 +27,7 @@ impl Fault<'_> {
     /// Allocates nothing and cannot fail.
     ///
     /// ```
-    /// use duration_str::{Options, parse_with};
+    /// use duration_str_core::{Options, parse_with};
     ///
     /// let mut buffer = [0; 384];
     /// let fault = parse_with("1m 3-5", Options::off()).unwrap_err();

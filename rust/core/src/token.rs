@@ -10,7 +10,7 @@ use crate::unit::TimeUnit;
 /// What a token is: a number, a word with the unit that it names, an operator, or another character.
 ///
 /// ```
-/// use duration_str::{Options, TimeUnit, Tokens, What};
+/// use duration_str_core::{Options, TimeUnit, Tokens, What};
 ///
 /// let mut tokens = Tokens::new("3 hours", Options::off());
 /// assert_eq!(tokens.next().unwrap().what, What::Number);
@@ -31,7 +31,7 @@ pub enum What {
 /// A token of a text.
 ///
 /// ```
-/// use duration_str::{CondUnit, Options, Token, Tokens, What};
+/// use duration_str_core::{CondUnit, Options, Token, Tokens, What};
 ///
 /// let plus = Token { start: 2, text: "+", what: What::Operator(CondUnit::Plus) };
 /// assert_eq!(Tokens::new("1s+2m", Options::off()).nth(2), Some(plus));
@@ -82,7 +82,7 @@ struct Letters {
 /// The tokens of a text, in order. Each character is looked at once, when it is reached.
 ///
 /// ```
-/// use duration_str::{Options, Tokens};
+/// use duration_str_core::{Options, Tokens};
 ///
 /// let texts: Vec<&str> = Tokens::new("13s + 29ms", Options::off()).map(|token| token.text).collect();
 /// assert_eq!(texts, ["13", "s", "+", "29", "ms"]);
@@ -98,7 +98,7 @@ impl<'a> Tokens<'a> {
     /// The tokens of a text, cut under these options.
     ///
     /// ```
-    /// use duration_str::{Options, Tokens};
+    /// use duration_str_core::{Options, Tokens};
     ///
     /// assert_eq!(Tokens::new("13s", Options::off()).count(), 2);
     /// ```
@@ -117,7 +117,7 @@ impl<'a> Tokens<'a> {
     /// How many times a character of the text was looked at.
     ///
     /// ```
-    /// use duration_str::{Options, Tokens};
+    /// use duration_str_core::{Options, Tokens};
     ///
     /// let mut tokens = Tokens::new("13s", Options::off());
     /// assert_eq!(tokens.by_ref().count(), 2);
