@@ -14,6 +14,8 @@ mod texts;
 
 use counting::counted;
 use ours::{Archive, Crate, Library, ROOM, calls, count_ways};
+use serde::de::value::Error;
+use serde::de::{Error as _, IntoDeserializer};
 use std::hint::black_box;
 use std::io::Write;
 use std::time::{Duration, Instant};
@@ -68,7 +70,10 @@ fn count() {
         counted(number, "humantime", || { black_box(&read()); });
         if !theirs {
             counted(number, "humantime printed", || { black_box(&read().map_err(|error| error.to_string())); });
+            counted(number, "humantime serde", || { black_box(&read().map_err(Error::custom)); });
         }
+        let field = || -> Result<Duration, Error> { duration_str::human::deserialize(black_box(text.as_str()).into_deserializer()) };
+        counted(number, "human", || { black_box(&field()); });
     }
 }
 
