@@ -92,8 +92,11 @@ class Hostile(unittest.TestCase):
             for arguments, words in [((), {}), (("1s", "2s"), {}), ((), {"text": "1s"}), (("1s",), {"no_calk": True})]:
                 with self.assertRaises(TypeError):
                     call(*arguments, **words)
+            never = type("Never", (), {"__bool__": lambda _: 1 // 0})()
             with self.assertRaises(ZeroDivisionError):
-                call("1s", no_calc=type("Never", (), {"__bool__": lambda _: 1 // 0})())
+                call("1s", no_calc=never)
+            with self.assertRaisesRegex(TypeError, "unexpected keyword argument 'strict'"):
+                call("1s", strict=never)
 
     def test_prints_what_an_int_is(self):
         self.assertEqual(format(Number(SECOND)), "1s")

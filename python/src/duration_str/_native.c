@@ -132,8 +132,10 @@ static int read_call(struct state *state, PyObject *const *arguments, Py_ssize_t
     for (Py_ssize_t at = 0; at < words; at++) {
         const int option = place_of(state, PyTuple_GetItem(keywords, at), NO_CALC, OPTIONS);
         PyObject *value = arguments[count + at];
+        if (option < 0)
+            return -1;
         const int is_on = value == Py_True ? 1 : value == Py_False ? 0 : PyObject_IsTrue(value);
-        if (option < 0 || is_on < 0)
+        if (is_on < 0)
             return -1;
         options |= (uint32_t)is_on << option;
     }
@@ -661,7 +663,8 @@ static void end(void *module) {
         Py_CLEAR(state->kept[at]);
 }
 
-static PyModuleDef_Slot slots[] = {{Py_mod_exec, begin}, {0, NULL}};
+/* ISO C turns a function's address into a number, and no function into an object. */
+static PyModuleDef_Slot slots[] = {{Py_mod_exec, (void *)(uintptr_t)begin}, {0, NULL}};
 static struct PyModuleDef definition = {
     PyModuleDef_HEAD_INIT, "_native", NULL, sizeof(struct state), methods, slots, NULL, NULL, end};
 
