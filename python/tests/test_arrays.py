@@ -110,13 +110,14 @@ class Reading(unittest.TestCase):
         for text in [f"{2**63}ns", f"{2**63 + 1}ns", "300y", f"{2**64 - 1}ns"]:
             with self.subTest(text=text):
                 self.assertEqual(numbers(to_timedelta(["1s", text], errors="coerce")), [SECOND, None])
-                with self.assertRaisesRegex(DurationError, "timedelta64 doesn't have\nat index 1$") as told:
+                with self.assertRaisesRegex(DurationError, "timedelta64 doesn't have, at index 1$") as told:
                     to_timedelta(["1s", text, "x"])
                 self.assertEqual((told.exception.index, told.exception.cause), (1, Cause.OVERFLOW))
                 self.assertEqual((told.exception.text, told.exception.place), (text, None))
+                self.assertEqual(told.exception.line, "duration of 2^63 nanoseconds or more, which timedelta64 doesn't have")
 
     def test_raises_the_first_refusal(self):
-        with self.assertRaisesRegex(DurationError, "^1m 3-5\n    \\^\nexpected .*\nat index 2$") as told:
+        with self.assertRaisesRegex(DurationError, '^expected .* at column 5, found "-", at index 2$') as told:
             to_timedelta(["1s", None, "1m 3-5", "300y", "x"])
         self.assertEqual((told.exception.index, told.exception.found), (2, "-"))
         labelled = pandas.Series(["1s", "x"], index=[10, 20])
@@ -199,10 +200,10 @@ class Reading(unittest.TestCase):
             with self.subTest(value=value):
                 read = to_timedelta(value, cn_unit=True)
                 self.assertEqual((type(read), read.value), (pandas.Timedelta, nanos))
-        with self.assertRaisesRegex(DurationError, "^1x\n \\^\nexpected [^\n]*$") as told:
+        with self.assertRaisesRegex(DurationError, '^unknown unit "x" at column 2$') as told:
             to_timedelta("1x")
         self.assertIsNone(told.exception.index)
-        with self.assertRaisesRegex(DurationError, "^300y\n2.*timedelta64 doesn't have$"):
+        with self.assertRaisesRegex(DurationError, "^duration of .* timedelta64 doesn't have$"):
             to_timedelta("300y")
         with self.assertRaisesRegex(OverflowError, "nanoseconds or more: .*=999999\\)$"):
             to_timedelta(datetime.timedelta.max)

@@ -1,5 +1,6 @@
 """Durations as pydantic, argparse and Click read them, by the recipes of README.md."""
 
+import argparse
 import datetime
 import importlib.metadata
 import importlib.util
@@ -41,30 +42,46 @@ def run(name, *words):
 
 
 class Lines(unittest.TestCase):
-    def test_is_one_line_without_the_text(self):
-        for text in ["", "1x", "1m 3-5", "600y", "1s+2*3", "1µ\n2x", "\ud800", "x\r"]:
+    def test_is_one_line(self):
+        for text in ["", "1x", "1m 3-5", "600y", "1s+2*3", "1µ\n2x", "\ud800", "x\r", "1\u2028"]:
             with self.subTest(text=text), self.assertRaises(duration_str.DurationError) as told:
                 parse(text)
-            error = told.exception
-            self.assertNotIn("\n", error.line)
-            self.assertTrue(str(error).endswith(error.line))
-        with self.assertRaises(duration_str.DurationError) as told:
-            duration_str.parse_many(["1µ\n2x"])
-        self.assertEqual(told.exception.line, LINE)
+            self.assertEqual([str(told.exception)], str(told.exception).splitlines())
 
     def test_argparse(self):
         self.assertEqual(run("job.py", "--timeout", "1m"), (0, "0:01:00\n", ""))
-        status, output, told = run("job.py", "--timeout", "1m 3-5")
+        self.assertEqual(run("job.py"), (0, "0:00:30\n", ""))
+        status, output, told = run("job.py", "--timeout", "5 mins")
         self.assertEqual((status, output), (2, ""))
-        self.assertEqual(told, f"job.py: error: argument --timeout: {LINE}")
+        self.assertEqual(told, f"job.py: error: argument --timeout: '5 mins': {LINE}")
+
+    def test_argparse_takes_options(self):
+        from duration_str.argparse import DurationType
+
+        parser = argparse.ArgumentParser(exit_on_error=False)
+        parser.add_argument("--timeout", type=DurationType(cn_unit=True), default=HOUR)
+        self.assertEqual(parser.parse_args([]).timeout, HOUR)
+        self.assertEqual(parser.parse_args(["--timeout", "1分"]).timeout, MINUTE)
+        with self.assertRaisesRegex(argparse.ArgumentError, "argument --timeout: '1%x': expected a unit"):
+            parser.parse_args(["--timeout", "1%x"])
 
     @unittest.skipUnless(has("click"), "Click is missing")
     def test_click(self):
         self.assertEqual(run("wait.py", "--timeout", "1m"), (0, "0:01:00\n", ""))
         self.assertEqual(run("wait.py"), (0, "0:00:30\n", ""))
-        status, output, told = run("wait.py", "--timeout", "1m 3-5")
+        status, output, told = run("wait.py", "--timeout", "5 mins")
         self.assertEqual((status, output), (2, ""))
-        self.assertEqual(told, f"Error: Invalid value for '--timeout': {LINE}")
+        self.assertEqual(told, f"Error: Invalid value for '--timeout': '5 mins': {LINE}")
+
+    @unittest.skipUnless(has("click"), "Click is missing")
+    def test_click_takes_options(self):
+        import click
+        from duration_str.click import DURATION, DurationParamType
+
+        self.assertEqual(DurationParamType(cn_unit=True)("1分"), MINUTE)
+        self.assertEqual(repr(DURATION), "DURATION")
+        with self.assertRaisesRegex(click.BadParameter, "'1分': unknown unit"):
+            DURATION("1分")
 
     @unittest.skipUnless(has("click"), "Click is missing")
     def test_click_keeps_timedeltas(self):
@@ -83,7 +100,8 @@ class Cluster(unittest.TestCase):
         self.assertEqual(run("cluster.py"), (0, "21093 days 18:00:00 [1, 5, 9]\n", ""))
 
 
-LINE = 'expected ["y", "q", "mon", "w", "d", "h", "m", "s", "ms", "µs", "us", "ns"]'
+UNITS = 'expected ["y", "q", "mon", "w", "d", "h", "m", "s", "ms", "µs", "us", "ns"]'
+LINE = 'unknown unit "mins" at column 3: write "min"'
 
 
 @unittest.skipUnless(has("pydantic"), "pydantic is missing")
@@ -167,9 +185,24 @@ class Models(unittest.TestCase):
             if not isinstance(value, (bytes, datetime.timedelta, datetime.time)):
                 with self.subTest(json=value), self.assertRaises(self.pydantic.ValidationError):
                     self.model.model_validate_json(json.dumps({"timeout": value}))
+
+    def test_tells_what_is_wrong_in_one_line(self):
+        for read in [
+            lambda: self.model(timeout="5 mins"),
+            lambda: self.model.model_validate_json('{"timeout": "5 mins"}'),
+        ]:
+            with self.assertRaises(self.pydantic.ValidationError) as told:
+                read()
+            (error,) = told.exception.errors()
+            self.assertEqual((error["type"], error["loc"], error["msg"]), ("duration", ("timeout",), LINE))
+            self.assertEqual(
+                error["ctx"],
+                {"one_line": LINE, "line": UNITS, "cause": "SYNTAX", "place": 2, "column": 2, "found": "mins"},
+            )
+            self.assertEqual(json.loads(told.exception.json())[0]["ctx"], error["ctx"])
         with self.assertRaises(self.pydantic.ValidationError) as told:
-            self.model(timeout="600y")
-        self.assertEqual([error["msg"] for error in told.exception.errors()], ["Value error, 600y\n^\noverflow error"])
+            self.model(timeout="1{line}")
+        self.assertIn('at column 2, found "{"', told.exception.errors()[0]["msg"])
 
     def test_runs_the_recipe(self):
         self.assertEqual(run("model.py"), (0, '{"timeout":"1h 30min"}\n', ""))
@@ -209,8 +242,8 @@ class Retention(unittest.TestCase):
         self.assertEqual(self.run_over("logs: 2w\n"), (0, "/logs/old: older than 2w\n"))
 
     def test_names_the_folder_whose_period_is_refused(self):
-        line = 'expected ["y", "q", "mon", "w", "d", "h", "m", "s", "ms", "µs", "us", "ns"]'
-        self.assertEqual(self.run_over("logs: 2 fortnights\n"), (1, f"/keep.yaml: logs: {line}\n"))
+        told = '/keep.yaml: logs: unknown unit "fortnights" at column 3\n'
+        self.assertEqual(self.run_over("logs: 2 fortnights\n"), (1, told))
 
 
 if __name__ == "__main__":

@@ -7,6 +7,17 @@ from importlib import import_module
 from typing import Annotated, Any
 
 from ._native import format, parse
+from ._texts import DurationError
+
+
+def _parsed(text: Any) -> datetime.timedelta:
+    """The value of a text. Raises pydantic's own error, whose message is the line, and whose context what the error has."""
+    try:
+        return parse(text)
+    except DurationError as error:
+        told = {name: getattr(error, name) for name in ["one_line", "line", "place", "column", "found"]}
+        told["cause"] = error.cause.name
+        raise import_module("pydantic_core").PydanticCustomError("duration", "{one_line}", told) from None
 
 
 def _read(value: Any) -> datetime.timedelta:
@@ -14,7 +25,7 @@ def _read(value: Any) -> datetime.timedelta:
     if isinstance(value, datetime.timedelta):
         format(value)
         return value
-    return parse(value)
+    return _parsed(value)
 
 
 class _Texts:
@@ -25,7 +36,7 @@ class _Texts:
         text = schema.str_schema()
         # What `Field` demands of the timedelta, such as `gt`
         demands = handler(source)
-        read_json = schema.no_info_after_validator_function(parse, text)
+        read_json = schema.no_info_after_validator_function(_parsed, text)
         return schema.json_or_python_schema(
             json_schema=schema.chain_schema([read_json, demands]),
             python_schema=schema.chain_schema([schema.no_info_plain_validator_function(_read), demands]),

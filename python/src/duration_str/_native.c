@@ -31,13 +31,16 @@ static PyObject *size_or_none(bool is_there, size_t size) {
     return is_there ? PyLong_FromSize_t(size) : Py_NewRef(Py_None);
 }
 
-/* Raises the package's error with this message about the text, references that it takes; index -1 is none. */
-static void raise_error(struct state *state, PyObject *message, PyObject *text, const struct duration_str_answer *answer,
-                        const uint8_t *bytes, Py_ssize_t index) {
+/* Raises the package's error of a text, with this line about it, references that it takes. Index -1 is none, and so are
+ * options of -1, for a line that isn't the library's. */
+static void raise_error(struct state *state, PyObject *line, PyObject *text, const struct duration_str_answer *answer,
+                        const uint8_t *bytes, long long options, Py_ssize_t index) {
     const char *found = answer->found_length ? (const char *)bytes + answer->place : NULL;
-    PyObject *error = PyObject_CallFunction(state->kept[ERROR], "NNINIz#N", message, text, answer->cause,
+    PyObject *error = PyObject_CallFunction(state->kept[ERROR], "NNINIz#NN", line, text, answer->cause,
                                             size_or_none(answer->has_place, answer->place), answer->expected, found,
-                                            (Py_ssize_t)answer->found_length, size_or_none(index >= 0, (size_t)index));
+                                            (Py_ssize_t)answer->found_length,
+                                            size_or_none(options >= 0, (size_t)options),
+                                            size_or_none(index >= 0, (size_t)index));
     if (error)
         PyErr_SetObject(state->kept[ERROR], error);
     Py_XDECREF(error);
@@ -53,13 +56,19 @@ static void raise_type_error(struct state *state, PyObject *value, Py_ssize_t in
     Py_XDECREF(name);
 }
 
-/* The message about a text that is refused. */
-static PyObject *message_of(struct text text, uint32_t options) {
-    const size_t length = duration_str_message(text.bytes, text.length, options, NULL, 0);
+/* report(text, options): the message about a text that is refused */
+static PyObject *report(PyObject *self, PyObject *arguments) {
+    const char *text;
+    Py_ssize_t size;
+    unsigned int options;
+    (void)self;
+    if (!PyArg_ParseTuple(arguments, "s#I", &text, &size, &options))
+        return NULL;
+    const size_t length = duration_str_message((const uint8_t *)text, (size_t)size, options, NULL, 0);
     PyObject *bytes = length > PY_SSIZE_T_MAX ? PyErr_NoMemory() : PyBytes_FromStringAndSize(NULL, (Py_ssize_t)length);
     if (!bytes)
         return NULL;
-    duration_str_message(text.bytes, text.length, options, (uint8_t *)PyBytes_AsString(bytes), length);
+    duration_str_message((const uint8_t *)text, (size_t)size, options, (uint8_t *)PyBytes_AsString(bytes), length);
     PyObject *message = PyUnicode_FromEncodedObject(bytes, "utf-8", NULL);
     Py_DECREF(bytes);
     return message;
@@ -68,16 +77,23 @@ static PyObject *message_of(struct text text, uint32_t options) {
 /* Turns the pending error of a str that is no text into the package's. */
 static void raise_surrogate(struct state *state, PyObject *text, Py_ssize_t index) {
     const struct duration_str_answer answer = {.cause = DURATION_STR_NOT_TEXT};
-    PyObject *type, *error, *traceback, *message = NULL;
+    PyObject *type, *error, *traceback, *line = NULL;
     Py_ssize_t start = 0;
     PyErr_Fetch(&type, &error, &traceback);
     PyErr_NormalizeException(&type, &error, &traceback);
     if (!PyUnicodeEncodeError_GetStart(error, &start))
-        message = PyUnicode_FromFormat("no text: character %zd is a lone surrogate", start);
-    raise_error(state, message, PyUnicode_FromObject(text), &answer, NULL, index);
+        line = PyUnicode_FromFormat("not UTF-8: the character at index %zd is a lone surrogate", start);
+    raise_error(state, line, PyUnicode_FromObject(text), &answer, NULL, -1, index);
     Py_XDECREF(type);
     Py_XDECREF(error);
     Py_XDECREF(traceback);
+}
+
+/* The line about a text that the library refuses, and its answer; null, and no error, if the text is read. */
+static PyObject *line_of(struct text text, uint32_t options, struct duration_str_answer *answer) {
+    uint8_t line[DURATION_STR_ONE_LINE_BUFFER_SIZE];
+    const size_t length = duration_str_one_line(text.bytes, text.length, options, answer, line);
+    return length ? PyUnicode_FromStringAndSize((const char *)line, (Py_ssize_t)length) : NULL;
 }
 
 /* Reads the text of a str, whatever a subclass says of itself. Returns 1 if it is read, 0 if it is refused, and -1 with an
@@ -98,13 +114,18 @@ static int read_str(struct state *state, PyObject *given, uint32_t options, uint
         return 1;
     if (!options && !raises)
         return 0;
-    if (duration_str_parse_with(text.bytes, text.length, options, &answer)) {
+    PyObject *line = NULL;
+    if (raises)
+        line = line_of(text, options, &answer);
+    else
+        duration_str_parse_with(text.bytes, text.length, options, &answer);
+    if (answer.cause == DURATION_STR_READ) {
         *nanos = answer.nanos;
         return 1;
     }
     if (!raises)
         return 0;
-    raise_error(state, message_of(text, options), PyUnicode_FromObject(given), &answer, text.bytes, index);
+    raise_error(state, line, PyUnicode_FromObject(given), &answer, text.bytes, options, index);
     return -1;
 }
 
@@ -387,10 +408,8 @@ static int keep(struct state *state, const struct list *list, Py_ssize_t at, PyO
 /* Raises that timedelta64 doesn't have a text's value. */
 static void raise_beyond(struct state *state, PyObject *given, Py_ssize_t index) {
     const struct duration_str_answer answer = {.cause = DURATION_STR_OVERFLOW};
-    PyObject *text = PyUnicode_FromObject(given);
-    const char *format = "%U\n2**63 nanoseconds or more, which timedelta64 doesn't have";
-    PyObject *message = text ? PyUnicode_FromFormat(format, text) : NULL;
-    raise_error(state, message, text, &answer, NULL, index);
+    PyObject *line = PyUnicode_FromString("duration of 2^63 nanoseconds or more, which timedelta64 doesn't have");
+    raise_error(state, line, PyUnicode_FromObject(given), &answer, NULL, -1, index);
 }
 
 /* Reads a text of the list, as read_str does. */
@@ -495,11 +514,13 @@ static void raise_between(struct state *state, const Py_buffer *data, const size
         return;
     struct duration_str_answer answer;
     const struct text text = {(const uint8_t *)PyBytes_AsString(copy), end - start};
-    if (duration_str_parse_with(text.bytes, text.length, options, &answer)) {
+    PyObject *line = line_of(text, options, &answer);
+    if (answer.cause == DURATION_STR_READ) {
         PyErr_Format(PyExc_RuntimeError, "the text changed while it was read, at index %zd", index);
     } else {
         PyObject *given = PyUnicode_DecodeUTF8((const char *)text.bytes, (Py_ssize_t)text.length, "surrogateescape");
-        raise_error(state, message_of(text, options), given, &answer, text.bytes, index);
+        const bool is_text = answer.cause != DURATION_STR_NOT_TEXT;
+        raise_error(state, line, given, &answer, text.bytes, is_text ? (long long)options : -1, index);
     }
     Py_DECREF(copy);
 }
@@ -618,6 +639,7 @@ static PyMethodDef methods[] = {
     {"parse", FAST(parse), parse_doc},
     {"parse_seconds", FAST(parse_seconds), parse_seconds_doc},
     {"format", FAST(format), format_doc},
+    {"report", report, METH_VARARGS, NULL},
     {"limits", FAST(limits), NULL},
     {"format_list", format_list, METH_VARARGS, NULL},
     {"read_list", read_list, METH_VARARGS, NULL},
