@@ -105,9 +105,19 @@ class Hostile(unittest.TestCase):
         for value in [2**64 * SECOND, 10**400]:
             with self.assertRaises(OverflowError):
                 format(value)
-        for value in [-1, -(2**64), Number(-1), -(10**400)]:
-            with self.assertRaisesRegex(ValueError, "negative"):
+        for value in [-1, -(2**64), Number(-1), -(10**400), -(10**5000)]:
+            with self.assertRaisesRegex(ValueError, "^a negative duration has no text: "):
                 format(value)
+
+    def test_hides_no_error_of_a_value(self):
+        for error in [MemoryError, ZeroDivisionError]:
+
+            def fail(_, error=error):
+                raise error
+
+            value = type("Failing", (), {"__index__": fail, "__bool__": fail})()
+            for call in [lambda: format(5, parts=value), lambda: format_many([5], parts=value), lambda: parse("1s", no_calc=value)]:
+                self.assertRaises(error, call)
 
     def test_leaves_the_buffers_of_a_kept_error(self):
         data, offsets = bytearray(b"1x"), array("q", [0, 2])
@@ -148,7 +158,7 @@ class Hostile(unittest.TestCase):
 
         values += [SECOND, Clearing(seconds=1), SECOND]
         texts = []
-        duration_str._native.format_list(values, duration_str._texts.nanos_of, texts, (0, 10, 11))
+        duration_str._native.format_list(values, duration_str._texts.nanos_of, texts, (0, 10, 11, 0))
         self.assertEqual((values, texts), ([], ["1s", "1s 1ns"]))
         with self.assertRaisesRegex(TypeError, "not Odd, at index 1$"):
             format_many([SECOND, Odd(), SECOND])

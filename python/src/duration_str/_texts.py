@@ -11,6 +11,9 @@ from typing import Any, Literal
 #: A unit by the name that is printed, or `us`
 Unit = Literal["y", "q", "mon", "w", "d", "h", "min", "s", "ms", "µs", "us", "ns"]
 
+#: How a duration is printed: `1h 30min`, `1h30min`, `1 hour 30 minutes`
+Style = Literal["short", "compact", "long"]
+
 #: The units of timedelta64 that have a length in nanoseconds
 _NANOS = {"W": 604_800 * 10**9, "D": 86_400 * 10**9, "h": 3_600 * 10**9, "m": 60 * 10**9}
 _NANOS |= {"s": 10**9, "ms": 10**6, "us": 1000, "ns": 1}
