@@ -2,6 +2,7 @@
 
 import argparse
 import datetime
+import importlib
 import importlib.metadata
 import importlib.util
 import json
@@ -105,6 +106,15 @@ LINE = 'unknown unit "mins" at column 3: write "min"'
 
 
 @unittest.skipUnless(has("pydantic"), "pydantic is missing")
+class Earlier(unittest.TestCase):
+    def test_is_refused_by_pydantic_1(self):
+        pydantic = importlib.import_module("pydantic.v1" if has("pydantic_core") else "pydantic")
+        for annotation in [duration_str.Duration, typing.Optional[duration_str.Duration], list[duration_str.Duration]]:
+            with self.assertRaisesRegex(TypeError, "^duration_str.Duration needs pydantic 2$"):
+                pydantic.create_model("Job", timeout=(annotation, ...))
+
+
+@unittest.skipUnless(has("pydantic_core"), "pydantic 2 is missing")
 class Models(unittest.TestCase):
     def setUp(self):
         import pydantic
@@ -174,9 +184,30 @@ class Models(unittest.TestCase):
             (duration_str.Duration, field(120 * HOUR, gt=HOUR)),
             (typing.Annotated[duration_str.Duration, field(gt=HOUR)], 120 * HOUR),
         ]:
+            for config in [{}, {"ser_json_timedelta": "float"}]:
+                model = self.pydantic.create_model("Kept", __config__=config, length=(annotation, default))
+                for mode in ["validation", "serialization"]:
+                    with self.subTest(annotation=annotation, mode=mode, **config):
+                        schema = model.model_json_schema(mode=mode)
+                        self.assertEqual(schema["properties"]["length"]["default"], "5d")
+                self.assertEqual(model(length="5d"), model())
+
+    def test_takes_a_default_as_a_text(self):
+        for annotation, default in [
+            (duration_str.Duration, self.pydantic.Field("30s", validate_default=True)),
+            (typing.Annotated[duration_str.Duration, self.pydantic.Field(validate_default=True, lt=HOUR)], "30s"),
+        ]:
             model = self.pydantic.create_model("Kept", length=(annotation, default))
-            schema = model.model_json_schema(mode="serialization")
-            self.assertEqual(schema["properties"]["length"]["default"], "5d")
+            self.assertEqual(model().length, MINUTE / 2)
+            self.assertEqual(model().model_dump_json(), '{"length":"30s"}')
+            for mode in ["validation", "serialization"]:
+                schema = model.model_json_schema(mode=mode)["properties"]["length"]
+                self.assertEqual(schema, {"title": "Length", "type": "string", "default": "30s"})
+        for value, config in [(-HOUR, {"ser_json_timedelta": "float"}), ("Pst", {})]:
+            model = self.pydantic.create_model("Kept", __config__=config, length=(duration_str.Duration, value))
+            self.assertIn("default", model.model_json_schema()["properties"]["length"])
+        unchecked = self.pydantic.create_model("Kept", length=(duration_str.Duration, "30s"))
+        self.assertEqual(unchecked().model_dump_json(), '{"length":"30s"}')
 
     def test_refuses_what_json_does_not_read_back(self):
         for value in ["1x", "", "PT1M", 60, 1.5, None, b"1m", -MINUTE, datetime.time(1)]:
