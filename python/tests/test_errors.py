@@ -2,6 +2,7 @@
 
 import copy
 import pickle
+import sys
 import unittest
 
 from duration_str import Cause, DurationError, Expected, parse, parse_ns
@@ -117,6 +118,18 @@ class Errors(unittest.TestCase):
         text = f"1s{' ' * 100_000}x"
         self.assertEqual(error_of(text).report, f"{text}\n{' ' * 100_002}^\n{LINES['operators']}")
         self.assertEqual(str(error_of(text)), 'expected a number, \'+\', \'*\' or the end at column 100003, found "x"')
+
+    def test_costs_little(self):
+        """Of Python's functions a refusal calls one, the error's own: the report waits until it is asked for."""
+        called = []
+        sys.setprofile(lambda frame, event, _: called.append(frame.f_code.co_name) if event == "call" else None)
+        try:
+            parse_ns("1m 3-5")
+        except DurationError:
+            pass
+        finally:
+            sys.setprofile(None)
+        self.assertEqual(called, ["__init__"])
 
     def test_can_be_copied_and_pickled(self):
         for text in ["", "1µs …", "600y", "1\ud800"]:

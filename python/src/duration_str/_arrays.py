@@ -137,8 +137,9 @@ def to_timedelta(
     numpy: Any = import_module("numpy")
     if (lengths := _lengths(values)) is not None and not isinstance(values, numpy.timedelta64):
         return _kept_lengths(values, lengths, raises)
-    # A column is no missing value, nor is what masks some of it.
-    is_one = isinstance(values, (str, datetime.timedelta, numpy.timedelta64)) or _is_missing(values)
+    is_one = isinstance(values, (str, datetime.timedelta, numpy.timedelta64))
+    # Of a column pandas would look at each value.
+    is_one = is_one or (not hasattr(values, "__iter__") and _is_missing(values))
     texts = [values] if is_one else _flat(values)
     nanos = zeros(len(texts))
     _native.read_list(texts, nanos, options, raises, -1 if is_one else 0, partial(_kept, raises=raises))
