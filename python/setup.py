@@ -15,6 +15,7 @@ import tempfile
 
 from setuptools import Extension, setup
 from setuptools.command.build_ext import build_ext
+from setuptools.command.install import install
 from setuptools.command.sdist import sdist
 
 HERE = pathlib.Path(__file__).resolve().parent
@@ -89,6 +90,8 @@ class Sources(sdist):
         shutil.copytree(INCLUDE, pathlib.Path(base_dir, "include"))
 
 
+# Debian's setuptools asks for these under other interpreters than Debian's, too.
+install.install_layout = install.prefix_option = None
 # Earlier versions of setuptools have the command of another package.
 if {"bdist_wheel", "dist_info"} & set(sys.argv):
     demand(any(map(importlib.util.find_spec, ["wheel", "setuptools.command.bdist_wheel"])), "wheel, beside setuptools")

@@ -5,10 +5,12 @@ and values that change while they are read: each gets an error, or the answer fo
 import concurrent.futures
 import datetime
 import gc
+import importlib
 import importlib.util
 import itertools
 import mmap
 import os
+import sys
 import tempfile
 import time
 import unittest
@@ -212,6 +214,30 @@ class Hostile(unittest.TestCase):
                 under[:] = column
 
         self.read_while(write, lambda _: parse_any(view, array("q", range(0, 80_001, 4))))
+
+    @unittest.skipUnless(sys.version_info >= (3, 12), "interpreters share a lock before CPython 3.12")
+    def test_serves_interpreters_with_locks_of_their_own(self):
+        interpreters = importlib.import_module("_interpreters" if sys.version_info >= (3, 13) else "_xxsubinterpreters")
+        program = (
+            "import duration_str\n"
+            "for nanos in range(10_000):\n"
+            "    text = duration_str.format(nanos * 10**9)\n"
+            "    assert duration_str.parse_ns(text) == nanos * 10**9 and duration_str.format(duration_str.parse(text)) == text\n"
+            "    try:\n"
+            "        duration_str.parse(text + '!')\n"
+            "    except duration_str.DurationError as error:\n"
+            "        assert error.found == '!'\n"
+        )
+
+        def serve(_):
+            interpreter = interpreters.create()
+            # Before 3.13 an error is raised, and later returned.
+            failed = interpreters.run_string(interpreter, program)
+            interpreters.destroy(interpreter)
+            return failed
+
+        with concurrent.futures.ThreadPoolExecutor(4) as pool:
+            self.assertEqual(list(pool.map(serve, range(8))), [None] * 8)
 
     def read_while(self, write, read):
         """Reads for five seconds, while two threads write."""

@@ -713,9 +713,16 @@ static void end(void *module) {
         Py_CLEAR(state->kept[at]);
 }
 
-/* ISO C turns a function's address into a number, and no function into an object. */
-static PyModuleDef_Slot slots[] = {{Py_mod_exec, (void *)(uintptr_t)begin}, {0, NULL}};
+/* ISO C turns a function's address into a number, and no function into an object. From CPython 3.12 on a slot says that
+ * interpreters with a lock of their own may have the module: its number and its value are those of
+ * Py_mod_multiple_interpreters and Py_MOD_PER_INTERPRETER_GIL_SUPPORTED, which earlier headers lack. Earlier interpreters
+ * refuse slots that they don't know. */
+static PyModuleDef_Slot slots[] = {{Py_mod_exec, (void *)(uintptr_t)begin}, {0, NULL}, {0, NULL}};
 static struct PyModuleDef definition = {
     PyModuleDef_HEAD_INIT, "_native", NULL, sizeof(struct state), methods, slots, NULL, NULL, end};
 
-PyMODINIT_FUNC PyInit__native(void) { return PyModuleDef_Init(&definition); }
+PyMODINIT_FUNC PyInit__native(void) {
+    if (Py_Version >= 0x030c0000)
+        slots[1] = (PyModuleDef_Slot){3, (void *)2};
+    return PyModuleDef_Init(&definition);
+}
