@@ -1,13 +1,17 @@
-// What is offered beside an answer: whole texts that the library reads; and what is said of a text that it reads
-// otherwise than many people do.
+// What is said of a refused text, and of one that is read otherwise than many people do; and what is offered beside an
+// answer: whole texts that the library reads.
 import { format, tryParse } from "../js/dist/duration-str.js";
 import { cleaned, converted } from "./conversions.js";
+import { LONG } from "./elements.js";
 import { terms, UNITS, unitOf } from "./units.js";
 import { named, say } from "./words.js";
 
+/** Days and months of a date, as the names that `cn_unit` adds */
+const DATE = /[0-9]\s*[日月]/;
+
 /** These options, and then others that read more, those with the fewest changes first. */
-function optionsToTry({ noCalc, lowercase, cnUnit }) {
-    return [0, 1, 2, 4, 3, 5, 6, 7].map((changes) => ({
+function optionsToTry({ noCalc, lowercase, cnUnit }, text) {
+    return (DATE.test(text) ? [0, 1, 2, 3] : [0, 1, 2, 4, 3, 5, 6, 7]).map((changes) => ({
         noCalc: noCalc && !(changes & 1),
         lowercase: lowercase && !(changes & 2),
         cnUnit: cnUnit || changes > 3,
@@ -27,10 +31,22 @@ function offered(text, options, nanos) {
 export function offersFor(text, options) {
     if (text.trim() === "") return [];
     for (const each of [text, cleaned(text)]) {
-        const found = optionsToTry(options).flatMap((tried) => offered(each, tried));
+        const found = optionsToTry(options, each).flatMap((tried) => offered(each, tried));
         if (found.length > 0) return found.slice(0, 1);
     }
     return (converted(text, options)?.readings ?? []).flatMap((each) => offered(each.text, options, each.nanos));
+}
+
+/** What the page says of a refused text; nothing where the library's line says it. */
+export function sentence(text, code, options) {
+    if (text.trim() === "") return say`Type a duration, such as ${"1h 30m"}.`;
+    return code === "SYNTAX" && text.length <= LONG ? converted(text, options)?.sentence : null;
+}
+
+/** The library's line as a sentence with the words that it quotes. */
+export function lineOf({ oneLine }) {
+    const line = `${oneLine.replace(/^./, (letter) => letter.toUpperCase())}.`;
+    return line.split(/"((?:[^"\\]|\\.)*)"/).map((part, place) => place % 2 ? { quoted: part } : part);
 }
 
 /** The units of a day and an hour that people leave out after a number: `1h 30`, `1d 12`. */
