@@ -57,10 +57,10 @@ function showMarks(part) {
 
 // ---- What is offered
 
-/** The names of the options that differ from those that are chosen, with how they are to be. */
+/** In words, the options that differ from those that are chosen. */
 function switched(options) {
     const changed = Object.entries(switches).filter(([name, box]) => box.checked !== options[name]);
-    return changed.map(([, box]) => `${box.checked ? "without" : "with"} ${box.id}, `).join("");
+    return changed.map(([, box]) => `${box.dataset.switched}, `).join("");
 }
 
 function showOffers(offers) {

@@ -198,7 +198,8 @@ const oneOf = (words) => words.filter(Boolean).join("|");
 const WORD = `(?:${oneOf(TENS)})(?:[-\\s](?:${oneOf(WORDS.slice(0, 10))}))?|${oneOf(WORDS)}|an?|half(?: an?)?`;
 const VULGAR = "¼½¾⅐⅑⅒⅓⅔⅕⅖⅗⅘⅙⅚⅛⅜⅝⅞";
 const FRACTION = String.raw`(?:[0-9]+\s*)?[${VULGAR}]|(?:[0-9]+\s+)?[0-9]+\/[0-9]+`;
-const NUMBER = String.raw`\.?[0-9](?:[.,_'’\u00a0\u202f]?[0-9])*(?:e[+\-]?[0-9]+)?`;
+// A point right after a letter abbreviates.
+const NUMBER = String.raw`(?:(?<!\p{L})\.)?[0-9](?:[.,_'’\u00a0\u202f]?[0-9])*(?:e[+\-]?[0-9]+)?`;
 const TERM = new RegExp(String.raw`(?:(${FRACTION})\s*|(${NUMBER})\s*|(${WORD})\s+)(\p{L}+)(?:\.(?=\s|$))?`, "iuy");
 const JOINED = /\s*,\s*(?:and\s+)?|\s+and\s+|\s*[+&]\s*|\s*/iy;
 const GROUPED = /^([1-9][0-9]{0,2}(?:([.,_'’\u00a0\u202f])[0-9]{3})(?:\2[0-9]{3})*)(?:(?!\2)[.,]([0-9]+))?$/;
@@ -354,7 +355,7 @@ const REFUSED = [
     [/\.\.|…|[0-9]\s*-|[–—]|\d\s*\p{L}*\s+to\s/u, say`A range can't be read.`],
     [/[0-9a-zµ]\s*[-−]\s*[0-9]/i, say`Durations can't be subtracted.`],
     [/\b(?:decades?|century|centuries|forever|never|infinit\w*)\b/i, (words) => say`${words} has no fixed length.`],
-    [new RegExp(String.raw`^${NUMBER}$`, "i"), (words) => say`${words} has no unit.`],
+    [new RegExp(String.raw`^${NUMBER}$`, "iu"), (words) => say`${words} has no unit.`],
     [LIST, say`Write one duration, not a list.`],
     [/[0-9]e[+-]?[0-9]+\s*[a-z]/i, say`Exponents can't be read.`],
     [new RegExp(`^(?:${WORD})\\b`, "i"), say`Write numbers in digits.`],

@@ -156,8 +156,12 @@ for (const format of ["esm", "cjs"]) {
     });
 }
 
-test("works in a service worker", skippedWithout("chromium"), async () => {
-    writeFileSync(join(room, "worker.mjs"), `${MODULE}\nself.onmessage = (event) => event.source.postMessage(said);`);
+test("works in a service worker, and counts what Chromium's own types take", skippedWithout("chromium"), async () => {
+    // What takes the parts of a duration, of which Node has neither
+    const taken = `import { parts } from "duration-str";
+const counted = parts(5_400_000_000_000n);
+said += \` \${new Intl.DurationFormat("en").format(counted)} \${Temporal.Duration.from(counted)} \${Temporal.Duration.from(parts(0n))}\`;`;
+    writeFileSync(join(room, "worker.mjs"), `${MODULE}\n${taken}\nself.onmessage = (event) => event.source.postMessage(said);`);
     runs("esbuild", "worker.mjs", "--bundle", "--log-level=error", "--format=iife", "--outfile=worker.js");
     const page = `<script>
         navigator.serviceWorker.onmessage = (event) => fetch("/said", { method: "POST", body: event.data });
@@ -191,5 +195,5 @@ test("works in a service worker", skippedWithout("chromium"), async () => {
         browser.on("close", resolve);
         browser.kill();
     }));
-    assert.equal(said, SAID);
+    assert.equal(said, `${SAID} 1 hr, 30 min PT1H30M PT0S`);
 });

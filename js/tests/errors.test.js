@@ -134,6 +134,27 @@ test("refuses lone surrogates, wherever they stand", () => {
     }
 });
 
+test("does no harm with what is handed in", () => {
+    const fails = () => { throw new SyntaxError("mine"); };
+    const hostile = [
+        Symbol("1s"), new Proxy({}, { get: fails, getPrototypeOf: fails }), new Proxy(() => "1s", {}), new Map(), new Date(0), /1s/, NaN, 10n ** 1000n,
+        { toString: fails, valueOf: fails }, new String("1s"),
+    ];
+    for (const value of hostile) {
+        for (const call of [parse, tryParse, tryParseMs]) {
+            assert.throws(() => call(value), { name: "TypeError", message: /^a duration's text must be a string, not / });
+            assert.throws(() => call("1s", value), (error) => error instanceof Error);
+        }
+    }
+    for (const value of [Object.create(null), { [Symbol.toPrimitive]: fails }]) assert.throws(() => parse(value), TypeError);
+    assert.throws(() => parse("1s", Object.defineProperty({}, "noCalc", { enumerable: true, get: fails })), { message: "mine" });
+    for (const text of ["\0", "1\0h", "\ufeff1h", `${"9".repeat(1_000_000)}h`, "1h".repeat(3) + "\u202e", "__proto__", "constructor"]) {
+        assert.equal(tryParse(text).ok, false, text.slice(0, 20));
+        assert.throws(() => parse(text), DurationError);
+    }
+    assert.equal(parse("1s"), 1_000_000_000n);
+});
+
 test("is an Error of its own name", () => {
     const error = errorOf("600y");
     assert.ok(error instanceof Error);
