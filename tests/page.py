@@ -4,7 +4,7 @@ page-texts.json has texts and what is shown of them, worked out by hand from REA
 printed and in nanoseconds, milliseconds, seconds and ISO 8601; the rows of their "terms"; "notes" on them; the mark and the
 sentence of "faults"; and what is offered where an option is "switched". "meant" has the values in seconds that people mean
 by texts: several where people use a text with several meanings, null where nothing may be offered. "typed" texts are typed
-character by character, and "hostile" ones must be shown, and do nothing else. page.js runs in the page.
+character by character; "hostile" ones must be shown, and do nothing else, and "hostile links" must choose nothing. page.js runs in the page.
 """
 import ast
 import decimal
@@ -353,6 +353,13 @@ def try_hostile(page):
             page.same(f"from the link: {text!r}", [text, before], [page.text(), page.run(count)])
             page.open("#" + text)
             page.same(f"as the link: {text!r}", before, page.run(count))
+    for link in TEXTS["hostile links"]:
+        page.open(link)
+        page.same(f"the elements after {link}", before, page.run(count))
+        page.same(f"what {link} chooses to print", ["short", "y", "ns", "11"],
+                  page.told("['style', 'largest', 'smallest', 'parts'].map((id) => document.getElementById(id).value)"))
+        told = page.told("document.getElementById('link-note').textContent")
+        page.same(f"{link} is not understood", True, told.startswith("Not understood in the link: "))
     page.same("what markup has set", None, page.run("return window.hacked ?? null"))
     for text, printed in LONG:
         took = page.put(text, pasted=True)
