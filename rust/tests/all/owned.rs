@@ -43,8 +43,11 @@ fn is_an_error_that_threads_share() {
     let fault = "1x".parse::<HumanDuration>().unwrap_err();
     is_shared(&fault);
     assert_eq!(
-        format!("{fault:?} {fault:#?}"),
-        r#"OwnedFault(unknown unit "x" at column 2) OwnedFault(unknown unit "x" at column 2)"#
+        [format!("{fault:#}"), format!("{fault:?}")],
+        [
+            r#"unknown unit "x" at column 2"#,
+            r#"OwnedFault(unknown unit "x" at column 2)"#
+        ]
     );
 }
 
