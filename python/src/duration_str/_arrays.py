@@ -154,9 +154,9 @@ def format_many(
     values: Any, *, parts: int = 11, largest: Unit = "y", smallest: Unit = "ns", style: Style = "short"
 ) -> Any:
     """The texts of a column of durations, each an int of nanoseconds or a timedelta, as `format` prints it within the
-    same limits and in the same style: of a list or any other iterable a list of str, of a Series, an Index or a NumPy array one of objects,
-    with the same shape, index and name. These may also have timedelta64, of units from weeks to nanoseconds. What is
-    missing, as in `to_timedelta`, is None.
+    same limits and in the same style: of a list or any other iterable a list of str, of a Series, an Index or a NumPy
+    array one of objects, with the same shape, index and name. These may also have timedelta64, of units from weeks to
+    nanoseconds. What is missing, as in `to_timedelta`, is None.
 
     Raises what `format` raises, with the position in its message.
 

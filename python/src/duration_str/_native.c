@@ -56,7 +56,7 @@ static void raise_type_error(struct state *state, PyObject *value, Py_ssize_t in
     Py_XDECREF(name);
 }
 
-/* report(text, options): the message about a text that is refused */
+/* report(text, options): the message about a text that is refused under these options */
 static PyObject *report(PyObject *self, PyObject *arguments) {
     const char *text;
     Py_ssize_t size;
@@ -114,10 +114,8 @@ static int read_str(struct state *state, PyObject *given, uint32_t options, uint
         return 1;
     if (!options && !raises)
         return 0;
-    PyObject *line = NULL;
-    if (raises)
-        line = line_of(text, options, &answer);
-    else
+    PyObject *line = raises ? line_of(text, options, &answer) : NULL;
+    if (!raises)
         duration_str_parse_with(text.bytes, text.length, options, &answer);
     if (answer.cause == DURATION_STR_READ) {
         *nanos = answer.nanos;
@@ -213,7 +211,8 @@ static int place_among(PyObject *name, const char *const *names, int count, cons
     for (int place = 0; PyUnicode_Check(name) && place < count; place++)
         if (!PyUnicode_CompareWithASCIIString(name, names[place]))
             return place;
-    PyErr_Format(PyUnicode_Check(name) ? PyExc_ValueError : PyExc_TypeError, "%s must be one of %s, not %R", keyword, told, name);
+    PyErr_Format(PyUnicode_Check(name) ? PyExc_ValueError : PyExc_TypeError,
+                 "%s must be one of %s, not %R", keyword, told, name);
     return -1;
 }
 
