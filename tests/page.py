@@ -4,7 +4,8 @@ page-texts.json has texts and what is shown of them, worked out by hand from REA
 printed and in nanoseconds, milliseconds, seconds and ISO 8601; the rows of their "terms"; "notes" on them; the mark and the
 sentence of "faults"; and what is offered where an option is "switched". "meant" has the values in seconds that people mean
 by texts: several where people use a text with several meanings, null where nothing may be offered. "typed" texts are typed
-character by character; "hostile" ones must be shown, and do nothing else, and "hostile links" must choose nothing. page.js runs in the page.
+character by character; "hostile" ones must be shown, and do nothing else, and "hostile links" must choose nothing. page.js
+runs in the page.
 """
 import ast
 import decimal
@@ -265,10 +266,12 @@ def try_printing(page):
     rows = [
         ({}, "1d 1h 1min 1s 1ns", {}),
         ({"style": "compact"}, "1d1h1min1s1ns", {"rust": ".style(Style::Compact)", "python": 'style="compact"'}),
-        ({"style": "long", "parts": "2"}, "1 day 1 hour", {"rust": ".style(Style::Long).parts(2)", "c": "2, DURATION_STR_LONG,"}),
+        ({"style": "long", "parts": "2"}, "1 day 1 hour",
+         {"rust": ".style(Style::Long).parts(2)", "c": "2, DURATION_STR_LONG,"}),
         ({"largest": "h", "smallest": "min"}, "25h 1min",
          {"rust": ".largest(TimeUnit::Hour).smallest(TimeUnit::Minute)", "python": 'largest="h", smallest="min"',
-          "javascript": '{ largest: "h", smallest: "min" }', "c": "DURATION_STR_HOUR, DURATION_STR_MINUTE, 11, DURATION_STR_SHORT,"}),
+          "javascript": '{ largest: "h", smallest: "min" }',
+          "c": "DURATION_STR_HOUR, DURATION_STR_MINUTE, 11, DURATION_STR_SHORT,"}),
         ({"smallest": "µs"}, "1d 1h 1min 1s", {"rust": "TimeUnit::MicroSecond", "javascript": 'smallest: "µs"'}),
     ]
     for chosen, printed, code in rows:
@@ -466,6 +469,7 @@ def try_phone(page):
 
 def try_looks(page):
     papers = {}
+    # 320 pixels are also what 640 leave at 200 %.
     for scheme in SCHEMES:
         for width in (320, 900):
             for text in ("3m + 13s + 29ms", "1:30", "1m " + "9" * 200, "x" * 5_000):

@@ -21,7 +21,9 @@ function show(id, words, shown = words) {
 function markedPart({ code, index, found }) {
     if (index === null) return null;
     if (code === "NOT_TEXT") return { from: index, to: index + 1 };
-    if (code === "SYNTAX") return { from: index, to: index + (found ?? "").length };
+    // A word of letters that no unit has is marked whole.
+    const word = /^\p{L}*/u.exec(text.value.slice(index))[0];
+    if (code === "SYNTAX") return { from: index, to: index + Math.max(word.length, (found ?? "").length) };
     const [{ words }] = terms(text.value, chosenOptions());
     const from = text.value.indexOf(words);
     return { from, to: from + words.length };

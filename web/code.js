@@ -18,8 +18,8 @@ function literal(text, escaped) {
 /** Rust's call for a limit. */
 function rustLimit([name, value]) {
     if (name === "parts") return `.parts(${value})`;
-    const variant = name === "style" ? `Style::${capital(value)}` : `TimeUnit::${capital(wordOf(value)).replace("osec", "oSec").replace("lisec", "liSec")}`;
-    return `.${name}(${variant})`;
+    if (name === "style") return `.style(Style::${capital(value)})`;
+    return `.${name}(TimeUnit::${capital(wordOf(value)).replace(/(?<=[io])sec/, "Sec")})`;
 }
 
 function rust(text, options, limits) {
@@ -28,20 +28,22 @@ function rust(text, options, limits) {
     const taken = fields ? `Options { ${fields}..Options::off() }` : "Options::off()";
     const calls = Object.entries(limits).map(rustLimit).join("");
     const types = ["Style", "TimeUnit"].filter((name) => calls.includes(name)).map((name) => `, ${name}`).join("");
-    return `use duration_str::{format_duration, parse_with, Options${types}};\n\nlet duration = parse_with(${words}, ${taken})?;\n`
-        + `let text = format_duration(duration)${calls}.to_string();`;
+    return `use duration_str::{format_duration, parse_with, Options${types}};\n\n`
+        + `let duration = parse_with(${words}, ${taken})?;\nlet text = format_duration(duration)${calls}.to_string();`;
 }
 
 function python(text, options, limits) {
     const words = literal(text, (character) => `\\U${hex(character).padStart(8, "0")}`);
     const taken = chosen(options).map((name) => `, ${NAMES[name]}=True`).join("");
     const printed = Object.entries(limits).map(([name, value]) => `, ${name}=${JSON.stringify(value)}`).join("");
-    return `import duration_str\n\nduration = duration_str.parse(${words}${taken})\ntext = duration_str.format(duration${printed})`;
+    return `import duration_str\n\nduration = duration_str.parse(${words}${taken})\n`
+        + `text = duration_str.format(duration${printed})`;
 }
 
 function javascript(text, options, limits) {
     const words = literal(text, (character) => `\\u{${hex(character)}}`);
-    const object = (pairs) => pairs.length > 0 ? `, { ${pairs.map(([name, value]) => `${name}: ${JSON.stringify(value)}`).join(", ")} }` : "";
+    const field = ([name, value]) => `${name}: ${JSON.stringify(value)}`;
+    const object = (pairs) => pairs.length > 0 ? `, { ${pairs.map(field).join(", ")} }` : "";
     return `import { format, parse } from "duration-str";\n\n`
         + `const nanoseconds = parse(${words}${object(chosen(options).map((name) => [name, true]))});\n`
         + `const text = format(nanoseconds${object(Object.entries(limits))});`;
@@ -66,7 +68,8 @@ function c(text, options, limits) {
     const words = Array.from(bytes, (byte) => isPlain(byte) ? String.fromCharCode(byte) : escaped(byte));
     const taken = chosen(options).map((name) => `DURATION_STR_${NAMES[name].toUpperCase()}`).join(" | ") || "0";
     return `#include <duration_str.h>\n\nconst char text[] = "${words.join("")}";\nstruct duration_str_answer answer;\n`
-        + `bool is_read = duration_str_parse_with(\n    (const uint8_t *)text, sizeof text - 1, ${taken}, &answer);\n${cPrinted(limits)}`;
+        + `bool is_read = duration_str_parse_with(\n    (const uint8_t *)text, sizeof text - 1, ${taken}, &answer);\n`
+        + cPrinted(limits);
 }
 
 /** The program reads lines, and prints all of a duration. */

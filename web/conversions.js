@@ -23,7 +23,9 @@ function plain(text) {
 }
 
 /** From a list of words for each name of the library, the name of each word. */
-const byWord = (rows) => new Map(Object.entries(rows).flatMap(([name, words]) => words.split(" ").map((word) => [word, name])));
+function byWord(rows) {
+    return new Map(Object.entries(rows).flatMap(([name, words]) => words.split(" ").map((word) => [word, name])));
+}
 
 /** Names that people use and the library doesn't have. */
 const COMMON = byWord({
@@ -37,7 +39,7 @@ const FOREIGN = byWord({
     sec: "sekunde sekunden seconde secondes segundo segundos 秒钟 秒間",
 });
 
-/** Whether one letter has to be put in, left out or replaced, or two next to each other swapped, to make one word the other. */
+/** Whether one word becomes the other by one letter put in, left out or replaced, or two neighbours swapped. */
 function isOneEdit(one, other) {
     let start = 0;
     while (start < one.length && one[start] === other[start]) start++;
@@ -179,7 +181,7 @@ function iso8601(text) {
     const given = [WEEK, DAY, HOUR, MINUTE, SECOND].filter((_, place) => counts[place]);
     const digits = counts.filter(Boolean);
     if (digits.length > 0 && !digits.slice(0, -1).some((count) => /[.,]/.test(count))) {
-        const nanos = digits.map((count, place) => nanosOf(decimal(count), given[place]));
+        const nanos = digits.map((count, place) => nanosOf(digitsOf(count), given[place]));
         const sum = nanos.includes(null) ? null : nanos.reduce((a, b) => a + b);
         return found(text, [reading(sum, given[0])], say`ISO 8601 can't be read.`);
     }
@@ -206,7 +208,7 @@ const GROUPED = /^([1-9][0-9]{0,2}(?:([.,_'’\u00a0\u202f])[0-9]{3})(?:\2[0-9]{
 const EXPONENT = /^([0-9]+(?:\.[0-9]+)?)e([+-]?[0-9]{1,2})$/i;
 
 /** A decimal as its digits and a power of ten. */
-function decimal(words) {
+function digitsOf(words) {
     const [whole, fraction = ""] = words.split(/[.,]/);
     return [BigInt(whole + fraction), -fraction.length];
 }
@@ -216,13 +218,13 @@ function numberOf(words) {
     if (/^[0-9]+$/.test(words)) return { counts: [[BigInt(words), 0]] };
     const [, mantissa, power] = EXPONENT.exec(words) ?? [];
     if (mantissa) {
-        const [digits, shift] = decimal(mantissa);
+        const [digits, shift] = digitsOf(mantissa);
         return { counts: [[digits, shift + Number(power)]], sentence: say`Exponents can't be read.` };
     }
     const counts = [];
     const [, whole, , fraction = ""] = GROUPED.exec(words) ?? [];
     if (whole) counts.push([BigInt(whole.replace(/[^0-9]/g, "") + fraction), -fraction.length]);
-    if (/^[0-9]*[.,][0-9]+$/.test(words)) counts.push(decimal(words));
+    if (/^[0-9]*[.,][0-9]+$/.test(words)) counts.push(digitsOf(words));
     if (counts.length === 2) return { counts, sentence: say`Thousands, or a decimal?` };
     if (counts.length === 0) return null;
     return { counts, sentence: whole ? say`Digits can't be grouped.` : say`Decimals can't be read.` };
@@ -265,11 +267,13 @@ function termOf(fraction, numeral, words, name) {
     const unit = unitOf(unitName(name) ?? "");
     // A quarter of an hour, or of a year
     const isVague = words && unit?.names[0] === "q";
-    return number && unit && !isVague && !unit.chinese.includes(name) ? { ...number, unit, isForeign: !unitOf(name) } : null;
+    if (!number || !unit || isVague || unit.chinese.includes(name)) return null;
+    return { ...number, unit, isForeign: !unitOf(name) };
 }
 
 const OF_TERM = new RegExp(`^(?:(?:a|one) quarter|(three) quarters) of an? (\\p{L}+)$`, "iu");
-const AND_HALF = new RegExp(`^(?:(${WORD}|[0-9]+) (\\p{L}{3,}) and a half|(${WORD}|[0-9]+) and a half (\\p{L}{3,}))$`, "iu");
+const COUNTED = `(${WORD}|[0-9]+)`;
+const AND_HALF = new RegExp(`^(?:${COUNTED} (\\p{L}{3,}) and a half|${COUNTED} and a half (\\p{L}{3,}))$`, "iu");
 
 /** `an hour and a half`, `one and a half hours` and `three quarters of an hour` */
 function halves(text) {
@@ -284,7 +288,8 @@ function halves(text) {
     if (!words || /^half/i.test(words) || after && (!isPlural(after) || /^an?$/i.test(words))) return null;
     // After `one and a half` the unit is in the plural.
     const unit = before ?? (/^one$/i.test(words) ? after.slice(0, -1) : after);
-    const term = /^[0-9]/.test(words) ? termOf(undefined, words, undefined, unit) : termOf(undefined, undefined, words, unit);
+    const [numeral, word] = /^[0-9]/.test(words) ? [words] : [undefined, words];
+    const term = termOf(undefined, numeral, word, unit);
     if (!term) return null;
     const [[digits]] = term.counts;
     return found(text, [reading((2n * digits + 1n) * term.unit.nanos / 2n, term.unit)], sentence);

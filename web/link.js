@@ -18,6 +18,11 @@ export function writeLink() {
     element("link-note").textContent = note;
 }
 
+/** Whether there is this choice of how a duration is printed. */
+function isChoice(id, value) {
+    return Object.hasOwn(printing, id) && Array.from(printing[id].options).some((one) => one.value === value);
+}
+
 /** Takes a word of the link, and returns whether it is known. */
 function take(word) {
     const [id, ...rest] = word.split("=");
@@ -25,7 +30,7 @@ function take(word) {
     if (box && rest.length === 0) return box.checked = true;
     const value = decodeURIComponent(rest.join("="));
     if (id === "text") text.value = value;
-    else if (Object.hasOwn(printing, id) && Array.from(printing[id].options).some((one) => one.value === value)) printing[id].value = value;
+    else if (isChoice(id, value)) printing[id].value = value;
     else return false;
     return true;
 }

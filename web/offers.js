@@ -34,7 +34,7 @@ function completed(text, options) {
     return text.trimEnd().replace(/(?<=\p{L})(?=[0-9]+$)/u, " ") + name;
 }
 
-/** A text as it is offered, with its meaning in words; nothing where there is none, or it is not read, or has another value. */
+/** A text as it is offered, with its meaning in words; nothing where there is none, or it has no or another value. */
 function offered(text, options, nanos) {
     const { ok, value } = text === null ? { ok: false } : tryParse(text, options);
     if (!ok || nanos !== undefined && value !== nanos) return [];

@@ -10,7 +10,9 @@ import { UNITS } from "./units.js";
 const PAUSE = 500;
 /** How long is shown what was copied, in milliseconds. */
 const SHOWN = 4_000;
-const EXAMPLES = ["3m + 13s + 29ms", "1:30", "1.5h", "6mon", "5 mins", "1m*10ms", "PT5M", "1h 30", "half an hour", "3m - 1s"];
+const EXAMPLES = [
+    "3m + 13s + 29ms", "1:30", "1.5h", "6mon", "5 mins", "1m*10ms", "PT5M", "1h 30", "half an hour", "3m - 1s",
+];
 
 let pause;
 let shownCopy;

@@ -315,7 +315,9 @@ function limitsOf(options, defaults) {
     }
     const largest = numberOf("largest", limits.largest, UNITS);
     const smallest = numberOf("smallest", limits.smallest, UNITS);
-    if (largest > smallest) throw new RangeError(`the largest unit, ${limits.largest}, is shorter than the smallest, ${limits.smallest}`);
+    if (largest > smallest) {
+        throw new RangeError(`the largest unit, ${limits.largest}, is shorter than the smallest, ${limits.smallest}`);
+    }
     return { ...limits, largest, smallest, parts: countOf(limits.parts) };
 }
 
