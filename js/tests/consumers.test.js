@@ -156,25 +156,15 @@ for (const format of ["esm", "cjs"]) {
     });
 }
 
-test("works in a service worker, and counts what Chromium's own types take", skippedWithout("chromium"), async () => {
-    // What takes the parts of a duration, of which Node has neither
-    const taken = `import { parts } from "duration-str";
-const counted = parts(5_400_000_000_000n);
-said += \` \${new Intl.DurationFormat("en").format(counted)} \${Temporal.Duration.from(counted)} \${Temporal.Duration.from(parts(0n))}\`;`;
-    writeFileSync(join(room, "worker.mjs"), `${MODULE}\n${taken}\nself.onmessage = (event) => event.source.postMessage(said);`);
-    runs("esbuild", "worker.mjs", "--bundle", "--log-level=error", "--format=iife", "--outfile=worker.js");
-    const page = `<script>
-        navigator.serviceWorker.onmessage = (event) => fetch("/said", { method: "POST", body: event.data });
-        navigator.serviceWorker.register("worker.js").then(() => navigator.serviceWorker.ready)
-            .then((registration) => registration.active.postMessage("?"));
-    </script>`;
+/** What is posted from a page in Chromium that is served with these files and headers, of which the first is the page. */
+async function posted(files, headers = {}) {
     let browser;
-    const said = await new Promise((resolve, reject) => {
+    return new Promise((resolve, reject) => {
         const server = createServer(async (request, response) => {
-            if (request.url !== "/said") {
-                const isWorker = request.url === "/worker.js";
-                response.setHeader("content-type", isWorker ? "text/javascript" : "text/html");
-                response.end(isWorker ? readFileSync(join(room, "worker.js")) : page);
+            const name = request.url === "/" ? Object.keys(files)[0] : request.url.slice(1);
+            if (request.method === "GET") {
+                const type = name.endsWith(".js") ? "text/javascript" : "text/html";
+                response.writeHead(200, { ...headers, "content-type": type }).end(files[name]);
                 return;
             }
             let body = "";
@@ -189,11 +179,40 @@ said += \` \${new Intl.DurationFormat("en").format(counted)} \${Temporal.Duratio
             browser = spawn("chromium", [...words, `http://127.0.0.1:${server.address().port}/`], { stdio: "ignore" });
             browser.on("error", reject);
         });
-        setTimeout(() => reject(new Error("the worker says nothing for a minute")), 60_000).unref();
+        setTimeout(() => reject(new Error("the page says nothing for a minute")), 60_000).unref();
     }).finally(() => new Promise((resolve) => {
         // Until it has ended, the browser writes into its profile.
         browser.on("close", resolve);
         browser.kill();
     }));
-    assert.equal(said, `${SAID} 1 hr, 30 min PT1H30M PT0S`);
+}
+
+/** A script of these lines with what it imports. */
+function bundled(lines) {
+    writeFileSync(join(room, "lines.mjs"), lines);
+    return runs("esbuild", "lines.mjs", "--bundle", "--log-level=error", "--format=iife");
+}
+
+test("works in a service worker, and counts what Chromium's own types take", skippedWithout("chromium"), async () => {
+    const worker = bundled(`${MODULE}
+import { parts } from "duration-str";
+const counted = parts(5_400_000_000_000n);
+said += \` \${new Intl.DurationFormat("en").format(counted)} \${Temporal.Duration.from(counted)} \${Temporal.Duration.from(parts(0n))}\`;
+self.onmessage = (event) => event.source.postMessage(said);`);
+    const page = `<script>
+        navigator.serviceWorker.onmessage = (event) => fetch("/said", { method: "POST", body: event.data });
+        navigator.serviceWorker.register("worker.js").then(() => navigator.serviceWorker.ready)
+            .then((registration) => registration.active.postMessage("?"));
+    </script>`;
+    assert.equal(await posted({ "page.html": page, "worker.js": worker }), `${SAID} 1 hr, 30 min PT1H30M PT0S`);
+});
+
+test("lets a page start whose policy refuses it, and says what to allow", skippedWithout("chromium"), async () => {
+    const script = bundled(`import * as all from "duration-str";
+const said = () => { try { return all.parse("1h"); } catch (error) { return \`\${error.cause.name}: \${error.message}\`; } };
+fetch("/said", { method: "POST", body: \`started \${said()}\` });`);
+    const files = { "page.html": '<script src="script.js"></script>', "script.js": script };
+    const said = await posted(files, { "content-security-policy": "script-src 'self'" });
+    assert.match(said, /^started CompileError: duration-str cannot use WebAssembly here .* allow 'wasm-unsafe-eval' /);
+    assert.equal(await posted(files, { "content-security-policy": "script-src 'self' 'wasm-unsafe-eval'" }), "started 3600000000000");
 });
