@@ -34,6 +34,14 @@ def under_all_options(texts):
     return [duration_str.parse_ns(text, no_calc=True, lowercase=True, cn_unit=True) for text in texts]
 
 
+def refused(texts):
+    for text in texts:
+        try:
+            duration_str.parse_ns(text)
+        except duration_str.DurationError:
+            pass
+
+
 def in_processes(texts):
     parts = dask.dataframe.from_pandas(texts, npartitions=4)
     read = parts.map_partitions(duration_str.to_timedelta, meta=(None, "timedelta64[ns]"))
@@ -61,6 +69,7 @@ def main():
         ("`parse_ns`, called one by one", in_a_loop(duration_str.parse_ns), same[:FEW]),
         ("the same under all three options", under_all_options, same[:FEW]),
         ("`parse`, called one by one", in_a_loop(duration_str.parse), same[:FEW]),
+        ("`parse_ns` refuses `1m 3-5`, and makes the `DurationError`", refused, ["1m 3-5"] * FEW),
         ("`to_timedelta` of a Series", duration_str.to_timedelta, pandas.Series(same)),
         ("`to_timedelta` of a Series half None", duration_str.to_timedelta, half),
         ("`to_timedelta` of a Series of timedelta64", duration_str.to_timedelta, lengths),

@@ -21,17 +21,37 @@ export interface Options {
 /** The units by their printed names, the longest first; `us` stands for `µs` too. */
 export type Unit = "y" | "q" | "mon" | "w" | "d" | "h" | "min" | "s" | "ms" | "µs" | "us" | "ns";
 
-/**
- * How much of a duration is printed: a plain object's own properties. What is left out is the longest unit, the shortest, and
- * as many parts as there are units.
- */
-export interface Limits {
-    /** How many parts are printed at most. The rest is left out, never rounded up. */
+/** How much of a duration is counted: a plain object's own properties. What is left out is as many parts as there are units. */
+interface Counted<Name extends Unit> {
+    /** How many parts there are at most. The rest is left out, never rounded up. */
     parts?: number | undefined;
-    /** The largest unit that is printed: from `d` on, 120 days are `120d`. */
-    largest?: Unit | undefined;
-    /** The smallest unit that is printed. If nothing is left it is 0 of this unit, or `0s` where it is shorter than a second. */
-    smallest?: Unit | undefined;
+    /** The largest unit: from `d` on, 120 days are `120d`. */
+    largest?: Name | undefined;
+    /** The smallest unit. If nothing is left it is 0 of this unit, or of seconds where it is shorter than a second. */
+    smallest?: Name | undefined;
+}
+
+/** How much of a duration is printed, from `y` to `ns` where nothing is chosen, and how. */
+export interface Limits extends Counted<Unit> {
+    /** `1h 30min`, which is short, `1h30min` or `1 hour 30 minutes` */
+    style?: "short" | "compact" | "long" | undefined;
+}
+
+/** What `parts` counts, from days to nanoseconds where nothing is chosen. */
+export type PartLimits = Counted<Exclude<Unit, "q">>;
+
+/** The parts of a duration that are not 0, by the names that `Intl.DurationFormat` and `Temporal.Duration.from` take. */
+export interface Parts {
+    years?: number;
+    months?: number;
+    weeks?: number;
+    days?: number;
+    hours?: number;
+    minutes?: number;
+    seconds?: number;
+    milliseconds?: number;
+    microseconds?: number;
+    nanoseconds?: number;
 }
 
 /** What could stand at the place of a syntax fault. */
@@ -49,8 +69,12 @@ interface Refused {
     readonly text: string;
     /** What could stand at the place of a syntax fault; for other faults all are false. */
     readonly expected: Expected;
-    /** What is wrong, in one line without the text. */
+    /** What is wrong, where, and often what to write, in one line of at most 365 bytes, which a terminal and a log can show. */
+    readonly oneLine: string;
+    /** What could stand there, or the sort of fault, without the place: `expected number`. It is made when it is read. */
     readonly line: string;
+    /** The text, a caret under the place, and the line; made when it is read. The text stands there as it is. */
+    readonly report: string;
 }
 
 /** At a place, no expression continues as the text does. */
@@ -72,29 +96,28 @@ export interface SizeFault extends Refused {
     readonly found: null;
 }
 
-/** The text is empty, mixes `+` and `*`, or has a lone surrogate and so no UTF-8. */
+/** The text has a lone surrogate, which stands at the index, and so no UTF-8. */
+export interface TextFault extends Refused {
+    readonly code: "NOT_TEXT";
+    readonly index: number;
+    readonly byte: null;
+    readonly found: null;
+}
+
+/** The text is empty, or mixes `+` and `*`. */
 export interface OtherFault extends Refused {
-    readonly code: "EMPTY" | "MIXED" | "NOT_TEXT";
+    readonly code: "EMPTY" | "MIXED";
     readonly index: null;
     readonly byte: null;
     readonly found: null;
 }
 
-/** Why a text is refused. Its code discriminates: only `SYNTAX` always has a place. */
-export type Cause = SyntaxFault | SizeFault | OtherFault;
-
-/** What is wrong with a refused text: the cause, and the message about it. */
-export type Fault = Cause & {
-    /**
-     * The line and, where the fault has a place, the text with a caret under it: of a text with line feeds the line of the
-     * place, and of more than 200 UTF-16 units the part around it.
-     */
-    readonly message: string;
-};
+/** Why a text is refused. Its code discriminates: only `SYNTAX` always has a place as a byte. */
+export type Fault = SyntaxFault | SizeFault | TextFault | OtherFault;
 
 /**
- * A refused text. Its `cause` survives `structuredClone`, and `toJSON` gives all of the fault. It is one class for `import`
- * and `require` in Node.
+ * A refused text, whose message is the fault's one line. Its `cause` survives `structuredClone`, less the line and the
+ * report, and `toJSON` gives all of the fault. It is one class for `import` and `require` in Node.
  *
  * ```js
  * try {
@@ -105,16 +128,16 @@ export type Fault = Cause & {
  * }
  * ```
  */
-export type DurationError = Error & Cause & { readonly cause: Cause; toJSON(): Fault & { name: string } };
+export type DurationError = Error & Fault & { readonly cause: Fault; toJSON(): Fault & { name: string; message: string } };
 export declare const DurationError: abstract new (...nobody: never) => DurationError;
 
-/** What a text is read as: its value in nanoseconds, or what is wrong with it. */
-export type Result =
-    | { readonly ok: true; readonly value: bigint; readonly fault?: undefined }
+/** What a text is read as, or what is wrong with it. */
+export type Result<Value = bigint> =
+    | { readonly ok: true; readonly value: Value; readonly fault?: undefined }
     | { readonly ok: false; readonly value?: undefined; readonly fault: Fault };
 
-/** Which library is inside: the proved one that the Rattle toolchain built, or the one that cargo built of the same source. */
-export const library: string;
+/** The version of the library and of this package. */
+export declare const version: string;
 
 /**
  * The value of a text in nanoseconds, which is exact: `parse("3m + 13s + 29ms")` is `193029000000n`. To read an array write
@@ -122,6 +145,8 @@ export const library: string;
  *
  * @throws DurationError where the text is refused
  * @throws TypeError where it is no string, or an option is unknown or no boolean
+ * @throws Error, as each call does, where WebAssembly or a text encoder is missing or refused; its message says what to do,
+ * and its cause is what the engine threw. The next call tries again.
  */
 export function parse(text: string, options?: Options): bigint;
 
@@ -140,10 +165,14 @@ export function tryParse(text: string, options?: Options): Result;
  */
 export function parseMs(text: string, options?: Options): number;
 
+/** What `parseMs` returns, or what is wrong with the text, in the same way as `tryParse`. */
+export function tryParseMs(text: string, options?: Options): Result<number>;
+
 /**
  * The text of a duration in nanoseconds: `format(5_400_000_000_000n)` is `1h 30min`, and with `{ parts: 1 }` it is `1h`.
  *
- * @throws RangeError where it is negative, or 2^64 or more, or there is no such unit or count of parts
+ * @throws RangeError where it is negative, or 2^64 or more; where there is no such unit, style or count of parts; and where
+ * the largest unit is shorter than the smallest
  * @throws TypeError where it is no bigint, or an option is unknown or of another type
  */
 export function format(nanoseconds: bigint, options?: Limits): string;
@@ -156,6 +185,15 @@ export function format(nanoseconds: bigint, options?: Limits): string;
  * @throws TypeError where it is no number; and as `format` does
  */
 export function formatMs(milliseconds: number, options?: Limits): string;
+
+/**
+ * The parts of a duration as numbers: `parts(5_400_000_000_000n)` is `{ hours: 1, minutes: 30 }`. Quarters are not counted,
+ * and of nothing it is `{ seconds: 0 }`.
+ *
+ * @throws RangeError where a number does not hold a count exactly; and as `format` does
+ * @throws TypeError as `format` does
+ */
+export function parts(nanoseconds: bigint, limits?: PartLimits): Parts;
 
 /**
  * The date that is a text's duration after this one. A Date has whole milliseconds, so what the text has beyond them is

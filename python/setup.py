@@ -1,6 +1,6 @@
-"""Builds the extension module over the library for C: the archive that DURATION_STR_LIB names; else in a checkout, where
-the Rattle toolchain's command rt is on the path, the one that make proves and builds; else the one that cargo builds of
-the proved sources without their contracts, which the sdist has. Each build is made anew, in a temporary folder.
+"""Builds the extension module over the library for C: the archive that DURATION_STR_LIB names, or else the one that cargo
+builds of the proved sources without their contracts. Each build is made anew, in a temporary folder, and nothing is written
+beside the sources.
 """
 
 import atexit
@@ -15,6 +15,7 @@ import tempfile
 
 from setuptools import Extension, setup
 from setuptools.command.build_ext import build_ext
+from setuptools.command.install import install
 from setuptools.command.sdist import sdist
 
 HERE = pathlib.Path(__file__).resolve().parent
@@ -30,12 +31,27 @@ def demand(is_there, what):
         raise SystemExit(f"to build duration-str, install {what}")
 
 
+def copy_crates(folder):
+    """Copies what cargo builds the library of."""
+    files = ["Cargo.toml", "c/Cargo.toml", "c/build.rs", "program/Cargo.toml", "rust/Cargo.toml", "rust/core/Cargo.toml"]
+    for pattern in [*files, "c/src/**/*", "program/src/**/*", "rust/core/src/**/*"]:
+        for file in filter(pathlib.Path.is_file, CRATES.glob(pattern)):
+            copy = pathlib.Path(folder, file.relative_to(CRATES))
+            copy.parent.mkdir(parents=True, exist_ok=True)
+            # Without its mode: a folder that can't be written to could not be deleted.
+            shutil.copyfile(file, copy)
+
+
 def by_cargo(room):
-    """The archive that cargo builds in this folder."""
+    """The archive that cargo builds in this folder, of a copy, since cargo writes beside the sources."""
     demand(shutil.which("cargo"), "Rust 1.85 or later, with cargo on the path; or name the library in DURATION_STR_LIB")
-    words = ["cargo", "build", "--quiet", "--release", "--manifest-path", CRATES / "c/Cargo.toml", "--target-dir", room]
+    copy_crates(room / "crates")
+    words = ["cargo", "build", "--quiet", "--release", "-p", "duration-str-c",
+             "--manifest-path", room / "crates/Cargo.toml", "--target-dir", room / "target"]
     demand(not subprocess.run(words).returncode, "Rust 1.85 or later: cargo could not build the library for C")
-    return pathlib.Path(room, "release", "duration_str.lib" if sys.platform == "win32" else "libduration_str.a")
+    # CARGO_BUILD_TARGET adds a folder.
+    name = "duration_str.lib" if sys.platform == "win32" else "libduration_str.a"
+    return next((room / "target").glob(f"**/release/{name}"))
 
 
 def archive(room):
@@ -44,10 +60,6 @@ def archive(room):
     if named:
         demand(os.path.isfile(named), f"the library: DURATION_STR_LIB names {named}, which is no file")
         return pathlib.Path(named)
-    if IS_CHECKOUT and shutil.which("rt"):
-        words = ["make", "--silent", "--directory", CHECKOUT, "library"]
-        folder = subprocess.check_output(words, env={**os.environ, "MAKEFLAGS": ""}, text=True).strip()
-        return CHECKOUT / folder / "libduration_str.a"
     return by_cargo(room)
 
 
@@ -59,10 +71,7 @@ class Linked(build_ext):
         demand(header.exists(), f"Python's headers (Debian's python3-dev): {header} is missing")
         compiler = getattr(self.compiler, "compiler_so", [sys.executable])[0]
         demand(shutil.which(compiler), f"a C compiler: {compiler} is missing")
-        file = archive(os.path.join(self.build_temp, "cargo")).resolve()
-        # So rt names a function in the archive that it makes.
-        is_proved = b"duration_str::parser::parse" in file.read_bytes()
-        extension.define_macros = [("IS_PROVED", str(int(is_proved)))]
+        file = archive(pathlib.Path(self.build_temp, "cargo").resolve()).resolve()
         extension.extra_objects = [str(file)]
         if sys.platform == "linux":
             extension.extra_link_args = ["-s", "-Wl,-z,now,--exclude-libs,ALL,--gc-sections"]
@@ -74,15 +83,15 @@ class Sources(sdist):
 
     def make_release_tree(self, base_dir, files):
         super().make_release_tree(base_dir, files)
-        for name in ["c/src", "rust/core/src"]:
-            shutil.copytree(CRATES / name, pathlib.Path(base_dir, name))
-        for name in ["c/Cargo.toml", "c/build.rs", "rust/core/Cargo.toml", "rust/vectors.json"]:
-            shutil.copy(CRATES / name, pathlib.Path(base_dir, name))
+        copy_crates(base_dir)
+        shutil.copyfile(CRATES / "rust/vectors.json", pathlib.Path(base_dir, "rust/vectors.json"))
         for name in ["tests", "examples"]:
             shutil.copytree(HERE / name, pathlib.Path(base_dir, name), ignore=shutil.ignore_patterns("__pycache__"))
         shutil.copytree(INCLUDE, pathlib.Path(base_dir, "include"))
 
 
+# Debian's setuptools asks for these under other interpreters than Debian's, too.
+install.install_layout = install.prefix_option = None
 # Earlier versions of setuptools have the command of another package.
 if {"bdist_wheel", "dist_info"} & set(sys.argv):
     demand(any(map(importlib.util.find_spec, ["wheel", "setuptools.command.bdist_wheel"])), "wheel, beside setuptools")
@@ -99,5 +108,5 @@ setup(
         )
     ],
     license="Apache-2.0",
-    options={"bdist_wheel": {"py_limited_api": "cp311"}, "build": {"build_base": room}},
+    options={"bdist_wheel": {"py_limited_api": "cp311"}, "build": {"build_base": room}, "egg_info": {"egg_base": room}},
 )

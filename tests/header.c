@@ -121,6 +121,36 @@ static void check_null_texts(void)
     expect(moment.secs == 5 && moment.nanos == 6, "a moment that stays");
 }
 
+static void check_styles(void)
+{
+    uint8_t printed[DURATION_STR_STYLED_BUFFER_SIZE];
+    memset(printed, '#', sizeof printed);
+    const uint32_t year = DURATION_STR_YEAR, nanosecond = DURATION_STR_NANOSECOND;
+    expect(duration_str_format_styled(5401, 0, year, nanosecond, 2, DURATION_STR_LONG, printed) == 17, "a long style");
+    expect(memcmp(printed, "1 hour 30 minutes#", 18) == 0, "what stands after a long text");
+    expect(duration_str_format_styled(5401, 0, year, nanosecond, 9, DURATION_STR_COMPACT, printed) == 9, "a compact style");
+    expect(memcmp(printed, "1h30min1s", 9) == 0, "a compact text");
+    expect(duration_str_format_styled(5401, 0, year, nanosecond, 9, DURATION_STR_SHORT, printed) == 11, "a short style");
+    expect(memcmp(printed, "1h 30min 1s", 11) == 0, "a short text");
+    expect(duration_str_format_styled(0, 0, year, nanosecond, 0, DURATION_STR_LONG, printed) == 9, "a long zero");
+    expect(duration_str_format_styled(5401, 0, year, nanosecond, 2, 3, printed) == 0, "a style above 2");
+    expect(memcmp(printed, "0 seconds", 9) == 0, "a buffer that stays");
+}
+
+static void check_one_line(void)
+{
+    const char *text = "3h 2 hurs", *wanted = "unknown unit \"hurs\" at column 6#";
+    uint8_t line[DURATION_STR_ONE_LINE_BUFFER_SIZE];
+    struct duration_str_answer answer;
+    memset(line, '#', sizeof line);
+    expect(duration_str_one_line((const uint8_t *)text, 9, 0, &answer, line) == 31, "the length of one line");
+    expect(memcmp(line, wanted, 32) == 0 && answer.cause == DURATION_STR_SYNTAX && answer.place == 5, "one line");
+    expect(duration_str_one_line((const uint8_t *)text, 2, 0, &answer, line) == 0, "no line of a text that is read");
+    expect(answer.nanos == 10800000000000 && memcmp(line, wanted, 32) == 0, "the answer that is read");
+    expect(duration_str_one_line((const uint8_t *)"1\xff", 2, 0, &answer, line) == 9, "one line without UTF-8");
+    expect(memcmp(line, "not UTF-8", 9) == 0 && answer.cause == DURATION_STR_NOT_TEXT, "what it says");
+}
+
 static void check_columns(void)
 {
     const uint8_t *bytes = (const uint8_t *)"#1m1m-";
@@ -160,6 +190,8 @@ int main(void)
     check_refusals();
     check_messages();
     check_plain_calls();
+    check_styles();
+    check_one_line();
     check_null_texts();
     check_columns();
     check_moments();

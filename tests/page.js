@@ -21,8 +21,8 @@ function settled(text, pasted, done) {
     requestAnimationFrame(() => requestAnimationFrame(() => done(performance.now() - start)));
 }
 
-/** For each text its sentence, with each quoted text as one word, and of each button its name, and the text and its value
- * in nanoseconds after it is pressed. */
+/** For each text its sentence, with each quoted text as one word, whether it is the page's own and not the library's, and of
+ * each button its name, and the text and its value in nanoseconds after it is pressed. */
 function offered(texts) {
     const quoted = (node) => node.nodeName === "CODE" ? "x" : node.textContent;
     const buttons = (text) => {
@@ -33,7 +33,8 @@ function offered(texts) {
     return texts.map((text) => {
         const count = buttons(text).length;
         const sentence = [...all("#sentence")[0].childNodes].map(quoted).join("");
-        return [sentence, Array.from({ length: count }, (_, place) => {
+        const isOwn = !all("#library")[0].hidden;
+        return [sentence, isOwn, Array.from({ length: count }, (_, place) => {
             const button = buttons(text)[place];
             button.click();
             return [button.ariaLabel, all("#text")[0].value, seen("#nanoseconds")[0]?.textContent ?? null];
@@ -50,12 +51,12 @@ function pressedUnits() {
     });
 }
 
-/** Where the examples stand, for each beginning of the texts. */
+/** Where the answer stands, for each beginning of the texts. */
 function places(texts) {
     const beginnings = texts.flatMap((text) => Array.from({ length: text.length + 1 }, (_, end) => text.slice(0, end)));
     return beginnings.map((text) => {
         put(text);
-        return all("#read-label")[0].getBoundingClientRect().top + scrollY;
+        return all("#answer")[0].getBoundingClientRect().top + scrollY;
     });
 }
 
@@ -109,7 +110,7 @@ function brokenRules() {
         "a list with other parts": told(all("dl > :not(div), dl > div > :not(dt, dd)")),
         "small targets": told(seen("button").filter(isSmall)),
         "places to scroll that no key reaches": told(seen("body *").filter(isScrolled)
-            .filter((element) => element.tabIndex < 0 && !element.querySelector("textarea"))),
+            .filter((element) => element.tabIndex < 0 && !element.querySelector("textarea, button"))),
         "parts outside of a landmark": told(all("body > :not(header, main, footer, script)")),
     };
 }

@@ -4,7 +4,8 @@ page-texts.json has texts and what is shown of them, worked out by hand from REA
 printed and in nanoseconds, milliseconds, seconds and ISO 8601; the rows of their "terms"; "notes" on them; the mark and the
 sentence of "faults"; and what is offered where an option is "switched". "meant" has the values in seconds that people mean
 by texts: several where people use a text with several meanings, null where nothing may be offered. "typed" texts are typed
-character by character, and "hostile" ones must be shown, and do nothing else. page.js runs in the page.
+character by character; "hostile" ones must be shown, and do nothing else, and "hostile links" must choose nothing. page.js
+runs in the page.
 """
 import ast
 import decimal
@@ -29,8 +30,8 @@ TEXTS = json.loads((ROOT / "tests/page-texts.json").read_text(encoding="utf-8"))
 SCHEMES = ("light", "dark")
 # A little longer than the page waits after the last key before it tells the answer and writes the link
 PAUSE = 0.8
-# How many bytes the page may have, and how many words a sentence
-LARGEST = 85_000
+# How many bytes the page may have, and how many words a sentence of its own
+LARGEST = 100_000
 WORDS = 9
 # What the keyboard of a phone of 375 by 667 pixels leaves free
 FREE = 300
@@ -150,10 +151,13 @@ def try_faults(page):
         page.same(f"{text!r} under {options}", expected, [page.marked(), page.shown("sentence")])
         page.same(f"the value of {text!r}", None, page.shown("printed"))
     page.choose()
-    page.put("1h,")
+    page.put("1.5h")
     page.same("the library's line, folded away", None, page.shown("line"))
     page.click("summary")
-    page.same("the library's line, unfolded", "expected ['+', '*']", page.shown("line"))
+    line = "Expected a unit, '+', '*' or the end at column 2, found .: a number has digits alone, no point or comma."
+    page.same("the library's line, unfolded", line, page.shown("line"))
+    page.put("5 mins")
+    page.same("no second line", None, page.shown("line"))
 
 
 def nanoseconds_of(words):
@@ -169,10 +173,11 @@ def try_texts(page):
     rows = [row for rows in TEXTS["meant"].values() for row in rows]
     page.same("texts", True, len(rows) >= 150)
     answers = page.told(f"asked.offered({json.dumps([text for text, *_ in rows])})")
-    for (text, *meant), (sentence, buttons) in zip(rows, answers):
+    for (text, *meant), (sentence, is_own, buttons) in zip(rows, answers):
         values = [f"{int(decimal.Decimal(seconds) * 10**9):,}" for seconds in meant if seconds]
         page.same(f"what is offered for {text!r}", values, [value for *_, value in buttons])
-        page.same(f"a sentence of at most {WORDS} words for {text!r}: {sentence}", True, len(sentence.split()) <= WORDS)
+        is_short = not is_own or len(sentence.split()) <= WORDS
+        page.same(f"a sentence of at most {WORDS} words for {text!r}: {sentence}", True, is_short)
         for name, words, value in buttons:
             said = f"{nanoseconds_of(name.removeprefix(f'{words}: ')):,}"
             page.same(f"the name of a button for {text!r}", [True, value], [name.startswith(f"{words}: "), said])
@@ -194,22 +199,22 @@ def try_switching(page):
     page.same("undone", "1h, 30m", page.text())
     page.key(Keys.CONTROL, Keys.SHIFT, "z")
     page.same("done again", ["1h 30m", "1h 30min"], [page.text(), page.shown("printed")])
-    page.click("#read-examples button")
+    page.click("#examples button")
     page.key(Keys.CONTROL, "z")
     page.same("an example undone", "1h 30m", page.text())
 
 
 def try_examples(page):
+    """Each is in one row, puts its text, and some are read and some refused with something to try."""
     page.open()
-    for options in ([], ["no_calc"]):
-        page.choose(*options)
-        for name, is_read in (("read", True), ("refused", False)):
-            examples = page.driver.find_elements(By.CSS_SELECTOR, f"#{name}-examples button")
-            page.same(f"up to five {name} examples", True, 1 < len(examples) <= 5)
-            for button in examples:
-                button.click()
-                got = [page.text(), page.shown("printed") is not None, page.shown("sentence") is None]
-                page.same(f"the example {button.text} under {options}", [button.text, is_read, is_read], got)
+    examples = page.driver.find_elements(By.CSS_SELECTOR, "#examples button")
+    found = []
+    for button in examples:
+        page.run("arguments[0].click()", button)
+        page.same(f"the text of the example {button.text}", button.text, page.text())
+        found.append((page.shown("printed") is not None, len(page.words("#offered button")) > 0))
+    page.same("what is said of examples", {(True, False), (True, True), (False, True), (False, False)}, set(found))
+    page.same("one row", 1, len({button.rect["y"] for button in examples}))
 
 
 def try_units(page):
@@ -238,18 +243,55 @@ def try_code(page):
         "c": "sizeof text - 1, DURATION_STR_NO_CALC | DURATION_STR_CN_UNIT, &answer);",
     }
     for name, end in taken.items():
-        page.same(f"the code in {name}", end, page.shown(name)[-len(end) :])
+        page.same(f"the code in {name}", True, any(line.endswith(end) for line in page.shown(name).splitlines()))
+    page.same("no shell's line of two lines", None, page.shown("shell"))
     page.choose()
     for text in ("1h", '"\\n ${x}', "\t\n\0009", "??/µ 分秒é\u202e\U0001f600"):
         page.put(text)
-        call = ast.parse(page.shown("python")).body[-1].value
+        call = ast.parse(page.shown("python")).body[1].value
         page.same(f"Python's literal of {text!r}", [[text], []], [[each.value for each in call.args], call.keywords])
-        literal = page.shown("javascript").split("parse(")[1].removesuffix(");")
+        literal = page.shown("javascript").split("= parse(")[1].split(");\nconst text")[0]
         page.same(f"JavaScript's literal of {text!r}", text, page.run(f"return {literal}"))
-        page.same(f"Rust's options of {text!r}", True, page.shown("rust").endswith(", Options::off())?;"))
+        page.same(f"Rust's options of {text!r}", True, ", Options::off())?;\n" in page.shown("rust"))
         page.same(f"C's literal of {text!r}", text.encode(), literal_of_c(page.shown("c")))
+    page.put("it's 1h")
+    line = page.shown("shell").replace("durstr", "cat")
+    page.same("the shell's line", "it's 1h\n", subprocess.run(["sh", "-c", line], stdout=subprocess.PIPE, text=True).stdout)
     page.put("1m \ud800")
     page.same("no code of a lone surrogate", [None, True], [page.shown("rust"), page.shown("no-code") is not None])
+
+
+def try_printing(page):
+    """A duration of 90,061.000000001 s, which is 1 day 1 hour 1 minute 1 second 1 nanosecond, in chosen ways."""
+    rows = [
+        ({}, "1d 1h 1min 1s 1ns", {}),
+        ({"style": "compact"}, "1d1h1min1s1ns", {"rust": ".style(Style::Compact)", "python": 'style="compact"'}),
+        ({"style": "long", "parts": "2"}, "1 day 1 hour",
+         {"rust": ".style(Style::Long).parts(2)", "c": "2, DURATION_STR_LONG,"}),
+        ({"largest": "h", "smallest": "min"}, "25h 1min",
+         {"rust": ".largest(TimeUnit::Hour).smallest(TimeUnit::Minute)", "python": 'largest="h", smallest="min"',
+          "javascript": '{ largest: "h", smallest: "min" }',
+          "c": "DURATION_STR_HOUR, DURATION_STR_MINUTE, 11, DURATION_STR_SHORT,"}),
+        ({"smallest": "µs"}, "1d 1h 1min 1s", {"rust": "TimeUnit::MicroSecond", "javascript": 'smallest: "µs"'}),
+    ]
+    for chosen, printed, code in rows:
+        limits = "".join(f"&{name}={urllib.parse.quote(value)}" for name, value in chosen.items())
+        page.open("#text=90061s%201ns" + limits)
+        page.same(f"printed by {chosen}", printed, page.shown("printed"))
+        page.same(f"the shell's line for {chosen}", not chosen, page.shown("shell") is not None)
+        for name, part in code.items():
+            page.same(f"{part} in {name}", True, part in page.shown(name))
+        page.type("90061s 1ns")
+        time.sleep(PAUSE)
+        page.same(f"the link of {chosen}", "#text=90061s%201ns" + limits, page.run("return location.hash"))
+    page.open("#text=1h&largest=s&smallest=d")
+    page.same("limits that contradict each other", "3600s", page.shown("printed"))
+    page.find("largest").send_keys("days")
+    page.same("days as the largest unit", "1h", page.shown("printed"))
+    page.find("smallest").send_keys("weeks")
+    page.same("weeks as the smallest unit, and so as the largest", "0w", page.shown("printed"))
+    page.open("#text=1h&style=wide")
+    page.same("what is told of a style that isn't", "Not understood in the link: style=wide", page.shown("link-note"))
 
 
 def literal_of_c(code):
@@ -268,7 +310,7 @@ def try_copying(page):
     page.open("#text=1h%2030m%201ms")
     copied = {"printed": "1h 30min 1ms", "nanoseconds": "5400001000000", "milliseconds": "5400001",
               "seconds": "5400.001", "iso": "PT1H30M0.001S", "python": page.shown("python")}
-    page.same("copy buttons", 9, len(page.driver.find_elements(By.CSS_SELECTOR, "[data-copies]")))
+    page.same("copy buttons", 10, len(page.driver.find_elements(By.CSS_SELECTOR, "[data-copies]")))
     for name, expected in copied.items():
         page.click(f"[data-copies={name}]")
         time.sleep(0.1)
@@ -314,6 +356,13 @@ def try_hostile(page):
             page.same(f"from the link: {text!r}", [text, before], [page.text(), page.run(count)])
             page.open("#" + text)
             page.same(f"as the link: {text!r}", before, page.run(count))
+    for link in TEXTS["hostile links"]:
+        page.open(link)
+        page.same(f"the elements after {link}", before, page.run(count))
+        page.same(f"what {link} chooses to print", ["short", "y", "ns", "11"],
+                  page.told("['style', 'largest', 'smallest', 'parts'].map((id) => document.getElementById(id).value)"))
+        told = page.told("document.getElementById('link-note').textContent")
+        page.same(f"{link} is not understood", True, told.startswith("Not understood in the link: "))
     page.same("what markup has set", None, page.run("return window.hacked ?? null"))
     for text, printed in LONG:
         took = page.put(text, pasted=True)
@@ -329,10 +378,11 @@ def try_keyboard(page):
     page.key(Keys.CONTROL, "a")
     page.same("the first focus", "text", page.key("1:30"))
     wanted = page.told(
-        "[...document.querySelectorAll('button, input, textarea, summary, [tabindex]')]"
+        "[...document.querySelectorAll('button, input, select, textarea, summary, [tabindex]')]"
         ".filter((e) => e.checkVisibility() && e.tabIndex === 0).map((e) => e.id || e.textContent || e.className)"
     )
-    page.same("reached by the tab key", wanted[1:], [page.key(Keys.TAB) for _ in wanted[1:]])
+    wanted = wanted[wanted.index("text") + 1 :]
+    page.same("reached by the tab key", wanted, [page.key(Keys.TAB) for _ in wanted])
     page.click("#text")
     names = ("no_calc", "lowercase", "cn_unit", "1h 30m1 hour 30 minutes", "1m 30s1 minute 30 seconds")
     page.same("what follows the text", list(names), [page.key(Keys.TAB) for _ in names])
@@ -347,7 +397,7 @@ def try_keyboard(page):
 def try_readers(page):
     """What screen readers are told: a name for each field, and one line after a pause."""
     page.open()
-    for field in page.driver.find_elements(By.CSS_SELECTOR, "input, textarea, pre, button:not(#units button)"):
+    for field in page.driver.find_elements(By.CSS_SELECTOR, "input, select, textarea, pre, button:not(#units button)"):
         if field.is_displayed():
             page.same(f"a name for {field.get_attribute('outerHTML')[:60]}", True, bool(field.accessible_name))
     page.same("live regions", 3, len(page.words("[role=status], [role=alert], [aria-live]")))
@@ -359,8 +409,8 @@ def try_readers(page):
     page.same("told", ["1h 30min."], page.told("told"))
     told = {
         "1h 30": "1h 30s. 30 has no unit: seconds. Try instead 1h 30m: 1 hour 30 minutes.",
-        "5 mins": "There is no unit mins: write min. Try instead 5 min: 5 minutes.",
-        "1m+": "A number must follow +.",
+        "5 mins": "Unknown unit mins at column 3: write min. Try instead 5 min: 5 minutes.",
+        "1m+": "Expected a number at column 4, found the end.",
     }
     for text, expected in told.items():
         page.put(text)
@@ -400,12 +450,12 @@ def try_rules(page):
 
 
 def try_place(page):
-    """Nothing below the answer moves while a text is typed."""
+    """The answer, and so all that is above it, doesn't move while a text is typed."""
     for width in (320, 900):
         emulate(page, "light", width)
         page.open()
         places = page.told(f"asked.places({json.dumps(TEXTS['typed'])})")
-        page.same(f"the places of the examples on {width} pixels", 1, len(set(places)))
+        page.same(f"the places of the answer on {width} pixels", 1, len(set(places)))
 
 
 def try_phone(page):
@@ -419,6 +469,7 @@ def try_phone(page):
 
 def try_looks(page):
     papers = {}
+    # 320 pixels are also what 640 leave at 200 %.
     for scheme in SCHEMES:
         for width in (320, 900):
             for text in ("3m + 13s + 29ms", "1:30", "1m " + "9" * 200, "x" * 5_000):

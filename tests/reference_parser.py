@@ -8,7 +8,9 @@ finds another.
 """
 import functools
 import itertools
+import re
 import typing
+import unicodedata
 
 SECOND = 10**9
 DAY = 86_400 * SECOND
@@ -451,13 +453,21 @@ def search_small_worlds():
             assert counts_within(nanos, lengths, parts) == max(allowed), (lengths, nanos, parts)
 
 
-def printed_within(nanos, largest, smallest, parts):
-    """What a duration prints as in the units from one place in UNITS to another, and in at most so many parts."""
+def printed_part(count, unit, style):
+    """A count with its unit's printed name; in the long style with a space and the last of its names, or for one the last
+    but one."""
+    one, many = unit.names.split()[-2:]
+    return f"{count} {one if count == 1 else many}" if style == "long" else f"{count}{unit.printed}"
+
+
+def printed_within(nanos, largest, smallest, parts, style="short"):
+    """What a duration prints as in the units from one place in UNITS to another, in at most so many parts and in one of
+    the styles short, compact and long."""
     units = UNITS[largest : smallest + 1]
     counts = counts_within(nanos, tuple(unit.length for unit in units), parts)
-    printed_parts = [f"{count}{unit.printed}" for count, unit in zip(counts, units) if count]
+    printed_parts = [printed_part(count, unit, style) for count, unit in zip(counts, units) if count]
     zero = UNITS[smallest] if UNITS[smallest].length > SECOND else next(unit for unit in UNITS if unit.length == SECOND)
-    return " ".join(printed_parts) or f"0{zero.printed}"
+    return ("" if style == "compact" else " ").join(printed_parts) or printed_part(0, zero, style)
 
 
 def line_of(answer):
@@ -482,6 +492,112 @@ def message(text, answer):
     if "\n" in text:
         return f"byte {len(text[:answer.place].encode())}: {line}"
     return f"{text}\n{' ' * answer.place}^\n{line}"
+
+
+# ---- A fault in one line
+
+# What people write for a unit, and the name to write: in capitals too, but for the first row.
+SMALL_WORDS = {"mon": "mo mos"}
+NEAR_WORDS = {
+    "y": "yr yrs",
+    "q": "qtr qtrs",
+    "mon": "mth mths",
+    "w": "wk wks",
+    "h": "hrs",
+    "min": "mins",
+    "s": "secs",
+    "ms": "msecs millis",
+    "µs": "usecs micros µsecs",
+    "ns": "nsecs nanos",
+}
+GREEK_MU = "\u03bc"
+QUOTED = 40
+
+
+def is_plain(character):
+    """Whether a character is safe and seen within a line."""
+    return unicodedata.category(character) != "Cc" and not (
+        character in "\xa0\u061c\ufeff" or "\u2000" <= character <= "\u206f" or "\ufff9" <= character <= "\ufffb"
+    )
+
+
+def quoted(text):
+    """At most so many characters in quotes, escaped where they aren't safe, with dots if there are more."""
+    shown = ("\\" + each if each in '"\\' else each if is_plain(each) else f"\\u{{{ord(each):04x}}}" for each in text[:QUOTED])
+    return f'"{"".join(shown)}"' + ("..." if len(text) > QUOTED else "")
+
+
+def kind_in_line(character):
+    """Digits and letters stand together in a piece; a letter is one of ASCII or any plain character beyond it."""
+    if character in DIGITS:
+        return "digit"
+    ascii_letter = character.isascii() and character.isalpha()
+    return "letter" if ascii_letter or not character.isascii() and is_plain(character) else None
+
+
+def piece_at(text, place):
+    """The digits or the letters that stand at a place, or one other character."""
+    kind = kind_in_line(text[place]) if place < len(text) else None
+    end = place + 1
+    while kind and end < len(text) and kind_in_line(text[end]) == kind:
+        end += 1
+    return text[place:end]
+
+
+def near_name(word):
+    """The name to write for a word that people write for a unit, if it is one."""
+    small = word.translate(FOLDED)
+    with_sign = small.replace(GREEK_MU, "µ")
+    micros = f"{UNITS[-2].names} {NEAR_WORDS['µs']}".split()
+    if small != with_sign and with_sign in micros:
+        return "us"
+    found = [name for name, words in NEAR_WORDS.items() if small in words.split()]
+    return next(iter(found + [name for name, words in SMALL_WORDS.items() if word in words.split()]), None)
+
+
+def notation_help(text, place):
+    """The word of help where a notation begins or goes on that the grammar doesn't have: each is a sign before a digit."""
+    before, rest = text[:place], text[place:]
+    first = not before.strip(BLANKS)
+    if re.match(r"\.[0-9]", rest) and not (before and kind_in_line(before[-1]) == "letter"):
+        return "a number has digits alone, no point or comma"
+    if re.match(r",[0-9]", rest) and re.search(r"[0-9]\Z", before):
+        return "a number has digits alone, no point or comma"
+    if re.match(r":[0-9]", rest) and re.search(r"[0-9]\Z", before):
+        return "clock times are not read: give each number its unit"
+    if first and re.match(r"-[0-9]", rest):
+        return "negative durations are not read"
+    if first and re.match(r"[Pp][Tt]?[0-9]", rest):
+        return "ISO 8601 is not read: write each number before its unit"
+    return None
+
+
+def expected_in_line(expected):
+    """What could stand at the place: a unit or a number, and then operators and the end."""
+    kinds = [("unit", "a unit"), ("number", "a number"), ("operator", "'+', '*'"), ("end", "the end")]
+    words = ", ".join(word for kind, word in kinds if kind in expected)
+    return "expected " + re.sub(", the end", " or the end", words)
+
+
+def one_line(text, answer):
+    """What is told of a refused text in one line."""
+    column = f" at column {answer.place + 1}" if answer.place is not None else ""
+    piece = piece_at(text, answer.place) if answer.place is not None else ""
+    found = f", found {quoted(piece) if piece else 'the end'}"
+    match answer.cause:
+        case "empty":
+            return "empty text"
+        case "mixed":
+            return f"'{answer.operators[1]}' after '{answer.operators[0]}' in {quoted(text)}"
+        case "overflow":
+            return f"duration of 2^64 nanoseconds or more in {quoted(text)}"
+        case "number too large":
+            return "number of 2^64 or more" + (column + found if column else f" in {quoted(text)}")
+    if "unit" in answer.expected and piece and kind_in_line(piece[0]) == "letter":
+        name = near_name(piece)
+        return f"unknown unit {quoted(piece)}{column}" + (f': write "{name}"' if name else "")
+    help_words = notation_help(text, answer.place)
+    return expected_in_line(answer.expected) + column + found + (f": {help_words}" if help_words else "")
 
 
 def output_of(line, options):

@@ -9,18 +9,19 @@ import random
 import sys
 
 sys.dont_write_bytecode = True
-from reference_parser import LIMIT, SECOND, UNITS  # noqa: E402
+from reference_parser import LIMIT, NEAR_WORDS, SECOND, SMALL_WORDS, UNITS  # noqa: E402
 
 
 class Texts:
     """Generated texts: terms with operators and blanks, of which most are then spoilt at a place or two."""
 
     BLANKS = ("", "", "", " ", " ", "  ", "\t", "\r", " \r\t ", "\n")
-    STRAYS = ("-", "x", ".", "μ", "µ", "é", "ß", "K", "分", "中",
+    STRAYS = ("-", "x", ".", ",", "μ", "µ", "é", "ß", "K", "分", "中", "P", "pt", '"', "\\", "\ufeff", "\u200e",
               "𝟙", "١", "\u00a0", "\0", "_", "/", "(", ":", "\n", "\x0b")
     BROKEN = (b"\xff", b"\xc2", b"\xb5", b"\xe5\x88", b"\xc0\x80", b"\xed\xa0\x80", b"\xf4\x90\x80\x80", b"\xf0\x9f")
     NAMES = [name for unit in UNITS for name in (unit.names + " " + unit.chinese).split()]
     SHORT = [name for name in NAMES if len(name) < 3]
+    NEAR = [name for names in (*NEAR_WORDS.values(), *SMALL_WORDS.values()) for name in names.split()]
 
     def __init__(self, seed):
         self.random = random.Random(seed)
@@ -43,7 +44,9 @@ class Texts:
         draw = self.random.random()
         if draw < 0.15:
             return ""
-        name = self.choice(self.SHORT if draw < 0.7 else self.NAMES)
+        name = self.choice(self.SHORT if draw < 0.7 else self.NAMES if draw < 0.97 else self.NEAR)
+        if draw > 0.98:
+            name = name.replace("µ", "μ")
         if draw > 0.9:
             name = "".join(self.choice((letter, letter.upper() if letter.isascii() else letter)) for letter in name)
         return name

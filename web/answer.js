@@ -1,14 +1,11 @@
 // The answer below the text: its value in all notations, or its fault, and what is offered beside it.
 import { format, tryParse } from "../js/dist/duration-str.js";
 import { LANGUAGES } from "./code.js";
-import { AROUND, button, choose, chosenOptions, element, LONE_SURROGATE, LONG, made } from "./elements.js";
-import { quotation, switches, text, write } from "./elements.js";
-import { termRows } from "./meaning.js";
-import { notesOn, offersFor } from "./offers.js";
-import { sentence } from "./sentence.js";
+import { AROUND, button, choose, chosenLimits, chosenOptions, element, LONG, made, quotation } from "./elements.js";
+import { switches, text, write } from "./elements.js";
+import { lineOf, notesOn, offersFor, sentence } from "./offers.js";
 import { terms } from "./units.js";
-import { decimal, iso, seconds } from "./values.js";
-import { grouped } from "./words.js";
+import { decimal, grouped, iso, seconds, termRows } from "./words.js";
 
 /** What a copy button copies, by the name of the element that shows it. */
 export const copied = {};
@@ -22,12 +19,11 @@ function show(id, words, shown = words) {
 
 /** The part of the text that a fault is about, from and to as UTF-16 units; nothing where the fault has no place. */
 function markedPart({ code, index, found }) {
-    if (code === "NOT_TEXT") {
-        const lone = text.value.search(LONE_SURROGATE);
-        return { from: lone, to: lone + 1 };
-    }
     if (index === null) return null;
-    if (code === "SYNTAX") return { from: index, to: index + (found ?? "").length };
+    if (code === "NOT_TEXT") return { from: index, to: index + 1 };
+    // A word of letters that no unit has is marked whole.
+    const word = /^\p{L}*/u.exec(text.value.slice(index))[0];
+    if (code === "SYNTAX") return { from: index, to: index + Math.max(word.length, (found ?? "").length) };
     const [{ words }] = terms(text.value, chosenOptions());
     const from = text.value.indexOf(words);
     return { from, to: from + words.length };
@@ -63,10 +59,10 @@ function showMarks(part) {
 
 // ---- What is offered
 
-/** The names of the options that differ from those that are chosen, with how they are to be. */
+/** In words, the options that differ from those that are chosen. */
 function switched(options) {
     const changed = Object.entries(switches).filter(([name, box]) => box.checked !== options[name]);
-    return changed.map(([, box]) => `${box.checked ? "without" : "with"} ${box.id}, `).join("");
+    return changed.map(([, box]) => `${box.dataset.switched}, `).join("");
 }
 
 function showOffers(offers) {
@@ -94,9 +90,11 @@ function placeOf(part) {
 }
 
 function showFault(fault, part) {
-    element("sentence").replaceChildren(...parts(sentence(text.value, fault, chosenOptions())), placeOf(part));
+    const said = sentence(text.value, fault.code, chosenOptions());
+    element("sentence").replaceChildren(...parts(said ?? lineOf(fault)), placeOf(part));
     element("sentence").classList.toggle("hint", text.value === "");
-    element("line").textContent = fault.line;
+    element("line").replaceChildren(...parts(lineOf(fault)));
+    element("library").hidden = !said || text.value.trim() === "";
     showOffers(text.value.length > LONG ? [] : offersFor(text.value, chosenOptions()));
 }
 
@@ -113,9 +111,10 @@ function showTerms(rows) {
 }
 
 function showValue(value) {
-    show("printed", format(value));
+    show("printed", format(value, chosenLimits()));
     const about = format(value, { parts: 2 });
-    element("about").replaceChildren(...(about === copied.printed ? [] : ["about ", quotation(about)]));
+    const isWhole = copied.printed === format(value);
+    element("about").replaceChildren(...(isWhole && about !== copied.printed ? ["about ", quotation(about)] : []));
     for (const [id, length] of [["nanoseconds", 1n], ["milliseconds", 1_000_000n]]) {
         show(id, decimal(value, length), grouped(decimal(value, length)));
     }
@@ -127,12 +126,15 @@ function showValue(value) {
     showOffers(notes.offers);
 }
 
-function showCode() {
-    const unfit = text.value.length > LONG || LONE_SURROGATE.test(text.value);
+function showCode(fault) {
+    const unfit = text.value.length > LONG || fault?.code === "NOT_TEXT";
     element("no-code").hidden = !unfit;
     element("codes").hidden = unfit;
     if (unfit) return;
-    for (const [id, written] of Object.entries(LANGUAGES)) show(id, written(text.value, chosenOptions()));
+    for (const [id, [, , written]] of Object.entries(LANGUAGES)) {
+        show(id, written(text.value, chosenOptions(), chosenLimits()));
+        element(`${id}-code`).hidden = copied[id] === "";
+    }
 }
 
 /** The sentences and what is offered, as screen readers are told them. */
@@ -150,7 +152,7 @@ export function showAnswer() {
     text.setAttribute("aria-invalid", String(!ok && text.value !== ""));
     const part = ok || text.value === "" ? null : markedPart(fault);
     showMarks(part);
-    showCode();
+    showCode(fault);
     if (ok) {
         text.removeAttribute("aria-describedby");
         for (const id of ["sentence", "line"]) element(id).replaceChildren();

@@ -1,44 +1,90 @@
-// The same text in programs of each language.
+// The same text in programs of each language, and printed in the same way.
+import { UNITS } from "./units.js";
 
 const OUTSIDE = /[^\x20-\x7eµ\p{Script=Han}]/gu;
 const NAMES = { noCalc: "no_calc", lowercase: "lowercase", cnUnit: "cn_unit" };
 
 const chosen = (options) => Object.keys(NAMES).filter((name) => options[name]);
 const hex = (character) => character.codePointAt(0).toString(16);
+const capital = (word) => word.replace(/^./, (letter) => letter.toUpperCase());
+/** The name of a unit in words, by its printed name. */
+const wordOf = (unit) => UNITS.find(({ printed }) => printed === unit).names.at(-2);
 
 /** A literal in double quotes, with characters outside of ASCII as the language writes them. */
 function literal(text, escaped) {
     return `"${text.replace(/["\\]/g, "\\$&").replace(OUTSIDE, escaped)}"`;
 }
 
-function rust(text, options) {
+/** Rust's call for a limit. */
+function rustLimit([name, value]) {
+    if (name === "parts") return `.parts(${value})`;
+    if (name === "style") return `.style(Style::${capital(value)})`;
+    return `.${name}(TimeUnit::${capital(wordOf(value)).replace(/(?<=[io])sec/, "Sec")})`;
+}
+
+function rust(text, options, limits) {
     const words = literal(text, (character) => `\\u{${hex(character)}}`);
     const fields = chosen(options).map((name) => `${NAMES[name]}: true, `).join("");
     const taken = fields ? `Options { ${fields}..Options::off() }` : "Options::off()";
-    return `use duration_str::{parse_with, Options};\n\nlet duration = parse_with(${words}, ${taken})?;`;
+    const calls = Object.entries(limits).map(rustLimit).join("");
+    const types = ["Style", "TimeUnit"].filter((name) => calls.includes(name)).map((name) => `, ${name}`).join("");
+    return `use duration_str::{format_duration, parse_with, Options${types}};\n\n`
+        + `let duration = parse_with(${words}, ${taken})?;\nlet text = format_duration(duration)${calls}.to_string();`;
 }
 
-function python(text, options) {
+function python(text, options, limits) {
     const words = literal(text, (character) => `\\U${hex(character).padStart(8, "0")}`);
     const taken = chosen(options).map((name) => `, ${NAMES[name]}=True`).join("");
-    return `import duration_str\n\nduration = duration_str.parse(${words}${taken})`;
+    const printed = Object.entries(limits).map(([name, value]) => `, ${name}=${JSON.stringify(value)}`).join("");
+    return `import duration_str\n\nduration = duration_str.parse(${words}${taken})\n`
+        + `text = duration_str.format(duration${printed})`;
 }
 
-function javascript(text, options) {
+function javascript(text, options, limits) {
     const words = literal(text, (character) => `\\u{${hex(character)}}`);
-    const taken = chosen(options).map((name) => `${name}: true`).join(", ");
-    return `import { parse } from "duration-str";\n\nconst nanoseconds = parse(${words}${taken ? `, { ${taken} }` : ""});`;
+    const field = ([name, value]) => `${name}: ${JSON.stringify(value)}`;
+    const object = (pairs) => pairs.length > 0 ? `, { ${pairs.map(field).join(", ")} }` : "";
+    return `import { format, parse } from "duration-str";\n\n`
+        + `const nanoseconds = parse(${words}${object(chosen(options).map((name) => [name, true]))});\n`
+        + `const text = format(nanoseconds${object(Object.entries(limits))});`;
 }
 
-function c(text, options) {
+/** C's call that prints the answer. */
+function cPrinted(limits) {
+    const value = "answer.nanos / 1000000000, answer.nanos % 1000000000";
+    if (Object.keys(limits).length === 0) {
+        return `uint8_t buffer[DURATION_STR_FORMAT_BUFFER_SIZE];\nsize_t length = duration_str_format(${value}, buffer);`;
+    }
+    const { largest = "y", smallest = "ns", parts = UNITS.length, style = "short" } = limits;
+    const words = [wordOf(largest), wordOf(smallest), style].map((word) => `DURATION_STR_${word.toUpperCase()}`);
+    return `uint8_t buffer[DURATION_STR_STYLED_BUFFER_SIZE];\nsize_t length = duration_str_format_styled(\n    ${value},\n`
+        + `    ${words[0]}, ${words[1]}, ${parts}, ${words[2]}, buffer);`;
+}
+
+function c(text, options, limits) {
     const bytes = new TextEncoder().encode(text);
     const escaped = (byte) => `\\${byte.toString(8).padStart(3, "0")}`;
     const isPlain = (byte) => byte >= 0x20 && byte < 0x7f && !/["\\?]/.test(String.fromCharCode(byte));
     const words = Array.from(bytes, (byte) => isPlain(byte) ? String.fromCharCode(byte) : escaped(byte));
     const taken = chosen(options).map((name) => `DURATION_STR_${NAMES[name].toUpperCase()}`).join(" | ") || "0";
     return `#include <duration_str.h>\n\nconst char text[] = "${words.join("")}";\nstruct duration_str_answer answer;\n`
-        + `bool is_read = duration_str_parse_with(\n    (const uint8_t *)text, sizeof text - 1, ${taken}, &answer);`;
+        + `bool is_read = duration_str_parse_with(\n    (const uint8_t *)text, sizeof text - 1, ${taken}, &answer);\n`
+        + cPrinted(limits);
 }
 
-/** What reads the text under the options, by the language's name in the page. */
-export const LANGUAGES = { rust, python, javascript, c };
+/** The program reads lines, and prints all of a duration. */
+function shell(text, options, limits) {
+    if (/\p{C}/u.test(text) || Object.keys(limits).length > 0) return "";
+    const words = text.replaceAll("'", String.raw`'\''`);
+    return ["printf '%s\\n'", `'${words}'`, "| durstr", ...chosen(options).map((name) => NAMES[name])].join(" ");
+}
+
+/** What reads and prints the text, by the language's name in the page, with its title and how it is got in a clone of the
+ * repository; an empty text where it can't. */
+export const LANGUAGES = {
+    rust: ["Rust", 'duration-str = { path = "../duration_str/rust" }', rust],
+    python: ["Python", "pip install ./python", python],
+    javascript: ["JavaScript", "npm pack ./js", javascript],
+    c: ["C", "make install", c],
+    shell: ["Shell", "./durstr", shell],
+};

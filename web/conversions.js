@@ -6,14 +6,14 @@ import { say } from "./words.js";
 
 /** Durations are below this many nanoseconds. */
 const LIMIT = 1n << 64n;
-export const LONGEST = ["over 584 years, the longest duration"];
+const LONGEST = ["over 584 years, the longest duration"];
 const [WEEK, DAY, HOUR, MINUTE, SECOND] = ["w", "d", "h", "m", "s"].map(unitOf);
 
 // ---- Characters and names
 
 /** The text with the digits of other scripts as ASCII's, `µ` for the other mu, and without zero-width characters. */
 function plain(text) {
-    const seen = text.trim().replace(/[\u00ad\u200b-\u200d\u2060\ufeff]/g, "");
+    const seen = text.trim().replace(/[\u00ad\u200b-\u200f\u2060\ufeff]/g, "");
     return seen.replace(/\u03bc/g, "µ").replace(/\p{Nd}/gu, (digit) => {
         // The ten digits of a script follow one another.
         let zero = digit.codePointAt(0);
@@ -22,19 +22,31 @@ function plain(text) {
     });
 }
 
-/** Names that people use and the library doesn't have, with the names to write. */
-const COMMON = {
-    yr: "y", yrs: "y", mo: "mon", mos: "mon", wk: "w", wks: "w", hrs: "h", mins: "min", secs: "sec",
-    millis: "ms", msecs: "ms", micros: "µs", usecs: "µs", nanos: "ns", nsecs: "ns",
-};
+/** From a list of words for each name of the library, the name of each word. */
+function byWord(rows) {
+    return new Map(Object.entries(rows).flatMap(([name, words]) => words.split(" ").map((word) => [word, name])));
+}
 
-/** Whether one letter has to be put in, left out or replaced to make one word the other. */
+/** Names that people use and the library doesn't have. */
+const COMMON = byWord({
+    y: "yr yrs", mon: "mo mos", w: "wk wks", h: "hrs", min: "mins", sec: "secs", ms: "millis msecs millisec millisecs",
+    µs: "micros usecs microsec microsecs", ns: "nanos nsecs nanosec nanosecs",
+});
+/** Whole words for lengths in other languages; not those that are abbreviated, or name a date or an hour of the day too. */
+const FOREIGN = byWord({
+    y: "年間", mon: "个月 か月 개월", w: "woche wochen semaine semaines semana semanas 星期 週間", d: "tag tage jour jours día días 日間",
+    h: "stunde stunden std heure heures hora horas 小时 時間 시간", min: "minuten minuto minutos 分钟 分間",
+    sec: "sekunde sekunden seconde secondes segundo segundos 秒钟 秒間",
+});
+
+/** Whether one word becomes the other by one letter put in, left out or replaced, or two neighbours swapped. */
 function isOneEdit(one, other) {
     let start = 0;
     while (start < one.length && one[start] === other[start]) start++;
     const [rest, otherRest] = [one.slice(start), other.slice(start)];
     const [less, otherLess] = [rest.slice(1), otherRest.slice(1)];
-    return less === otherLess || less === otherRest || rest === otherLess;
+    const swapped = `${rest[1]}${rest[0]}${rest.slice(2)}`;
+    return less === otherLess || less === otherRest || rest === otherLess || swapped === otherRest;
 }
 
 /** What a misspelt word of four letters or more means: names of one unit alone, one edit away, with its first letter. */
@@ -49,24 +61,25 @@ function misspelt(word) {
 export function unitName(word) {
     const small = word.toLowerCase();
     if (unitOf(word)) return word;
-    // A capital makes it megabytes.
-    if (/^mos?$/.test(small) && word !== small) return null;
-    return COMMON[small] ?? misspelt(small);
+    // A capital makes it megabytes; without one, it is a label.
+    if (/^mos?$/.test(small) && word !== small || small === "tag" && word !== "Tag") return null;
+    return COMMON.get(small) ?? FOREIGN.get(small) ?? misspelt(small);
 }
 
 /** The same text with characters and names that the library has. */
 export function cleaned(text) {
     return plain(text).replace(/[\u00a0\u2000-\u200a\u202f\u205f\u3000]/g, " ").replace(/×/g, "*")
-        .replace(/[A-Za-zµ]+/g, (word) => unitName(word) ?? word);
+        .replace(/\p{L}+/gu, (word) => unitName(word) ?? word);
 }
 
 // ---- Readings
 
-/** A count of a unit in nanoseconds, where the count has this power of ten; nothing where it is finer than one. */
-function nanosOf([digits, power], { nanos }) {
-    const scale = 10n ** BigInt(Math.abs(power));
-    if (power >= 0) return digits * scale * nanos;
-    return digits * nanos % scale === 0n ? digits * nanos / scale : null;
+/** A count of a unit in nanoseconds, where the count is so many tens to this power, over a divisor; nothing where it is
+ * finer than one. */
+function nanosOf([digits, power, divisor = 1n], { nanos }) {
+    const ten = 10n ** BigInt(Math.abs(power));
+    const [whole, under] = power >= 0 ? [digits * nanos * ten, divisor] : [digits * nanos, divisor * ten];
+    return whole % under === 0n ? whole / under : null;
 }
 
 /** The reading with this value, whose text counts this unit and, from days down, smaller ones. */
@@ -93,7 +106,9 @@ function found(text, readings, sentence) {
 // ---- Around a duration
 
 const without = (words) => say`Write the duration alone, without ${words}.`;
-const KEYED = /^(["'`]?)([A-Za-z_][\w.-]*)\1\s*[:=]\s*(\S.*?)\s*[,;]?$/s;
+/** `"ttl": 5m`, `every 5m`, `--timeout 5m` and `+5m` */
+const LED = new RegExp(String.raw`^(?:(?<quote>["'\`]?)(?<key>(?!P[0-9])[A-Za-z_][\w.-]*)\k<quote>\s*[:=]\s*`
+    + String.raw`|(?<word>(?:every|for|sleep|timeout|--[a-z][\w-]*)(?=[=\s])|\+)=?\s*)(?<words>\S.*?)\s*[,;]?$`, "is");
 const ENCLOSED = /^(?:"(.+)"|'(.+)'|`(.+)`|“(.+)”|‘(.+)’|«(.+)»|\((.+)\)|\[(.+)\]|\{(.+)\})$/s;
 
 /** What a part of a text means, as it stands or converted. */
@@ -105,15 +120,15 @@ function inside(text, options) {
     return converted(text, options);
 }
 
-/** `timeout: 30m`, where every term has a unit. */
-function keyed(text, options) {
-    const [, , key, words] = KEYED.exec(text) ?? [];
-    if (!key) return null;
+/** One duration after a key or another word, where every term has a unit. */
+function led(text, options) {
+    const { key, word, words } = LED.exec(text)?.groups ?? {};
+    if (!words) return null;
     const meant = inside(words, options);
     const hasUnits = ({ text: each }) => Array.from(terms(each, options)).every(({ unit }) => unit);
     if (!meant || meant.readings.length === 0) return meant;
-    if (meant.readings.every(hasUnits) && !words.includes(":")) return found(text, meant.readings, without(key));
-    const unit = /(?:_|[a-z](?=[A-Z]))([A-Za-z]+)$/.exec(key)?.[1];
+    if (meant.readings.every(hasUnits) && !words.includes(":")) return found(text, meant.readings, without(key ?? word));
+    const unit = /(?:[_-]|[a-z](?=[A-Z]))([A-Za-z]+)$/.exec(key ?? word)?.[1];
     return found(text, [], unit && unitName(unit) ? say`Write the unit after the number.` : say`${words} has no unit.`);
 }
 
@@ -127,9 +142,18 @@ function enclosed(text, options) {
 
 // ---- Clocks and ISO 8601
 
-const CLOCK = /^(?:([0-9]+) days?, (?=[0-9]{1,2}:..:))?([0-9]+):([0-5][0-9])(?::([0-5][0-9]))?(?:\.([0-9]+))?$/;
+const CLOCK = /^(?:([0-9]+)(?: days?,?|d) (?=[0-9]{1,2}:..:))?([0-9]+):([0-5][0-9])(?::([0-5][0-9]))?(?:\.([0-9]+))?$/;
 
-/** `1:30`, `1:30:00`, `1:30.5`, and Python's `1 day, 12:00:00` */
+/** `1:30h` and `1:30 min`, where the unit is the first field's */
+function clockWithUnit(text) {
+    const [, first, second, name] = /^([0-9]+):([0-5][0-9])\s*([a-z]+|H)$/.exec(text) ?? [];
+    const unit = unitOf(unitName(name ?? "") ?? "");
+    if (unit !== HOUR && unit !== MINUTE) return null;
+    const nanos = BigInt(first) * unit.nanos + BigInt(second) * unit.nanos / 60n;
+    return found(text, [reading(nanos, unit)], say`Write units in place of colons.`);
+}
+
+/** `1:30`, `1:30:00`, `1:30.5`, Python's `1 day, 12:00:00` and PostgreSQL's `1 day 12:00:00` */
 function clock(text) {
     const [whole, days, first, second, third, fraction = ""] = CLOCK.exec(text) ?? [];
     if (!whole) return null;
@@ -157,7 +181,7 @@ function iso8601(text) {
     const given = [WEEK, DAY, HOUR, MINUTE, SECOND].filter((_, place) => counts[place]);
     const digits = counts.filter(Boolean);
     if (digits.length > 0 && !digits.slice(0, -1).some((count) => /[.,]/.test(count))) {
-        const nanos = digits.map((count, place) => nanosOf(decimal(count), given[place]));
+        const nanos = digits.map((count, place) => nanosOf(digitsOf(count), given[place]));
         const sum = nanos.includes(null) ? null : nanos.reduce((a, b) => a + b);
         return found(text, [reading(sum, given[0])], say`ISO 8601 can't be read.`);
     }
@@ -168,15 +192,23 @@ function iso8601(text) {
 
 // ---- Sums
 
-const WORDS = "half one two three four five six seven eight nine ten eleven twelve".split(" ");
-const NUMBER = String.raw`\.?[0-9](?:[.,_'’\u00a0\u202f]?[0-9])*(?:e[+-]?[0-9]+)?`;
-const TERM = new RegExp(String.raw`(?:(${NUMBER})\s*|(half an|half a|an|a|${WORDS.join("|")})\s+)([A-Za-zµ]+)`, "iy");
-const JOINED = /\s*,\s*(?:and\s+)?|\s+and\s+|\s*\+\s*|\s*/iy;
+const ONES = "one two three four five six seven eight nine ten eleven twelve thirteen fourteen fifteen sixteen seventeen "
+    + "eighteen nineteen";
+const WORDS = ["", ...ONES.split(" ")];
+const TENS = ["", "", ..."twenty thirty forty fifty sixty seventy eighty ninety".split(" ")];
+const oneOf = (words) => words.filter(Boolean).join("|");
+const WORD = `(?:${oneOf(TENS)})(?:[-\\s](?:${oneOf(WORDS.slice(0, 10))}))?|${oneOf(WORDS)}|an?|half(?: an?)?`;
+const VULGAR = "¼½¾⅐⅑⅒⅓⅔⅕⅖⅗⅘⅙⅚⅛⅜⅝⅞";
+const FRACTION = String.raw`(?:[0-9]+\s*)?[${VULGAR}]|(?:[0-9]+\s+)?[0-9]+\/[0-9]+`;
+// A point right after a letter abbreviates.
+const NUMBER = String.raw`(?:(?<!\p{L})\.)?[0-9](?:[.,_'’\u00a0\u202f]?[0-9])*(?:e[+\-]?[0-9]+)?`;
+const TERM = new RegExp(String.raw`(?:(${FRACTION})\s*|(${NUMBER})\s*|(${WORD})\s+)(\p{L}+)(?:\.(?=\s|$))?`, "iuy");
+const JOINED = /\s*,\s*(?:and\s+)?|\s+and\s+|\s*[+&]\s*|\s*/iy;
 const GROUPED = /^([1-9][0-9]{0,2}(?:([.,_'’\u00a0\u202f])[0-9]{3})(?:\2[0-9]{3})*)(?:(?!\2)[.,]([0-9]+))?$/;
 const EXPONENT = /^([0-9]+(?:\.[0-9]+)?)e([+-]?[0-9]{1,2})$/i;
 
 /** A decimal as its digits and a power of ten. */
-function decimal(words) {
+function digitsOf(words) {
     const [whole, fraction = ""] = words.split(/[.,]/);
     return [BigInt(whole + fraction), -fraction.length];
 }
@@ -186,36 +218,81 @@ function numberOf(words) {
     if (/^[0-9]+$/.test(words)) return { counts: [[BigInt(words), 0]] };
     const [, mantissa, power] = EXPONENT.exec(words) ?? [];
     if (mantissa) {
-        const [digits, shift] = decimal(mantissa);
+        const [digits, shift] = digitsOf(mantissa);
         return { counts: [[digits, shift + Number(power)]], sentence: say`Exponents can't be read.` };
     }
     const counts = [];
     const [, whole, , fraction = ""] = GROUPED.exec(words) ?? [];
     if (whole) counts.push([BigInt(whole.replace(/[^0-9]/g, "") + fraction), -fraction.length]);
-    if (/^[0-9]*[.,][0-9]+$/.test(words)) counts.push(decimal(words));
+    if (/^[0-9]*[.,][0-9]+$/.test(words)) counts.push(digitsOf(words));
     if (counts.length === 2) return { counts, sentence: say`Thousands, or a decimal?` };
     if (counts.length === 0) return null;
     return { counts, sentence: whole ? say`Digits can't be grouped.` : say`Decimals can't be read.` };
 }
 
-/** What a number word means in the same way. */
-function wordOf(words) {
-    const number = WORDS.indexOf(words.toLowerCase().split(/\s/)[0]);
-    const count = number === 0 ? [5n, -1] : [BigInt(Math.max(number, 1)), 0];
+const isPlural = (name) => /\p{L}{2}s$/iu.test(name);
+
+/** What a number word means in the same way, before a unit whose number fits it: `twenty second` may be an ordinal. */
+function wordOf(words, name) {
+    const [first, second = ""] = words.toLowerCase().split(/[-\s]+/);
+    const isOne = /^(?:one|an?|half)$/.test(first);
+    if (isOne ? isPlural(name) : unitOf(name)?.names.at(-2) === name.toLowerCase()) return null;
+    const [ten, one] = [TENS.indexOf(first), WORDS.indexOf(TENS.includes(first) ? second : first)];
+    const count = first === "half" ? [5n, -1] : [BigInt(10 * Math.max(ten, 0) + Math.max(one, ten < 0 ? 1 : 0)), 0];
     return { counts: [count], sentence: say`Write numbers in digits.` };
 }
 
+/** What a fraction below one means, in lowest terms and after a whole number or none; nothing for what can be two numbers,
+ * as `5/10 minutes`. */
+function fractionOf(words, name) {
+    const ascii = words.replace(/[^0-9\s/]/, (one) => ` ${one.normalize("NFKD").replace("⁄", "/")}`).trim();
+    const [, whole = "", ...parts] = /^(?:([0-9]+)\s+)?([0-9]{1,2})\/([0-9]{1,2})$/.exec(ascii) ?? [];
+    const [top, bottom] = parts.map(Number);
+    if (!(top > 0 && top < bottom)) return null;
+    for (let divisor = 2; divisor <= top; divisor++) if (top % divisor === 0 && bottom % divisor === 0) return null;
+    if (!whole && ascii === words && (isPlural(name) || !unitOf(name))) return null;
+    const count = BigInt(whole) * BigInt(bottom) + BigInt(top);
+    return { counts: [[count, 0, BigInt(bottom)]], sentence: say`Fractions can't be read.` };
+}
+
 /** A term's unit and what its number can mean; nothing where it means nothing. */
-function termOf(numeral, words, name) {
-    const number = numeral ? numberOf(numeral) : wordOf(words);
+function termOf(fraction, numeral, words, name) {
+    const number = fraction ? fractionOf(fraction, name) : numeral ? numberOf(numeral) : wordOf(words, name);
+    // There the language decides between thousands and decimals.
+    if (number?.counts.length === 2 && FOREIGN.has(name.toLowerCase())) return null;
     if (number && /^fortnights?$/i.test(name)) {
-        const weeks = number.counts.map(([digits, power]) => [2n * digits, power]);
+        const weeks = number.counts.map(([digits, ...rest]) => [2n * digits, ...rest]);
         return { ...number, counts: weeks, unit: WEEK, isForeign: true };
     }
     const unit = unitOf(unitName(name) ?? "");
     // A quarter of an hour, or of a year
     const isVague = words && unit?.names[0] === "q";
-    return number && unit && !isVague ? { ...number, unit, isForeign: !unitOf(name) } : null;
+    if (!number || !unit || isVague || unit.chinese.includes(name)) return null;
+    return { ...number, unit, isForeign: !unitOf(name) };
+}
+
+const OF_TERM = new RegExp(`^(?:(?:a|one) quarter|(three) quarters) of an? (\\p{L}+)$`, "iu");
+const COUNTED = `(${WORD}|[0-9]+)`;
+const AND_HALF = new RegExp(`^(?:${COUNTED} (\\p{L}{3,}) and a half|${COUNTED} and a half (\\p{L}{3,}))$`, "iu");
+
+/** `an hour and a half`, `one and a half hours` and `three quarters of an hour` */
+function halves(text) {
+    const [, three, name] = OF_TERM.exec(text) ?? [];
+    const ofUnit = unitOf(name ?? "");
+    const sentence = say`Write numbers in digits.`;
+    if (ofUnit && ofUnit.nanos <= WEEK.nanos && !isPlural(name)) {
+        return found(text, [reading(ofUnit.nanos * (three ? 3n : 1n) / 4n, ofUnit)], sentence);
+    }
+    const [, count, before, wholes, after] = AND_HALF.exec(text) ?? [];
+    const words = count ?? wholes;
+    if (!words || /^half/i.test(words) || after && (!isPlural(after) || /^an?$/i.test(words))) return null;
+    // After `one and a half` the unit is in the plural.
+    const unit = before ?? (/^one$/i.test(words) ? after.slice(0, -1) : after);
+    const [numeral, word] = /^[0-9]/.test(words) ? [words] : [undefined, words];
+    const term = termOf(undefined, numeral, word, unit);
+    if (!term) return null;
+    const [[digits]] = term.counts;
+    return found(text, [reading((2n * digits + 1n) * term.unit.nanos / 2n, term.unit)], sentence);
 }
 
 /** The terms of a sum, and whether it is a list; nothing where a part of the text is none of it. */
@@ -230,7 +307,7 @@ function termsOfSum(text) {
         JOINED.lastIndex = TERM.lastIndex;
         const [joined] = JOINED.exec(text);
         if (JOINED.lastIndex === text.length && joined !== "") return null;
-        isList ||= /,|and/i.test(joined);
+        isList ||= /,|and|&/i.test(joined);
         sum.push({ ...term, joined });
     }
     return { sum, isList };
@@ -258,37 +335,42 @@ function sumOfTerms(text) {
 
 // ---- What can't be converted
 
-const LIST = new RegExp(String.raw`^${NUMBER}\s*\p{L}*\s*(?:[,;]|and\b|or\b)\s*[0-9]`, "iu");
+const LIST = new RegExp(String.raw`^(?!${NUMBER}\s*\p{L}+\.?$)${NUMBER}\s*\p{L}*\s*(?:[,;]|and\b|or\b)\s*[0-9]`, "iu");
 
 /** Notations without a reading, and what is said of them. */
 const REFUSED = [
-    [/^[-−–]\s*[0-9P.]/i, say`A duration can't be negative.`],
+    [/^[-−–]\s*[0-9P.]|^PT?-/i, say`A duration can't be negative.`],
+    [/^(?:R[0-9]*|P[0-9T][^/]*)\/P/i, say`Write one duration.`],
+    [/^P[0-9]{4}-?[0-9]/i, say`A calendar year varies: ${"1y"} is 365 days.`],
+    [/^24\/7$/, (words) => say`${words} has no fixed length.`],
     [/^[0-9]{4}-[0-9]{2}-[0-9]{2}/, say`A date is not a duration.`],
+    [/^(?:[*0-9][-*0-9,/]*\s+){4}[*0-9]\S*$|^@\w+$/, say`A schedule is not a duration.`],
     [/[()[\]{}]/, say`Brackets can't be read.`],
     [/[0-9]\s*[ap]\.?m\b|o'clock|\bpast\b/i, say`A time of day is not a duration.`],
     [/[0-9]:[0-9]/, say`Write units in place of colons, as in ${"1h 30m"}.`],
-    [/\b(?:ago|later|from now)\b|^in\b/i, without],
-    [/^[~≈]|^(?:about|around|approx\w*)\b/i, say`Only exact durations can be read.`],
+    [/\b(?:ago|later|from now|timeout)\b|^(?:in|every|each|for|after|within|sleep)\b/i, without],
+    [/^[~≈]|^(?:about|around|approx\w*|a (?:few|couple|moment|while))\b/i, say`Only exact durations can be read.`],
     [/^(?:[<>]=?|[≤≥±]|less than|more than|at least|at most|up to)/i, without],
     [/[0-9]\s*%/, say`A percentage is not a duration.`],
     [/(?<=[0-9]\s*)['"′″’”]/, (words) => say`${words} has two meanings: write ${"m"} or ${"s"}.`],
     [/[¼-¾⅐-⅞⁄]|[0-9]\s*\/\s*[0-9]/, say`Fractions can't be read.`],
     [/[/÷]/, say`Durations can't be divided.`],
     [/(?<![a-zµ])([a-zµ]+)\s*-\s*[0-9]+\s*\1\b/i, say`Ranges and subtraction can't be read.`],
+    [/(?<=[0-9]\s*\p{L}+\s+)(?:to|in|as)\s+\p{L}+$/iu, without],
     [/\.\.|…|[0-9]\s*-|[–—]|\d\s*\p{L}*\s+to\s/u, say`A range can't be read.`],
     [/[0-9a-zµ]\s*[-−]\s*[0-9]/i, say`Durations can't be subtracted.`],
     [/\b(?:decades?|century|centuries|forever|never|infinit\w*)\b/i, (words) => say`${words} has no fixed length.`],
-    [new RegExp(String.raw`^${NUMBER}$`, "i"), (words) => say`${words} has no unit.`],
+    [new RegExp(String.raw`^${NUMBER}$`, "iu"), (words) => say`${words} has no unit.`],
     [LIST, say`Write one duration, not a list.`],
     [/[0-9]e[+-]?[0-9]+\s*[a-z]/i, say`Exponents can't be read.`],
-    [new RegExp(String.raw`^(?:an?|${WORDS.join("|")})\b`, "i"), say`Write numbers in digits.`],
+    [new RegExp(`^(?:${WORD})\\b`, "i"), say`Write numbers in digits.`],
 ];
 
 /** What a text in another notation means: its readings, each with its exact value and the text to write, and a sentence
  * that says why it is refused, if that isn't the library's reason; nothing where the notation is unknown. */
 export function converted(text, options) {
     const words = plain(text);
-    for (const convert of [keyed, enclosed, clock, iso8601, sumOfTerms]) {
+    for (const convert of [led, enclosed, clock, clockWithUnit, iso8601, sumOfTerms, halves]) {
         const meant = convert(words, options);
         if (meant) return meant;
     }

@@ -4,12 +4,29 @@
 export const LONG = 2_000;
 /** How much of a long text is shown, or stands on each side of a fault, in UTF-16 units. */
 export const AROUND = 40;
-export const LONE_SURROGATE = /\p{Surrogate}/u;
 const CHINESE = /\p{Script=Han}/u;
 
 export const element = (id) => document.getElementById(id);
 export const text = element("text");
 export const switches = { noCalc: element("no_calc"), lowercase: element("lowercase"), cnUnit: element("cn_unit") };
+
+export const printing = {
+    style: element("style"), largest: element("largest"), smallest: element("smallest"), parts: element("parts"),
+};
+/** What is chosen of these where everything is printed. */
+export const WHOLE = { style: "short", largest: "y", smallest: "ns", parts: "11" };
+
+/** How it is to be printed, less what is as in WHOLE. */
+export function chosenLimits() {
+    const chosen = Object.entries(printing).filter(([name, box]) => box.value !== WHOLE[name]);
+    return Object.fromEntries(chosen.map(([name, box]) => [name, name === "parts" ? Number(box.value) : box.value]));
+}
+
+/** Brings the largest unit and the smallest together, where the one that was changed contradicts the other. */
+export function agree(changed) {
+    const { largest, smallest } = printing;
+    if (largest.selectedIndex > smallest.selectedIndex) (changed === largest ? smallest : largest).value = changed.value;
+}
 
 export const chosenOptions = () => Object.fromEntries(Object.entries(switches).map(([name, box]) => [name, box.checked]));
 

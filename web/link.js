@@ -1,34 +1,54 @@
-// The link: it holds the text and the options, as `#text=1h%2030m&no_calc`.
-import { element, LONE_SURROGATE, LONG, shortened, switches, text } from "./elements.js";
+// The link: it holds the text, the options and how it is printed, as `#text=1h%2030m&no_calc&style=long`.
+import { agree, chosenLimits, element, LONG, printing, shortened, switches, text, WHOLE } from "./elements.js";
 
 const boxes = Object.values(switches);
-const chosen = () => boxes.filter((box) => box.checked).map((box) => box.id);
 
 export function writeLink() {
     let note = "Copy the address to share this.";
-    if (text.value.length > LONG) note = "This text is too long for the address.";
-    else if (LONE_SURROGATE.test(text.value)) note = "This text is not UTF-8, so the address can't hold it.";
-    else history.replaceState(null, "", `#${[`text=${encodeURIComponent(text.value)}`, ...chosen()].join("&")}`);
+    try {
+        const chosen = boxes.filter((box) => box.checked).map((box) => box.id);
+        const limits = Object.entries(chosenLimits()).map(([name, value]) => `${name}=${encodeURIComponent(value)}`);
+        const words = [`text=${encodeURIComponent(text.value)}`, ...chosen, ...limits];
+        if (text.value.length > LONG) note = "This text is too long for the address.";
+        else history.replaceState(null, "", `#${words.join("&")}`);
+    } catch (error) {
+        if (!(error instanceof URIError)) throw error;
+        note = "This text is not UTF-8, so the address can't hold it.";
+    }
     element("link-note").textContent = note;
+}
+
+/** Whether there is this choice of how a duration is printed. */
+function isChoice(id, value) {
+    return Object.hasOwn(printing, id) && Array.from(printing[id].options).some((one) => one.value === value);
+}
+
+/** Takes a word of the link, and returns whether it is known. */
+function take(word) {
+    const [id, ...rest] = word.split("=");
+    const box = boxes.find((each) => each.id === id);
+    if (box && rest.length === 0) return box.checked = true;
+    const value = decodeURIComponent(rest.join("="));
+    if (id === "text") text.value = value;
+    else if (isChoice(id, value)) printing[id].value = value;
+    else return false;
+    return true;
 }
 
 /** Takes the state from the link. Words that are unknown or not well written are returned, and change nothing. */
 export function readLink() {
-    const unknown = [];
     for (const box of boxes) box.checked = false;
+    for (const [name, box] of Object.entries(printing)) box.value = WHOLE[name];
     text.value = "";
-    for (const word of location.hash.slice(1).split("&").filter(Boolean)) {
-        const [id, ...rest] = word.split("=");
-        const box = boxes.find((each) => each.id === id);
+    const unknown = location.hash.slice(1).split("&").filter(Boolean).filter((word) => {
         try {
-            if (box && rest.length === 0) box.checked = true;
-            else if (id === "text") text.value = decodeURIComponent(rest.join("="));
-            else unknown.push(word);
+            return !take(word);
         } catch (error) {
             if (!(error instanceof URIError)) throw error;
-            unknown.push(word);
+            return true;
         }
-    }
+    });
+    agree(printing.largest);
     return unknown;
 }
 

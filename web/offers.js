@@ -1,22 +1,42 @@
-// What is offered beside an answer: whole texts that the library reads; and what is said of a text that it reads
-// otherwise than many people do.
+// What is said of a refused text, and of one that is read otherwise than many people do; and what is offered beside an
+// answer: whole texts that the library reads.
 import { format, tryParse } from "../js/dist/duration-str.js";
 import { cleaned, converted } from "./conversions.js";
+import { LONG } from "./elements.js";
 import { terms, UNITS, unitOf } from "./units.js";
 import { named, say } from "./words.js";
 
+/** Days and months of a date, as the names that `cn_unit` adds */
+const DATE = /[0-9]\s*[日月]/;
+
 /** These options, and then others that read more, those with the fewest changes first. */
-function optionsToTry({ noCalc, lowercase, cnUnit }) {
-    return [0, 1, 2, 4, 3, 5, 6, 7].map((changes) => ({
+function optionsToTry({ noCalc, lowercase, cnUnit }, text) {
+    return (DATE.test(text) ? [0, 1, 2, 3] : [0, 1, 2, 4, 3, 5, 6, 7]).map((changes) => ({
         noCalc: noCalc && !(changes & 1),
         lowercase: lowercase && !(changes & 2),
         cnUnit: cnUnit || changes > 3,
     }));
 }
 
-/** A text as it is offered, with its meaning in words; nothing where it is not read, or has another value. */
+/** By a unit, how many of the next smaller one it has, and that one's name where it is no second, which is what a number
+ * without a unit is: people leave it out at the end, as in `1h 30`. */
+const LEFT_OUT = { d: [24n, "h"], h: [60n, "m"], m: [60n, ""] };
+
+/** A sum with the unit that is left out at its end; nothing where it isn't certain which that is. */
+function completed(text, options) {
+    const found = Array.from(terms(text, options));
+    if (found.length < 2 || found[1].operator === "*") return text;
+    if (found.slice(0, -1).some(({ unit }) => !unit)) return null;
+    const [last, before] = [found.at(-1), found.at(-2)];
+    if (last.unit) return text;
+    const [limit, name] = LEFT_OUT[unitOf(before.unit)?.names[0]] ?? [0n];
+    if (BigInt(last.number) >= limit) return null;
+    return text.trimEnd().replace(/(?<=\p{L})(?=[0-9]+$)/u, " ") + name;
+}
+
+/** A text as it is offered, with its meaning in words; nothing where there is none, or it has no or another value. */
 function offered(text, options, nanos) {
-    const { ok, value } = tryParse(text, options);
+    const { ok, value } = text === null ? { ok: false } : tryParse(text, options);
     if (!ok || nanos !== undefined && value !== nanos) return [];
     const sum = text.includes("*") ? format(value) : text;
     return [{ text, options, value, meaning: named(sum, options) }];
@@ -27,20 +47,25 @@ function offered(text, options, nanos) {
 export function offersFor(text, options) {
     if (text.trim() === "") return [];
     for (const each of [text, cleaned(text)]) {
-        const found = optionsToTry(options).flatMap((tried) => offered(each, tried));
+        const found = optionsToTry(options, each).flatMap((tried) => offered(completed(each, tried), tried));
         if (found.length > 0) return found.slice(0, 1);
     }
-    return (converted(text, options)?.readings ?? []).flatMap((each) => offered(each.text, options, each.nanos));
+    return (converted(text, options)?.readings ?? []).flatMap(({ text: each, nanos }) => {
+        const whole = completed(each, options);
+        return offered(whole, options, whole === each ? nanos : undefined);
+    });
 }
 
-/** The units of a day and an hour that people leave out after a number: `1h 30`, `1d 12`. */
-const LEFT_OUT = { h: [60n, "m"], d: [24n, "h"] };
+/** What the page says of a refused text; nothing where the library's line says it. */
+export function sentence(text, code, options) {
+    if (text.trim() === "") return say`Type a duration, such as ${"1h 30m"}.`;
+    return code === "SYNTAX" && text.length <= LONG ? converted(text, options)?.sentence : null;
+}
 
-/** What is offered for a number without a unit at the end of a sum. */
-function withUnit(text, last, before, options) {
-    const [limit, name] = LEFT_OUT[unitOf(before?.unit ?? "")?.names[0]] ?? [0n];
-    if (last.unit || BigInt(last.number) >= limit) return [];
-    return offered(text.trimEnd().replace(/(?<=\p{L})(?=[0-9]+$)/u, " ") + name, options);
+/** The library's line as a sentence with the words that it quotes. */
+export function lineOf({ oneLine }) {
+    const line = `${oneLine.replace(/^./, (letter) => letter.toUpperCase())}.`;
+    return line.split(/"((?:[^"\\]|\\.)*)"/).map((part, place) => place % 2 ? { quoted: part } : part);
 }
 
 /** How long a duration is in days that is printed with units of a calendar; nothing where it isn't. */
@@ -61,5 +86,6 @@ export function notesOn(text, value, options) {
         ...(found.some(({ unit }) => unit === "M") ? [say`${"M"} is minutes; months are ${"mon"}.`] : []),
         ...inDays(value),
     ];
-    return { sentences, offers: bare ? withUnit(text, found.at(-1), found.at(-2), options) : [] };
+    const offers = bare ? offered(completed(text, options), options).filter((each) => each.value !== value) : [];
+    return { sentences, offers };
 }

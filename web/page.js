@@ -1,7 +1,8 @@
 // The page's behaviour: what is typed, pressed and chosen.
 import { tryParse } from "../js/dist/duration-str.js";
 import { copied, showAnswer } from "./answer.js";
-import { button, choose, chosenOptions, element, made, switches, text, write } from "./elements.js";
+import { LANGUAGES } from "./code.js";
+import { agree, button, choose, chosenOptions, element, made, printing, switches, text, WHOLE, write } from "./elements.js";
 import { readLink, showUnknown, writeLink } from "./link.js";
 import { UNITS } from "./units.js";
 
@@ -9,10 +10,9 @@ import { UNITS } from "./units.js";
 const PAUSE = 500;
 /** How long is shown what was copied, in milliseconds. */
 const SHOWN = 4_000;
-/** So many examples of a sort are shown. */
-const SHOWN_EXAMPLES = 5;
-
-const EXAMPLES = ["3m + 13s + 29ms", "1h 30m", "1m*10ms", "6mon", "1h 30", "1.5h", "1:30", "5 mins", "PT5M", "3m - 1s"];
+const EXAMPLES = [
+    "3m + 13s + 29ms", "1:30", "1.5h", "6mon", "5 mins", "1m*10ms", "PT5M", "1h 30", "half an hour", "3m - 1s",
+];
 
 let pause;
 let shownCopy;
@@ -25,14 +25,6 @@ function read() {
         element("announcement").textContent = told;
         writeLink();
     }, PAUSE);
-}
-
-/** Sorts the examples into those that are read under the options and those that are refused. */
-function showExamples() {
-    const buttons = (isRead) => EXAMPLES.filter((example) => tryParse(example, chosenOptions()).ok === isRead)
-        .slice(0, SHOWN_EXAMPLES).map((example) => button(() => write(example), example));
-    element("read-examples").replaceChildren(...buttons(true));
-    element("refused-examples").replaceChildren(...buttons(false));
 }
 
 /** Adds a unit to the text, where it can go on so, or writes it anew. */
@@ -62,12 +54,43 @@ function roam(toolbar) {
 function showUnits() {
     element("units").replaceChildren(...UNITS.map(({ length, names, chinese }) => {
         const buttons = [...names, ...chinese].map((name) => button(() => addUnit(name), name));
-        const row = document.createElement("div");
-        row.append(made("span", length), row.cloneNode());
-        row.lastChild.append(...buttons);
-        return row;
+        return made("div", made("span", length), made("div", ...buttons));
     }));
     roam(element("units"));
+}
+
+function showExamples() {
+    element("examples").replaceChildren(...EXAMPLES.map((example) => button(() => write(example), example)));
+    roam(element("examples"));
+}
+
+/** The choices of how a duration is printed. */
+function showPrinting() {
+    for (const one of [printing.largest, printing.smallest]) {
+        one.replaceChildren(...UNITS.map(({ printed, names }) => new Option(names.at(-1), printed)));
+    }
+    const counts = UNITS.map((_, place) => new Option(place === 0 ? "1 part" : `${place + 1} parts`, place + 1));
+    counts.at(-1).text = "all parts";
+    printing.parts.replaceChildren(...counts);
+    for (const [name, box] of Object.entries(printing)) {
+        box.value = WHOLE[name];
+        box.addEventListener("change", () => {
+            agree(box);
+            read();
+        });
+    }
+}
+
+/** A place for the code in each language, which a button copies. */
+function showLanguages() {
+    element("codes").replaceChildren(...Object.entries(LANGUAGES).map(([id, [title, got]]) => {
+        const code = Object.assign(made("pre"), { id, tabIndex: 0, role: "group", ariaLabel: `The code in ${title}` });
+        const unseen = Object.assign(made("span", ` the code in ${title}`), { className: "unseen" });
+        const copies = button(() => copy(id), "Copy", unseen);
+        copies.dataset.copies = id;
+        const shown = Object.assign(made("div", code, copies), { className: "code" });
+        return Object.assign(made("div", made("h3", `${title} `, made("code", got)), shown), { id: `${id}-code` });
+    }));
 }
 
 /** Copies what the element shows; where that can't be done, selects it. */
@@ -87,7 +110,6 @@ async function copy(id) {
 
 function open() {
     const unknown = readLink();
-    showExamples();
     read();
     if (unknown.length === 0) return;
     // The link stays as it is until something is typed.
@@ -95,23 +117,24 @@ function open() {
     showUnknown(unknown);
 }
 
-element("needs").remove();
-document.querySelector("main").hidden = false;
 showUnits();
-text.addEventListener("input", read);
-for (const box of Object.values(switches)) {
-    box.addEventListener("change", () => {
-        showExamples();
-        read();
-    });
-}
+showExamples();
+showPrinting();
 for (const one of document.querySelectorAll("[data-copies]")) one.addEventListener("click", () => copy(one.dataset.copies));
+showLanguages();
+text.addEventListener("input", read);
+for (const box of Object.values(switches)) box.addEventListener("change", read);
+element("get").addEventListener("click", () => {
+    element("programs").scrollIntoView();
+    element("rust").focus({ preventScroll: true });
+});
 addEventListener("hashchange", open);
 if (location.hash) {
     open();
 } else {
     text.value = EXAMPLES[0];
-    showExamples();
     read();
 }
+element("needs").remove();
+document.querySelector("main").hidden = false;
 text.focus();

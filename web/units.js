@@ -1,25 +1,27 @@
 // The units, and the terms of a text that the library has read. What a text means, the library alone says.
+import { format, parse } from "../js/dist/duration-str.js";
 
-const SECOND = 1_000_000_000n;
-const DAY = 86_400n * SECOND;
-
-/** All units, the longest first: their lengths in nanoseconds and in words, their names, of which the last two are the
- * singular and the plural, and the names that `cn_unit` adds. */
+/** All units, the longest first: their lengths in nanoseconds and in words, their printed names, their names, of which the
+ * last two are the singular and the plural, and the names that `cn_unit` adds. */
 export const UNITS = [
-    [365n * DAY, "365 days", "y year years", "年"],
-    [91n * DAY, "91 days", "q quarter quarters", ""],
-    [30n * DAY, "30 days", "mon month months", "月"],
-    [7n * DAY, "7 days", "w week weeks", "周"],
-    [DAY, "day", "d day days", "日 天"],
-    [3_600n * SECOND, "hour", "h hr hour hours", "时"],
-    [60n * SECOND, "minute", "m min minute minutes", "分"],
-    [SECOND, "second", "s sec second seconds", "秒"],
-    [1_000_000n, "millisecond", "ms msec millisecond milliseconds", "毫秒"],
-    [1_000n, "microsecond", "µs µsec µsecond us usec usecond microsecond microseconds", "微秒"],
-    [1n, "nanosecond", "ns nsec nanosecond nanoseconds", "纳秒"],
-].map(([nanos, length, names, chinese]) => {
-    return { nanos, length, names: names.split(" "), chinese: chinese.split(" ").filter(Boolean) };
+    ["y year years", "年"],
+    ["q quarter quarters", ""],
+    ["mon month months", "月"],
+    ["w week weeks", "周"],
+    ["d day days", "日 天"],
+    ["h hr hour hours", "时"],
+    ["m min minute minutes", "分"],
+    ["s sec second seconds", "秒"],
+    ["ms msec millisecond milliseconds", "毫秒"],
+    ["µs µsec µsecond us usec usecond microsecond microseconds", "微秒"],
+    ["ns nsec nanosecond nanoseconds", "纳秒"],
+].map((rows) => {
+    const [names, chinese] = rows.map((row) => row.split(" ").filter(Boolean));
+    const nanos = parse(`1${names[0]}`);
+    return { names, chinese, nanos, printed: format(nanos).slice(1), length: format(nanos, { largest: "d", style: "long" }) };
 });
+
+const CHINESE_LETTERS = UNITS.flatMap(({ chinese }) => chinese).join("");
 
 /** The unit that has this name under some options; nothing where there is none. */
 export function unitOf(word) {
@@ -30,7 +32,7 @@ export function unitOf(word) {
 /** The terms of a text that is read, or of the part before its fault: each as it stands there, the operator before it,
  * its number and its unit's name. */
 export function* terms(text, { cnUnit }) {
-    const letters = cnUnit ? "A-Za-zµ年月周日天时分秒毫微纳" : "A-Za-zµ";
+    const letters = `A-Za-zµ${cnUnit ? CHINESE_LETTERS : ""}`;
     const term = new RegExp(`([+*]?)[ \t\r\n]*(([0-9]+)(?:[ \t\r\n]*([${letters}]+))?)`, "g");
     for (const [, operator, words, number, unit] of text.matchAll(term)) yield { operator, words, number, unit };
 }

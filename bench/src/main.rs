@@ -14,6 +14,8 @@ mod texts;
 
 use counting::counted;
 use ours::{Archive, Crate, Library, ROOM, calls, count_ways};
+use serde::de::value::Error;
+use serde::de::{Error as _, IntoDeserializer};
 use std::hint::black_box;
 use std::io::Write;
 use std::time::{Duration, Instant};
@@ -32,10 +34,12 @@ impl Library for Humantime {
         Humantime::reading(text)
     }
 
-    fn printing(length: Duration) -> [u8; 64] {
+    fn printing(length: Duration) -> usize {
         let mut buffer = [0; 64];
-        write!(&mut buffer[..], "{}", humantime::format_duration(length)).expect("a text of at most 64 bytes");
-        buffer
+        let mut rest = &mut buffer[..];
+        write!(rest, "{}", humantime::format_duration(length)).expect("a text of at most 64 bytes");
+        let left = rest.len();
+        black_box(&buffer).len() - left
     }
 
     fn printing_string(length: Duration) -> String {
@@ -66,7 +70,10 @@ fn count() {
         counted(number, "humantime", || { black_box(&read()); });
         if !theirs {
             counted(number, "humantime printed", || { black_box(&read().map_err(|error| error.to_string())); });
+            counted(number, "humantime serde", || { black_box(&read().map_err(Error::custom)); });
         }
+        let field = || -> Result<Duration, Error> { duration_str::human::deserialize(black_box(text.as_str()).into_deserializer()) };
+        counted(number, "human", || { black_box(&field()); });
     }
 }
 

@@ -1,7 +1,7 @@
 //! The calls that are measured: those of the Rust crate, and those of the archive through C.
 use crate::counting::counted;
 use crate::texts::{EXPRESSION, long_text, refused, repeat};
-use duration_str::{HumanFormat, Limits, Options, parse, parse_duration, parse_with, write_human, write_within};
+use duration_str::{Format, HumanFormat, Options, parse, parse_duration, parse_with, write_human, write_within};
 use std::hint::black_box;
 use std::time::Duration;
 
@@ -16,10 +16,10 @@ pub trait Library {
     fn reading(text: &str) -> Self::Value;
     /// The value of a text under these options, which are the bits of the header.
     fn reading_with(text: &str, options: u32) -> Self::Value;
-    /// A duration printed into a buffer.
-    fn printing(length: Duration) -> [u8; 64];
-    /// A duration printed into a buffer in at most so many parts, where the library does so.
-    fn printing_parts(_: Duration, _: u32) -> [u8; 64] {
+    /// Prints a duration into a buffer, and returns the length of the text.
+    fn printing(length: Duration) -> usize;
+    /// The same in at most so many parts, where the library does so.
+    fn printing_parts(_: Duration, _: u32) -> usize {
         unimplemented!()
     }
     /// A duration printed into a `String`, where the library does so.
@@ -52,18 +52,14 @@ impl Library for Crate {
     }
 
     #[inline(always)]
-    fn printing(length: Duration) -> [u8; 64] {
-        let mut buffer = [0; 64];
-        black_box(write_human(&length, &mut buffer).len());
-        buffer
+    fn printing(length: Duration) -> usize {
+        black_box(write_human(&length, &mut [0; 64])).len()
     }
 
     #[inline(always)]
-    fn printing_parts(length: Duration, parts: u32) -> [u8; 64] {
-        let mut buffer = [0; 64];
-        let limits = Limits { parts: parts as usize, ..Limits::none() };
-        black_box(write_within(&length, limits, &mut buffer).len());
-        buffer
+    fn printing_parts(length: Duration, parts: u32) -> usize {
+        let format = Format::whole().parts(parts as usize);
+        black_box(write_within(&length, format, &mut [0; 144])).len()
     }
 
     #[inline(always)]
@@ -158,22 +154,22 @@ impl Library for Archive {
     }
 
     #[inline(always)]
-    fn printing(length: Duration) -> [u8; 64] {
+    fn printing(length: Duration) -> usize {
         let mut buffer = [0; 64];
         // SAFETY: the buffer has the 64 bytes that may be written.
         let end = unsafe { duration_str_format(length.as_secs(), length.subsec_nanos(), buffer.as_mut_ptr()) };
-        black_box(end);
-        buffer
+        black_box(&buffer);
+        end
     }
 
     #[inline(always)]
-    fn printing_parts(length: Duration, parts: u32) -> [u8; 64] {
+    fn printing_parts(length: Duration, parts: u32) -> usize {
         let mut buffer = [0; 64];
         let (secs, nanos) = (length.as_secs(), length.subsec_nanos());
         // SAFETY: the buffer has the 64 bytes that may be written.
         let end = unsafe { duration_str_format_within(secs, nanos, 0, 10, parts, buffer.as_mut_ptr()) };
-        black_box(end);
-        buffer
+        black_box(&buffer);
+        end
     }
 
     #[inline(always)]

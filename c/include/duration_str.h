@@ -1,22 +1,30 @@
-/* Durations read from expressions such as `3m 13s 29ms`, and printed for people.
+/* Durations read from expressions such as `3m 13s 29ms`, and printed for
+ * people.
  *
- * No function allocates memory or keeps state, and all may be called from several threads at once. A text is passed as
- * a pointer and a length in bytes; it need not end with a zero byte, and must not overlap what a function writes. Its
- * bytes must not change during a call, by another thread or, in a mapped file, by another process: copy such a text
- * first. A pointer may be null only if its length is 0: as the empty text, a buffer into which nothing fits, or an array
- * of no numbers. Texts are UTF-8; other bytes are refused. No zero byte is written at the end of a text. No function
- * calls back or throws. The functions have no frames for an unwinder (no `.eh_frame`), so a backtrace taken inside one
- * ends there. The header is for C99 and C++11 and later.
+ * No function allocates memory or keeps state, and all may be called from
+ * several threads at once. A text is passed as a pointer and a length in
+ * bytes; it need not end with a zero byte, and must not overlap what a
+ * function writes. Its bytes must not change during a call, by another thread
+ * or, in a mapped file, by another process: copy such a text first. A pointer
+ * may be null only if its length is 0: as the empty text, a buffer into which
+ * nothing fits, or an array of no numbers. Texts are UTF-8; other bytes are
+ * refused. No zero byte is written at the end of a text. No function calls
+ * back or throws. The header is for C99 and C++11 and later.
  *
- * The grammar: terms, each a number and a unit such as `3m` or `29 ms`, joined by `+` or by `*`, or following one
- * another, which adds them. After a number the unit may be left out before an operator and at the end; it is seconds.
- * Blanks (space, tab, carriage return, line feed) may be anywhere except inside a number or a unit.
- * Units: y year years, q quarter quarters, mon month months, w week weeks, d day days, h hr hour hours, m min minute
- * minutes, s sec second seconds, ms msec millisecond milliseconds, µs µsec µsecond us usec usecond microsecond
- * microseconds, ns nsec nanosecond nanoseconds. The Chinese names, which an option adds: 年 year, 月 month, 周 week,
- * 日 天 day, 时 hour, 分 minute, 秒 second, 毫秒 millisecond, 微秒 microsecond, 纳秒 nanosecond. A year has 365 days, a
- * quarter 91 and a month 30. Numbers are below 2^64, and values below 2^64 nanoseconds.
- */
+ * The grammar: terms, each a number and a unit such as `3m` or `29 ms`, joined
+ * by `+` or by `*`, or following one another, which adds them. After a number
+ * the unit may be left out before an operator and at the end; it is seconds.
+ * Blanks (space, tab, carriage return, line feed) may be anywhere except
+ * inside a number or a unit.
+ *
+ * Units: y year years, q quarter quarters, mon month months, w week weeks,
+ * d day days, h hr hour hours, m min minute minutes, s sec second seconds,
+ * ms msec millisecond milliseconds, µs µsec µsecond us usec usecond
+ * microsecond microseconds, ns nsec nanosecond nanoseconds. The Chinese
+ * names, which an option adds: 年 year, 月 month, 周 week, 日 天 day, 时 hour, 分
+ * minute, 秒 second, 毫秒 millisecond, 微秒 microsecond, 纳秒 nanosecond. A year
+ * has 365 days, a quarter 91 and a month 30. Numbers are below 2^64, and
+ * values below 2^64 nanoseconds. */
 #ifndef DURATION_STR_H
 #define DURATION_STR_H
 
@@ -24,19 +32,27 @@
 #include <stddef.h>
 #include <stdint.h>
 
-/* The version of this header; duration_str_version() returns that of the library. */
+/* The version of this header; duration_str_version tells that of the library. */
 #define DURATION_STR_VERSION_MAJOR 0
 #define DURATION_STR_VERSION_MINOR 19
 #define DURATION_STR_VERSION_PATCH 0
 #define DURATION_STR_VERSION_NUMBER \
-    (DURATION_STR_VERSION_MAJOR * 1000000 + DURATION_STR_VERSION_MINOR * 1000 + DURATION_STR_VERSION_PATCH)
+    (DURATION_STR_VERSION_MAJOR * 1000000 + \
+     DURATION_STR_VERSION_MINOR * 1000 + DURATION_STR_VERSION_PATCH)
 #define DURATION_STR_VERSION "0.19.0"
 
-/* The most bytes that a printed duration has, and the bytes of the buffer into which it is printed. */
+/* The most bytes that a printed duration has, and the bytes of the buffer
+ * into which it is printed; then those in any style, and those of a refusal
+ * in one line. */
 #define DURATION_STR_MAX_PRINTED_LEN 60
 #define DURATION_STR_FORMAT_BUFFER_SIZE 64
+#define DURATION_STR_MAX_STYLED_LEN 134
+#define DURATION_STR_STYLED_BUFFER_SIZE 144
+#define DURATION_STR_MAX_ONE_LINE_LEN 365
+#define DURATION_STR_ONE_LINE_BUFFER_SIZE 384
 
-/* What GCC and Clang are told: which pointers may not be null, and which results must be used. */
+/* What GCC and Clang are told: which pointers may not be null, and which
+ * results must be used. */
 #ifdef __GNUC__
 #define DURATION_STR_NONNULL(...) __attribute__((nonnull(__VA_ARGS__)))
 #define DURATION_STR_MUST_USE __attribute__((warn_unused_result))
@@ -49,27 +65,44 @@
 extern "C" {
 #endif
 
-/* The options, as the bits of a `uint32_t`; with 0 all of them are off. Other bits have no effect. */
+/* The options, as the bits of a `uint32_t`; with 0 all of them are off.
+ * Other bits have no effect. */
 enum duration_str_option {
-    DURATION_STR_NO_CALC = 1,   /* `+` and `*` are not read, and the terms are added one by one */
-    DURATION_STR_LOWERCASE = 2, /* words are compared as written; otherwise ASCII capitals are read as small letters */
-    DURATION_STR_CN_UNIT = 4    /* the Chinese names of the units are also read */
+    /* `+` and `*` are not read, and the terms are added one by one */
+    DURATION_STR_NO_CALC = 1,
+    /* words are compared as written; otherwise ASCII capitals are read as
+     * small letters */
+    DURATION_STR_LOWERCASE = 2,
+    /* the Chinese names of the units are also read */
+    DURATION_STR_CN_UNIT = 4
 };
 
 /* Why a text is refused. */
 enum duration_str_cause {
-    DURATION_STR_READ = 0,             /* it is not refused: the text is read */
-    DURATION_STR_EMPTY = 1,            /* the text is empty */
-    DURATION_STR_SYNTAX = 2,           /* at the place, no expression continues as the text does */
-    DURATION_STR_NUMBER_TOO_LARGE = 3, /* a number is 2^64 or more */
-    DURATION_STR_OVERFLOW = 4,         /* a term, a step or the value is 2^64 nanoseconds or more */
-    DURATION_STR_MIXED = 5,            /* `+` and `*` are mixed */
-    DURATION_STR_OUT_OF_RANGE = 6,     /* duration_str_after and duration_str_before only: a moment is out of range */
-    DURATION_STR_NOT_TEXT = 7,         /* the bytes are not UTF-8 */
-    DURATION_STR_BAD_OFFSETS = 8       /* duration_str_parse_column only: offsets decrease or lie beyond the bytes */
+    /* it is not refused: the text is read */
+    DURATION_STR_READ = 0,
+    /* the text is empty */
+    DURATION_STR_EMPTY = 1,
+    /* at the place, no expression continues as the text does */
+    DURATION_STR_SYNTAX = 2,
+    /* a number is 2^64 or more */
+    DURATION_STR_NUMBER_TOO_LARGE = 3,
+    /* a term, a step or the value is 2^64 nanoseconds or more */
+    DURATION_STR_OVERFLOW = 4,
+    /* `+` and `*` are mixed */
+    DURATION_STR_MIXED = 5,
+    /* duration_str_after and duration_str_before only: a moment is out of
+     * range */
+    DURATION_STR_OUT_OF_RANGE = 6,
+    /* the bytes are not UTF-8 */
+    DURATION_STR_NOT_TEXT = 7,
+    /* duration_str_parse_column only: offsets decrease or lie beyond the
+     * bytes */
+    DURATION_STR_BAD_OFFSETS = 8
 };
 
-/* What could stand at the place of a syntax fault, as the bits of a `uint32_t`. */
+/* What could stand at the place of a syntax fault, as the bits of a
+ * `uint32_t`. */
 enum duration_str_kind {
     DURATION_STR_NUMBER = 1,   /* a number */
     DURATION_STR_UNIT = 2,     /* a unit */
@@ -92,94 +125,170 @@ enum duration_str_unit {
     DURATION_STR_NANOSECOND = 10
 };
 
-/* What a text is read as, or why and where it is refused. Fields that a case does not use are 0. */
-struct duration_str_answer {
-    uint64_t nanos;      /* the value in nanoseconds, if `cause` is DURATION_STR_READ */
-    size_t place;        /* if `has_place` is 1: the byte offset of the fault, from 0 to the text's length */
-    size_t found_length; /* for DURATION_STR_SYNTAX: the length in bytes of the token at the place; 0 at the end */
-    uint32_t cause;      /* an `enum duration_str_cause` */
-    uint32_t expected;   /* for DURATION_STR_SYNTAX: what could stand at the place, bits of `enum duration_str_kind` */
-    uint8_t has_place;   /* 1 or 0; always 1 for DURATION_STR_SYNTAX, otherwise 1 if the first term is too large */
-    char first_operator; /* for DURATION_STR_MIXED: the operator that came first, '+' or '*' */
-    char later_operator; /* for DURATION_STR_MIXED: the one that came later */
+/* How a duration is printed. */
+enum duration_str_style {
+    DURATION_STR_SHORT = 0,   /* `1h 30min` */
+    DURATION_STR_COMPACT = 1, /* `1h30min` */
+    DURATION_STR_LONG = 2     /* `1 hour 30 minutes` */
 };
 
-/* A moment in UTC: `secs` whole seconds since 1970-01-01T00:00:00Z, negative before it, plus `nanos` nanoseconds, which
- * are below 1,000,000,000. The first moment is -9999-01-02T01:59:59Z (`secs` is -377,705,023,201), the last is
- * 9999-12-30T22:00:00.999999999Z (`secs` is 253,402,207,200). */
+/* What a text is read as, or why and where it is refused. Fields that a
+ * case does not use are 0. */
+struct duration_str_answer {
+    /* the value in nanoseconds, if `cause` is DURATION_STR_READ */
+    uint64_t nanos;
+    /* if `has_place` is 1: the byte offset of the fault, from 0 to the
+     * text's length */
+    size_t place;
+    /* for DURATION_STR_SYNTAX: the length in bytes of the token at the
+     * place; 0 at the end */
+    size_t found_length;
+    /* an `enum duration_str_cause` */
+    uint32_t cause;
+    /* for DURATION_STR_SYNTAX: what could stand at the place, bits of `enum
+     * duration_str_kind` */
+    uint32_t expected;
+    /* 1 or 0; always 1 for DURATION_STR_SYNTAX, otherwise 1 if the first
+     * term is too large */
+    uint8_t has_place;
+    /* for DURATION_STR_MIXED: the operator that came first, '+' or '*' */
+    char first_operator;
+    /* for DURATION_STR_MIXED: the one that came later */
+    char later_operator;
+};
+
+/* A moment in UTC: `secs` whole seconds since 1970-01-01T00:00:00Z,
+ * negative before it, plus `nanos` nanoseconds, which are below
+ * 1,000,000,000. The first moment is -9999-01-02T01:59:59Z (`secs` is
+ * -377,705,023,201), the last is 9999-12-30T22:00:00.999999999Z (`secs` is
+ * 253,402,207,200). */
 struct duration_str_moment {
     int64_t secs;
     uint32_t nanos;
 };
 
-/* Reads a text with all options off. Returns true if it is read: then `*nanos` is its value in nanoseconds. Returns
- * false if it is refused, also for bytes that are not UTF-8: then `*nanos` is unchanged. */
+/* Reads a text with all options off. Returns true if it is read: then
+ * `*nanos` is its value in nanoseconds. Returns false if it is refused,
+ * also for bytes that are not UTF-8: then `*nanos` is unchanged. */
 DURATION_STR_MUST_USE DURATION_STR_NONNULL(3)
 bool duration_str_parse(const uint8_t *text, size_t length, uint64_t *nanos);
 
-/* Prints a duration of `secs` seconds and `nanos` nanoseconds, which are below 1,000,000,000, to the start of `buffer`,
- * such as `3min 13s 29ms`, and returns its length, at most DURATION_STR_MAX_PRINTED_LEN. `buffer` has
- * DURATION_STR_FORMAT_BUFFER_SIZE bytes. Returns 0 if `nanos` is 1,000,000,000 or more; then the buffer is unchanged. */
+/* Prints a duration of `secs` seconds and `nanos` nanoseconds, which are
+ * below 1,000,000,000, to the start of `buffer`, such as `3min 13s 29ms`,
+ * and returns its length, at most DURATION_STR_MAX_PRINTED_LEN. `buffer`
+ * has DURATION_STR_FORMAT_BUFFER_SIZE bytes, and those after the text are
+ * unchanged: it is not ended by a zero. Returns 0 if `nanos` is
+ * 1,000,000,000 or more; then the whole buffer is unchanged. */
 DURATION_STR_MUST_USE DURATION_STR_NONNULL(3)
 size_t duration_str_format(uint64_t secs, uint32_t nanos, uint8_t *buffer);
 
-/* Prints a duration in the same way, but only in the units from `largest` to `smallest`, each a number of
- * `enum duration_str_unit`, and in at most `parts` parts: the greatest count of the largest unit, then of the next in
- * what is left, and so on. The rest is left out, so the text is never of more than the duration: in two parts from days
- * to seconds, 90,061 seconds are `1d 1h`. If there are no parts, the text is `0` and the name of the smallest unit, or
- * `0s` where that is shorter than a second; so it is if `parts` is 0 or `largest` is shorter than `smallest`. Returns 0
- * if `nanos` is 1,000,000,000 or more or a unit's number is above 10; then the buffer is unchanged. */
+/* Prints a duration in the same way, but only in the units from `largest`
+ * to `smallest`, each a number of `enum duration_str_unit`, and in at most
+ * `parts` parts: the lexicographically greatest breakdown with only these
+ * units and so few parts that is not above the duration. In two parts from
+ * days to seconds, 90,061 seconds are `1d 1h`. If all counts are 0, the
+ * text is `0` and the name of the smallest unit, or `0s` where that is
+ * shorter than a second; so it is for every duration if `largest` is
+ * shorter than `smallest` or `parts` is 0. Returns 0 if `nanos` is
+ * 1,000,000,000 or more or a unit's number is above 10; then the whole
+ * buffer is unchanged. */
 DURATION_STR_MUST_USE DURATION_STR_NONNULL(6)
-size_t duration_str_format_within(uint64_t secs, uint32_t nanos, uint32_t largest, uint32_t smallest, uint32_t parts,
+size_t duration_str_format_within(uint64_t secs, uint32_t nanos,
+                                  uint32_t largest, uint32_t smallest,
+                                  uint32_t parts, uint8_t *buffer);
+
+/* Prints a duration as duration_str_format_within does, in a style of `enum
+ * duration_str_style`; a long zero is `0 seconds`. Returns its length, at
+ * most DURATION_STR_MAX_STYLED_LEN; `buffer` has
+ * DURATION_STR_STYLED_BUFFER_SIZE bytes. Returns 0, with the buffer
+ * unchanged, if `style` is above 2 too. */
+DURATION_STR_MUST_USE DURATION_STR_NONNULL(7)
+size_t duration_str_format_styled(uint64_t secs, uint32_t nanos,
+                                  uint32_t largest, uint32_t smallest,
+                                  uint32_t parts, uint32_t style,
                                   uint8_t *buffer);
 
-/* Reads a text under these options, and writes its value to `*answer`, or why and where it is refused. Returns true if
- * it is read. */
+/* Reads a text under these options, and writes its value to `*answer`, or
+ * why and where it is refused. Returns true if it is read. */
 DURATION_STR_NONNULL(4)
-bool duration_str_parse_with(const uint8_t *text, size_t length, uint32_t options, struct duration_str_answer *answer);
+bool duration_str_parse_with(const uint8_t *text, size_t length,
+                             uint32_t options,
+                             struct duration_str_answer *answer);
 
-/* Reads the texts of a column under these options, and returns how many are read. Text `k` is the bytes from
- * `offsets[k]` to `offsets[k + 1]`, so there is one text less than `count` offsets, and bytes before the first offset
- * and after the last are ignored. An Arrow large string array has its texts in this form where a `size_t` has 64 bits.
+/* Reads the texts of a column under these options, and returns how many are
+ * read. Text `k` is the bytes from `offsets[k]` to `offsets[k + 1]`, so there
+ * is one text less than `count` offsets, and bytes before the first offset and
+ * after the last are ignored. An Arrow large string array has its texts in
+ * this form where a `size_t` has 64 bits.
  *
- * `nanos[k]` becomes the value of text `k` in nanoseconds, or 0 if it is refused, and `causes[k]` why it is refused, as
- * an `enum duration_str_cause`: that of duration_str_parse_with, or DURATION_STR_BAD_OFFSETS if `offsets[k]` is above
- * `offsets[k + 1]` or that one above `length`. The texts after it are read all the same.
+ * `nanos[k]` becomes the value of text `k` in nanoseconds, or 0 if it is
+ * refused, and `causes[k]` why it is refused, as an `enum duration_str_cause`:
+ * that of duration_str_parse_with, or DURATION_STR_BAD_OFFSETS if `offsets[k]`
+ * is above `offsets[k + 1]` or that one above `length`. The texts after it are
+ * read all the same.
  *
- * `nanos` has room for `nanos_room` numbers and `causes` for `causes_room`. Only as many texts are handled as there are,
- * and as there is room for in both; what follows in the arrays is unchanged. */
-size_t duration_str_parse_column(const uint8_t *bytes, size_t length, const size_t *offsets, size_t count,
-                                 uint32_t options, uint64_t *nanos, size_t nanos_room, uint32_t *causes,
+ * `nanos` has room for `nanos_room` numbers and `causes` for `causes_room`.
+ * Only as many texts are handled as there are, and as there is room for in
+ * both; what follows in the arrays is unchanged. */
+size_t duration_str_parse_column(const uint8_t *bytes, size_t length,
+                                 const size_t *offsets, size_t count,
+                                 uint32_t options, uint64_t *nanos,
+                                 size_t nanos_room, uint32_t *causes,
                                  size_t causes_room);
 
-/* Moves `*moment` forward by the value of a text, which is read under these options, and writes the value or the
- * refusal to `*answer`. Returns true if it is moved. Otherwise `*moment` is unchanged, and the cause is:
- * DURATION_STR_OUT_OF_RANGE if `*moment` is not one of the moments above, whatever the text is; otherwise why the text
- * is refused; otherwise DURATION_STR_OUT_OF_RANGE, since the moment that is reached is not one of those above. */
+/* Moves `*moment` forward by the value of a text, which is read under these
+ * options, and writes the value or the refusal to `*answer`. Returns true
+ * if it is moved. Otherwise `*moment` is unchanged, and the cause is:
+ * DURATION_STR_OUT_OF_RANGE if `*moment` is not one of the moments above,
+ * whatever the text is; otherwise why the text is refused; otherwise
+ * DURATION_STR_OUT_OF_RANGE, since the moment that is reached is not one of
+ * those above. */
 DURATION_STR_MUST_USE DURATION_STR_NONNULL(4, 5)
-bool duration_str_after(const uint8_t *text, size_t length, uint32_t options, struct duration_str_moment *moment,
+bool duration_str_after(const uint8_t *text, size_t length, uint32_t options,
+                        struct duration_str_moment *moment,
                         struct duration_str_answer *answer);
 
-/* Moves `*moment` back, in the same way as duration_str_after moves it forward. */
+/* Moves `*moment` back, in the same way as duration_str_after moves it
+ * forward. */
 DURATION_STR_MUST_USE DURATION_STR_NONNULL(4, 5)
-bool duration_str_before(const uint8_t *text, size_t length, uint32_t options, struct duration_str_moment *moment,
+bool duration_str_before(const uint8_t *text, size_t length, uint32_t options,
+                         struct duration_str_moment *moment,
                          struct duration_str_answer *answer);
 
-/* Reads a text under these options, and writes the message about its refusal to the start of `buffer`, which has room
- * for `room` bytes. Returns the length of the message in bytes; 0 if the text is read. If the length is more than `room`,
- * nothing is written: with room 0 a caller asks for the length. A length of 2^64 bytes or more, which no memory has, is
- * returned as SIZE_MAX.
+/* Reads a text under these options as duration_str_parse_with does, and
+ * writes what is wrong with a refused one to the start of `buffer`, in one
+ * line for people: `unknown unit "hurs" at column 6`. Returns the length of
+ * the line, at most DURATION_STR_MAX_ONE_LINE_LEN; 0 if the text is read.
+ * `buffer` has DURATION_STR_ONE_LINE_BUFFER_SIZE bytes, and what stands in
+ * it after the line is unchanged. At most 40 characters of the text are
+ * quoted, and each that could do harm in a terminal or a log is escaped. */
+DURATION_STR_NONNULL(4, 5)
+size_t duration_str_one_line(const uint8_t *text, size_t length,
+                             uint32_t options,
+                             struct duration_str_answer *answer,
+                             uint8_t *buffer);
+
+/* Reads a text under these options, and writes the message about its refusal
+ * to the start of `buffer`, which has room for `room` bytes. Returns the
+ * length of the message in bytes; 0 if the text is read. If the length is more
+ * than `room`, nothing is written: with room 0 a caller asks for the length. A
+ * length of 2^64 bytes or more, which no memory has, is returned as SIZE_MAX.
  *
- * If the fault has a place, the message is the text, below it a caret under the place, and a line that says what is
- * wrong; or, if the text has a line feed, `byte N: ` and the line. Without a place it is only the line. For
- * DURATION_STR_NOT_TEXT it is `not UTF-8`. DURATION_STR_OUT_OF_RANGE has no message here, since its text is read: its
- * line is `date out of range`. */
-size_t duration_str_message(const uint8_t *text, size_t length, uint32_t options, uint8_t *buffer, size_t room);
+ * If the fault has a place, the message is the text, below it a caret under
+ * the place, and a line that says what is wrong; or, if the text has a line
+ * feed, `byte N: ` and the line. Without a place it is only the line. For
+ * DURATION_STR_NOT_TEXT it is `not UTF-8`. DURATION_STR_OUT_OF_RANGE has no
+ * message here, since its text is read: its line is `date out of range`. */
+size_t duration_str_message(const uint8_t *text, size_t length,
+                            uint32_t options, uint8_t *buffer, size_t room);
 
-/* Writes only the line of the message, such as `expected number`, in the same way as duration_str_message. */
-size_t duration_str_line(const uint8_t *text, size_t length, uint32_t options, uint8_t *buffer, size_t room);
+/* Writes only the last line of the message, such as `expected number`, in
+ * the same way as duration_str_message: without the place or the text,
+ * which duration_str_one_line has. */
+size_t duration_str_line(const uint8_t *text, size_t length, uint32_t options,
+                         uint8_t *buffer, size_t room);
 
-/* The version of the library, in the form of DURATION_STR_VERSION_NUMBER: 19000 is 0.19.0. */
+/* The version of the library, in the form of DURATION_STR_VERSION_NUMBER. */
 uint32_t duration_str_version(void);
 
 #ifdef __cplusplus

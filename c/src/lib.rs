@@ -1,83 +1,115 @@
-//! The functions of `duration_str.h`: each makes slices of C's pointers and calls the proved function of its name.
+// Made by tools/erase of crates/duration_str_c/src/lib.rt.
+//! The library for C: `include/duration_str.h` declares these functions.
+//!
+//! Nothing is allocated. Bytes that are not UTF-8 are refused.
 #![no_std]
 
+mod abi; // Written by hand, as the next two.
 mod bare;
 mod jiff;
-#[allow(clippy::manual_ok_err)]
-mod proved;
 
-use core::{mem::MaybeUninit, mem::zeroed, slice::from_raw_parts, slice::from_raw_parts_mut};
-use proved::{answer::Answer, column, limits, message, moment, moment::Moment};
+#[forbid(unsafe_code)]
+pub mod answer;
+#[forbid(unsafe_code)]
+pub mod column;
+#[forbid(unsafe_code)]
+pub mod limits;
+#[forbid(unsafe_code)]
+pub mod message;
+#[forbid(unsafe_code)]
+pub mod moment;
 
-/// A caller's array, which may be null if it has nothing.
-unsafe fn array<'a, T>(start: *const T, len: usize) -> &'a [T] {
-    if len == 0 { &[] } else { unsafe { from_raw_parts(start, len) } }
+use crate::answer::{Answer, refused};
+use duration_str_core::{Cause, Fault, Options, parse_nanos};
+use core::time::Duration;
+
+const NO_CALC: u32 = 1;
+
+const LOWERCASE: u32 = 2;
+
+const CN_UNIT: u32 = 4;
+
+/// The options whose bits are set. Other bits have no effect.
+pub(crate) fn options_of_bits(bits: u32) -> Options {
+    Options {
+        no_calc: bits & NO_CALC != 0,
+        lowercase: bits & LOWERCASE != 0,
+        cn_unit: bits & CN_UNIT != 0,
+    }
 }
 
-/// A caller's array that is written to, in the same way.
-unsafe fn room<'a, T>(start: *mut T, len: usize) -> &'a mut [T] {
-    if len == 0 { &mut [] } else { unsafe { from_raw_parts_mut(start, len) } }
+/// Reads a text with all options off into nanoseconds. Returns false if it is refused, and then `nanos` is unchanged.
+pub fn duration_str_parse(text: &[u8], nanos: &mut u64) -> bool {
+    let Some(text) = text_of(text) else {
+        return false;
+    };
+    match parse_nanos(text, Options::off()) {
+        Ok(value) => {
+            *nanos = value;
+            true
+        }
+        Err(_) => false,
+    }
 }
 
-#[unsafe(no_mangle)]
-unsafe extern "C" fn duration_str_parse(text: *const u8, len: usize, nanos: &mut MaybeUninit<u64>) -> bool {
-    let mut value = 0;
-    proved::duration_str_parse(unsafe { array(text, len) }, &mut value).then(|| nanos.write(value)).is_some()
+/// Prints a duration to the start of the buffer, and returns the length of the text. The rest of the buffer is
+/// unchanged; so is all of it if `nanos` is a second or more, and then it returns 0.
+pub fn duration_str_format(secs: u64, nanos: u32, buffer: &mut [u8; 64]) -> usize {
+    if nanos >= 1_000_000_000 {
+        return 0;
+    }
+    let mut printed = [0; 64];
+    let text = duration_str_core::write_human(&Duration::new(secs, nanos), &mut printed);
+    let end = text.len();
+    buffer[..end].copy_from_slice(text.as_bytes());
+    end
 }
 
-#[unsafe(no_mangle)]
-extern "C" fn duration_str_format(secs: u64, nanos: u32, buffer: &mut [u8; 64]) -> usize {
-    proved::duration_str_format(secs, nanos, buffer)
+/// Reads a text under the options whose bits are set. Returns true if it is read.
+pub fn duration_str_parse_with(text: &[u8], options: u32, answer: &mut Answer) -> bool {
+    *answer = answer_to(text, options);
+    answer.cause == 0
 }
 
-#[unsafe(no_mangle)]
-extern "C" fn duration_str_format_within(
-    secs: u64, nanos: u32, largest: u32, smallest: u32, parts: u32, buffer: &mut [u8; 64],
-) -> usize {
-    limits::duration_str_format_within(secs, nanos, largest, smallest, parts, buffer)
+/// The answer for the bytes under the options whose bits are set.
+fn answer_to(bytes: &[u8], options: u32) -> Answer {
+    let Some(text) = text_of(bytes) else {
+        return Answer::refusal(Cause::NotText { optional: false }, 0);
+    };
+    let options = options_of_bits(options);
+    match read(text, options) {
+        Ok(nanos) => Answer::value(nanos),
+        Err(fault) => refused(fault, options),
+    }
 }
 
-#[unsafe(no_mangle)]
-unsafe extern "C" fn duration_str_parse_with(
-    text: *const u8, len: usize, bits: u32, answer: &mut MaybeUninit<Answer>,
-) -> bool {
-    unsafe { proved::duration_str_parse_with(array(text, len), bits, answer.write(zeroed())) }
+/// What `parse_nanos` returns, out of line.
+#[inline(never)]
+pub(crate) fn read(text: &str, options: Options) -> Result<u64, Fault<'_>> {
+    if options.are_off() {
+        return parse_nanos(text, Options::off());
+    }
+    parse_nanos(text, options)
 }
 
-#[unsafe(no_mangle)]
-unsafe extern "C" fn duration_str_parse_column(
-    bytes: *const u8, len: usize, offsets: *const usize, count: usize, bits: u32, nanos: *mut u64, nanos_room: usize,
-    causes: *mut u32, causes_room: usize,
-) -> usize {
-    let (nanos, causes) = unsafe { (room(nanos, nanos_room), room(causes, causes_room)) };
-    unsafe { column::duration_str_parse_column(array(bytes, len), array(offsets, count), bits, nanos, causes) }
+/// The version: the major number times a million, plus the minor number times a thousand, plus the patch number.
+pub fn duration_str_version() -> u32 {
+    19_000
 }
 
-#[unsafe(no_mangle)]
-unsafe extern "C" fn duration_str_after(
-    text: *const u8, len: usize, bits: u32, moment: &mut Moment, answer: &mut MaybeUninit<Answer>,
-) -> bool {
-    unsafe { moment::duration_str_after(array(text, len), bits, moment, answer.write(zeroed())) }
+/// The bytes as a text, if they are UTF-8. Most are ASCII, which can be tested faster.
+#[inline(always)]
+pub(crate) fn text_of(bytes: &[u8]) -> Option<&str> {
+    if bytes.is_ascii() || is_utf8(bytes) {
+        Some(unsafe { core::str::from_utf8_unchecked(bytes) })
+    } else {
+        None
+    }
 }
 
-#[unsafe(no_mangle)]
-unsafe extern "C" fn duration_str_before(
-    text: *const u8, len: usize, bits: u32, moment: &mut Moment, answer: &mut MaybeUninit<Answer>,
-) -> bool {
-    unsafe { moment::duration_str_before(array(text, len), bits, moment, answer.write(zeroed())) }
-}
-
-#[unsafe(no_mangle)]
-unsafe extern "C" fn duration_str_message(text: *const u8, len: usize, bits: u32, out: *mut u8, size: usize) -> usize {
-    unsafe { message::duration_str_message(array(text, len), bits, room(out, size)) }
-}
-
-#[unsafe(no_mangle)]
-unsafe extern "C" fn duration_str_line(text: *const u8, len: usize, bits: u32, out: *mut u8, size: usize) -> usize {
-    unsafe { message::duration_str_line(array(text, len), bits, room(out, size)) }
-}
-
-#[unsafe(no_mangle)]
-extern "C" fn duration_str_version() -> u32 {
-    proved::duration_str_version()
+/// Whether the bytes are UTF-8.
+#[cold]
+#[inline(never)]
+fn is_utf8(bytes: &[u8]) -> bool {
+    core::str::from_utf8(bytes).is_ok()
 }

@@ -36,6 +36,11 @@ function skippedWithout(tool) {
     }
 }
 
+test("has the version of package.json", () => {
+    const { version } = JSON.parse(readFileSync(join(PACKAGE, "package.json"), "utf8"));
+    assert.equal(started([], "", "console.log(all.version);"), version);
+});
+
 test("is imported and required", () => {
     assert.equal(runs("node", "module.mjs"), SAID);
     assert.equal(runs("node", "required.cjs"), SAID);
@@ -43,8 +48,8 @@ test("is imported and required", () => {
 
 test("is packed with its licence, types and module", () => {
     const { exports, files } = JSON.parse(readFileSync(join(PACKAGE, "package.json"), "utf8"));
-    const { node, import: imported, require: required } = exports["."];
-    const named = [node.import, node.require, imported, required, exports["./wasm"]].flatMap(Object.values);
+    const { node, import: imported, require: required, workerd, "edge-light": edge } = exports["."];
+    const named = [node.import, node.require, imported, required, workerd, edge].flatMap(Object.values);
     assert.deepEqual(files, ["dist", "index.d.ts", "LICENSE", "NOTICE"]);
     for (const file of [...named, "LICENSE", "NOTICE"]) assert.ok(readFileSync(join(PACKAGE, file)).length > 0, file);
 });
@@ -53,19 +58,78 @@ test("is one package for import and require", () => {
     writeFileSync(join(room, "both.mjs"), `import { createRequire } from "node:module";
 import * as imported from "duration-str";
 const required = createRequire(import.meta.url)("duration-str");
-let said = imported.library === required.library && imported.DurationError === required.DurationError;
+let said = imported.DurationError === required.DurationError;
 try { required.parse("1x"); } catch (error) { said &&= error instanceof imported.DurationError; }
 console.log(said);`);
     assert.equal(runs("node", "both.mjs"), "true");
 });
 
-test("has the module alone, whose calls take numbers for pointers", async () => {
-    const { exports } = JSON.parse(readFileSync(join(PACKAGE, "package.json"), "utf8"));
-    const { instance } = await WebAssembly.instantiate(readFileSync(join(PACKAGE, exports["./wasm"].default)));
-    const { memory, __heap_base: { value: start }, duration_str_parse: parse } = instance.exports;
-    const { written } = new TextEncoder().encodeInto("1h 30m", new Uint8Array(memory.buffer, start + 8));
-    assert.equal(parse(start + 8, written, start), 1);
-    assert.equal(new DataView(memory.buffer).getBigUint64(start, true), 5_400_000_000_000n);
+/** What Node prints that runs these lines with the package as `all`, which `before` prepares. */
+function started(words, before, lines) {
+    const code = `${before}\nconst all = await import("duration-str");\n${lines}`;
+    return runs("node", "--no-warnings", ...words, "--input-type=module", "--eval", code);
+}
+
+const TRY = "try { console.log(all.parse('1h 30m')); } catch (error) { console.log(error.message, error.cause.name); }";
+const ADVICE = "allow 'wasm-unsafe-eval' in the content security policy, lift --jitless or the limit of the address space, "
+    + "or resolve the package under the condition workerd or edge-light";
+
+test("is imported where WebAssembly is missing or refused, and says at a call what to do", () => {
+    const missing = "delete globalThis.WebAssembly;";
+    assert.equal(started([], missing, TRY),
+        `duration-str cannot use WebAssembly here (WebAssembly is not defined): ${ADVICE} ReferenceError`);
+    const refused = `const { Module } = WebAssembly;
+        WebAssembly.Module = class { constructor() { throw new WebAssembly.CompileError("refused"); } };`;
+    const twice = `${TRY}\nWebAssembly.Module = Module;\n${TRY}`;
+    assert.equal(started([], refused, twice),
+        `duration-str cannot use WebAssembly here (refused): ${ADVICE} CompileError\n5400000000000n`);
+});
+
+test("reads and prints without TextEncoder and TextDecoder, and says where it needs them", () => {
+    const missing = "delete globalThis.TextEncoder; delete globalThis.TextDecoder;";
+    const lines = `console.log(all.parse("1h 30m"), all.format(1500n));
+        try { all.parse("1分", { cnUnit: true }); } catch (error) { console.log(error.message); }
+        try { all.parse("1x"); } catch (error) { console.log(error.message); }`;
+    const said = (coder) => `\nduration-str cannot use ${coder} here (${coder} is not defined): `
+        + "set globalThis.TextEncoder and globalThis.TextDecoder, in Node to those of node:util";
+    assert.equal(started([], missing, lines), `5400000000000n 1µs 500ns${said("TextEncoder")}${said("TextDecoder")}`);
+});
+
+test("works where what is built in is frozen", () => {
+    const frozen = `for (const one of [Object, Array, String, Number, BigInt, Error, Function, RegExp]) {
+        Object.freeze(one); Object.freeze(one.prototype);
+    }`;
+    assert.equal(started(["--disable-proto=throw"], frozen, `${TRY} console.log(all.tryParse("x").fault.code, all.format(1n));`),
+        "5400000000000n\nSYNTAX 1ns");
+});
+
+// Edge runtimes hand over a module that is compiled already, as this hook does.
+const HOOK = `import { readFileSync } from "node:fs";
+export const load = (url, context, next) => url.endsWith(".wasm?module")
+    ? { format: "module", shortCircuit: true, source: "import { readFileSync } from 'node:fs';"
+        + "export default new WebAssembly.Module(readFileSync(new URL(import.meta.url)));" }
+    : next(url, context);`;
+
+for (const condition of ["workerd", "edge-light"]) {
+    test(`takes a compiled module under the condition ${condition}`, () => {
+        writeFileSync(join(room, "hook.mjs"), HOOK);
+        assert.equal(runs("node", "--no-warnings", "--loader=./hook.mjs", `--conditions=${condition}`, "module.mjs"), SAID);
+    });
+}
+
+test("runs on the edge where no code may be generated", () => {
+    writeFileSync(join(room, "edge.mjs"), `import { readFileSync } from "node:fs";
+import { createContext, SourceTextModule, SyntheticModule } from "node:vm";
+const context = createContext({}, { codeGeneration: { strings: false, wasm: false } });
+const compiled = new WebAssembly.Module(readFileSync("node_modules/duration-str/dist/duration_str.wasm"));
+const said = async (name) => {
+    const module = new SourceTextModule(readFileSync(\`node_modules/duration-str/dist/\${name}\`, "utf8"), { context });
+    await module.link(() => new SyntheticModule(["default"], function () { this.setExport("default", compiled); }, { context }));
+    await module.evaluate();
+    try { return module.namespace.parse("1h 30m"); } catch (error) { return error.cause.name; }
+};
+console.log(await said("edge.js"), await said("duration-str.js"));`);
+    assert.equal(runs("node", "--no-warnings", "--experimental-vm-modules", "edge.mjs"), "5400000000000n CompileError");
 });
 
 const BABEL = "/usr/share/nodejs/@babel/standalone/babel.js";
@@ -92,21 +156,15 @@ for (const format of ["esm", "cjs"]) {
     });
 }
 
-test("works in a service worker", skippedWithout("chromium"), async () => {
-    writeFileSync(join(room, "worker.mjs"), `${MODULE}\nself.onmessage = (event) => event.source.postMessage(said);`);
-    runs("esbuild", "worker.mjs", "--bundle", "--log-level=error", "--format=iife", "--outfile=worker.js");
-    const page = `<script>
-        navigator.serviceWorker.onmessage = (event) => fetch("/said", { method: "POST", body: event.data });
-        navigator.serviceWorker.register("worker.js").then(() => navigator.serviceWorker.ready)
-            .then((registration) => registration.active.postMessage("?"));
-    </script>`;
+/** What is posted from a page in Chromium that is served with these files and headers, of which the first is the page. */
+async function posted(files, headers = {}) {
     let browser;
-    const said = await new Promise((resolve, reject) => {
+    return new Promise((resolve, reject) => {
         const server = createServer(async (request, response) => {
-            if (request.url !== "/said") {
-                const isWorker = request.url === "/worker.js";
-                response.setHeader("content-type", isWorker ? "text/javascript" : "text/html");
-                response.end(isWorker ? readFileSync(join(room, "worker.js")) : page);
+            const name = request.url === "/" ? Object.keys(files)[0] : request.url.slice(1);
+            if (request.method === "GET") {
+                const type = name.endsWith(".js") ? "text/javascript" : "text/html";
+                response.writeHead(200, { ...headers, "content-type": type }).end(files[name]);
                 return;
             }
             let body = "";
@@ -121,11 +179,40 @@ test("works in a service worker", skippedWithout("chromium"), async () => {
             browser = spawn("chromium", [...words, `http://127.0.0.1:${server.address().port}/`], { stdio: "ignore" });
             browser.on("error", reject);
         });
-        setTimeout(() => reject(new Error("the worker says nothing for a minute")), 60_000).unref();
+        setTimeout(() => reject(new Error("the page says nothing for a minute")), 60_000).unref();
     }).finally(() => new Promise((resolve) => {
         // Until it has ended, the browser writes into its profile.
         browser.on("close", resolve);
         browser.kill();
     }));
-    assert.equal(said, SAID);
+}
+
+/** A script of these lines with what it imports. */
+function bundled(lines) {
+    writeFileSync(join(room, "lines.mjs"), lines);
+    return runs("esbuild", "lines.mjs", "--bundle", "--log-level=error", "--format=iife");
+}
+
+test("works in a service worker, and counts what Chromium's own types take", skippedWithout("chromium"), async () => {
+    const worker = bundled(`${MODULE}
+import { parts } from "duration-str";
+const counted = parts(5_400_000_000_000n);
+said += \` \${new Intl.DurationFormat("en").format(counted)} \${Temporal.Duration.from(counted)} \${Temporal.Duration.from(parts(0n))}\`;
+self.onmessage = (event) => event.source.postMessage(said);`);
+    const page = `<script>
+        navigator.serviceWorker.onmessage = (event) => fetch("/said", { method: "POST", body: event.data });
+        navigator.serviceWorker.register("worker.js").then(() => navigator.serviceWorker.ready)
+            .then((registration) => registration.active.postMessage("?"));
+    </script>`;
+    assert.equal(await posted({ "page.html": page, "worker.js": worker }), `${SAID} 1 hr, 30 min PT1H30M PT0S`);
+});
+
+test("lets a page start whose policy refuses it, and says what to allow", skippedWithout("chromium"), async () => {
+    const script = bundled(`import * as all from "duration-str";
+const said = () => { try { return all.parse("1h"); } catch (error) { return \`\${error.cause.name}: \${error.message}\`; } };
+fetch("/said", { method: "POST", body: \`started \${said()}\` });`);
+    const files = { "page.html": '<script src="script.js"></script>', "script.js": script };
+    const said = await posted(files, { "content-security-policy": "script-src 'self'" });
+    assert.match(said, /^started CompileError: duration-str cannot use WebAssembly here .* allow 'wasm-unsafe-eval' /);
+    assert.equal(await posted(files, { "content-security-policy": "script-src 'self' 'wasm-unsafe-eval'" }), "started 3600000000000");
 });

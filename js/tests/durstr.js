@@ -18,12 +18,7 @@ function answered(line) {
         return ["not UTF-8", false];
     }
     const { ok, value, fault } = tryParse(text, options);
-    return ok ? [`${value} ${format(value)}`, true] : [messageOf(fault), false];
-}
-
-/** The library's message, of which the package shows the parts otherwise. A line has no line feed. */
-function messageOf({ text, index, line }) {
-    return index === null ? line : `${text}\n${" ".repeat(index)}^\n${line}`;
+    return ok ? [`${value} ${format(value)}`, true] : [fault.report, false];
 }
 
 /** The lines of the input: a line feed ends each, and may be missing after the last. */

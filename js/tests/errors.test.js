@@ -2,7 +2,7 @@ import assert from "node:assert/strict";
 import test from "node:test";
 import { inspect } from "node:util";
 
-import { DurationError, parse, tryParse } from "duration-str";
+import { DurationError, parse, tryParse, tryParseMs } from "duration-str";
 import { IS_UNDER, OPTIONS, VECTORS } from "./vectors.js";
 
 const NOTHING = { number: false, unit: false, operator: false, end: false };
@@ -22,26 +22,39 @@ function errorOf(text, options) {
     return assert.fail(`${JSON.stringify(text)} is read`);
 }
 
-/** The message where the fault has a place: the line, the text, and a caret below the character of this index. */
+/** The report where the fault has a place: the text, a caret below the character of this index, and the line. */
 function pointed(text, index, line) {
-    return `${line}\n${text}\n${" ".repeat(index)}^`;
+    return text.includes("\n") ? `byte ${index}: ${line}` : `${text}\n${" ".repeat(index)}^\n${line}`;
 }
 
-test("makes room for each line, also where the text just fits", () => {
-    for (let count = 1; count < 22_000; count += 20) {
-        assert.equal(errorOf(`1s${" ".repeat(count)}x`).line, VECTORS.lines.operators);
+test("says in one line what is wrong, where, and what to write", () => {
+    const rows = [
+        ["1m 3-5", `expected a unit, '+', '*' or the end at column 5, found "-"`],
+        ["5 mins", `unknown unit "mins" at column 3: write "min"`],
+        ["-1h", `expected a number at column 1, found "-": negative durations are not read`],
+        ["1h\x1b[31mX", String.raw`expected a number, '+', '*' or the end at column 3, found "\u{001b}"`],
+        ["1s \u202e", String.raw`expected a number, '+', '*' or the end at column 4, found "\u{202e}"`],
+        ["1h 时x", `expected a number, '+', '*' or the end at column 4, found "时x"`],
+        ["1 µx", `unknown unit "µx" at column 3`],
+        ["600y", `duration of 2^64 nanoseconds or more in "600y"`],
+        ["1s \u{1f600}", `expected a number, '+', '*' or the end at column 4, found "\u{1f600}"`],
+        ["", "empty text"],
+    ];
+    for (const [text, oneLine] of rows) {
+        assert.equal(errorOf(text).message, oneLine);
+        assert.equal(tryParse(text).fault.oneLine, oneLine);
     }
 });
 
-test("shows a long text around the place, and of lines the one that has it", () => {
-    const line = VECTORS.lines.operators;
-    const blanks = (count) => " ".repeat(count);
-    assert.equal(errorOf(`1s${blanks(197)}x`).message, pointed(`1s${blanks(197)}x`, 199, line));
-    assert.equal(errorOf(`1s${blanks(300)}x`).message, pointed(`…${blanks(80)}x`, 81, line));
-    assert.equal(errorOf(`1s x${blanks(300)}`).message, pointed(`1s x${blanks(79)}…`, 3, line));
-    assert.equal(errorOf(`1s${blanks(300)}x${"y".repeat(78)}😀z`).message, pointed(`…${blanks(80)}x${"y".repeat(78)}😀…`, 81, line));
-    assert.equal(errorOf("1s\n2s x\n3s").message, pointed("2s x", 3, line));
-    assert.equal(errorOf("1s \tx").message, `${line}\n1s \tx\n   \t^`);
+test("lets nothing unsafe into the message, and keeps it short", () => {
+    // What the terminal acts on, what turns the direction of writing, and what isn't seen
+    const unsafe = /[\0-\x1f\x7f-\x9f\u200b-\u200f\u2028-\u202e\u2060-\u2069\ufeff]/;
+    for (let code = 0; code < 0x3000; code++) {
+        for (const before of ["", "1", "1h ", "1h x"]) {
+            const { ok, fault } = tryParse(`${before}${String.fromCharCode(code)}${"\u9f98".repeat(50)}`);
+            assert.ok(!ok && !unsafe.test(fault.oneLine) && Buffer.byteLength(fault.oneLine) <= 365, fault.oneLine);
+        }
+    }
 });
 
 test("tells the vectors' messages", () => {
@@ -50,7 +63,7 @@ test("tells the vectors' messages", () => {
             for (const [text, index, lineName] of rows) {
                 const error = errorOf(text, options);
                 const line = VECTORS.lines[lineName];
-                assert.equal(error.message, index === null ? line : pointed(text, index, line));
+                assert.equal(error.report, index === null ? line : pointed(text, index, line));
                 assert.deepEqual([error.text, error.index, error.line], [text, index, line]);
             }
         }
@@ -79,7 +92,7 @@ test("points at what it found, in each count", () => {
         assert.equal(error.code, "SYNTAX");
         assert.deepEqual([error.index, error.byte, error.found], [index, byte, found], text);
         assert.deepEqual(error.expected, expected, text);
-        assert.equal(error.message, pointed(text, index, error.line));
+        assert.equal(error.report, pointed(text, index, error.line));
         assert.ok(text.slice(index).startsWith(found ?? ""));
     }
 });
@@ -114,21 +127,42 @@ test("refuses lone surrogates, wherever they stand", () => {
         for (const options of OPTIONS) {
             const error = errorOf(text, options);
             assert.deepEqual([error.code, error.text], ["NOT_TEXT", text]);
-            assert.deepEqual([error.index, error.byte, error.found], [null, null, null]);
-            assert.equal(error.line, `not UTF-8: the character at index ${index} is a lone surrogate`);
-            assert.equal(error.message, error.line);
+            assert.deepEqual([error.index, error.byte, error.found], [index, null, null]);
+            assert.equal(error.message, `not UTF-8: a lone surrogate at index ${index}`);
+            assert.deepEqual([error.line, error.report], ["not UTF-8", "not UTF-8"]);
         }
     }
+});
+
+test("does no harm with what is handed in", () => {
+    const fails = () => { throw new SyntaxError("mine"); };
+    const hostile = [
+        Symbol("1s"), new Proxy({}, { get: fails, getPrototypeOf: fails }), new Proxy(() => "1s", {}), new Map(), new Date(0), /1s/, NaN, 10n ** 1000n,
+        { toString: fails, valueOf: fails }, new String("1s"),
+    ];
+    for (const value of hostile) {
+        for (const call of [parse, tryParse, tryParseMs]) {
+            assert.throws(() => call(value), { name: "TypeError", message: /^a duration's text must be a string, not / });
+            assert.throws(() => call("1s", value), (error) => error instanceof Error);
+        }
+    }
+    for (const value of [Object.create(null), { [Symbol.toPrimitive]: fails }]) assert.throws(() => parse(value), TypeError);
+    assert.throws(() => parse("1s", Object.defineProperty({}, "noCalc", { enumerable: true, get: fails })), { message: "mine" });
+    for (const text of ["\0", "1\0h", "\ufeff1h", `${"9".repeat(1_000_000)}h`, "1h".repeat(3) + "\u202e", "__proto__", "constructor"]) {
+        assert.equal(tryParse(text).ok, false, text.slice(0, 20));
+        assert.throws(() => parse(text), DurationError);
+    }
+    assert.equal(parse("1s"), 1_000_000_000n);
 });
 
 test("is an Error of its own name", () => {
     const error = errorOf("600y");
     assert.ok(error instanceof Error);
-    assert.equal(String(error), "DurationError: overflow error\n600y\n^");
-    assert.match(error.stack, /^DurationError: overflow error\n600y/);
+    assert.equal(String(error), `DurationError: ${error.oneLine}`);
+    assert.ok(error.stack.startsWith(`${error}\n    at `));
     assert.ok(!Object.hasOwn(error, "name"));
     error.name = "ConfigurationError";
-    assert.equal(String(error), "ConfigurationError: overflow error\n600y\n^");
+    assert.equal(String(error), `ConfigurationError: ${error.oneLine}`);
 });
 
 test("is made of a fault alone, and shown with its message once", () => {
@@ -136,31 +170,36 @@ test("is made of a fault alone, and shown with its message once", () => {
     for (const fault of [undefined, null, {}, "1x"]) {
         assert.throws(() => new DurationError(fault), { name: "TypeError", message: /^a DurationError is made of a fault/ });
     }
-    assert.equal(inspect(errorOf("1x 2-")).split("1x 2-\n ^").length, 2);
+    assert.equal(inspect(errorOf("1x 2-")).split("text: '1x 2-'").length, 2);
 });
 
 test("survives a structured clone and JSON, with all that is wrong", () => {
     const error = errorOf("1m 3-5");
     const { fault } = tryParse("1m 3-5");
     const clone = structuredClone(error);
-    assert.deepEqual({ message: clone.message, ...clone.cause }, fault);
-    assert.deepEqual(JSON.parse(JSON.stringify(error)), { name: "DurationError", ...fault });
+    assert.deepEqual([clone.message, clone.cause], [fault.oneLine, { ...fault }]);
+    const { line, report, oneLine: message } = fault;
+    assert.deepEqual(JSON.parse(JSON.stringify(error)), { name: "DurationError", message, ...fault, line, report });
 });
 
 test("is told without an error by tryParse", () => {
     assert.deepEqual(tryParse("1h 30m"), { ok: true, value: 5_400_000_000_000n });
     for (const text of ["", "1m 3-5", "600y", "\ud800"]) {
         const { ok, fault } = tryParse(text);
-        const { code, index, byte, found, expected, line, message } = errorOf(text);
-        assert.deepEqual([ok, fault], [false, { code, text, index, byte, found, expected, line, message }]);
+        const { code, index, byte, found, expected, oneLine, line, report } = errorOf(text);
+        assert.deepEqual([ok, { ...fault }], [false, { code, text, index, byte, found, expected, oneLine }]);
+        assert.deepEqual([fault.line, fault.report], [line, report]);
+        assert.deepEqual(tryParseMs(text), { ok, fault });
     }
-    assert.throws(() => tryParse(1), TypeError);
+    assert.deepEqual(tryParseMs("1h 999999ns"), { ok: true, value: 3_600_000 });
+    for (const call of [tryParse, tryParseMs]) assert.throws(() => call(1), TypeError);
 });
 
 test("tells what is wrong in 10 MB", () => {
     const blanks = " ".repeat(10_000_000);
     const error = errorOf(`1µs${blanks}😀x`);
     assert.deepEqual([error.index, error.byte, error.found], [10_000_003, 10_000_004, "😀"]);
-    assert.equal(error.message, pointed(`…${" ".repeat(80)}😀x`, 81, VECTORS.lines.operators));
+    assert.equal(error.message, `expected a number, '+', '*' or the end at column 10000004, found "😀x"`);
+    assert.equal(error.report, pointed(error.text, error.index, VECTORS.lines.operators));
     assert.equal(parse("1s"), 1_000_000_000n);
 });

@@ -1,31 +1,42 @@
 import assert from "node:assert/strict";
 import test from "node:test";
 
-import { format, formatMs, parse, parseMs } from "duration-str";
+import { format, formatMs, parse, parseMs, parts } from "duration-str";
 import { VECTORS } from "./vectors.js";
+
+/** The printed names of the units, the longest first. */
+const NAMES = ["y", "q", "mon", "w", "d", "h", "min", "s", "ms", "µs", "ns"];
+const DAY = 86_400_000_000_000n;
 
 test("prints the vectors", () => {
     for (const [text, printed] of VECTORS.printed) assert.equal(format(parse(text)), printed);
 });
 
-test("prints the vectors within limits", () => {
+test("prints the vectors within limits, and refuses those that contradict each other", () => {
     for (const [text, largest, smallest, parts, printed] of VECTORS.printed_within) {
-        assert.equal(format(parse(text), { largest, smallest, parts }), printed);
-        if (smallest === "µs") assert.equal(format(parse(text), { largest, smallest: "us", parts }), printed);
+        const print = () => format(parse(text), { largest, smallest, parts });
+        if (parts === 0 || NAMES.indexOf(largest) > NAMES.indexOf(smallest)) assert.throws(print, RangeError);
+        else assert.equal(print(), printed);
     }
+    assert.equal(format(999n, { smallest: "us" }), "0s");
+    assert.equal(format(1999n, { smallest: "us" }), "1µs");
     assert.equal(formatMs(193_029, { parts: 2 }), "3min 13s");
     assert.equal(format(90_061_000_000_001n, { parts: 1e9, largest: undefined }), "1d 1h 1min 1s 1ns");
 });
 
 test("refuses limits that there are not", () => {
-    const names = "y, q, mon, w, d, h, min, s, ms, µs, ns or us";
+    const names = NAMES.join(", ");
+    const style = "the option style must be one of short, compact, long, not";
     const rows = [
         [{ largest: "days" }, new RangeError(`the option largest must be one of ${names}, not days`)],
         [{ smallest: "\u03bcs" }, new RangeError(`the option smallest must be one of ${names}, not \u03bcs`)],
         [{ smallest: 5 }, new TypeError("the option smallest must be a string, not number")],
-        [{ parts: -1 }, new RangeError("the option parts must be a whole number, not -1")],
-        [{ parts: 1.5 }, new RangeError("the option parts must be a whole number, not 1.5")],
-        [{ parts: NaN }, new RangeError("the option parts must be a whole number, not NaN")],
+        [{ parts: 0 }, new RangeError("the option parts must be a whole number from 1 on, not 0")],
+        [{ parts: 1.5 }, new RangeError("the option parts must be a whole number from 1 on, not 1.5")],
+        [{ parts: NaN }, new RangeError("the option parts must be a whole number from 1 on, not NaN")],
+        [{ largest: "h", smallest: "d" }, new RangeError("the largest unit, h, is shorter than the smallest, d")],
+        [{ style: "wide" }, new RangeError(`${style} wide`)],
+        [{ style: 1 }, new TypeError("the option style must be a string, not number")],
         [{ parts: "2" }, new TypeError("the option parts must be a number, not string")],
         [{ units: 2 }, new TypeError("unknown option: units")],
         [0, new TypeError("the options must be a plain object, not number")],
@@ -33,6 +44,46 @@ test("refuses limits that there are not", () => {
     for (const [options, error] of rows) {
         assert.throws(() => format(1n, options), error);
         assert.throws(() => formatMs(1, options), error);
+    }
+});
+
+test("prints in each style", () => {
+    const rows = [
+        [5_400_000_000_000n, {}, "1h 30min", "1h30min", "1 hour 30 minutes"],
+        [61_001_001_001n, {}, "1min 1s 1ms 1µs 1ns", "1min1s1ms1µs1ns", "1 minute 1 second 1 millisecond 1 microsecond 1 nanosecond"],
+        [489n * DAY, {}, "1y 1q 1mon 3d", "1y1q1mon3d", "1 year 1 quarter 1 month 3 days"],
+        [489n * DAY, { parts: 2, largest: "w" }, "69w 6d", "69w6d", "69 weeks 6 days"],
+        [0n, {}, "0s", "0s", "0 seconds"],
+        [0n, { smallest: "h" }, "0h", "0h", "0 hours"],
+    ];
+    for (const [value, limits, ...texts] of rows) {
+        const styles = ["short", "compact", "long"];
+        assert.deepEqual(styles.map((style) => format(value, { ...limits, style })), texts);
+    }
+    assert.equal(formatMs(90_000, { style: "long" }), "1 minute 30 seconds");
+});
+
+test("counts the parts", () => {
+    const rows = [
+        [5_400_000_000_000n, undefined, { hours: 1, minutes: 30 }],
+        [0n, undefined, { seconds: 0 }],
+        [1n, { smallest: "µs" }, { seconds: 0 }],
+        [1n, { largest: "w", smallest: "d" }, { days: 0 }],
+        [2n ** 64n - 1n, undefined, { days: 213_503, hours: 23, minutes: 34, seconds: 33, milliseconds: 709, microseconds: 551, nanoseconds: 615 }],
+        // 400 days are a year of 365, a month of 30 and 5 more, and of months and weeks alone 13 of 30, a week and 3 more.
+        [400n * DAY, { largest: "y" }, { years: 1, months: 1, days: 5 }],
+        [400n * DAY, { largest: "mon" }, { months: 13, weeks: 1, days: 3 }],
+        [400n * DAY, { largest: "mon", parts: 2 }, { months: 13, weeks: 1 }],
+        [2n ** 53n - 1n, { largest: "ns" }, { nanoseconds: Number.MAX_SAFE_INTEGER }],
+    ];
+    for (const [value, limits, counted] of rows) assert.deepEqual(parts(value, limits), counted);
+    assert.throws(() => parts(2n ** 53n, { largest: "ns" }), { name: "RangeError", message: /^no number holds 9007199254740992 / });
+    for (const limits of [{ largest: "q" }, { largest: "y", smallest: "q" }, { smallest: "w" }, { parts: 0 }]) {
+        assert.throws(() => parts(1n, limits), RangeError);
+    }
+    for (const value of [-1n, 2n ** 64n]) assert.throws(() => parts(value), RangeError);
+    for (const words of [[1], ["1"], [1n, null], [1n, { style: "long" }], [1n, { unit: "d" }]]) {
+        assert.throws(() => parts(...words), TypeError);
     }
 });
 
@@ -61,11 +112,11 @@ test("reads back what it prints", () => {
 
 test("refuses what is negative, not finite or too large", () => {
     const rows = [
-        [format, [-1n, -(10n ** 1000n)], /^a negative duration has no text: -/],
-        [format, [2n ** 64n, 10n ** 1000n], /^a duration of 2\^64 nanoseconds or more has no text$/],
-        [formatMs, [-1, -0.5], /^a negative duration has no text: -(1|0\.5)$/],
+        [format, [-1n, -(10n ** 1000n)], /^a duration is not negative: -/],
+        [format, [2n ** 64n, 10n ** 1000n], /^a duration is below 2\^64 nanoseconds$/],
+        [formatMs, [-1, -0.5], /^a duration is not negative: -(1|0\.5)$/],
         [formatMs, [NaN, Infinity, -Infinity], /^milliseconds must be finite, not (NaN|-?Infinity)$/],
-        [formatMs, [18_446_744_073_710, 2 ** 53, 1e300], /^a duration of 2\^64 nanoseconds or more has no text$/],
+        [formatMs, [18_446_744_073_710, 2 ** 53, 1e300], /^a duration is below 2\^64 nanoseconds$/],
     ];
     for (const [call, values, message] of rows) {
         for (const value of values) assert.throws(() => call(value), { name: "RangeError", message });

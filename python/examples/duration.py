@@ -14,7 +14,7 @@ def main():
     try:
         nanos = duration_str.parse_ns(sys.argv[1])
     except duration_str.DurationError as error:
-        print(error)
+        print(error.report)
         sys.exit(1)
     secs, rest = divmod(START + nanos, 10**9)
     print(nanos, duration_str.format(nanos), f"{secs}.{rest:09}")

@@ -19,7 +19,7 @@ def periods(configuration):
         try:
             yield configuration.parent / folder, duration_str.parse_ns(str(text))
         except duration_str.DurationError as error:
-            sys.exit(f"{configuration}: {folder}: {error.line}")
+            sys.exit(f"{configuration}: {folder}: {error}")
 
 
 def expired(folder, kept, now):

@@ -98,10 +98,11 @@ class Reading(unittest.TestCase):
             "import sys, numpy, duration_str\n"
             "values = ['1s', None, float('nan'), numpy.float32('nan'), numpy.timedelta64('NaT')]\n"
             "print(duration_str.to_timedelta(values).astype('int64').tolist(), 'pandas' in sys.modules)\n"
-            "print(repr(duration_str.to_timedelta('1s')), repr(duration_str.to_timedelta('x', errors='coerce')))\n"
+            "one = ['1s', float('nan'), None]\n"
+            "print(*map(repr, map(duration_str.to_timedelta, one)), repr(duration_str.to_timedelta('x', errors='coerce')))\n"
         )
         told = subprocess.run([sys.executable, "-c", program], capture_output=True, text=True, check=True)
-        one = "numpy.timedelta64(1000000000,'ns') numpy.timedelta64('NaT','ns')"
+        one = "numpy.timedelta64(1000000000,'ns') numpy.timedelta64('NaT','ns') None numpy.timedelta64('NaT','ns')"
         self.assertEqual(told.stdout, f"{[SECOND, *[-(2**63)] * 4]} False\n{one}\n")
 
     def test_refuses_what_timedelta64_lacks(self):
@@ -110,13 +111,14 @@ class Reading(unittest.TestCase):
         for text in [f"{2**63}ns", f"{2**63 + 1}ns", "300y", f"{2**64 - 1}ns"]:
             with self.subTest(text=text):
                 self.assertEqual(numbers(to_timedelta(["1s", text], errors="coerce")), [SECOND, None])
-                with self.assertRaisesRegex(DurationError, "timedelta64 doesn't have\nat index 1$") as told:
+                with self.assertRaisesRegex(DurationError, "timedelta64 doesn't have, at index 1$") as told:
                     to_timedelta(["1s", text, "x"])
                 self.assertEqual((told.exception.index, told.exception.cause), (1, Cause.OVERFLOW))
                 self.assertEqual((told.exception.text, told.exception.place), (text, None))
+                self.assertEqual(told.exception.line, "duration of 2^63 nanoseconds or more, which timedelta64 doesn't have")
 
     def test_raises_the_first_refusal(self):
-        with self.assertRaisesRegex(DurationError, "^1m 3-5\n    \\^\nexpected .*\nat index 2$") as told:
+        with self.assertRaisesRegex(DurationError, '^expected .* at column 5, found "-", at index 2$') as told:
             to_timedelta(["1s", None, "1m 3-5", "300y", "x"])
         self.assertEqual((told.exception.index, told.exception.found), (2, "-"))
         labelled = pandas.Series(["1s", "x"], index=[10, 20])
@@ -189,9 +191,17 @@ class Reading(unittest.TestCase):
         for column in [numpy.array([b"1s"]), numpy.array([1]), pandas.Series([1.5]), {1}]:
             with self.assertRaisesRegex(TypeError, "at index 0$"):
                 to_timedelta(column)
-        for column in [b"1s", None, 5, 1.5, pandas.DataFrame({"wait": ["1s"]})]:
+        for column in [b"1s", 5, 1.5, pandas.DataFrame({"wait": ["1s"]})]:
             with self.assertRaises(TypeError):
                 to_timedelta(column)
+
+    def test_takes_one_missing_value(self):
+        self.assertIsNone(to_timedelta(None))
+        for value in [float("nan"), numpy.float32("nan"), pandas.NA, pandas.NaT, numpy.timedelta64("NaT"), decimal.Decimal("nan")]:
+            with self.subTest(value=value):
+                self.assertIs(to_timedelta(value), pandas.NaT)
+        texts = pandas.Series(["1s", None, pandas.NA, float("nan"), "2m"], index=list("abcde"), dtype=object)
+        pandas.testing.assert_series_equal(texts.map(to_timedelta), to_timedelta(texts))
 
     def test_takes_one_value(self):
         rows = [("1m 5ns", MINUTE + 5), (datetime.timedelta(1), 86_400 * SECOND), (pandas.Timedelta(-5, "ns"), -5)]
@@ -199,10 +209,10 @@ class Reading(unittest.TestCase):
             with self.subTest(value=value):
                 read = to_timedelta(value, cn_unit=True)
                 self.assertEqual((type(read), read.value), (pandas.Timedelta, nanos))
-        with self.assertRaisesRegex(DurationError, "^1x\n \\^\nexpected [^\n]*$") as told:
+        with self.assertRaisesRegex(DurationError, '^unknown unit "x" at column 2$') as told:
             to_timedelta("1x")
         self.assertIsNone(told.exception.index)
-        with self.assertRaisesRegex(DurationError, "^300y\n2.*timedelta64 doesn't have$"):
+        with self.assertRaisesRegex(DurationError, "^duration of .* timedelta64 doesn't have$"):
             to_timedelta("300y")
         with self.assertRaisesRegex(OverflowError, "nanoseconds or more: .*=999999\\)$"):
             to_timedelta(datetime.timedelta.max)

@@ -68,7 +68,7 @@ class Columns(unittest.TestCase):
                 ]:
                     with self.subTest(text=text, call=call, **options):
                         error = error_of(call, *arguments, **options)
-                        self.assertEqual(str(error), f"{alone}\nat index 3")
+                        self.assertEqual((str(error), error.report), (f"{alone}, at index 3", alone.report))
                         self.assertEqual({**vars(error), "index": None}, vars(alone))
                         self.assertEqual(error.index, 3)
                         again = pickle.loads(pickle.dumps(error))
@@ -208,7 +208,7 @@ class Buffers(unittest.TestCase):
             error = error_of(parse_buffers, *buffers_of([b"1s", encoded]))
             self.assertEqual((error.index, error.cause, error.place), (1, Cause.NOT_TEXT, None))
             self.assertEqual(error.text.encode("utf-8", "surrogateescape"), encoded)
-            self.assertEqual(str(error), "not UTF-8\nat index 1")
+            self.assertEqual((str(error), error.report, error.line), ("not UTF-8, at index 1", "not UTF-8", "not UTF-8"))
         # Two texts that are cut within a character
         self.assertEqual(list(parse_buffers("1µs".encode(), array("q", [0, 2, 4]), errors="coerce")[1]), [0, 1])
 

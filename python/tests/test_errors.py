@@ -2,6 +2,7 @@
 
 import copy
 import pickle
+import sys
 import unittest
 
 from duration_str import Cause, DurationError, Expected, parse, parse_ns
@@ -28,8 +29,30 @@ class Errors(unittest.TestCase):
                     with self.subTest(text=text, **options):
                         error = error_of(text, **options)
                         caret = "" if column is None else f"{text}\n{' ' * column}^\n"
-                        self.assertEqual(str(error), caret + LINES[line])
+                        self.assertEqual((error.report, error.line), (caret + LINES[line], LINES[line]))
                         self.assertEqual((error.text, error.column), (text, column))
+
+    def test_is_one_line(self):
+        rows = [
+            ("", {}, "empty text"),
+            ("5 mins", {}, 'unknown unit "mins" at column 3: write "min"'),
+            ("1m 3-5", {}, "expected a unit, '+', '*' or the end at column 5, found \"-\""),
+            ("1µs …", {}, "expected a number, '+', '*' or the end at column 5, found \"\\u{2026}\""),
+            ("1m+", {}, "expected a number at column 4, found the end"),
+            ("1µ\n2x", {}, 'unknown unit "µ" at column 2'),
+            ("1h\0", {}, "expected a number, '+', '*' or the end at column 3, found \"\\u{0000}\""),
+            ("-1h", {}, 'expected a number at column 1, found "-": negative durations are not read'),
+            ("3ms*2ms", {"no_calc": True}, 'expected a number or the end at column 4, found "*"'),
+            ("1M", {"lowercase": True}, 'unknown unit "M" at column 2'),
+            ("1分s", {"cn_unit": True}, 'unknown unit "分s" at column 2'),
+            ("18446744073709551616", {}, 'number of 2^64 or more at column 1, found "18446744073709551616"'),
+            ("600y", {}, 'duration of 2^64 nanoseconds or more in "600y"'),
+            ("1s+2*3", {}, "'*' after '+' in \"1s+2*3\""),
+        ]
+        for text, options, line in rows:
+            with self.subTest(text=text):
+                error = error_of(text, **options)
+                self.assertEqual((str(error), error.one_line), (line, line))
 
     def test_points_at_what_it_found(self):
         rows = [
@@ -67,18 +90,17 @@ class Errors(unittest.TestCase):
                 self.assertEqual((error.found, error.expected), (None, Expected(0)))
 
     def test_is_a_value_error(self):
-        with self.assertRaises(ValueError):
+        with self.assertRaisesRegex(ValueError, '^unknown unit "x" at column 2$'):
             parse("1x")
-        with self.assertRaisesRegex(ValueError, "^600y\n\\^\noverflow error$"):
-            parse("600y")
 
     def test_tells_the_byte_where_the_text_has_lines(self):
-        self.assertEqual(str(error_of("1µ\n2x")), f"byte 1: {LINES['units']}")
+        error = error_of("1µ\n2x")
+        self.assertEqual((error.report, error.line), (f"byte 1: {LINES['units']}", LINES["units"]))
 
     def test_reads_a_zero_character_as_any_other(self):
         error = error_of("1s\0 2s")
         self.assertEqual((error.cause, error.place, error.found), (Cause.SYNTAX, 2, "\0"))
-        self.assertEqual(str(error), f"1s\0 2s\n  ^\n{LINES['operators']}")
+        self.assertEqual(error.report, f"1s\0 2s\n  ^\n{LINES['operators']}")
         self.assertEqual(error_of("\0").place, 0)
 
     def test_refuses_lone_surrogates(self):
@@ -89,19 +111,34 @@ class Errors(unittest.TestCase):
                     error = error_of(text, **options)
                     self.assertIs(error.cause, Cause.NOT_TEXT)
                     self.assertEqual((error.text, error.place, error.column, error.found), (text, None, None, None))
-                    self.assertEqual(str(error), f"no text: character {place} is a lone surrogate")
+                    line = f"not UTF-8: the character at index {place} is a lone surrogate"
+                    self.assertEqual((str(error), error.report, error.line), (line, line, line))
 
     def test_writes_long_messages(self):
         text = f"1s{' ' * 100_000}x"
-        self.assertEqual(str(error_of(text)), f"{text}\n{' ' * 100_002}^\n{LINES['operators']}")
+        self.assertEqual(error_of(text).report, f"{text}\n{' ' * 100_002}^\n{LINES['operators']}")
+        self.assertEqual(str(error_of(text)), 'expected a number, \'+\', \'*\' or the end at column 100003, found "x"')
+
+    def test_costs_little(self):
+        """Of Python's functions a refusal calls one, the error's own: the report waits until it is asked for."""
+        called = []
+        sys.setprofile(lambda frame, event, _: called.append(frame.f_code.co_name) if event == "call" else None)
+        try:
+            parse_ns("1m 3-5")
+        except DurationError:
+            pass
+        finally:
+            sys.setprofile(None)
+        self.assertEqual(called, ["__init__"])
 
     def test_can_be_copied_and_pickled(self):
-        for text in ["", "1µs …", "600y"]:
-            error = error_of(text)
+        for text in ["", "1µs …", "600y", "1\ud800"]:
+            error = error_of(text, no_calc=True)
             error.job = "backup"
             error.__notes__ = ["of the second job"]
             for other in [copy.copy(error), pickle.loads(pickle.dumps(error))]:
                 self.assertEqual((str(other), vars(other)), (str(error), vars(error)))
+                self.assertEqual(other.report, error.report)
 
 
 if __name__ == "__main__":

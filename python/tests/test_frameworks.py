@@ -1,6 +1,8 @@
 """Durations as pydantic, argparse and Click read them, by the recipes of README.md."""
 
+import argparse
 import datetime
+import importlib
 import importlib.metadata
 import importlib.util
 import json
@@ -41,30 +43,46 @@ def run(name, *words):
 
 
 class Lines(unittest.TestCase):
-    def test_is_one_line_without_the_text(self):
-        for text in ["", "1x", "1m 3-5", "600y", "1s+2*3", "1µ\n2x", "\ud800", "x\r"]:
+    def test_is_one_line(self):
+        for text in ["", "1x", "1m 3-5", "600y", "1s+2*3", "1µ\n2x", "\ud800", "x\r", "1\u2028"]:
             with self.subTest(text=text), self.assertRaises(duration_str.DurationError) as told:
                 parse(text)
-            error = told.exception
-            self.assertNotIn("\n", error.line)
-            self.assertTrue(str(error).endswith(error.line))
-        with self.assertRaises(duration_str.DurationError) as told:
-            duration_str.parse_many(["1µ\n2x"])
-        self.assertEqual(told.exception.line, LINE)
+            self.assertEqual([str(told.exception)], str(told.exception).splitlines())
 
     def test_argparse(self):
         self.assertEqual(run("job.py", "--timeout", "1m"), (0, "0:01:00\n", ""))
-        status, output, told = run("job.py", "--timeout", "1m 3-5")
+        self.assertEqual(run("job.py"), (0, "0:00:30\n", ""))
+        status, output, told = run("job.py", "--timeout", "5 mins")
         self.assertEqual((status, output), (2, ""))
-        self.assertEqual(told, f"job.py: error: argument --timeout: {LINE}")
+        self.assertEqual(told, f"job.py: error: argument --timeout: '5 mins': {LINE}")
+
+    def test_argparse_takes_options(self):
+        from duration_str.argparse import DurationType
+
+        parser = argparse.ArgumentParser(exit_on_error=False)
+        parser.add_argument("--timeout", type=DurationType(cn_unit=True), default=HOUR)
+        self.assertEqual(parser.parse_args([]).timeout, HOUR)
+        self.assertEqual(parser.parse_args(["--timeout", "1分"]).timeout, MINUTE)
+        with self.assertRaisesRegex(argparse.ArgumentError, "argument --timeout: '1%x': expected a unit"):
+            parser.parse_args(["--timeout", "1%x"])
 
     @unittest.skipUnless(has("click"), "Click is missing")
     def test_click(self):
         self.assertEqual(run("wait.py", "--timeout", "1m"), (0, "0:01:00\n", ""))
         self.assertEqual(run("wait.py"), (0, "0:00:30\n", ""))
-        status, output, told = run("wait.py", "--timeout", "1m 3-5")
+        status, output, told = run("wait.py", "--timeout", "5 mins")
         self.assertEqual((status, output), (2, ""))
-        self.assertEqual(told, f"Error: Invalid value for '--timeout': {LINE}")
+        self.assertEqual(told, f"Error: Invalid value for '--timeout': '5 mins': {LINE}")
+
+    @unittest.skipUnless(has("click"), "Click is missing")
+    def test_click_takes_options(self):
+        import click
+        from duration_str.click import DURATION, DurationParamType
+
+        self.assertEqual(DurationParamType(cn_unit=True)("1分"), MINUTE)
+        self.assertEqual(repr(DURATION), "DURATION")
+        with self.assertRaisesRegex(click.BadParameter, "'1分': unknown unit"):
+            DURATION("1分")
 
     @unittest.skipUnless(has("click"), "Click is missing")
     def test_click_keeps_timedeltas(self):
@@ -83,10 +101,20 @@ class Cluster(unittest.TestCase):
         self.assertEqual(run("cluster.py"), (0, "21093 days 18:00:00 [1, 5, 9]\n", ""))
 
 
-LINE = 'expected ["y", "q", "mon", "w", "d", "h", "m", "s", "ms", "µs", "us", "ns"]'
+UNITS = 'expected ["y", "q", "mon", "w", "d", "h", "m", "s", "ms", "µs", "us", "ns"]'
+LINE = 'unknown unit "mins" at column 3: write "min"'
 
 
 @unittest.skipUnless(has("pydantic"), "pydantic is missing")
+class Earlier(unittest.TestCase):
+    def test_is_refused_by_pydantic_1(self):
+        pydantic = importlib.import_module("pydantic.v1" if has("pydantic_core") else "pydantic")
+        for annotation in [duration_str.Duration, typing.Optional[duration_str.Duration], list[duration_str.Duration]]:
+            with self.assertRaisesRegex(TypeError, "^duration_str.Duration needs pydantic 2$"):
+                pydantic.create_model("Job", timeout=(annotation, ...))
+
+
+@unittest.skipUnless(has("pydantic_core"), "pydantic 2 is missing")
 class Models(unittest.TestCase):
     def setUp(self):
         import pydantic
@@ -156,9 +184,30 @@ class Models(unittest.TestCase):
             (duration_str.Duration, field(120 * HOUR, gt=HOUR)),
             (typing.Annotated[duration_str.Duration, field(gt=HOUR)], 120 * HOUR),
         ]:
+            for config in [{}, {"ser_json_timedelta": "float"}]:
+                model = self.pydantic.create_model("Kept", __config__=config, length=(annotation, default))
+                for mode in ["validation", "serialization"]:
+                    with self.subTest(annotation=annotation, mode=mode, **config):
+                        schema = model.model_json_schema(mode=mode)
+                        self.assertEqual(schema["properties"]["length"]["default"], "5d")
+                self.assertEqual(model(length="5d"), model())
+
+    def test_takes_a_default_as_a_text(self):
+        for annotation, default in [
+            (duration_str.Duration, self.pydantic.Field("30s", validate_default=True)),
+            (typing.Annotated[duration_str.Duration, self.pydantic.Field(validate_default=True, lt=HOUR)], "30s"),
+        ]:
             model = self.pydantic.create_model("Kept", length=(annotation, default))
-            schema = model.model_json_schema(mode="serialization")
-            self.assertEqual(schema["properties"]["length"]["default"], "5d")
+            self.assertEqual(model().length, MINUTE / 2)
+            self.assertEqual(model().model_dump_json(), '{"length":"30s"}')
+            for mode in ["validation", "serialization"]:
+                schema = model.model_json_schema(mode=mode)["properties"]["length"]
+                self.assertEqual(schema, {"title": "Length", "type": "string", "default": "30s"})
+        for value, config in [(-HOUR, {"ser_json_timedelta": "float"}), ("Pst", {})]:
+            model = self.pydantic.create_model("Kept", __config__=config, length=(duration_str.Duration, value))
+            self.assertIn("default", model.model_json_schema()["properties"]["length"])
+        unchecked = self.pydantic.create_model("Kept", length=(duration_str.Duration, "30s"))
+        self.assertEqual(unchecked().model_dump_json(), '{"length":"30s"}')
 
     def test_refuses_what_json_does_not_read_back(self):
         for value in ["1x", "", "PT1M", 60, 1.5, None, b"1m", -MINUTE, datetime.time(1)]:
@@ -167,9 +216,24 @@ class Models(unittest.TestCase):
             if not isinstance(value, (bytes, datetime.timedelta, datetime.time)):
                 with self.subTest(json=value), self.assertRaises(self.pydantic.ValidationError):
                     self.model.model_validate_json(json.dumps({"timeout": value}))
+
+    def test_tells_what_is_wrong_in_one_line(self):
+        for read in [
+            lambda: self.model(timeout="5 mins"),
+            lambda: self.model.model_validate_json('{"timeout": "5 mins"}'),
+        ]:
+            with self.assertRaises(self.pydantic.ValidationError) as told:
+                read()
+            (error,) = told.exception.errors()
+            self.assertEqual((error["type"], error["loc"], error["msg"]), ("duration", ("timeout",), LINE))
+            self.assertEqual(
+                error["ctx"],
+                {"one_line": LINE, "line": UNITS, "cause": "SYNTAX", "place": 2, "column": 2, "found": "mins"},
+            )
+            self.assertEqual(json.loads(told.exception.json())[0]["ctx"], error["ctx"])
         with self.assertRaises(self.pydantic.ValidationError) as told:
-            self.model(timeout="600y")
-        self.assertEqual([error["msg"] for error in told.exception.errors()], ["Value error, 600y\n^\noverflow error"])
+            self.model(timeout="1{line}")
+        self.assertIn('at column 2, found "{"', told.exception.errors()[0]["msg"])
 
     def test_runs_the_recipe(self):
         self.assertEqual(run("model.py"), (0, '{"timeout":"1h 30min"}\n', ""))
@@ -209,8 +273,8 @@ class Retention(unittest.TestCase):
         self.assertEqual(self.run_over("logs: 2w\n"), (0, "/logs/old: older than 2w\n"))
 
     def test_names_the_folder_whose_period_is_refused(self):
-        line = 'expected ["y", "q", "mon", "w", "d", "h", "m", "s", "ms", "µs", "us", "ns"]'
-        self.assertEqual(self.run_over("logs: 2 fortnights\n"), (1, f"/keep.yaml: logs: {line}\n"))
+        told = '/keep.yaml: logs: unknown unit "fortnights" at column 3\n'
+        self.assertEqual(self.run_over("logs: 2 fortnights\n"), (1, told))
 
 
 if __name__ == "__main__":

@@ -5,10 +5,12 @@ and values that change while they are read: each gets an error, or the answer fo
 import concurrent.futures
 import datetime
 import gc
+import importlib
 import importlib.util
 import itertools
 import mmap
 import os
+import sys
 import tempfile
 import time
 import unittest
@@ -92,8 +94,11 @@ class Hostile(unittest.TestCase):
             for arguments, words in [((), {}), (("1s", "2s"), {}), ((), {"text": "1s"}), (("1s",), {"no_calk": True})]:
                 with self.assertRaises(TypeError):
                     call(*arguments, **words)
+            never = type("Never", (), {"__bool__": lambda _: 1 // 0})()
             with self.assertRaises(ZeroDivisionError):
-                call("1s", no_calc=type("Never", (), {"__bool__": lambda _: 1 // 0})())
+                call("1s", no_calc=never)
+            with self.assertRaisesRegex(TypeError, "unexpected keyword argument 'strict'"):
+                call("1s", strict=never)
 
     def test_prints_what_an_int_is(self):
         self.assertEqual(format(Number(SECOND)), "1s")
@@ -102,9 +107,19 @@ class Hostile(unittest.TestCase):
         for value in [2**64 * SECOND, 10**400]:
             with self.assertRaises(OverflowError):
                 format(value)
-        for value in [-1, -(2**64), Number(-1), -(10**400)]:
-            with self.assertRaisesRegex(ValueError, "negative"):
+        for value in [-1, -(2**64), Number(-1), -(10**400), -(10**5000)]:
+            with self.assertRaisesRegex(ValueError, "^a negative duration has no text: "):
                 format(value)
+
+    def test_hides_no_error_of_a_value(self):
+        for error in [MemoryError, ZeroDivisionError]:
+
+            def fail(_, error=error):
+                raise error
+
+            value = type("Failing", (), {"__index__": fail, "__bool__": fail})()
+            for call in [lambda: format(5, parts=value), lambda: format_many([5], parts=value), lambda: parse("1s", no_calc=value)]:
+                self.assertRaises(error, call)
 
     def test_leaves_the_buffers_of_a_kept_error(self):
         data, offsets = bytearray(b"1x"), array("q", [0, 2])
@@ -145,7 +160,7 @@ class Hostile(unittest.TestCase):
 
         values += [SECOND, Clearing(seconds=1), SECOND]
         texts = []
-        duration_str._native.format_list(values, duration_str._texts.nanos_of, texts, (0, 10, 11))
+        duration_str._native.format_list(values, duration_str._texts.nanos_of, texts, (0, 10, 11, 0))
         self.assertEqual((values, texts), ([], ["1s", "1s 1ns"]))
         with self.assertRaisesRegex(TypeError, "not Odd, at index 1$"):
             format_many([SECOND, Odd(), SECOND])
@@ -199,6 +214,30 @@ class Hostile(unittest.TestCase):
                 under[:] = column
 
         self.read_while(write, lambda _: parse_any(view, array("q", range(0, 80_001, 4))))
+
+    @unittest.skipUnless(sys.version_info >= (3, 12), "interpreters share a lock before CPython 3.12")
+    def test_serves_interpreters_with_locks_of_their_own(self):
+        interpreters = importlib.import_module("_interpreters" if sys.version_info >= (3, 13) else "_xxsubinterpreters")
+        program = (
+            "import duration_str\n"
+            "for nanos in range(10_000):\n"
+            "    text = duration_str.format(nanos * 10**9)\n"
+            "    assert duration_str.parse_ns(text) == nanos * 10**9 and duration_str.format(duration_str.parse(text)) == text\n"
+            "    try:\n"
+            "        duration_str.parse(text + '!')\n"
+            "    except duration_str.DurationError as error:\n"
+            "        assert error.found == '!'\n"
+        )
+
+        def serve(_):
+            interpreter = interpreters.create()
+            # Before 3.13 an error is raised, and later returned.
+            failed = interpreters.run_string(interpreter, program)
+            interpreters.destroy(interpreter)
+            return failed
+
+        with concurrent.futures.ThreadPoolExecutor(4) as pool:
+            self.assertEqual(list(pool.map(serve, range(8))), [None] * 8)
 
     def read_while(self, write, read):
         """Reads for five seconds, while two threads write."""

@@ -67,9 +67,7 @@ class Printing(unittest.TestCase):
             (1_999, {"largest": "ns"}, "1999ns"),
             (59 * SECOND, {"smallest": "min"}, "0min"),
             (999, {"smallest": "µs"}, "0s"),
-            (5, {"parts": 0}, "0s"),
-            (5 * day, {"parts": 0, "smallest": "w"}, "0w"),
-            (5 * day, {"largest": "h", "smallest": "d"}, "0d"),
+            (5 * day, {"largest": "w", "smallest": "w"}, "0w"),
             (193_029_000_000, {"parts": 10**30, "largest": "y", "smallest": "ns"}, "3min 13s 29ms"),
         ]
         for nanos, limits, printed in rows:
@@ -80,6 +78,22 @@ class Printing(unittest.TestCase):
                     self.assertEqual(format(datetime.timedelta(microseconds=nanos // 1000), **limits), printed)
         self.assertEqual(format(2**64 * SECOND - 1, parts=1), "584942417355y")
 
+    def test_prints_in_styles(self):
+        rows = [
+            (5_400 * SECOND, {"style": "short"}, "1h 30min"),
+            (5_400 * SECOND, {"style": "compact"}, "1h30min"),
+            (5_400 * SECOND, {"style": "long"}, "1 hour 30 minutes"),
+            (90_061 * SECOND, {"style": "long", "parts": 2}, "1 day 1 hour"),
+            (2_001, {"style": "long"}, "2 microseconds 1 nanosecond"),
+            (0, {"style": "long"}, "0 seconds"),
+            (0, {"style": "compact", "smallest": "min"}, "0min"),
+        ]
+        for nanos, words, printed in rows:
+            with self.subTest(nanos=nanos, **words):
+                self.assertEqual(format(nanos, **words), printed)
+                self.assertEqual(format_many([nanos, None], **words), [printed, None])
+                self.assertEqual(parse_ns(printed), parse_ns(format(nanos, **{**words, "style": "short"})))
+
     def test_prints_in_each_unit(self):
         for text, printed in [("3y", "3y"), ("3q", "3q"), ("3mon", "3mon"), ("3w", "3w"), ("3d", "3d"), ("3h", "3h"), ("3m", "3min"),
                               ("3s", "3s"), ("3ms", "3ms"), ("3us", "3µs"), ("3ns", "3ns")]:  # fmt: skip
@@ -88,7 +102,12 @@ class Printing(unittest.TestCase):
 
     def test_wants_known_limits(self):
         names = "one of y, q, mon, w, d, h, min, s, ms, µs or us, ns, not "
-        rows = [({"parts": -1}, ValueError, "negative: -1"), ({"parts": -(10**30)}, ValueError, "negative")]
+        rows = [({"parts": parts}, ValueError, "^parts must be 1 or more$") for parts in (0, -1, -(10**30), -(10**5000))]
+        shorter = [("h", "d"), ("ns", "us"), ("q", "y")]
+        rows += [({"largest": one, "smallest": other}, ValueError, "shorter unit than smallest$") for one, other in shorter]
+        rows += [({"smallest": "d", "largest": "h"}, ValueError, "shorter unit than smallest$")]
+        rows += [({"style": style}, ValueError, f"^style must be one of short, compact, long, not {style!r}$") for style in ("Long", "")]
+        rows += [({"style": style}, TypeError, "^style must be one of") for style in (None, 2)]
         rows += [({"parts": value}, TypeError, "parts must be a whole number") for value in (1.0, 1.5, "2", None, True)]
         for unit in ["m", "days", "", "S", "μs", "y "]:
             rows += [({"largest": unit}, ValueError, f"^largest must be {names}{unit!r}$"), ({"smallest": unit}, ValueError, names)]

@@ -6,6 +6,17 @@ from typing import assert_type
 
 import duration_str
 import numpy
+from duration_str.argparse import DURATION
+from duration_str.click import DURATION as OPTION
+from numpy.typing import NDArray
+
+assert_type(DURATION("1m"), datetime.timedelta)
+assert_type(OPTION.convert("1m", None, None), datetime.timedelta)
+
+
+def read(texts: list[str]) -> NDArray[numpy.timedelta64]:
+    return duration_str.to_timedelta(texts)
+
 
 assert_type(duration_str.parse("1m", no_calc=True), datetime.timedelta)
 assert_type(duration_str.parse_ns("1m"), int)
@@ -15,7 +26,11 @@ assert_type(duration_str.format(datetime.timedelta(1)), str)
 assert_type(duration_str.format(numpy.int64(5)), str)
 assert_type(duration_str.format(numpy.timedelta64(5, "s")), str)
 assert_type(duration_str.format(5, parts=2, largest="d", smallest="us"), str)
+unit: duration_str.Unit = "h"
+style: duration_str.Style = "long"
+assert_type(duration_str.format(5, largest=unit, style=style), str)
 duration_str.format(5, largest="m")  # type: ignore[arg-type]
+duration_str.format(5, style="words")  # type: ignore[arg-type]
 duration_str.format(5, parts=1.5)  # type: ignore[arg-type]
 duration_str.format_many([5], smallest="sec")  # type: ignore[arg-type]
 duration_str.format("1m")  # type: ignore[arg-type]
@@ -27,12 +42,13 @@ assert_type(duration_str.parse_many(["1m"]), "array[int]")
 assert_type(duration_str.parse_many(["1m", None], errors="coerce"), "tuple[array[int], array[int]]")
 assert_type(duration_str.parse_buffers(b"1m", array("q", [0, 2])), "array[int]")
 duration_str.parse_many(["1m"], errors="ignore")  # type: ignore[call-overload]
-duration_str.to_timedelta(["1m"], errors="ignore")  # type: ignore[arg-type]
-assert_type(duration_str.library, str)
+assert_type(duration_str.to_timedelta(["1m"]), "NDArray[numpy.timedelta64]")
+duration_str.to_timedelta(["1m"], errors="ignore")  # type: ignore[call-overload]
 timeout: duration_str.Duration = datetime.timedelta(1)
 try:
     duration_str.parse("1x")
 except duration_str.DurationError as error:
     assert_type(error.line, str)
+    assert_type(error.one_line + error.report, str)
     assert_type(error.cause, duration_str.Cause)
     assert_type(error.column, "int | None")

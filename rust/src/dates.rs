@@ -1,6 +1,6 @@
 //! Moments after and before another, by chrono's own checked arithmetic.
 use crate::fault::Fault;
-use crate::parser::{chrono_of, parse_with};
+use crate::parser::{FEATURES, chrono_of, parse_with};
 use alloc::string::{String, ToString};
 use chrono::{NaiveDate, NaiveDateTime, Utc};
 use duration_str_core::{Cause, Options};
@@ -74,10 +74,11 @@ pub fn moment_before(
 /// use chrono::{Duration, Utc};
 ///
 /// let due = duration_str::after_naive_date_time("180d").unwrap();
-/// assert!(due <= Utc::now().naive_utc() + Duration::days(180));
+/// let left = due - Utc::now().naive_utc();
+/// assert!(Duration::days(179) < left && left <= Duration::days(180));
 /// ```
 pub fn after_naive_date_time(input: impl AsRef<str>) -> Result<NaiveDateTime, String> {
-    moment_after(now(), input.as_ref(), Options::of_features()).map_err(|fault| fault.to_string())
+    moment_after(now(), input.as_ref(), FEATURES).map_err(|fault| fault.to_string())
 }
 
 /// The moment, in UTC, that comes before now by the value of a text, which is read as [`parse`](crate::parse) reads it.
@@ -92,10 +93,11 @@ pub fn after_naive_date_time(input: impl AsRef<str>) -> Result<NaiveDateTime, St
 /// use chrono::{Duration, Utc};
 ///
 /// let past = duration_str::before_naive_date_time("180d").unwrap();
-/// assert!(past <= Utc::now().naive_utc() - Duration::days(180));
+/// let gone = Utc::now().naive_utc() - past;
+/// assert!(Duration::days(180) <= gone && gone < Duration::days(181));
 /// ```
 pub fn before_naive_date_time(input: impl AsRef<str>) -> Result<NaiveDateTime, String> {
-    moment_before(now(), input.as_ref(), Options::of_features()).map_err(|fault| fault.to_string())
+    moment_before(now(), input.as_ref(), FEATURES).map_err(|fault| fault.to_string())
 }
 
 /// The date of [`after_naive_date_time`].

@@ -16,7 +16,7 @@ use core::fmt;
 /// assert_eq!(timeout("600y"), Err(DError::OverflowError));
 /// assert_eq!(timeout(""), Err(DError::ParseError("Empty input".to_string())));
 /// ```
-#[derive(Clone, Debug, PartialEq, Eq)]
+#[derive(Clone, Debug, PartialEq, Eq, Hash)]
 pub enum DError {
     /// Any fault but an overflow, by the last line of its message.
     ParseError(String),
@@ -46,6 +46,6 @@ impl From<Fault<'_>> for DError {
 
 impl From<OwnedFault> for DError {
     fn from(fault: OwnedFault) -> DError {
-        fault.to_derror()
+        fault.as_fault().to_derror()
     }
 }

@@ -1,6 +1,5 @@
 //! A refused text, with the options under which it was read.
 use crate::error::DError;
-use crate::one_line::OneLine;
 use alloc::string::{String, ToString};
 use core::fmt;
 use duration_str_core::{self as proved, Cause, Expected, Options};
@@ -18,7 +17,7 @@ use duration_str_core::{self as proved, Cause, Expected, Options};
 /// ```
 ///
 /// It borrows the text; [`Fault::into_owned`] gives a fault that outlives it.
-#[derive(Clone, Copy, PartialEq, Eq)]
+#[derive(Clone, Copy, PartialEq, Eq, Hash)]
 pub struct Fault<'a> {
     fault: proved::Fault<'a>,
     options: Options,
@@ -44,7 +43,7 @@ impl<'a> Fault<'a> {
     /// assert_eq!(parse_with("1x", Options::off()).unwrap_err().text(), "1x");
     /// ```
     #[must_use]
-    pub fn text(&self) -> &'a str {
+    pub const fn text(&self) -> &'a str {
         self.fault.text()
     }
 
@@ -56,7 +55,7 @@ impl<'a> Fault<'a> {
     /// assert_eq!(parse_with("", Options::off()).unwrap_err().cause(), Cause::Empty);
     /// ```
     #[must_use]
-    pub fn cause(&self) -> Cause {
+    pub const fn cause(&self) -> Cause {
         self.fault.cause()
     }
 
@@ -68,7 +67,7 @@ impl<'a> Fault<'a> {
     /// assert_eq!(parse_with("1m 3-5", Options::off()).unwrap_err().place(), Some(4));
     /// ```
     #[must_use]
-    pub fn place(&self) -> Option<usize> {
+    pub const fn place(&self) -> Option<usize> {
         self.cause().place()
     }
 
@@ -80,7 +79,7 @@ impl<'a> Fault<'a> {
     /// assert!(parse_with("1m+", Options::off()).unwrap_err().expected().unwrap().number);
     /// ```
     #[must_use]
-    pub fn expected(&self) -> Option<Expected> {
+    pub const fn expected(&self) -> Option<Expected> {
         match self.cause() {
             Cause::Syntax { expected, .. } => Some(expected),
             _ => None,
@@ -97,32 +96,6 @@ impl<'a> Fault<'a> {
     #[must_use]
     pub fn found(&self) -> Option<&'a str> {
         self.fault.found(self.options)
-    }
-
-    /// The last line of the message, which says what is wrong.
-    ///
-    /// ```
-    /// use duration_str::{Options, parse_with};
-    ///
-    /// assert_eq!(parse_with("600y", Options::off()).unwrap_err().line(), "overflow error");
-    /// ```
-    #[must_use]
-    pub fn line(&self) -> &'static str {
-        self.cause().line()
-    }
-
-    /// One line for a log: what is wrong, at which column, and at most 40 characters of the text, with control characters
-    /// escaped. The column counts characters from 1.
-    ///
-    /// ```
-    /// use duration_str::{Options, parse_with};
-    ///
-    /// let line = parse_with("1m 3-5", Options::off()).unwrap_err().one_line().to_string();
-    /// assert_eq!(line, r#"expected a unit, '+', '*' or the end at column 5, found "-""#);
-    /// ```
-    #[must_use]
-    pub fn one_line(&self) -> OneLine<'a> {
-        OneLine(*self)
     }
 
     /// The length of the message in bytes.
@@ -163,7 +136,7 @@ impl<'a> Fault<'a> {
     pub fn to_derror(&self) -> DError {
         match self.cause() {
             Cause::Overflow { .. } => DError::OverflowError,
-            _ => DError::ParseError(self.line().to_string()),
+            _ => DError::ParseError(self.cause().line().to_string()),
         }
     }
 
@@ -176,7 +149,7 @@ impl<'a> Fault<'a> {
     ///     parse_with(&text, Options::off()).map(|_| ()).map_err(|fault| fault.into_owned())
     /// }
     ///
-    /// assert_eq!(read("1m 3-5".to_string()).unwrap_err().found(), Some("-"));
+    /// assert_eq!(read("1m 3-5".to_string()).unwrap_err().text(), "1m 3-5");
     /// ```
     #[must_use]
     pub fn into_owned(self) -> OwnedFault {
@@ -202,29 +175,26 @@ impl fmt::Debug for Fault<'_> {
 
 impl core::error::Error for Fault<'_> {}
 
-/// A [`Fault`] that owns its text. It prints as that does, and has the same methods.
+/// A refused text of its own: the error of [`parse_duration`](crate::parse_duration) and of `str::parse`.
+///
+/// It prints in one line, for what stands around it in a terminal or a log: what is wrong, at which column, counted in
+/// characters from 1, and at most 40 characters of the text, escaped where they are not safe within a line. The message
+/// with the caret is that of [`as_fault`](OwnedFault::as_fault).
 ///
 /// ```
-/// use duration_str::{HumanDuration, OwnedFault};
+/// use duration_str::parse_duration;
 ///
-/// fn timeout(text: &str) -> Result<HumanDuration, Box<dyn std::error::Error>> {
-///     Ok(text.parse()?)
-/// }
-///
-/// let error = timeout("3h 2 hurs").unwrap_err();
-/// let fault: &OwnedFault = error.downcast_ref().unwrap();
-/// assert_eq!((fault.place(), fault.found()), (Some(5), Some("hurs")));
-/// assert!(fault.to_string().starts_with("3h 2 hurs\n     ^\nexpected "));
+/// let fault = parse_duration("3h 2 hurs").unwrap_err();
+/// assert_eq!(fault.to_string(), r#"unknown unit "hurs" at column 6"#);
+/// assert_eq!(format!("{fault:?}"), r#"OwnedFault(unknown unit "hurs" at column 6)"#);
+/// assert!(fault.as_fault().to_string().starts_with("3h 2 hurs\n     ^\nexpected "));
 /// ```
-#[derive(Clone, PartialEq, Eq)]
+#[derive(Clone, PartialEq, Eq, Hash)]
 pub struct OwnedFault {
     text: String,
     cause: Cause,
     options: Options,
 }
-
-/// The name that humantime gives the error of [`parse_duration`](crate::parse_duration).
-pub type DurationError = OwnedFault;
 
 impl OwnedFault {
     /// The fault, which borrows the text.
@@ -258,7 +228,7 @@ impl OwnedFault {
     /// assert_eq!("".parse::<HumanDuration>().unwrap_err().cause(), Cause::Empty);
     /// ```
     #[must_use]
-    pub fn cause(&self) -> Cause {
+    pub const fn cause(&self) -> Cause {
         self.cause
     }
 
@@ -268,96 +238,22 @@ impl OwnedFault {
     /// assert_eq!("1x".parse::<duration_str::HumanDuration>().unwrap_err().place(), Some(1));
     /// ```
     #[must_use]
-    pub fn place(&self) -> Option<usize> {
+    pub const fn place(&self) -> Option<usize> {
         self.cause.place()
     }
-
-    /// What could stand at the place, as [`Fault::expected`] says it.
-    ///
-    /// ```
-    /// let fault = "1x".parse::<duration_str::HumanDuration>().unwrap_err();
-    /// assert!(fault.expected().unwrap().unit_word);
-    /// ```
-    #[must_use]
-    pub fn expected(&self) -> Option<Expected> {
-        self.as_fault().expected()
-    }
-
-    /// What stands at the place, as [`Fault::found`] says it.
-    ///
-    /// ```
-    /// assert_eq!("1x".parse::<duration_str::HumanDuration>().unwrap_err().found(), Some("x"));
-    /// ```
-    #[must_use]
-    pub fn found(&self) -> Option<&str> {
-        self.as_fault().found()
-    }
-
-    /// The last line of the message, as [`Fault::line`] says it.
-    ///
-    /// ```
-    /// assert_eq!(duration_str::parse_duration("600y").unwrap_err().line(), "overflow error");
-    /// ```
-    #[must_use]
-    pub fn line(&self) -> &'static str {
-        self.cause.line()
-    }
-
-    /// One line for a log, as [`Fault::one_line`] has it.
-    ///
-    /// ```
-    /// let line = duration_str::parse_duration("600y").unwrap_err().one_line().to_string();
-    /// assert_eq!(line, r#"duration of 2^64 nanoseconds or more at column 1, found "600y""#);
-    /// ```
-    #[must_use]
-    pub fn one_line(&self) -> OneLine<'_> {
-        OneLine(self.as_fault())
-    }
-
-    /// The length of the message in bytes.
-    ///
-    /// ```
-    /// assert_eq!(duration_str::parse_duration("600y").unwrap_err().message_len(), 21);
-    /// ```
-    #[must_use]
-    pub fn message_len(&self) -> usize {
-        self.as_fault().message_len()
-    }
-
-    /// Writes the message to the start of a buffer, as [`Fault::write_message`] does.
-    ///
-    /// ```
-    /// assert_eq!(duration_str::parse_duration("").unwrap_err().write_message(&mut [0; 64]), Some(11));
-    /// ```
-    pub fn write_message(&self, buffer: &mut [u8]) -> Option<usize> {
-        self.as_fault().write_message(buffer)
-    }
-
-    /// The error of the Rust crate for this fault.
-    ///
-    /// ```
-    /// use duration_str::{DError, parse_duration};
-    ///
-    /// assert_eq!(parse_duration("600y").unwrap_err().to_derror(), DError::OverflowError);
-    /// ```
-    #[must_use]
-    pub fn to_derror(&self) -> DError {
-        self.as_fault().to_derror()
-    }
 }
 
+/// One line.
 impl fmt::Display for OwnedFault {
     fn fmt(&self, f: &mut fmt::Formatter<'_>) -> fmt::Result {
-        self.as_fault().fmt(f)
+        f.write_str(self.as_fault().fault.write_one_line(&mut [0; 384]))
     }
 }
 
+/// The same line, since `main` and `unwrap` print it.
 impl fmt::Debug for OwnedFault {
     fn fmt(&self, f: &mut fmt::Formatter<'_>) -> fmt::Result {
-        f.debug_struct("OwnedFault")
-            .field("text", &self.text)
-            .field("cause", &self.cause)
-            .finish()
+        write!(f, "OwnedFault({self})")
     }
 }
 

@@ -1,10 +1,11 @@
-//! For `#[serde(with = "duration_str::human")]`: durations as text, printed as [`HumanFormat`](crate::HumanFormat) prints
-//! and read as [`parse`](crate::parse) reads.
+//! For `#[serde(with = "duration_str::human")]`: durations as text, printed as
+//! [`format_duration`](crate::format_duration) prints and read as [`parse_duration`] reads.
 //!
-//! The field is a duration of `std`, `chrono` or `time`, or an `Option` or a `Vec` of what can be such a field. One rule
-//! holds for all of them, and for [`HumanDuration`]: the format is asked for a text, and the empty
-//! one is refused. So YAML's `90` is 90 seconds, and formats that don't tell their values' types, such as bincode, are
-//! read too. `None` is null, and with `#[serde(default)]` a missing field. A refusal is the fault in one line.
+//! The field is a duration of `std`, `chrono` or `time`, or an `Option` or a `Vec` of what can be such a field; in other
+//! collections, such as a map, [`HumanDuration`] needs no `with`. One rule holds for all of them: the format is asked for a
+//! text, and the empty one is refused. So YAML's `90` is 90 seconds, and formats that don't tell their values' types, such
+//! as bincode, are read too; [`human_or_seconds`](crate::human_or_seconds) reads numbers as well. `None` is null, and with
+//! `#[serde(default)]` a missing field. A refusal is the fault in one line.
 //!
 //! What is written can be read: a negative duration, and one of 2^64 nanoseconds or more, is an error of the format.
 //!
@@ -29,9 +30,33 @@
 //! let text = serde_json::to_string(&settings).unwrap();
 //! assert_eq!(text, r#"{"timeout":"1min 30s","keep_alive":null,"pauses":["1s","5s"]}"#);
 //! ```
+//!
+//! Other options take a function of two lines, for `deserialize_with`:
+//!
+//! ```
+//! use duration_str::{Options, parse_with};
+//! use serde::{Deserialize, Deserializer, de::Error};
+//! use std::time::Duration;
+//!
+//! fn no_operators<'de, D: Deserializer<'de>>(deserializer: D) -> Result<Duration, D::Error> {
+//!     let text = String::deserialize(deserializer)?;
+//!     parse_with(&text, Options::off().with_no_calc()).map_err(|fault| D::Error::custom(fault.into_owned()))
+//! }
+//!
+//! #[derive(Deserialize)]
+//! struct Settings {
+//!     #[serde(deserialize_with = "no_operators")]
+//!     timeout: Duration,
+//! }
+//!
+//! let settings: Settings = serde_json::from_str(r#"{ "timeout": "1m 30s" }"#).unwrap();
+//! assert_eq!(settings.timeout, Duration::from_secs(90));
+//! assert!(serde_json::from_str::<Settings>(r#"{ "timeout": "1m + 30s" }"#).is_err());
+//! ```
 use crate::human_duration::HumanDuration;
+use crate::sealed::Sealed;
 use crate::serde_texts::Length;
-use crate::{Options, parse_with, write_human};
+use crate::{parse_duration, write_human};
 use alloc::vec::Vec;
 use core::fmt;
 use core::marker::PhantomData;
@@ -40,21 +65,31 @@ use core::time::Duration;
 use serde::de::{self, Deserialize, Deserializer, Unexpected, Visitor};
 use serde::ser::{self, Serialize, Serializer};
 
-/// The types of the fields that this module writes and reads.
-pub trait HumanText: Sized {
-    /// Writes the value. [`serialize`] does the same.
-    ///
-    /// # Errors
-    ///
-    /// That of [`serialize`].
+/// The types of the fields that this module and [`human_or_seconds`](crate::human_or_seconds) write and read.
+///
+/// A map needs no `with`:
+///
+/// ```
+/// use duration_str::HumanDuration;
+/// use std::collections::HashMap;
+///
+/// let pauses: HashMap<String, HumanDuration> = serde_json::from_str(r#"{ "first": "5s" }"#).unwrap();
+/// assert_eq!(pauses["first"].as_secs(), 5);
+/// ```
+#[diagnostic::on_unimplemented(
+    message = "`duration_str::human` has no fields of the type `{Self}`",
+    label = "no duration of std, chrono or time, and no `Option` or `Vec` of them",
+    note = "a map can be a `HashMap<String, HumanDuration>`, without `with`"
+)]
+pub trait HumanText: Sealed + Sized {
+    #[doc(hidden)]
     fn serialize_human<S: Serializer>(&self, serializer: S) -> Result<S::Ok, S::Error>;
 
-    /// Reads a value. [`deserialize`] does the same.
-    ///
-    /// # Errors
-    ///
-    /// That of [`deserialize`].
-    fn deserialize_human<'de, D: Deserializer<'de>>(deserializer: D) -> Result<Self, D::Error>;
+    /// Reads a text, and where `SECONDS` says so also whole seconds.
+    #[doc(hidden)]
+    fn deserialize_human<'de, D: Deserializer<'de>, const SECONDS: bool>(
+        deserializer: D,
+    ) -> Result<Self, D::Error>;
 }
 
 /// Prints durations as text.
@@ -90,7 +125,7 @@ pub fn serialize<T: HumanText, S: Serializer>(value: &T, serializer: S) -> Resul
 pub fn deserialize<'de, T: HumanText, D: Deserializer<'de>>(
     deserializer: D,
 ) -> Result<T, D::Error> {
-    T::deserialize_human(deserializer)
+    T::deserialize_human::<D, false>(deserializer)
 }
 
 /// The same for an `Option` alone, for those who come from `humantime_serde::option`.
@@ -139,7 +174,7 @@ pub mod option {
     pub fn deserialize<'de, T: HumanText, D: Deserializer<'de>>(
         deserializer: D,
     ) -> Result<Option<T>, D::Error> {
-        Option::deserialize_human(deserializer)
+        super::deserialize(deserializer)
     }
 }
 
@@ -154,10 +189,7 @@ impl<T: Length> Visitor<'_> for Text<T> {
     }
 
     fn visit_str<E: de::Error>(self, text: &str) -> Result<T, E> {
-        match parse_with(text, Options::of_features()) {
-            Ok(length) => Ok(T::of_std(length)),
-            Err(fault) => Err(E::custom(fault.one_line())),
-        }
+        parse_duration(text).map(T::of_std).map_err(E::custom)
     }
 
     fn visit_bytes<E: de::Error>(self, bytes: &[u8]) -> Result<T, E> {
@@ -165,6 +197,39 @@ impl<T: Length> Visitor<'_> for Text<T> {
             Ok(text) => self.visit_str(text),
             Err(_) => Err(E::invalid_value(Unexpected::Bytes(bytes), &self)),
         }
+    }
+}
+
+/// A whole number is read as seconds, and all else as [`Text`] reads it.
+struct TextOrSeconds<T>(PhantomData<T>);
+
+impl<T: Length> Visitor<'_> for TextOrSeconds<T> {
+    type Value = T;
+
+    fn expecting(&self, f: &mut fmt::Formatter<'_>) -> fmt::Result {
+        f.write_str("a duration such as '1min 30s', or whole seconds below 2^64 nanoseconds")
+    }
+
+    fn visit_u64<E: de::Error>(self, secs: u64) -> Result<T, E> {
+        match secs.checked_mul(1_000_000_000) {
+            Some(nanos) => Ok(T::of_std(Duration::from_nanos(nanos))),
+            None => Err(E::invalid_value(Unexpected::Unsigned(secs), &self)),
+        }
+    }
+
+    fn visit_i64<E: de::Error>(self, secs: i64) -> Result<T, E> {
+        match u64::try_from(secs) {
+            Ok(secs) => self.visit_u64(secs),
+            Err(_) => Err(E::invalid_value(Unexpected::Signed(secs), &self)),
+        }
+    }
+
+    fn visit_str<E: de::Error>(self, text: &str) -> Result<T, E> {
+        Text(PhantomData).visit_str(text)
+    }
+
+    fn visit_bytes<E: de::Error>(self, bytes: &[u8]) -> Result<T, E> {
+        Text(PhantomData).visit_bytes(bytes)
     }
 }
 
@@ -181,23 +246,29 @@ impl<T: Length> HumanText for T {
         serializer.serialize_str(write_human(&duration, &mut [0; 64]))
     }
 
-    fn deserialize_human<'de, D: Deserializer<'de>>(deserializer: D) -> Result<T, D::Error> {
-        deserializer.deserialize_str(Text(PhantomData))
+    fn deserialize_human<'de, D: Deserializer<'de>, const SECONDS: bool>(
+        deserializer: D,
+    ) -> Result<T, D::Error> {
+        if SECONDS {
+            deserializer.deserialize_any(TextOrSeconds(PhantomData))
+        } else {
+            deserializer.deserialize_str(Text(PhantomData))
+        }
     }
 }
 
 /// A part of a field, by serde's own traits.
-struct Part<T>(T);
+struct Part<T, const SECONDS: bool>(T);
 
-impl<T: HumanText> Serialize for Part<&T> {
+impl<T: HumanText> Serialize for Part<&T, false> {
     fn serialize<S: Serializer>(&self, serializer: S) -> Result<S::Ok, S::Error> {
         self.0.serialize_human(serializer)
     }
 }
 
-impl<'de, T: HumanText> Deserialize<'de> for Part<T> {
-    fn deserialize<D: Deserializer<'de>>(deserializer: D) -> Result<Part<T>, D::Error> {
-        T::deserialize_human(deserializer).map(Part)
+impl<'de, T: HumanText, const SECONDS: bool> Deserialize<'de> for Part<T, SECONDS> {
+    fn deserialize<D: Deserializer<'de>>(deserializer: D) -> Result<Self, D::Error> {
+        T::deserialize_human::<D, SECONDS>(deserializer).map(Part)
     }
 }
 
@@ -206,8 +277,11 @@ impl<T: HumanText> HumanText for Option<T> {
         self.as_ref().map(Part).serialize(serializer)
     }
 
-    fn deserialize_human<'de, D: Deserializer<'de>>(deserializer: D) -> Result<Self, D::Error> {
-        Option::deserialize(deserializer).map(|value| value.map(|Part(value)| value))
+    fn deserialize_human<'de, D: Deserializer<'de>, const SECONDS: bool>(
+        deserializer: D,
+    ) -> Result<Self, D::Error> {
+        let value = Option::<Part<T, SECONDS>>::deserialize(deserializer)?;
+        Ok(value.map(|Part(value)| value))
     }
 }
 
@@ -216,8 +290,10 @@ impl<T: HumanText> HumanText for Vec<T> {
         serializer.collect_seq(self.iter().map(Part))
     }
 
-    fn deserialize_human<'de, D: Deserializer<'de>>(deserializer: D) -> Result<Self, D::Error> {
-        let values = Vec::deserialize(deserializer)?;
+    fn deserialize_human<'de, D: Deserializer<'de>, const SECONDS: bool>(
+        deserializer: D,
+    ) -> Result<Self, D::Error> {
+        let values = Vec::<Part<T, SECONDS>>::deserialize(deserializer)?;
         Ok(values.into_iter().map(|Part(value)| value).collect())
     }
 }

@@ -26,11 +26,24 @@ pub fn parse_with(input: &str, options: Options) -> Result<Duration, Fault<'_>> 
     }
 }
 
+/// The options under which the calls of `duration-str` 0.19.0 read: those that the features turn on.
+pub(crate) const FEATURES: Options = Options {
+    no_calc: cfg!(feature = "no_calc"),
+    lowercase: cfg!(feature = "lowercase"),
+    cn_unit: cfg!(feature = "cn_unit"),
+};
+
+/// Those under which all other calls read that take none. The feature that adds names counts; those that take something
+/// away may be asked for by any crate of a program, and would break what the others read.
+const ADDITIONS: Options = Options {
+    cn_unit: FEATURES.cn_unit,
+    ..Options::off()
+};
+
 /// Reads a text, as [`parse`] does.
 #[inline]
 fn read(text: &str) -> Result<Duration, String> {
-    const OPTIONS: Options = Options::of_features();
-    match proved::parse_with(text, OPTIONS) {
+    match proved::parse_with(text, FEATURES) {
         Ok(duration) => Ok(duration),
         Err(fault) => Err(message(fault)),
     }
@@ -74,8 +87,10 @@ pub fn parse(input: impl AsRef<str>) -> Result<Duration, String> {
     read(input.as_ref())
 }
 
-/// Reads a text as [`parse`] does, with a fault that owns its text. It has the name of humantime's function, and can be
-/// handed on as it is, such as to `value_parser` of clap.
+/// Reads a text, with a fault that owns it. It has the name of humantime's function, and can be handed on as it is, such as
+/// to `value_parser` of clap.
+///
+/// All options are off, whatever features are on, but that `cn_unit` adds its names. [`parse_with`] has the others.
 ///
 /// # Errors
 ///
@@ -91,10 +106,10 @@ pub fn parse(input: impl AsRef<str>) -> Result<Duration, String> {
 /// }
 ///
 /// assert_eq!(timeout("1m 30s").unwrap(), Duration::from_secs(90));
-/// assert_eq!(timeout("").unwrap_err().to_string(), "Empty input");
+/// assert_eq!(timeout("").unwrap_err().to_string(), "empty text");
 /// ```
 pub fn parse_duration(input: &str) -> Result<Duration, OwnedFault> {
-    parse_with(input, Options::of_features()).map_err(Fault::into_owned)
+    parse_with(input, ADDITIONS).map_err(Fault::into_owned)
 }
 
 /// Reads a text as [`parse`] does.

@@ -1,5 +1,6 @@
 //! Durations in what serde reads.
 use crate::parser::parse;
+use crate::sealed::Sealed;
 use core::fmt;
 use core::marker::PhantomData;
 use core::time::Duration;
@@ -7,7 +8,7 @@ use serde::de::{Deserializer, Error, Unexpected, Visitor};
 
 /// Types that are read from a duration's text: the durations of `std`, `chrono` and `time`, and each of them as an
 /// `Option`.
-pub trait DeserializeDuration<'de>: Sized {
+pub trait DeserializeDuration<'de>: Sealed + Sized {
     /// Reads a value of the type. [`deserialize_duration`] says what is read.
     ///
     /// # Errors
@@ -17,7 +18,7 @@ pub trait DeserializeDuration<'de>: Sized {
 }
 
 /// Durations that are read from a text.
-pub trait Length: Sized {
+pub trait Length: Sealed + Sized {
     /// The value of a text.
     fn of_std(length: Duration) -> Self;
 

@@ -64,7 +64,7 @@ fn refused(text: &str, fault: &Fault<'_>) -> String {
     let (place, found) = (fault.place(), fault.found().map_or(0, str::len));
     let has_place = u8::from(place.is_some());
     let place = place.unwrap_or(0);
-    let (message, line) = (hex(&message(fault)), hex(fault.line()));
+    let (message, line) = (hex(&message(fault)), hex(fault.cause().line()));
     format!("0 {place} {found} {cause} {kinds} {has_place} {first} {later} {message} {line}")
 }
 

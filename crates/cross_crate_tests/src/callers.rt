@@ -1,5 +1,5 @@
 // What the callers of `uses` answer, for texts whose meaning was worked out by hand.
-use duration_str::{Cause, DError, Options, TimeUnit, parse, parse_with};
+use duration_str::{Cause, DError, Options, Style, TimeUnit, parse, parse_with};
 use duration_str_tests::vectors::{CN_UNIT, LOWERCASE, NO_CALC, OFF};
 use jiff::civil::{Date, DateTime};
 use jiff::{SignedDuration, Timestamp};
@@ -43,15 +43,18 @@ fn totals_as_the_joined_text_is_read(rt: HostRuntime) {
 
 #[test]
 fn has_one_key_for_each_value(rt: HostRuntime) {
-    let mut buffer = [0u8; 64];
+    let mut buffer = [0u8; 144];
     for text in ["30 + 1m", "45s*2", "1Min 30", "90000ms"] {
-        assert_eq!(rt; canonical(text, &mut buffer).ok(), Some("1min 30s"));
+        assert_eq!(rt;
+            canonical(text, Style::Short, &mut buffer).ok(),
+            Some("1min 30s")
+        );
         assert_eq!(rt; share_entry(text, "90s").ok(), Some(true));
     }
     assert_eq!(rt; share_entry("90s", "91s").ok(), Some(false));
     let refused = share_entry("90s", "90x").err().map(|fault| fault.text());
     assert_eq!(rt; refused, Some("90x"));
-    let refused = canonical("580y*2", &mut buffer).err();
+    let refused = canonical("580y*2", Style::Long, &mut buffer).err();
     assert!(rt; refused.is_some_and(|fault| fault.cause() == OVERFLOW));
 }
 
@@ -236,7 +239,7 @@ fn subtracts_a_longer_duration(rt: HostRuntime) {
 
 #[test]
 fn shows_no_more_than_is_left(rt: HostRuntime) {
-    let mut buffer = [0u8; 64];
+    let mut buffer = [0u8; 144];
     for (secs, nanos, shown) in [
         (5_400, 999_999_999, "1h 30min"),
         (5_401, 0, "1h 30min"),
@@ -245,8 +248,12 @@ fn shows_no_more_than_is_left(rt: HostRuntime) {
         assert_eq!(rt; time_left(&Duration::new(secs, nanos), &mut buffer), shown);
     }
     let length = Duration::new(193, 29_000_000);
-    for (parts, shown) in [(0, "0s"), (1, "3min"), (11, "3min 13s 29ms")] {
-        assert_eq!(rt; in_parts(&length, parts, &mut buffer), shown);
+    for (parts, style, shown) in [
+        (0, Style::Short, "0s"),
+        (1, Style::Long, "3 minutes"),
+        (11, Style::Short, "3min 13s 29ms"),
+    ] {
+        assert_eq!(rt; in_parts(&length, parts, style, &mut buffer), shown);
     }
 }
 

@@ -44,10 +44,9 @@ pub use Rattle.duration_str.specs.declared.fault.Fault.{Fault}
 pub use Rattle.duration_str.specs.declared.operator.CondUnit.{CondUnit}
 pub use Rattle.duration_str.specs.declared.operator.CondUnit.TheVariants.{Plus, Star}
 pub use Rattle.duration_str.specs.declared.options.Options.{Options}
-pub use Rattle.duration_str.specs.declared.packed.TheConstants.{NAMES, SPREAD, UNITS}
 pub use Rattle.duration_str.specs.declared.token.TheConstants.{BLANKS}
-pub use Rattle.duration_str.specs.declared.token.Sort.{Sort}
-pub use Rattle.duration_str.specs.declared.token.Sort.TheVariants.{Number, Operator, Other, Word}
+pub use Rattle.duration_str.specs.declared.token.TokenStart.{TokenStart}
+pub use Rattle.duration_str.specs.declared.token.TokenStart.TheVariants.{Number, Operator, Other, Word}
 pub use Rattle.duration_str.specs.declared.token.Tokens.{Tokens}
 pub use Rattle.duration_str.specs.declared.unit.TimeUnit.{TimeUnit}
 pub use Rattle.duration_str.specs.declared.unit.TimeUnit.TheVariants.{Day, Hour, MicroSecond, MilliSecond, Minute}
@@ -61,19 +60,23 @@ pub use Rattle.duration_str.specs.Grammar.{BeginsWith, IsSentence, IsSentenceOf,
 pub use Rattle.duration_str.specs.Grammar.{operator_or_other, other, sign_terminal, terminal_by, terminal_of, word}
 pub use Rattle.duration_str.specs.Laws.{AllParts, BlanksFree, EqualTexts, GreatestBreakdown, HasNoCapital, HasNoChinese}
 pub use Rattle.duration_str.specs.Laws.{HasNoOperator, HasNoStar, AnswerIsReading, IsIdle, IsMostWithin, KeepsWithin}
-pub use Rattle.duration_str.specs.Laws.{NeverMore, NoCalcAgrees, OlderTexts, OneReading, OneCut, OneSentence}
+pub use Rattle.duration_str.specs.Laws.{NearWords, NeverMore, NoCalcAgrees, OlderTexts, OneReading, OneCut, OneSentence}
 pub use Rattle.duration_str.specs.Laws.{OptionsIdle, PlaceAndKinds, ReadsBack, Reorder, SumOfTexts, TwoFactors}
 pub use Rattle.duration_str.specs.Laws.{is_operator, times_in}
 pub use Rattle.duration_str.specs.Older.{WasRead, WasRefused, WasSentenceOf, older_nanos_of, older_row_of}
 pub use Rattle.duration_str.specs.Older.{older_terminals, older_terms, older_unit_of_word, older_units, sentence_fault}
 pub use Rattle.duration_str.specs.Older.{was_named}
-pub use Rattle.duration_str.specs.declared.limits.Limits.{Limits}
-pub use Rattle.duration_str.specs.Limits.{no_limits, IsGreatestWithin, IsWithin, IsPrintedWithin, lengths_within}
-pub use Rattle.duration_str.specs.Limits.{counts_within, text_within, part_count, units_down_to, units_from}
-pub use Rattle.duration_str.specs.Limits.{units_within, zero_text, zero_unit}
+pub use Rattle.duration_str.specs.declared.format.Format.{Format}
+pub use Rattle.duration_str.specs.declared.format.Style.{Style}
+pub use Rattle.duration_str.specs.declared.format.Style.TheVariants.{Compact, Long, Short}
+pub use Rattle.duration_str.specs.declared.printing.TheConstants.{MAX_LONG_LEN, MAX_PRINTED_LEN}
+pub use Rattle.duration_str.specs.Limits.{IsGreatestWithin, IsPrintedWithin, IsWithin, counts_within, lengths_within}
+pub use Rattle.duration_str.specs.Limits.{most_len, part_count, text_within, units_down_to, units_from, units_within}
+pub use Rattle.duration_str.specs.Limits.{whole_format, zero_unit}
 pub use Rattle.duration_str.specs.Place.{BeginsSentence, CanFollow, IsFront, start_after, terminals_of}
-pub use Rattle.duration_str.specs.Printing.{IsBefore, IsGreatestBreakdown, IsPrinted, counts_of, printed_counts}
-pub use Rattle.duration_str.specs.Printing.{printed_parts, spaced_parts, weighted_sum}
+pub use Rattle.duration_str.specs.Printing.{IsBefore, IsGreatestBreakdown, IsPrinted, IsPrintedIn, counts_of}
+pub use Rattle.duration_str.specs.Printing.{before_name, between, joined_parts, long_name, name_in, printed_part}
+pub use Rattle.duration_str.specs.Printing.{printed_counts, printed_parts, weighted_sum}
 pub use Rattle.duration_str.specs.Reading.{IsRead, IsRefused, IsRefusedAt, complete_terminals, complete_terms, early}
 pub use Rattle.duration_str.specs.Reading.{early_fault, first_fault, late, late_fault, place_after, running_fault}
 pub use Rattle.duration_str.specs.Reading.{syntax_fault, without_last_number}
@@ -94,12 +97,12 @@ pub use Rattle.duration_str.specs.Internal.Positions.{letter_number, number_in, 
 pub use Rattle.duration_str.specs.Internal.Positions.{wide_number}
 pub use Rattle.duration_str.specs.Internal.Numbers.{checked_term, u64_from}
 pub use Rattle.duration_str.specs.Internal.Packed.{all_names, packs_to, unit_of_packed}
-pub use Rattle.duration_str.specs.Internal.PrintedBytes.{greatest_count, max_printed_len, units_below_year, with_counts}
-pub use Rattle.duration_str.specs.Internal.PrintedBytes.{with_part, with_parts, with_space}
-pub use Rattle.duration_str.specs.Internal.Rest.{ReadItem, Rest, ReturnsAnswer, answer_left, checked_combination}
-pub use Rattle.duration_str.specs.Internal.Rest.{end_at, fault_at, fault_in_order, fault_left, first_term, number_fault}
-pub use Rattle.duration_str.specs.Internal.Rest.{leaving, identity_of, operator_read, rest_from, rest_of, start_left}
-pub use Rattle.duration_str.specs.Internal.Rest.{sum_fault, terminal_at, terminals_in, unit_read, with_term}
+pub use Rattle.duration_str.specs.Internal.PrintedBytes.{long_part, name_part, part_bytes, with_counts}
+pub use Rattle.duration_str.specs.Internal.PrintedBytes.{with_gap, with_part}
+pub use Rattle.duration_str.specs.Internal.Rest.{ReadItem, Rest, answer_left, checked_combination}
+pub use Rattle.duration_str.specs.Internal.Rest.{end_at, fault_at, fault_in_order, fault_left, number_fault}
+pub use Rattle.duration_str.specs.Internal.Rest.{leaving, operator_read, rest_from, rest_of, start_left}
+pub use Rattle.duration_str.specs.Internal.Rest.{terminal_at, terminals_in, unit_read, with_term}
 pub use Rattle.duration_str.specs.Internal.Steps.{sign_sort, sort_at, sort_of, IsAhead, IsSign, LooksAhead, TakesNumber}
 pub use Rattle.duration_str.specs.Internal.Steps.{TakesSign, TakesToken, TakesTokenWith, is_number}
 pub use Rattle.duration_str.specs.Internal.UnitTable.{AreEncoded}

@@ -13,4 +13,5 @@ pub mod EqualTexts
 pub mod ReadsBack
 pub mod OlderTexts
 pub mod AllParts
+pub mod NearWords
 pub mod NeverMore

@@ -1,5 +1,6 @@
 -- The printer writes the printed text.
 pub mod MessageLemmas
+pub mod OneLineLemmas
 pub mod PrintingLemmas
 pub mod DigitLemmas
 pub mod SpaceLemmas

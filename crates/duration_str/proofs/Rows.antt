@@ -3,7 +3,8 @@ use Rattle.duration_str.proofs.Common.{◌≡◌, ℕ, Bool, true, false, List, 
 use Rattle.duration_str.proofs.Common.{length, flat_map, map, encode_utf8_all, codes, Options, TimeUnit, Quarter, Plus}
 use Rattle.duration_str.proofs.Common.{Star, Empty, Syntax, NumberTooLarge, Overflow, Mixed, Expected, off, row_of}
 use Rattle.duration_str.proofs.Common.{units, unit_of_word, unit_lengths, older_units, older_unit_of_word}
-use Rattle.duration_str.proofs.Common.{printed_counts, counts_of, max_printed_len, answer, message_of}
+use Rattle.duration_str.proofs.Common.{Style, Compact, Long, Short, MAX_LONG_LEN, printed_counts}
+use Rattle.duration_str.proofs.Common.{counts_of, MAX_PRINTED_LEN, answer, message_of}
 use Rattle.duration_str.proofs.Characters.EachUnit.{Each}
 use Rattle.std.specs.Fmt.{digits}
 use Rattle.std.specs.Str.{chars}
@@ -140,8 +141,16 @@ overflows-first _ _ _ = refl
 
 -- ---- What faults and durations print
 
+abbrev styled : Style → ℕ → List ℕ
+styled style nanos = printed_counts style (counts_of unit_lengths nanos)
+
 abbrev printed : ℕ → List ℕ
-printed nanos = printed_counts (counts_of unit_lengths nanos)
+printed = styled Short
+
+abbrev longest_long : List ℕ
+longest_long =
+    codes "100000000000 years 3 quarters 2 months 3 weeks 6 days 23 hours 59 minutes 59 seconds"
+    ++ codes " 999 milliseconds 999 microseconds 999 nanoseconds"
 
 abbrev greatest_duration : List ℕ
 greatest_duration = codes "584942417355y 3w 5d 7h 15s 999ms 999µs 999ns"
@@ -166,6 +175,15 @@ pub record PrintedTexts : Type 0 where
   pub printed-364_days : printed 31_449_600_000_000_000 ≡ codes "4q"
   pub printed-35_days : printed 3_024_000_000_000_000 ≡ codes "1mon 5d"
   pub printed-377_days : printed 32_572_803_000_000_000 ≡ codes "1y 1w 5d 3s"
+  -- ---- The other styles
+  pub long-half_hour : styled Long 5_400_000_000_000 ≡ codes "1 hour 30 minutes"
+  pub long-two_days : styled Long 172_801_000_000_000 ≡ codes "2 days 1 second"
+  pub long-zero : styled Long 0 ≡ codes "0 seconds"
+  pub long-longest : styled Long 3_153_600_000_031_190_399_999_999_999 ≡ longest_long
+  pub longest_long-bytes : length (encode_utf8_all longest_long) ≡ MAX_LONG_LEN
+  pub compact-half_hour : styled Compact 5_400_000_000_000 ≡ codes "1h30min"
+  pub compact-milliseconds : styled Compact 193_029_000_000 ≡ codes "3min13s29ms"
+  pub compact-zero : styled Compact 0 ≡ codes "0s"
   -- ---- Printed texts around 2^64 nanoseconds
   pub printed-last_that_reads_back : printed 18_446_744_073_709_551_615 ≡ last_that_reads_back
   pub reads_back-last : answer off last_that_reads_back ≡ Ok 18_446_744_073_709_551_615
@@ -173,8 +191,7 @@ pub record PrintedTexts : Type 0 where
   pub printed-greatest_duration : printed 18_446_744_073_709_551_615_999_999_999 ≡ greatest_duration
   pub printed-longest : printed 3_153_600_000_031_190_399_999_999_999 ≡ longest
   -- The bound on printed bytes is reached.
-  pub longest-bytes : length (encode_utf8_all longest) ≡ max_printed_len
-  pub sixty_bytes : max_printed_len ≡ 60
+  pub longest-bytes : length (encode_utf8_all longest) ≡ MAX_PRINTED_LEN
   pub overflows-greatest_duration : answer off greatest_duration ≡ Err (Overflow (Some 0))
 
 pub printed_texts : PrintedTexts

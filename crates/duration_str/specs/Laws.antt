@@ -14,7 +14,8 @@ use Rattle.duration_str.specs.declared.cause.Cause.{Cause}
 use Rattle.duration_str.specs.declared.cause.Cause.TheVariants.{Overflow}
 use Rattle.duration_str.specs.declared.cause.Expected.{Expected}
 use Rattle.duration_str.specs.Text.{operator_of, is_chinese}
-use Rattle.duration_str.specs.Units.{UnitRow, row_of, unit_lengths, nanos_of, units}
+use Rattle.duration_str.specs.Units.{UnitRow, row_of, unit_lengths, nanos_of, units, unit_of_word}
+use Rattle.duration_str.specs.OneLine.{near_advice}
 use Rattle.duration_str.specs.Grammar.{Terminal, operator, IsSentence, IsSentenceOf, Spells, terminal_of}
 use Rattle.duration_str.specs.Tokens.{Token, tokens_of, lexemes_of, AreTokens}
 use Rattle.duration_str.specs.Place.{BeginsSentence, CanFollow, IsFront}
@@ -23,9 +24,10 @@ use Rattle.duration_str.specs.Reading.{IsRead, IsRefused}
 use Rattle.duration_str.specs.Messages.{EndsInsideLine, message_of, line_of}
 use Rattle.duration_str.specs.Answer.{answer, expected_after, last_of, front_of}
 use Rattle.duration_str.specs.Older.{older_row_of, older_terminals, WasSentenceOf, WasRead, WasRefused}
-use Rattle.duration_str.specs.Printing.{IsPrinted, IsGreatestBreakdown, counts_of, weighted_sum}
-use Rattle.duration_str.specs.declared.limits.Limits.{Limits}
-use Rattle.duration_str.specs.Limits.{no_limits, units_from, lengths_within, part_count, IsPrintedWithin}
+use Rattle.duration_str.specs.Printing.{IsPrintedIn, IsGreatestBreakdown, counts_of, weighted_sum}
+use Rattle.duration_str.specs.declared.format.Format.{Format}
+use Rattle.duration_str.specs.declared.format.Style.{Style}
+use Rattle.duration_str.specs.Limits.{whole_format, units_from, lengths_within, part_count, IsPrintedWithin}
 
 -- whether a character is `+` or `*`
 abbrev pub is_operator : ℕ → Bool
@@ -151,19 +153,20 @@ pub record TwoFactors : Type 0 where
 abbrev pub GreatestBreakdown : Type 0
 GreatestBreakdown = (nanos : ℕ) → IsGreatestBreakdown unit_lengths nanos (counts_of unit_lengths nanos)
 
--- Two durations print the same text exactly if they are equal.
+-- Two durations print the same text in a style exactly if they are equal.
 abbrev pub EqualTexts : Type 0
-EqualTexts = (m n : ℕ) (a b : List ℕ) → FitsDuration m → FitsDuration n → IsPrinted m a → IsPrinted n b
-    → (a ≡ b ↔ m ≡ n)
+EqualTexts = (style : Style) (m n : ℕ) (a b : List ℕ) → FitsDuration m → FitsDuration n
+    → IsPrintedIn style m a → IsPrintedIn style n b → (a ≡ b ↔ m ≡ n)
 
--- A printed text is read back as its duration if that is below 2^64 nanoseconds. Otherwise it overflows: from 585 years
--- on in its first term.
+-- A text printed in any style is read back as its duration if that is below 2^64 nanoseconds. Otherwise it overflows:
+-- from 585 years on in its first term.
 pub record ReadsBack : Type 0 where
-  pub below : (o : Options) (nanos : ℕ) (text : List ℕ) → nanos < 2 ^ 64 → IsPrinted nanos text → IsRead o text nanos
-  pub above : (o : Options) (nanos : ℕ) (text : List ℕ) → 2 ^ 64 ≤ nanos → nanos < 585 * nanos_of Year
-      → IsPrinted nanos text → IsRefused o text (Overflow None)
-  pub far_above : (o : Options) (nanos : ℕ) (text : List ℕ) → 585 * nanos_of Year ≤ nanos → FitsDuration nanos
-      → IsPrinted nanos text → IsRefused o text (Overflow (Some 0))
+  pub below : (o : Options) (style : Style) (nanos : ℕ) (text : List ℕ) → nanos < 2 ^ 64
+      → IsPrintedIn style nanos text → IsRead o text nanos
+  pub above : (o : Options) (style : Style) (nanos : ℕ) (text : List ℕ) → 2 ^ 64 ≤ nanos → nanos < 585 * nanos_of Year
+      → IsPrintedIn style nanos text → IsRefused o text (Overflow None)
+  pub far_above : (o : Options) (style : Style) (nanos : ℕ) (text : List ℕ) → 585 * nanos_of Year ≤ nanos
+      → FitsDuration nanos → IsPrintedIn style nanos text → IsRefused o text (Overflow (Some 0))
 
 -- Neither the line of a cause nor the text of a fault ends with a line feed.
 pub record LastLine : Type 0 where
@@ -184,27 +187,31 @@ pub record OlderTexts : Type 0 where
 
 -- With all units and at least as many parts as there are units, a duration prints as without limits.
 abbrev pub AllParts : Type 0
-AllParts = (parts nanos : ℕ) (text : List ℕ) → length units ≤ parts
-    → (IsPrintedWithin (record no_limits { parts = parts }) nanos text ↔ IsPrinted nanos text)
+AllParts = (style : Style) (parts nanos : ℕ) (text : List ℕ) → length units ≤ parts
+    → (IsPrintedWithin (record whole_format { parts = parts; style = style }) nanos text ↔ IsPrintedIn style nanos text)
 
 -- Broken down into the largest unit of the limits and all shorter ones, the duration has no more parts than they allow,
 -- and none shorter than their smallest unit.
-pub record KeepsWithin (limits : Limits) (nanos : ℕ) (counts : List ℕ) : Type 0 where
-  pub breakdown : IsGreatestBreakdown (map nanos_of (units_from limits.largest units)) nanos counts
-  pub few : part_count counts ≤ limits.parts
-  pub whole : weighted_sum (lengths_within limits) counts ≡ nanos
+pub record KeepsWithin (format : Format) (nanos : ℕ) (counts : List ℕ) : Type 0 where
+  pub breakdown : IsGreatestBreakdown (map nanos_of (units_from format.largest units)) nanos counts
+  pub few : part_count counts ≤ format.parts
+  pub whole : weighted_sum (lengths_within format) counts ≡ nanos
 
 -- The text is also that of this duration, and is read as it if it is below 2^64 nanoseconds. It is the greatest one, up
 -- to the one printed, whose own breakdown keeps within the limits.
-pub record IsMostWithin (limits : Limits) (nanos : ℕ) (text : List ℕ) (most : ℕ) : Type 0 where
-  pub again : IsPrintedWithin limits most text
+pub record IsMostWithin (format : Format) (nanos : ℕ) (text : List ℕ) (most : ℕ) : Type 0 where
+  pub again : IsPrintedWithin format most text
   pub read : (o : Options) → most < 2 ^ 64 → IsRead o text most
   pub never_more : most ≤ nanos
-  pub own : (counts : List ℕ) × KeepsWithin limits most counts
+  pub own : (counts : List ℕ) × KeepsWithin format most counts
   pub greatest : (between : ℕ) (counts : List ℕ) → most < between → between ≤ nanos
-      → KeepsWithin limits between counts → ⊥
+      → KeepsWithin format between counts → ⊥
 
 -- What is printed within limits is such a duration.
 abbrev pub NeverMore : Type 0
-NeverMore = (limits : Limits) (nanos : ℕ) (text : List ℕ) → IsPrintedWithin limits nanos text
-    → (most : ℕ) × IsMostWithin limits nanos text most
+NeverMore = (format : Format) (nanos : ℕ) (text : List ℕ) → IsPrintedWithin format nanos text
+    → (most : ℕ) × IsMostWithin format nanos text most
+
+-- A word for which the line advises a unit's name names no unit, under any options.
+abbrev pub NearWords : Type 0
+NearWords = (o : Options) (word : List ℕ) → near_advice (encode_utf8_all word) ≢ [] → unit_of_word o word ≡ None

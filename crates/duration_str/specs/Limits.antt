@@ -1,15 +1,19 @@
--- A duration printed within limits: in the units from a largest to a smallest, and in so many parts at most.
-use Rattle.std.specs.Prelude.{◌≡◌, ℕ, ◌+◌, ◌-◌, ◌/◌, ◌%◌, ◌≤◌, List, [], ◌∷◌, ◌++◌, if◌then◌else◌, length, ◌⊎◌, ◌==◌}
-use Rattle.std.specs.Prelude.{nat_lt, map, codes}
-use Rattle.duration_str.specs.declared.limits.Limits.{Limits}
+-- A duration printed within limits, in the units from a largest to a smallest and in so many parts at most, and in a
+-- style.
+use Rattle.std.specs.Prelude.{◌≡◌, ℕ, ◌+◌, ◌-◌, ◌/◌, ◌%◌, ◌≤◌, List, [], ◌∷◌, if◌then◌else◌, length, ◌⊎◌, ◌==◌}
+use Rattle.std.specs.Prelude.{nat_lt, map}
+use Rattle.duration_str.specs.declared.format.Format.{Format}
 use Rattle.duration_str.specs.declared.unit.TimeUnit.{TimeUnit}
 use Rattle.duration_str.specs.declared.unit.TimeUnit.TheVariants.{Year, Second, NanoSecond}
-use Rattle.duration_str.specs.Units.{units, row_of, nanos_of}
-use Rattle.duration_str.specs.Printing.{weighted_sum, IsBefore, printed_parts, spaced_parts}
+use Rattle.duration_str.specs.Units.{units, nanos_of}
+use Rattle.duration_str.specs.declared.format.Style.{Style}
+use Rattle.duration_str.specs.declared.format.Style.TheVariants.{Long, Short}
+use Rattle.duration_str.specs.declared.printing.TheConstants.{MAX_LONG_LEN, MAX_PRINTED_LEN}
+use Rattle.duration_str.specs.Printing.{weighted_sum, IsBefore, printed_parts, joined_parts}
 
--- all units, and as many parts as there are units
-abbrev pub no_limits : Limits
-no_limits = record { largest = Year; smallest = NanoSecond; parts = length units }
+-- all units, as many parts as there are units, and the short style
+abbrev pub whole_format : Format
+whole_format = record { largest = Year; smallest = NanoSecond; parts = length units; style = Short }
 
 -- the units from the first on that is not longer than the largest
 abbrev pub units_from : TimeUnit → List TimeUnit → List TimeUnit
@@ -23,12 +27,12 @@ units_down_to smallest (u ∷ us) =
     if nat_lt (nanos_of u) (nanos_of smallest) then [] else u ∷ units_down_to smallest us
 
 -- the units from the largest to the smallest; none if the largest is shorter than the smallest
-abbrev pub units_within : Limits → List TimeUnit
-units_within limits = units_down_to limits.smallest (units_from limits.largest units)
+abbrev pub units_within : Format → List TimeUnit
+units_within format = units_down_to format.smallest (units_from format.largest units)
 
 -- their lengths
-abbrev pub lengths_within : Limits → List ℕ
-lengths_within limits = map nanos_of (units_within limits)
+abbrev pub lengths_within : Format → List ℕ
+lengths_within format = map nanos_of (units_within format)
 
 -- how many of the counts are not 0
 abbrev pub part_count : List ℕ → ℕ
@@ -50,19 +54,22 @@ pub record IsGreatestWithin (lengths : List ℕ) (parts nanos : ℕ) (counts : L
 abbrev pub zero_unit : TimeUnit → TimeUnit
 zero_unit smallest = if nat_lt (nanos_of smallest) (nanos_of Second) then Second else smallest
 
--- `0` and that unit's name
-abbrev pub zero_text : TimeUnit → List ℕ
-zero_text smallest = codes "0" ++ (row_of (zero_unit smallest)).printed
-
 -- the text that prints these counts
-abbrev pub text_within : Limits → List ℕ → List ℕ
-text_within limits counts = spaced_parts (zero_text limits.smallest) (printed_parts (units_within limits) counts)
+abbrev pub text_within : Format → List ℕ → List ℕ
+text_within format counts =
+    joined_parts format.style (zero_unit format.smallest)
+    (printed_parts format.style (units_within format) counts)
 
--- A duration of `nanos` nanoseconds prints within these limits as this text.
-abbrev pub IsPrintedWithin : Limits → ℕ → List ℕ → Type 0
-IsPrintedWithin limits nanos text =
+-- A duration of `nanos` nanoseconds prints in this format as this text.
+abbrev pub IsPrintedWithin : Format → ℕ → List ℕ → Type 0
+IsPrintedWithin format nanos text =
     (counts : List ℕ)
-    × IsGreatestWithin (lengths_within limits) limits.parts nanos counts × (text ≡ text_within limits counts)
+    × IsGreatestWithin (lengths_within format) format.parts nanos counts × (text ≡ text_within format counts)
+
+-- the most bytes of a printed text
+abbrev pub most_len : Style → ℕ
+most_len Long = MAX_LONG_LEN
+most_len style = MAX_PRINTED_LEN
 
 -- how often each length goes into what the longer ones leave, for the first `parts` of which that is not 0
 abbrev pub counts_within : List ℕ → ℕ → ℕ → List ℕ

@@ -1,9 +1,11 @@
 -- The breakdown of a duration, and its printed text.
-use Rattle.std.specs.Prelude.{◌≡◌, ℕ, ◌+◌, ◌*◌, ◌/◌, ◌%◌, ◌<◌, List, [], ◌∷◌, ◌++◌}
-use Rattle.std.specs.Prelude.{if◌then◌else◌, length, ◌⊎◌, ◌==◌, codes}
-use Rattle.std.specs.List.{flat_map}
-use Rattle.std.specs.Fmt.{decimal}
+use Rattle.std.specs.Prelude.{◌≡◌, ℕ, Bool, ◌+◌, ◌*◌, ◌/◌, ◌%◌, ◌<◌, List, [], ◌∷◌, ◌++◌}
+use Rattle.std.specs.Prelude.{if◌then◌else◌, length, ◌⊎◌, ◌==◌, codes, decimal, flat_map}
 use Rattle.duration_str.specs.declared.unit.TimeUnit.{TimeUnit}
+use Rattle.duration_str.specs.declared.unit.TimeUnit.TheVariants.{Year, Quarter, Month, Week, Day, Hour, Minute, Second}
+use Rattle.duration_str.specs.declared.unit.TimeUnit.TheVariants.{MilliSecond, MicroSecond, NanoSecond}
+use Rattle.duration_str.specs.declared.format.Style.{Style}
+use Rattle.duration_str.specs.declared.format.Style.TheVariants.{Short, Compact, Long}
 use Rattle.duration_str.specs.Units.{units, row_of, unit_lengths}
 
 -- the sum of the counts, each times its length
@@ -26,25 +28,61 @@ pub record IsGreatestBreakdown (lengths : List ℕ) (nanos : ℕ) (counts : List
   pub breakdown : IsBreakdown lengths nanos counts
   pub greatest : (others : List ℕ) → IsBreakdown lengths nanos others → (others ≡ counts) ⊎ IsBefore others counts
 
--- the nonzero counts, each in decimal and followed by its unit's printed name
-abbrev pub printed_parts : List TimeUnit → List ℕ → List (List ℕ)
-printed_parts (u ∷ us) (n ∷ counts) =
-    if n == 0 then printed_parts us counts else (decimal n ++ (row_of u).printed) ∷ printed_parts us counts
-printed_parts _ _ = []
+-- the long name of one of a unit
+abbrev pub long_name : TimeUnit → List ℕ
+long_name Year = codes "year"
+long_name Quarter = codes "quarter"
+long_name Month = codes "month"
+long_name Week = codes "week"
+long_name Day = codes "day"
+long_name Hour = codes "hour"
+long_name Minute = codes "minute"
+long_name Second = codes "second"
+long_name MilliSecond = codes "millisecond"
+long_name MicroSecond = codes "microsecond"
+long_name NanoSecond = codes "nanosecond"
 
--- the parts with a space between each two; this text if there are none
-abbrev pub spaced_parts : List ℕ → List (List ℕ) → List ℕ
-spaced_parts zero [] = zero
-spaced_parts zero (part ∷ parts) = part ++ flat_map (λ p. codes " " ++ p) parts
+-- a unit's name after a count: in the long style with an `s` unless it is one
+abbrev pub name_in : Style → Bool → TimeUnit → List ℕ
+name_in Long one u = long_name u ++ (if one then [] else codes "s")
+name_in style one u = (row_of u).printed
 
--- the text that prints these counts
-abbrev pub printed_counts : List ℕ → List ℕ
-printed_counts counts = spaced_parts (codes "0s") (printed_parts units counts)
+-- what stands between a count and its unit's name
+abbrev pub before_name : Style → List ℕ
+before_name Long = codes " "
+before_name style = []
 
--- A duration of `nanos` nanoseconds prints as this text.
+-- what stands between two parts
+abbrev pub between : Style → List ℕ
+between Compact = []
+between style = codes " "
+
+-- a count in decimal, followed by its unit's name
+abbrev pub printed_part : Style → ℕ → TimeUnit → List ℕ
+printed_part style n u = decimal n ++ (before_name style ++ name_in style (n == 1) u)
+
+-- the parts of the counts that are not 0
+abbrev pub printed_parts : Style → List TimeUnit → List ℕ → List (List ℕ)
+printed_parts style (u ∷ us) (n ∷ counts) =
+    if n == 0 then printed_parts style us counts else printed_part style n u ∷ printed_parts style us counts
+printed_parts style _ _ = []
+
+-- the parts, one after another; no such unit if there are none
+abbrev pub joined_parts : Style → TimeUnit → List (List ℕ) → List ℕ
+joined_parts style u [] = printed_part style 0 u
+joined_parts style u (part ∷ parts) = part ++ flat_map (λ p. between style ++ p) parts
+
+-- the text that prints these counts in a style
+abbrev pub printed_counts : Style → List ℕ → List ℕ
+printed_counts style counts = joined_parts style Second (printed_parts style units counts)
+
+-- A duration of `nanos` nanoseconds prints as this text: in this style, or in the short one where none is named.
+abbrev pub IsPrintedIn : Style → ℕ → List ℕ → Type 0
+IsPrintedIn style nanos text =
+    (counts : List ℕ) × IsGreatestBreakdown unit_lengths nanos counts × (text ≡ printed_counts style counts)
+
 abbrev pub IsPrinted : ℕ → List ℕ → Type 0
-IsPrinted nanos text =
-    (counts : List ℕ) × IsGreatestBreakdown unit_lengths nanos counts × (text ≡ printed_counts counts)
+IsPrinted = IsPrintedIn Short
 
 -- how often each length goes into what the longer lengths leave
 abbrev pub counts_of : List ℕ → ℕ → List ℕ

@@ -16,6 +16,12 @@ abbrev pub IsValueOrFault : {T : Type 0} → (T → Type 0) → (Cause → Type 
 IsValueOrFault reads refuses bytes (Ok value) = reads value
 IsValueOrFault reads refuses bytes (Err fault) = (fault.text.now ≡ bytes) × refuses fault.cause
 
+-- Under these options the bytes are read as the nanoseconds in `Ok`, or refused for the cause in `Err`.
+pub record ReadsText (o : Options) (bytes : List ℕ) (result : Result ℕ Fault) : Type 0 where
+  pub read : IfOk result (IsRead o (chars bytes))
+  pub accepts : (nanos : ℕ) → IsRead o (chars bytes) nanos → IsOk result
+  pub refused : IfErr result (λ f. (f.text.now ≡ bytes) × IsRefused o (chars bytes) f.cause)
+
 -- Under these options the bytes are read as the value in `Ok`, or refused for the cause in `Err`.
 pub record ParsesText (o : Options) (bytes : List ℕ) (result : Result Duration Fault) : Type 0 where
   pub read : IfOk result (λ d. IsRead o (chars bytes) (as_nanos d))

@@ -2,7 +2,7 @@
 ghost use Rattle.duration_str.specs.Laws.{OneSentence, OneCut, OneReading, AnswerIsReading, PlaceAndKinds};
 ghost use Rattle.duration_str.specs.Laws.{NoCalcAgrees, OptionsIdle, BlanksFree, SumOfTexts, Reorder, TwoFactors};
 ghost use Rattle.duration_str.specs.Laws.{GreatestBreakdown, EqualTexts, ReadsBack, LastLine, OlderTexts, AllParts};
-ghost use Rattle.duration_str.specs.Laws.{NeverMore};
+ghost use Rattle.duration_str.specs.Laws.{NeverMore, NearWords};
 
 /// At most one sentence spells a text, and its lexemes are those of the text's tokens; a text is read as one value or
 /// refused for one cause, not both, and the computed answer says which. So `3m31s` is spelled by `3`, `m`, `31`, `s`
@@ -74,13 +74,14 @@ pub fn greatest_breakdown()
     ensures { GreatestBreakdown }
 {}
 
-/// Two durations print the same text exactly if they are equal. So `3min 31s` is printed for 211 seconds only.
+/// Two durations print the same text in a style exactly if they are equal. So `3min 31s` is printed for 211 seconds
+/// only.
 pub fn equal_texts()
     ensures { EqualTexts }
 {}
 
-/// A printed duration is read back as itself if it is below 2^64 nanoseconds, and otherwise is refused as an overflow:
-/// without a place below 585 years, and with place 0 from there on. So
+/// A duration printed in any style, without limits, is read back as itself if it is below 2^64 nanoseconds, and
+/// otherwise is refused as an overflow: without a place below 585 years, and with place 0 from there on. So
 /// `584y 3q 2mon 1w 3d 23h 34min 33s 709ms 551µs 615ns` is read as 2^64 - 1 nanoseconds, and with `616ns` it overflows.
 #[tactic(auto, using(crate::proofs::LawProofs::ReadsBack::reads_back_holds))]
 pub fn reads_back()
@@ -103,8 +104,8 @@ pub fn older_texts()
     ensures { OlderTexts }
 {}
 
-/// With all units and at least as many parts as there are units, `write_within` prints what `write_human` prints. So
-/// eleven parts of 193,029 milliseconds are `3min 13s 29ms`.
+/// With all units and at least as many parts as there are units, `write_within` prints the whole duration in its style,
+/// in the short one as `write_human` does. So eleven parts of 193,029 milliseconds are `3min 13s 29ms`.
 pub fn all_parts()
     ensures { AllParts }
 {}
@@ -116,4 +117,11 @@ pub fn all_parts()
 #[tactic(auto, using(crate::proofs::LawProofs::NeverMore::never_more_holds))]
 pub fn never_more()
     ensures { NeverMore }
+{}
+
+/// A word for which a fault's line advises a unit's name is no unit under any options. So whoever is told to write `min`
+/// for `mins` can't have it read by other options.
+#[tactic(auto, using(crate::proofs::LawProofs::NearWords::near_words_hold))]
+pub fn near_words()
+    ensures { NearWords }
 {}

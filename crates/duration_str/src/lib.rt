@@ -8,13 +8,15 @@ pub mod error;
 pub mod ext;
 mod eye;
 mod fault;
+mod format;
 pub mod laws;
-mod limits;
 mod message;
+mod one_line;
 mod operator;
 mod options;
 mod packed;
 pub mod parser;
+pub mod printing;
 mod reader;
 mod signed;
 pub mod token;
@@ -22,9 +24,11 @@ pub mod top;
 pub mod unit;
 
 pub use error::{DError, DResult};
-pub use ext::{HumanFormat, MAX_PRINTED_LEN, write_human};
-pub use limits::{Limits, write_within};
-pub use parser::{Cause, Expected, Fault, parse, parse_looked, parse_std, parse_with};
+pub use ext::HumanFormat;
+pub use format::{Format, Style};
+pub use one_line::MAX_ONE_LINE_LEN;
+pub use parser::{Cause, Expected, Fault, parse, parse_looked, parse_nanos, parse_std, parse_with};
+pub use printing::{MAX_LONG_LEN, MAX_PRINTED_LEN, write_human, write_within};
 pub use token::{Token, Tokens, What};
 pub use top::{
     DeserializeDuration, after_naive_date, after_naive_date_time, before_naive_date,

@@ -10,8 +10,8 @@ ghost use Rattle.duration_str.specs.Buffers.{IsInFront, IsWritten};
 ghost use Rattle.duration_str.specs.Messages.{byte_text, caret_text, chars_before, message_of, line_of, laid_out};
 
 use crate::cause::Cause;
-use crate::ext::put_number;
 use crate::fault::Fault;
+use crate::printing::put_number;
 use std::fmt;
 
 impl Cause {
@@ -201,9 +201,11 @@ impl Layout {
 }
 
 /// The number of characters before the place. In ASCII it is that of the bytes, which takes less time.
-fn chars_before(text: &str, place: usize) -> usize
+#[inline(never)]
+pub(crate) fn chars_before(text: &str, place: usize) -> usize
     requires { IsCharBoundary text.now place }
-    ensures { result ≡ chars_before text.now place }
+    ensures count { result ≡ chars_before text.now place }
+    ensures small { result < 2 ^ 63 }
 {
     let before = &text[..place];
     if before.is_ascii() {
@@ -237,7 +239,7 @@ fn put_caret(buffer: &mut [u8], text: &str, spaces: usize, line: &str) -> Option
 }
 
 /// Writes a part after the first `at` bytes, and returns where it ends; `None` if there is no room.
-fn put(buffer: &mut [u8], at: usize, part: &[u8]) -> Option<usize>
+pub(crate) fn put(buffer: &mut [u8], at: usize, part: &[u8]) -> Option<usize>
     requires { at ≤ length buffer.old }
     ensures { IsWritten (take at buffer.old ++ part.now) buffer.old result buffer.new }
 {
@@ -264,7 +266,7 @@ fn put_spaces(buffer: &mut [u8], at: usize, count: usize) -> Option<usize>
 
 /// Writes a number in decimal as `put` does.
 #[tactic(auto, using(crate::proofs::Printer::DigitLemmas::short_decimal))]
-fn put_decimal(buffer: &mut [u8], at: usize, number: usize) -> Option<usize>
+pub(crate) fn put_decimal(buffer: &mut [u8], at: usize, number: usize) -> Option<usize>
     requires { at ≤ length buffer.old }
     ensures { IsInFront (take at buffer.old ++ decimal number) result buffer.new }
 {

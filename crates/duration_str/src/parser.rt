@@ -1,17 +1,14 @@
 //! Reading: the duration that a text means, or why it means none.
-ghost use Rattle.std.specs.Prelude.{◌≡◌, ◌^◌, ◌<◌, ◌≤◌, length, IfOk, IfErr, OnOk};
-ghost use Rattle.std.specs.Duration.{as_nanos};
+ghost use Rattle.std.specs.Prelude.{◌≡◌, ◌≤◌, length, IfErr, OnOk};
 ghost use Rattle.std.specs.Str.{chars};
-ghost use Rattle.duration_str.specs.Answer.{answer};
-ghost use Rattle.duration_str.specs.Results.{ParsesText, ReachesPlace};
-ghost use Rattle.duration_str.specs.Iteration.{source, cut_place};
-ghost use Rattle.duration_str.specs.Internal.Rest.{BeginsText, ReturnsAnswer, IsPlacedUpTo};
+ghost use Rattle.duration_str.specs.Results.{ParsesText, ReadsText, ReachesPlace};
+ghost use Rattle.duration_str.specs.Internal.Rest.{IsDurationOf};
 ghost use Rattle.duration_str.specs.Units.{off};
 
 pub use crate::cause::{Cause, Expected};
 pub use crate::fault::Fault;
 use crate::options::Options;
-use crate::reader::{Begun, read_first, read_rest};
+use crate::reader::read;
 use crate::token::Tokens;
 use std::time::Duration;
 
@@ -31,9 +28,7 @@ use std::time::Duration;
 pub fn parse(input: &str) -> Result<Duration, Fault<'_>>
     ensures { ParsesText off input.now result }
 {
-    let off = Options::off();
-    let (mut tokens, begun) = begin(input, off);
-    finish(input, &mut tokens, off, begun)
+    as_duration(parse_nanos(input, Options::off()))
 }
 
 /// What `parse` returns.
@@ -79,8 +74,19 @@ pub fn parse_with(input: &str, o: Options) -> Result<Duration, Fault<'_>>
 fn parse_chosen(input: &str, o: Options) -> Result<Duration, Fault<'_>>
     ensures { ParsesText o input.now result }
 {
-    let (mut tokens, begun) = begin(input, o);
-    finish(input, &mut tokens, o, begun)
+    as_duration(parse_nanos(input, o))
+}
+
+/// The nanoseconds of what `parse_with` returns, or its refusal.
+///
+/// ```text
+/// parse_nanos("1ms 5ns", Options::off()) // Ok(1_000_005)
+/// ```
+#[inline(always)]
+pub fn parse_nanos(input: &str, o: Options) -> Result<u64, Fault<'_>>
+    ensures { ReadsText o input.now result }
+{
+    read_text(input, o).0
 }
 
 /// What `parse_with` returns, and how many times a character of the text was looked at.
@@ -97,45 +103,39 @@ pub fn parse_looked(input: &str, o: Options) -> (Result<Duration, Fault<'_>>, u6
     ensures whole { OnOk result.0 (result.1 ≡ length (chars input.now)) }
     ensures reaches { IfErr result.0 (λ f. ReachesPlace input.now f.cause result.1) }
 {
-    let (mut tokens, begun) = begin(input, o);
-    let result = finish(input, &mut tokens, o, begun);
-    (result, tokens.looked())
+    let (answer, looks) = read_text(input, o);
+    (as_duration(answer), looks)
 }
 
-/// The tokens of the text as far as `read_first` takes them, and what it returns.
+/// The nanoseconds as a duration, or the same refusal.
 #[inline(always)]
-fn begin(input: &str, o: Options) -> (Tokens<'_>, Begun)
-    ensures { BeginsText o input.now result.0 result.1 }
+fn as_duration(answer: Result<u64, Fault<'_>>) -> Result<Duration, Fault<'_>>
+    ensures { IsDurationOf answer.entry result }
+{
+    match answer {
+        Ok(nanos) => Ok(Duration::from_nanos(nanos)),
+        Err(fault) => Err(fault),
+    }
+}
+
+/// What `parse_nanos` returns, and how many times a character of the text was looked at.
+#[inline(always)]
+fn read_text(input: &str, o: Options) -> (Result<u64, Fault<'_>>, u64)
+    ensures reads { ReadsText o input.now result.0 }
+    ensures once { result.1 ≤ length (chars input.now) }
+    ensures whole { OnOk result.0 (result.1 ≡ length (chars input.now)) }
+    ensures reaches { IfErr result.0 (λ f. ReachesPlace input.now f.cause result.1) }
 {
     let mut tokens = Tokens::new(input, o);
     if input.is_empty() {
-        return (tokens, Err(Cause::Empty));
+        let fault = Fault {
+            text: input,
+            cause: Cause::Empty,
+        };
+        return (Err(fault), 0);
     }
-    let begun = read_first(&mut tokens, o.no_calc);
-    (tokens, begun)
-}
-
-/// What the text means, given what `begin` returns of it. The tokens are read to their end, or to a fault.
-#[inline(always)]
-fn finish<'a>(
-    input: &'a str,
-    tokens: &mut Tokens<'_>,
-    o: Options,
-    begun: Begun,
-) -> Result<Duration, Fault<'a>>
-    requires { BeginsText o input.now tokens.old begun }
-    ensures answer { ReturnsAnswer (answer o (chars input.now)) input.now result }
-    ensures fits { IfOk result (λ d. as_nanos d < 2 ^ 64) }
-    ensures same_source { source tokens.new ≡ input.now }
-    ensures whole { OnOk result (cut_place tokens.new ≡ length input.now) }
-    ensures reached { IfErr result (λ f. IsPlacedUpTo (cut_place tokens.new) f.cause) }
-{
-    let answer = match begun {
-        Ok((first, operator)) => read_rest(tokens, o.no_calc, first, operator),
-        Err(cause) => return Err(Fault { text: input, cause }),
-    };
-    match answer {
-        Ok(nanos) => Ok(Duration::from_nanos(nanos)),
-        Err(cause) => Err(Fault { text: input, cause }),
+    match read(&mut tokens, o.no_calc) {
+        Ok(nanos) => (Ok(nanos), tokens.looked()),
+        Err(cause) => (Err(Fault { text: input, cause }), tokens.looked()),
     }
 }

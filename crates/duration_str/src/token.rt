@@ -10,8 +10,8 @@ ghost use Rattle.duration_str.specs.Tokens.{tokens_of};
 ghost use Rattle.duration_str.specs.Internal.Positions.{letter_number, StandsAt, Passes, Stops};
 ghost use Rattle.duration_str.specs.Internal.Positions.{TakesDigits, TakesLetters, wide_number};
 ghost use Rattle.duration_str.specs.Value.{fits};
-ghost use Rattle.duration_str.specs.declared.token.Sort.{Sort};
-ghost use Rattle.duration_str.specs.declared.token.Sort.TheVariants.{Number as a_number, Word as a_word};
+ghost use Rattle.duration_str.specs.declared.token.TokenStart.{TokenStart};
+ghost use Rattle.duration_str.specs.declared.token.TokenStart.TheVariants.{Number as a_number, Word as a_word};
 
 use crate::eye::Eye;
 use crate::operator::CondUnit;
@@ -60,30 +60,30 @@ pub struct Token<'a> {
 
 /// The sort of a token, by its first character.
 #[derive(Clone, Copy)]
-pub(crate) enum Sort {
+pub(crate) enum TokenStart {
     Number,
     Word,
     Operator(CondUnit),
     Other,
 }
 
-impl Sort {
+impl TokenStart {
     ghost use Rattle.duration_str.specs.Internal.Steps.{sort_at};
 
     /// The sort of a token that starts with this character.
     #[inline(always)]
-    fn at(first: char, o: Options) -> Sort
+    fn at(first: char, o: Options) -> TokenStart
         ensures { result ≡ sort_at o first }
     {
         if first.is_ascii_digit() {
-            return Sort::Number;
+            return TokenStart::Number;
         }
         if is_unit_letter(first, o) {
-            return Sort::Word;
+            return TokenStart::Word;
         }
         match CondUnit::from_char(first) {
-            Some(operator) => Sort::Operator(operator),
-            None => Sort::Other,
+            Some(operator) => TokenStart::Operator(operator),
+            None => TokenStart::Other,
         }
     }
 }
@@ -194,10 +194,12 @@ impl<'a> Tokens<'a> {
             (source self.old) (cut_place self.old) (cut_place self.new) }
         ensures stops { ForSome self.new.head (λ c. is_blank c ≡ false) }
     {
-        while let Some(c) = self.head
-            && is_blank(c)
-        {
-            self.advance();
+        while let Some(c) = self.head {
+            if is_blank(c) {
+                self.advance();
+            } else {
+                break;
+            }
         }
     }
 
@@ -210,11 +212,13 @@ impl<'a> Tokens<'a> {
         ensures stops { Stops is_digit (ahead (source self.new) (cut_place self.new)) }
     {
         let mut number = 0u64;
-        while let Some(c) = self.head
-            && c.is_ascii_digit()
-        {
-            number = ((number as u128 * 10 + (c as u32 - 48) as u128) % MODULUS) as u64;
-            self.advance();
+        while let Some(c) = self.head {
+            if c.is_ascii_digit() {
+                number = ((number as u128 * 10 + (c as u32 - 48) as u128) % MODULUS) as u64;
+                self.advance();
+            } else {
+                break;
+            }
         }
         number
     }
@@ -284,21 +288,21 @@ impl<'a> Tokens<'a> {
 
     /// Takes the token ahead, which is of this sort.
     #[inline(always)]
-    fn take_token(&mut self, sort: Sort) -> What
+    fn take_token(&mut self, sort: TokenStart) -> What
         requires { IsAhead self.old (Some sort) }
         ensures { TakesTokenWith self.old self.new (λ terminal. result ≡ what_of terminal) }
     {
         match sort {
-            Sort::Number => {
+            TokenStart::Number => {
                 let _ = self.take_number();
                 What::Number
             }
-            Sort::Word => What::Word(self.take_word()),
-            Sort::Operator(operator) => {
+            TokenStart::Word => What::Word(self.take_word()),
+            TokenStart::Operator(operator) => {
                 self.advance();
                 What::Operator(operator)
             }
-            Sort::Other => {
+            TokenStart::Other => {
                 self.advance();
                 What::Other
             }
@@ -307,12 +311,12 @@ impl<'a> Tokens<'a> {
 
     /// Moves past the blanks, and returns the sort of the token ahead; `None` at the end.
     #[inline(always)]
-    pub(crate) fn sort_ahead(&mut self) -> Option<Sort>
+    pub(crate) fn sort_ahead(&mut self) -> Option<TokenStart>
         ensures { LooksAhead self.old self.new result }
     {
         self.skip_blanks();
         let first = self.head?;
-        Some(Sort::at(first, self.options))
+        Some(TokenStart::at(first, self.options))
     }
 
     /// Moves past the blanks, and returns whether a number is ahead.
@@ -330,13 +334,13 @@ impl<'a> Tokens<'a> {
     /// What `sort_ahead` returns. After a number a word is most likely, so letters are tested first: `3m 13s 29ms`
     /// takes 5 % fewer instructions.
     #[inline(always)]
-    pub(crate) fn sort_after_number(&mut self) -> Option<Sort>
+    pub(crate) fn sort_after_number(&mut self) -> Option<TokenStart>
         ensures { LooksAhead self.old self.new result }
     {
-        if let Some(c) = self.head
-            && c.is_ascii_alphabetic()
-        {
-            return Some(Sort::Word);
+        if let Some(c) = self.head {
+            if c.is_ascii_alphabetic() {
+                return Some(TokenStart::Word);
+            }
         }
         self.sort_ahead()
     }
@@ -407,8 +411,7 @@ fn first_number(c: char, o: Options) -> u64
 }
 
 /// The number of a unit letter beyond ASCII: `µ`, and those that the option `cn_unit` adds; 0 of any other character.
-#[cold]
-#[inline(never)]
+#[inline]
 fn wide_number(c: char, cn_unit: bool) -> u64
     ensures { result ≡ (if c == 0xB5 || (cn_unit && is_chinese c) then wide_number c else 0) }
 {
@@ -443,7 +446,7 @@ static BLANKS: [bool; 33] = [
 
 /// Space, tab, carriage return, line feed.
 #[inline]
-fn is_blank(c: char) -> bool
+pub(crate) fn is_blank(c: char) -> bool
     ensures { result ≡ is_blank c }
 {
     c <= ' ' && BLANKS[c as usize]

@@ -7,7 +7,8 @@ ghost use Rattle.duration_str.specs.Text.{IsNumber, number_of};
 ghost use Rattle.duration_str.specs.declared.unit.TimeUnit.{TimeUnit};
 ghost use Rattle.duration_str.specs.declared.unit.TimeUnit.TheVariants.{Second};
 ghost use Rattle.duration_str.specs.Units.{nanos_of, row_of, comparison_form, is_named, unit_of_word};
-ghost use Rattle.duration_str.specs.Internal.UnitTable.{IsRow, place_of};
+ghost use Rattle.duration_str.specs.Printing.{long_name};
+ghost use Rattle.duration_str.specs.Internal.UnitTable.{IsRow, rank_of};
 ghost use Rattle.duration_str.specs.Internal.Numbers.{checked_term};
 ghost use Rattle.duration_str.specs.Value.{term_of, term_answer};
 
@@ -81,10 +82,30 @@ impl TimeUnit {
         self.row().printed
     }
 
+    /// The long name of one of the unit.
+    #[tactic(auto, unfolding(std::specs::Prelude::encode_utf8))]
+    pub(crate) const fn long_name(self) -> &'static str
+        ensures { result.now ≡ encode_utf8_all (long_name self) }
+    {
+        match self {
+            TimeUnit::Year => "year",
+            TimeUnit::Quarter => "quarter",
+            TimeUnit::Month => "month",
+            TimeUnit::Week => "week",
+            TimeUnit::Day => "day",
+            TimeUnit::Hour => "hour",
+            TimeUnit::Minute => "minute",
+            TimeUnit::Second => "second",
+            TimeUnit::MilliSecond => "millisecond",
+            TimeUnit::MicroSecond => "microsecond",
+            TimeUnit::NanoSecond => "nanosecond",
+        }
+    }
+
     /// How many units are longer.
     #[inline(always)]
-    pub(crate) fn place(self) -> usize
-        ensures { result ≡ place_of self }
+    pub(crate) fn rank(self) -> usize
+        ensures { result ≡ rank_of self }
     {
         self as usize
     }

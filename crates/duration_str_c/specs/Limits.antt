@@ -1,6 +1,8 @@
--- Limits whose units are given by number.
-use Rattle.std.specs.Prelude.{ℕ, slice_index_or}
-use Rattle.duration_str.specs.declared.limits.Limits.{Limits}
+-- Formats whose units and style are given by number.
+use Rattle.std.specs.Prelude.{ℕ, ◌==◌, if◌then◌else◌, slice_index_or}
+use Rattle.duration_str.specs.declared.format.Format.{Format}
+use Rattle.duration_str.specs.declared.format.Style.{Style}
+use Rattle.duration_str.specs.declared.format.Style.TheVariants.{Short, Compact, Long}
 use Rattle.duration_str.specs.declared.unit.TimeUnit.{TimeUnit}
 use Rattle.duration_str.specs.declared.unit.TimeUnit.TheVariants.{NanoSecond}
 use Rattle.duration_str.specs.Units.{units}
@@ -9,7 +11,11 @@ use Rattle.duration_str.specs.Units.{units}
 abbrev pub unit_numbered : ℕ → TimeUnit
 unit_numbered number = slice_index_or units number NanoSecond
 
--- the limits with these units and so many parts
-abbrev pub limits_numbered : ℕ → ℕ → ℕ → Limits
-limits_numbered largest smallest parts =
-    record { largest = unit_numbered largest; smallest = unit_numbered smallest; parts = parts }
+-- the style with this number: 0 short, 1 compact, 2 long
+abbrev pub style_numbered : ℕ → Style
+style_numbered number = if number == 0 then Short else if number == 1 then Compact else Long
+
+-- the format with these units, so many parts and this style
+abbrev pub format_numbered : ℕ → ℕ → ℕ → Style → Format
+format_numbered largest smallest parts style =
+    record { largest = unit_numbered largest; smallest = unit_numbered smallest; parts = parts; style = style }

@@ -1,13 +1,11 @@
 //! Columns: many texts in one run of bytes, read by one call.
 ghost use Rattle.std.specs.Prelude.{◌≡◌, ◌==◌, take, drop, count_by};
-ghost use Rattle.duration_str.specs.Results.{ParsesText};
 ghost use Rattle.duration_str_c.specs.Answers.{options_of_bits};
 ghost use Rattle.duration_str_c.specs.Columns.{column_length, AnswersPart, AnswersColumn};
 
 use crate::answer::cause_number;
-use crate::{options_of_bits, text_of};
-use duration_str::{Cause, Fault, parse, parse_with};
-use std::time::Duration;
+use crate::{options_of_bits, read, text_of};
+use duration_str::Cause;
 
 /// The cause of a text whose offsets decrease or lie beyond the bytes.
 const BAD_OFFSETS: u32 = 8;
@@ -18,8 +16,7 @@ const BAD_OFFSETS: u32 = 8;
 ///
 /// There is a text for each offset but the last, as far as there is room in both `nanos` and `causes`; what they hold
 /// after that is unchanged.
-#[unsafe(no_mangle)]
-pub extern "C" fn duration_str_parse_column(
+pub fn duration_str_parse_column(
     bytes: &[u8],
     offsets: &[usize],
     options: u32,
@@ -59,21 +56,8 @@ fn answer_between(bytes: &[u8], start: usize, end: usize, options: u32) -> (u64,
     let Some(text) = text_of(&bytes[start..end]) else {
         return (0, cause_number(Cause::NotText { optional: false }));
     };
-    match read(text, options) {
-        Ok(length) => (length.as_nanos() as u64, 0),
+    match read(text, options_of_bits(options)) {
+        Ok(nanos) => (nanos, 0),
         Err(fault) => (0, cause_number(fault.cause())),
-    }
-}
-
-/// What a text is read as under the options whose bits are set. Most callers set none: `parse` takes a quarter fewer
-/// instructions than `parse_with`.
-#[inline(always)]
-fn read(text: &str, options: u32) -> Result<Duration, Fault<'_>>
-    ensures { ParsesText (options_of_bits options) text.now result }
-{
-    if options == 0 {
-        parse(text)
-    } else {
-        parse_with(text, options_of_bits(options))
     }
 }

@@ -4,14 +4,15 @@
 #![tactic(auto)]
 
 ghost use Rattle.std.specs.Prelude.{◌≡◌, ℕ, ◌+◌, ◌*◌, ◌<◌, ◌≤◌, ◌==◌, false, IsTrue};
-ghost use Rattle.std.specs.Prelude.{IsFalse, IfSome, IfNone, IsUtf8, take};
+ghost use Rattle.std.specs.Prelude.{IsFalse, IfSome, IfNone, IsUtf8, take, drop};
 ghost use Rattle.std.specs.Bool.{MatchBool};
 ghost use Rattle.std.specs.Int.Bits.{bit_and};
 ghost use Rattle.std.specs.Str.{chars};
 ghost use Rattle.duration_str.specs.Units.{off};
 ghost use Rattle.duration_str.specs.Reading.{IsRead};
 ghost use Rattle.duration_str.specs.Printing.{IsPrinted};
-ghost use Rattle.duration_str.specs.declared.ext.TheConstants.{MAX_PRINTED_LEN};
+ghost use Rattle.duration_str.specs.Results.{ReadsText};
+ghost use Rattle.duration_str.specs.declared.printing.TheConstants.{MAX_PRINTED_LEN};
 ghost use Rattle.duration_str.specs.declared.cause.Cause.TheVariants.{NotText};
 ghost use Rattle.duration_str_c.specs.Answers.{options_of_bits, refusal_answer, IsAnswerTo};
 
@@ -22,7 +23,7 @@ pub mod message;
 pub mod moment;
 
 use crate::answer::{Answer, refused};
-use duration_str::{Cause, Options, parse, parse_with};
+use duration_str::{Cause, Fault, Options, parse_nanos};
 use std::time::Duration;
 
 const NO_CALC: u32 = 1;
@@ -44,8 +45,7 @@ pub(crate) fn options_of_bits(bits: u32) -> Options
 }
 
 /// Reads a text with all options off into nanoseconds. Returns false if it is refused, and then `nanos` is unchanged.
-#[unsafe(no_mangle)]
-pub extern "C" fn duration_str_parse(text: &[u8], nanos: &mut u64) -> bool
+pub fn duration_str_parse(text: &[u8], nanos: &mut u64) -> bool
     ensures read { IsTrue result → IsRead off (chars text.now) nanos.new }
     ensures accepts { IsUtf8 text.now
         → (value : ℕ) → IsRead off (chars text.now) value → IsTrue result }
@@ -55,22 +55,22 @@ pub extern "C" fn duration_str_parse(text: &[u8], nanos: &mut u64) -> bool
     let Some(text) = text_of(text) else {
         return false;
     };
-    match parse(text) {
-        Ok(length) => {
-            *nanos = length.as_nanos() as u64;
+    match parse_nanos(text, Options::off()) {
+        Ok(value) => {
+            *nanos = value;
             true
         }
         Err(_) => false,
     }
 }
 
-/// Prints a duration to the start of the buffer, and returns the length of the text. If `nanos` is a second or more,
-/// returns 0, and the buffer is unchanged.
-#[unsafe(no_mangle)]
-pub extern "C" fn duration_str_format(secs: u64, nanos: u32, buffer: &mut [u8; 64]) -> usize
+/// Prints a duration to the start of the buffer, and returns the length of the text. The rest of the buffer is
+/// unchanged; so is all of it if `nanos` is a second or more, and then it returns 0.
+pub fn duration_str_format(secs: u64, nanos: u32, buffer: &mut [u8; 64]) -> usize
     ensures text { nanos < 1_000_000_000
         → IsPrinted (secs * 1_000_000_000 + nanos) (chars (take result buffer.new)) }
     ensures utf8 { IsUtf8 (take result buffer.new) }
+    ensures rest { drop result buffer.new ≡ drop result buffer.old }
     ensures short { result ≤ MAX_PRINTED_LEN }
     ensures refused { 1_000_000_000 ≤ nanos → (result ≡ 0) × (buffer.new ≡ buffer.old) }
 {
@@ -85,8 +85,7 @@ pub extern "C" fn duration_str_format(secs: u64, nanos: u32, buffer: &mut [u8; 6
 }
 
 /// Reads a text under the options whose bits are set. Returns true if it is read.
-#[unsafe(no_mangle)]
-pub extern "C" fn duration_str_parse_with(text: &[u8], options: u32, answer: &mut Answer) -> bool
+pub fn duration_str_parse_with(text: &[u8], options: u32, answer: &mut Answer) -> bool
     ensures answers { IsUtf8 text.now → IsAnswerTo (options_of_bits options) text.now answer.new }
     ensures not_text { ¬ (IsUtf8 text.now) → answer.new ≡ refusal_answer (NotText false) 0 }
     ensures read { result ≡ (answer.new.cause == 0) }
@@ -104,15 +103,25 @@ fn answer_to(bytes: &[u8], options: u32) -> Answer
         return Answer::refusal(Cause::NotText { optional: false }, 0);
     };
     let options = options_of_bits(options);
-    match parse_with(text, options) {
-        Ok(length) => Answer::value(length.as_nanos() as u64),
+    match read(text, options) {
+        Ok(nanos) => Answer::value(nanos),
         Err(fault) => refused(fault, options),
     }
 }
 
+/// What `parse_nanos` returns, out of line.
+#[inline(never)]
+pub(crate) fn read(text: &str, options: Options) -> Result<u64, Fault<'_>>
+    ensures { ReadsText options text.now result }
+{
+    if options.are_off() {
+        return parse_nanos(text, Options::off());
+    }
+    parse_nanos(text, options)
+}
+
 /// The version: the major number times a million, plus the minor number times a thousand, plus the patch number.
-#[unsafe(no_mangle)]
-pub extern "C" fn duration_str_version() -> u32
+pub fn duration_str_version() -> u32
     ensures { result ≡ 19_000 }
 {
     19_000

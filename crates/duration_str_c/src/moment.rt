@@ -7,8 +7,8 @@ ghost use Rattle.duration_str_c.specs.Answers.{options_of_bits, refusal_answer};
 ghost use Rattle.duration_str_c.specs.Moments.{instant_of, IsMoment, moved, IsMoved};
 
 use crate::answer::{Answer, refused};
-use crate::{options_of_bits, text_of};
-use duration_str::{Cause, parse_with};
+use crate::{options_of_bits, read, text_of};
+use duration_str::Cause;
 use jiff::Timestamp;
 use std::time::Duration;
 
@@ -95,21 +95,20 @@ fn answer_to_move(text: &[u8], options: u32, moment: &mut Moment, direction: Dir
         return Answer::refusal(Cause::NotText { optional: false }, 0);
     };
     let options = options_of_bits(options);
-    let length = match parse_with(text, options) {
-        Ok(length) => length,
+    let nanos = match read(text, options) {
+        Ok(nanos) => nanos,
         Err(fault) => return refused(fault, options),
     };
-    let Some(reached) = moved(from, length, direction) else {
+    let Some(reached) = moved(from, Duration::from_nanos(nanos), direction) else {
         return Answer::refusal(Cause::OutOfRange, 0);
     };
     *moment = reached;
-    Answer::value(length.as_nanos() as u64)
+    Answer::value(nanos)
 }
 
 /// Moves the moment forward by the value of a text, which is read under the options whose bits are set. Returns true if
 /// it is moved; otherwise it is unchanged, and the answer says why.
-#[unsafe(no_mangle)]
-pub extern "C" fn duration_str_after(
+pub fn duration_str_after(
     text: &[u8],
     options: u32,
     moment: &mut Moment,
@@ -129,8 +128,7 @@ pub extern "C" fn duration_str_after(
 }
 
 /// Moves the moment back, in the same way as `duration_str_after` moves it forward.
-#[unsafe(no_mangle)]
-pub extern "C" fn duration_str_before(
+pub fn duration_str_before(
     text: &[u8],
     options: u32,
     moment: &mut Moment,

@@ -180,6 +180,26 @@ fn leaves_nothing_of_an_earlier_text(rt: HostRuntime) {
     assert_eq!(rt; first_misprinted(&rows), None);
 }
 
+/// Whether so many nanoseconds print into strings, signed and not, as into a buffer.
+fn prints_alike(alloc: Global, nanos: u64) -> Result<bool, AllocError> {
+    let plain = Duration::from_nanos(nanos);
+    let signed = SignedDuration::from_nanos_i128(i128::from(nanos));
+    let (Some(text), Some(other)) = (formatted(&plain, alloc)?, formatted(&signed, alloc)?) else {
+        return Ok(false);
+    };
+    let mut buffer = [0; 64];
+    let wanted = write_human(&plain, &mut buffer);
+    Ok(text.as_str() == wanted && other.as_str() == wanted)
+}
+
+#[test]
+fn prints_all_short_durations_alike(rt: HostRuntime) -> Result<(), Fail> {
+    for nanos in 0..2_000u64 {
+        assert!(rt; prints_alike(rt.alloc(), nanos)?, "{nanos}");
+    }
+    Ok(())
+}
+
 /// How many requests for memory it takes to print the value as this text. `None` if it prints otherwise, or if one of
 /// them is refused and the answer is not that, at once.
 fn requests<T: HumanFormat>(alloc: Global, value: &T, text: &str) -> Option<u64> {

@@ -48,7 +48,8 @@ const POINTED: [(&str, Options, &str, &str); 25] = [
     ("99999999999999999999y-", OFF, "^", TOO_LARGE),
 ];
 
-/// Whether the text is refused under these options, by `parse` too where they are off, and the fault prints this.
+/// Whether the text is refused under these options, by `parse` too where they are off, and the fault prints this, also
+/// where a width is asked for.
 fn prints(alloc: Global, text: &str, o: Options, wanted: &str) -> Result<bool, AllocError> {
     let answer = if o == OFF {
         parse(text)
@@ -58,7 +59,9 @@ fn prints(alloc: Global, text: &str, o: Options, wanted: &str) -> Result<bool, A
     match answer {
         Ok(_) => Ok(false),
         Err(fault) => Ok(
-            parse_with(text, o) == Err(fault) && fault.to_string(alloc)?.as_str() == wanted,
+            parse_with(text, o) == Err(fault)
+                && fault.to_string(alloc)?.as_str() == wanted
+                && format!(in alloc; "{fault:>999}")?.as_str() == wanted,
         ),
     }
 }
@@ -128,12 +131,20 @@ fn names_the_byte_where_there_are_lines(rt: HostRuntime) -> Result<(), Fail> {
     Ok(())
 }
 
+/// Whether the fault of a text points after so many blanks.
+fn points_after(alloc: Global, count: usize) -> Result<bool, AllocError> {
+    let blanks = " ".repeat(alloc, count)?;
+    let text = format!(in alloc; "{blanks}x")?;
+    let wanted = format!(in alloc; "{blanks}x\n{blanks}^\nexpected number")?;
+    prints(alloc, &text, OFF, wanted.as_str())
+}
+
 #[test]
 fn points_after_many_blanks(rt: HostRuntime) -> Result<(), Fail> {
-    let blanks = " ".repeat(rt.alloc(), 100_000)?;
-    let text = format!(in rt.alloc(); "{blanks}x")?;
-    let wanted = format!(in rt.alloc(); "{blanks}x\n{blanks}^\nexpected number")?;
-    assert!(rt; prints(rt.alloc(), &text, OFF, wanted.as_str())?);
+    for count in 0..300usize {
+        assert!(rt; points_after(rt.alloc(), count)?, "{count}");
+    }
+    assert!(rt; points_after(rt.alloc(), 100_000)?);
     Ok(())
 }
 

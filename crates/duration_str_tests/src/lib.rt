@@ -20,6 +20,8 @@ mod parser;
 #[cfg(test)]
 mod refusal;
 #[cfg(test)]
+mod styles;
+#[cfg(test)]
 mod token;
 #[cfg(test)]
 mod top;

@@ -1,6 +1,6 @@
 // Texts printed within limits.
 use duration_str::{
-    Cause, Limits, MAX_PRINTED_LEN, Options, TimeUnit, parse_with, write_human, write_within,
+    Cause, Format, MAX_PRINTED_LEN, Options, TimeUnit, parse_with, write_human, write_within,
 };
 use std::time::Duration;
 
@@ -21,32 +21,24 @@ const UNITS: [(TimeUnit, u64, &str, &str, &str); 11] = [
 ];
 
 /// Whether the duration prints within the limits as this text.
-fn prints(nanos: u64, limits: Limits, text: &str) -> bool {
-    write_within(&Duration::from_nanos(nanos), limits, &mut [0xff; 64]) == text
+fn prints(nanos: u64, format: Format, text: &str) -> bool {
+    write_within(&Duration::from_nanos(nanos), format, &mut [0xff; 144]) == text
 }
 
 #[test]
 fn prints_about_the_length_of_each_unit(rt: HostRuntime) {
-    let one = Limits {
-        parts: 1,
-        ..Limits::none()
-    };
+    let one = Format::whole().parts(1);
     for (unit, nanos, text, below, zero) in UNITS {
-        let down_to = Limits {
-            smallest: unit,
-            ..Limits::none()
-        };
-        assert!(rt; prints(nanos - 1, one, below), "{below}");
-        assert!(rt; prints(nanos - 1, down_to, zero), "{zero}");
+        let down_to = Format::whole().smallest(unit);
+        let under = nanos.saturating_sub(1);
+        assert!(rt; prints(under, one, below), "{below}");
+        assert!(rt; prints(under, down_to, zero), "{zero}");
         assert!(rt; prints(nanos, one, text), "{text}");
         assert!(rt; prints(nanos, down_to, text), "{text}");
     }
     for (unit, nanos, text, _, _) in UNITS.iter().copied().take(10) {
         let above = nanos.saturating_add(1);
-        let down_to = Limits {
-            smallest: unit,
-            ..Limits::none()
-        };
+        let down_to = Format::whole().smallest(unit);
         assert!(rt; prints(above, one, text), "{text}");
         assert!(rt; prints(above, down_to, text), "{text}");
     }
@@ -121,12 +113,11 @@ fn leaves_out_the_rest(rt: HostRuntime) {
         ),
         (193_029_000_000, TimeUnit::Second, TimeUnit::Hour, 3, "0h"),
     ] {
-        let limits = Limits {
-            largest,
-            smallest,
-            parts,
-        };
-        assert!(rt; prints(nanos, limits, text), "{text}");
+        let format = Format::whole()
+            .largest(largest)
+            .smallest(smallest)
+            .parts(parts);
+        assert!(rt; prints(nanos, format, text), "{text}");
     }
 }
 
@@ -146,16 +137,15 @@ fn is_longest_or_zero(text: &str, is_zero: bool) -> bool {
 
 #[test]
 fn prints_the_longest_duration_within_all_limits(rt: HostRuntime) {
-    let mut buffer = [0; 64];
+    let mut buffer = [0; 144];
     for (largest, longest, _, _, _) in UNITS {
         for (smallest, shortest, _, _, _) in UNITS {
             for parts in 0..13usize {
-                let limits = Limits {
-                    largest,
-                    smallest,
-                    parts,
-                };
-                let text = write_within(&Duration::MAX, limits, &mut buffer);
+                let format = Format::whole()
+                    .largest(largest)
+                    .smallest(smallest)
+                    .parts(parts);
+                let text = write_within(&Duration::MAX, format, &mut buffer);
                 assert!(rt; text.len() <= MAX_PRINTED_LEN, "{text}");
                 assert!(rt;
                     is_longest_or_zero(text, parts == 0 || longest < shortest),
@@ -168,14 +158,14 @@ fn prints_the_longest_duration_within_all_limits(rt: HostRuntime) {
 
 #[test]
 fn prints_everything_without_limits(rt: HostRuntime) {
-    let (mut whole, mut within) = ([0; 64], [0; 64]);
+    let (mut whole, mut within) = ([0; 64], [0; 144]);
     for d in [
         Duration::ZERO,
         Duration::MAX,
         Duration::new(193, 29_000_000),
     ] {
         assert_eq!(rt;
-            write_within(&d, Limits::none(), &mut within),
+            write_within(&d, Format::whole(), &mut within),
             write_human(&d, &mut whole)
         );
     }

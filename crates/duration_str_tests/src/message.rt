@@ -56,3 +56,18 @@ fn writes_the_line_alone(rt: HostRuntime) {
     let mut shorter = [b'#'; 18];
     assert!(rt; cause.write_line(&mut shorter).is_none() && shorter == [b'#'; 18]);
 }
+
+#[test]
+fn tells_in_one_line(rt: HostRuntime) {
+    let mut buffer = [b'#'; 384];
+    let line = refusal(&rt, "30 mins", OFF).write_one_line(&mut buffer);
+    assert!(rt; line == r#"unknown unit "mins" at column 4: write "min""#);
+    let line = refusal(&rt, "1\u{3bc}s", OFF).write_one_line(&mut buffer);
+    assert!(rt; line == "unknown unit \"\u{3bc}s\" at column 2: write \"us\"");
+    let line = refusal(&rt, "1:30", OFF).write_one_line(&mut buffer);
+    assert!(rt; line.ends_with("found \":\": clock times are not read: give each number its unit"));
+    let line = refusal(&rt, "1m+2*3\u{1b}", OFF).write_one_line(&mut buffer);
+    assert!(rt; line == r#"expected a unit, '+', '*' or the end at column 7, found "\u{001b}""#);
+    let line = refusal(&rt, "600y", OFF).write_one_line(&mut buffer);
+    assert!(rt; line == r#"duration of 2^64 nanoseconds or more in "600y""#);
+}

@@ -1,14 +1,10 @@
 -- The first line of bytes.
-use Rattle.std.proofs.Common.{◌≡◌, ℕ, ◌+◌, ◌<◌, ◌≤◌, Bool, false, ◌==◌, List, [], ◌∷◌, length, get_or, Option, None}
-use Rattle.std.proofs.Common.{Some, IfNone, refl, sym, ap, ◌∙◌, arith, take, drop}
+use Rattle.std.proofs.Common.{◌≡◌, ℕ, ◌+◌, ◌<◌, Bool, false, ◌==◌, List, [], ◌∷◌, length}
+use Rattle.std.proofs.Common.{Some, refl, ap, ◌∙◌, arith, take, drop}
 use Rattle.std.specs.List.{slice_split, position, position_or_len, before_first, after_first, All}
-use Rattle.std.proofs.lemmas.Bool.{false≢true}
-use Rattle.std.proofs.lemmas.Grind.{common_steps}
 use Rattle.std.proofs.lemmas.List.Quantifiers.{position-Some}
-use Rattle.std.proofs.lemmas.List.Sums.{position_or_len_is, fails_before_first}
+use Rattle.std.proofs.lemmas.List.Sums.{position_or_len_is}
 use Rattle.std.proofs.lemmas.List.Splits.{slice_split_none, slice_split_first, length-slice_split}
-use Rattle.memchr.specs.Find.{NoneBefore, Passes, TakesFirst, places}
-use Rattle.memchr.proofs.lemmas.PlaceLemmas.{places_between-first, places_between-none}
 use Rattle.durstr_run.specs.Lines.{lines_of, without_empty_last}
 
 abbrev is_line_feed : ℕ → Bool
@@ -48,42 +44,3 @@ pub lines_of-None : (bytes : List ℕ) → 0 < length bytes → All (λ b. is_li
     → lines_of bytes ≡ bytes ∷ lines_of []
 unfolding lines_of
 lines_of-None bytes h e = ap without_empty_last (slice_split_none is_line_feed bytes e) ∙ without_empty_last-one bytes h
-
--- What is known of the places of line feeds where the first one is at this offset, or where there is none.
-abbrev FirstPlace : List ℕ → Option ℕ → Type 0
-FirstPlace bytes None = (places is_line_feed bytes ≡ []) × All (λ b. is_line_feed b ≡ false) bytes
-FirstPlace bytes (Some i) = (others : List ℕ) × (places is_line_feed bytes ≡ i ∷ others)
-
-first_place : (bytes : List ℕ) (first : Option ℕ) → position is_line_feed bytes ≡ first → FirstPlace bytes first
-first_place bytes None e =
-    let beyond : length bytes ≤ position_or_len is_line_feed bytes = grind (arith, common_steps) in
-    let none : All (λ b. is_line_feed b ≡ false) bytes =
-    λ k d h. fails_before_first is_line_feed bytes k d (omega (arith, beyond, h)) in (
-      places_between-none is_line_feed bytes 0 (length bytes) (omega arith)
-          (λ k low high passes. absurd (false≢true (sym (none k 0 high) ∙ passes))),
-      none,
-    )
-first_place bytes (Some i) e =
-    let found = position-Some is_line_feed bytes i 0 e in
-    let before : NoneBefore (Passes is_line_feed bytes) 0 (length bytes) i = record {
-      low = omega arith;
-      high = found.0;
-      before = λ k low high passes. absurd (false≢true (sym (found.2 k high) ∙ passes));
-    } in
-    (_, places_between-first is_line_feed bytes 0 (length bytes) i before found.1)
-
--- The first place that an iterator yields is that of the first line feed.
-yielded_first : (bytes rest : List ℕ) (yielded first : Option ℕ) → FirstPlace bytes first
-    → TakesFirst (places is_line_feed bytes) yielded rest
-    → (yielded ≡ first) × IfNone yielded (All (λ b. is_line_feed b ≡ false) bytes)
-yielded_first bytes rest None None known taken = (refl, known.1)
-yielded_first bytes rest None (Some i) known taken = absurd (omega (arith, ap length (sym known.1 ∙ taken.0)))
-yielded_first bytes rest (Some k) None known taken = absurd (omega (arith, ap length (sym taken ∙ known.0)))
-yielded_first bytes rest (Some k) (Some i) known taken =
-    (ap (λ places. Some (get_or places 0 0)) (sym taken ∙ known.1), tt)
-
-pub first_line_feed : (bytes rest : List ℕ) (yielded : Option ℕ) → TakesFirst (places is_line_feed bytes) yielded rest
-    → (yielded ≡ position is_line_feed bytes) × IfNone yielded (All (λ b. is_line_feed b ≡ false) bytes)
-first_line_feed bytes rest yielded taken =
-    yielded_first bytes rest yielded (position is_line_feed bytes)
-    (first_place bytes (position is_line_feed bytes) refl) taken

@@ -48,10 +48,3 @@ pub Continues-end : (o : Options) (input left written : List ℕ) (so_far : Bool
 Continues-end o input left written so_far before e =
     subst (λ out. IsOutput o input out so_far) (append-nil written)
     (subst (λ all. IsOutput o input (written ++ []) all) (and-true so_far) (before [] true (IsOutput-nil o left e)))
-
--- A number, a space, a printed duration and a line feed were pushed one by one.
-pub pushed_parts : (before digits number space shown human feed with_number with_space with_human after : List ℕ)
-    → digits ≡ number → space ≡ 32 ∷ [] → shown ≡ human → feed ≡ 10 ∷ [] → with_number ≡ before ++ digits
-    → with_space ≡ with_number ++ space → with_human ≡ with_space ++ shown → after ≡ with_human ++ feed
-    → after ≡ before ++ ((number ++ (32 ∷ human)) ++ (10 ∷ []))
-pushed_parts _ _ _ _ _ _ _ _ _ _ _ e1 e2 e3 e4 h1 h2 h3 h4 = simp (h4, h3, h2, h1, e1, e2, e3, e4, append_assoc)

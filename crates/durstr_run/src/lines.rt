@@ -2,18 +2,16 @@
 ghost use Rattle.std.specs.Prelude.{◌≡◌, ◌==◌, ◌<◌, ◌∷◌, length, position, All, IfNone, false};
 ghost use Rattle.durstr_run.specs.Lines.{lines_of};
 
-use memchr::memchr_iter;
-
-/// The offset of the first line feed. Most lines are short, and the iterator first looks at the next 32 bytes.
+/// The offset of the first line feed.
 fn line_end(bytes: &[u8]) -> Option<usize>
     ensures value { result ≡ position (λ b. b == 10) bytes.now }
     ensures none { IfNone result (All (λ b. (b == 10) ≡ false) bytes.now) }
 {
-    memchr_iter(b'\n', bytes).next()
+    bytes.iter().position(|b| *b == b'\n')
 }
 
 /// The first line, and the bytes after its line feed.
-pub fn first_line(bytes: &[u8]) -> (&[u8], &[u8])
+pub(crate) fn first_line(bytes: &[u8]) -> (&[u8], &[u8])
     requires { 0 < length bytes.now }
     ensures lines { lines_of bytes.now ≡ result.0.now ∷ lines_of result.1.now }
     ensures shorter { length result.1.now < length bytes.now }

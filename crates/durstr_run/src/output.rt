@@ -10,7 +10,6 @@ ghost use Rattle.durstr_run.specs.Output.{IsLineOutput, IsOutput};
 use crate::fault::RunFault;
 use crate::lines::first_line;
 use duration_str::{Options, parse_with, write_human};
-use itoa::Buffer;
 use std::alloc::{AllocError, Allocator};
 use std::io::Write;
 use std::time::Duration;
@@ -34,12 +33,9 @@ fn push_value<A: Allocator>(out: &mut String<A>, duration: Duration) -> Result<(
         ++ ((decimal (as_nanos duration) ++ (32 ∷ encode_utf8_all human)) ++ (10 ∷ [])))) }
 {
     let nanos = duration.as_nanos() as u64;
-    let mut digits = Buffer::new();
-    let mut human = [0; 64];
-    out.push_str(digits.format(nanos))?;
-    out.push(' ')?;
-    out.push_str(write_human(&duration, &mut human))?;
-    out.push('\n')?;
+    let mut buffer = [0; 64];
+    let human = write_human(&duration, &mut buffer);
+    writeln!(out, "{nanos} {human}")?;
     Ok(())
 }
 

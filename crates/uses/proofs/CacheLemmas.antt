@@ -2,30 +2,31 @@
 use Rattle.std.proofs.Common.{◌≡◌, ◌↔◌, ℕ, ◌^◌, ◌<◌, Bool, List, IsTrue, IsUtf8, refl, ap, sym, ◌∙◌, chars}
 use Rattle.std.specs.Str.{bytes_eq}
 use Rattle.duration_str.proofs.Common.{encodes-chars, bytes_eq-Decides, encodes, FitsDuration, off, unit_lengths}
-use Rattle.duration_str.proofs.Common.{IsRead, IsPrinted, counts_of, GreatestBreakdown, EqualTexts, ReadsBack}
+use Rattle.duration_str.proofs.Common.{IsRead, IsPrintedIn, counts_of, GreatestBreakdown, EqualTexts, ReadsBack}
+use Rattle.duration_str.specs.declared.format.Style.{Style}
 use Rattle.uses.specs.Cache.{canonical_text, IsKey, IsCanonical}
 
 -- What a value prints as is its key.
-pub printed_is_key : GreatestBreakdown → EqualTexts → (nanos : ℕ) (key : List ℕ) → FitsDuration nanos
-    → IsPrinted nanos key → IsKey nanos key
-printed_is_key greatest equal nanos key fits printed = record {
-  one = (equal _ _ key (canonical_text nanos) fits fits printed
+pub printed_is_key : GreatestBreakdown → EqualTexts → (style : Style) (nanos : ℕ) (key : List ℕ) → FitsDuration nanos
+    → IsPrintedIn style nanos key → IsKey style nanos key
+printed_is_key greatest equal style nanos key fits printed = record {
+  one = (equal style _ _ key (canonical_text style nanos) fits fits printed
       (counts_of unit_lengths nanos, greatest nanos, refl)).1 refl;
   greatest = greatest nanos;
 }
 
 -- A key is what its value prints as.
-pub key_is_printed : (nanos : ℕ) (key : List ℕ) → IsKey nanos key → IsPrinted nanos key
-key_is_printed nanos key k = (counts_of unit_lengths nanos, k.greatest, k.one)
+pub key_is_printed : (style : Style) (nanos : ℕ) (key : List ℕ) → IsKey style nanos key → IsPrintedIn style nanos key
+key_is_printed style nanos key k = (counts_of unit_lengths nanos, k.greatest, k.one)
 
 -- The key of an expression's value is the canonical text of the expression.
-pub key_is_canonical : ReadsBack → (text key : List ℕ) (nanos : ℕ) → nanos < 2 ^ 64
-    → IsRead off text nanos → IsKey nanos key → IsCanonical text key
-key_is_canonical back text key nanos small read k = record {
+pub key_is_canonical : ReadsBack → (style : Style) (text key : List ℕ) (nanos : ℕ) → nanos < 2 ^ 64
+    → IsRead off text nanos → IsKey style nanos key → IsCanonical style text key
+key_is_canonical back style text key nanos small read k = record {
   nanos = nanos;
   read = read;
   is_key = k;
-  read_back = λ o. back.below o nanos key small (key_is_printed nanos key k);
+  read_back = λ o. back.below o style nanos key small (key_is_printed style nanos key k);
 }
 
 chars_tell : (a b : List ℕ) → IsUtf8 a → IsUtf8 b → chars a ≡ chars b → a ≡ b

@@ -1,8 +1,10 @@
--- The computed answer to a text is its only one.
-use Rattle.std.proofs.Common.{◌≡◌, ℕ, List, Result, sym, ◌∙◌}
+-- The computed answer to a text is its only one, and a word for which something is advised is no unit.
+use Rattle.std.proofs.Common.{◌≡◌, ℕ, List, Result, sym, ◌∙◌, suc, length, encode_utf8_all, ap, arith}
+use Rattle.duration_str.specs.Laws.{NearWords}
+use Rattle.duration_str.specs.OneLine.{near_advice}
 use Rattle.duration_str.proofs.Common.{answer, AnswerIsReading}
 use Rattle.uses.proofs.Common.{Duration, Options, Cause}
-use Rattle.uses.specs.Help.{in_nanos, IsOnlyAnswerTo}
+use Rattle.uses.specs.Help.{in_nanos, IsNoUnit, IsOnlyAnswerTo}
 
 pub computed_is_only : AnswerIsReading → (o : Options) (text : List ℕ) (a : Result Duration Cause)
     → in_nanos a ≡ answer o text → IsOnlyAnswerTo o text a
@@ -10,3 +12,7 @@ computed_is_only law o text a e = record {
   read = λ nanos. (λ r. e ∙ (law.read o text nanos).1 r, λ is. (law.read o text nanos).0 (sym e ∙ is));
   refused = λ cause. (λ r. e ∙ (law.refused o text cause).1 r, λ is. (law.refused o text cause).0 (sym e ∙ is));
 }
+
+-- A word for which the line advises something names no unit.
+pub no_unit : NearWords → (word : List ℕ) (n : ℕ) → length (near_advice (encode_utf8_all word)) ≡ suc n → IsNoUnit word
+no_unit law word n advises o = law o word (λ none. omega (arith, ap length none, advises))

@@ -3,7 +3,7 @@ pub use Rattle.duration_str.specs.Answer.{allows}
 pub use Rattle.duration_str.specs.Dates.{IsCivil, IsCivilDay, IsInRange, IsOutOfRange}
 pub use Rattle.duration_str.specs.Grammar.{IsSentenceOf, Terminal, terminal_of, word}
 pub use Rattle.duration_str.specs.Laws.{HasNoStar, is_operator}
-pub use Rattle.duration_str.specs.Printing.{IsGreatestBreakdown, IsPrinted, counts_of, printed_counts}
+pub use Rattle.duration_str.specs.Printing.{IsGreatestBreakdown, IsPrintedIn, counts_of, printed_counts}
 pub use Rattle.duration_str.specs.Reading.{IsRead, IsRefused}
 pub use Rattle.duration_str.specs.Text.{byte_len, is_chinese}
 pub use Rattle.duration_str.specs.Iteration.{what_of}

@@ -1,6 +1,7 @@
 -- The time that is left, as it is shown.
 use Rattle.std.specs.Prelude.{◌≡◌, ℕ, ◌^◌, ◌<◌, ◌≤◌, List}
-use Rattle.duration_str.specs.declared.limits.Limits.{Limits}
+use Rattle.duration_str.specs.declared.format.Format.{Format}
+use Rattle.duration_str.specs.declared.format.Style.TheVariants.{Short}
 use Rattle.duration_str.specs.declared.unit.TimeUnit.TheVariants.{Year, Second}
 use Rattle.duration_str.specs.Laws.{KeepsWithin}
 use Rattle.duration_str.specs.Limits.{IsPrintedWithin, part_count}
@@ -9,8 +10,8 @@ use Rattle.duration_str.specs.Reading.{IsRead}
 use Rattle.duration_str.specs.Units.{off, unit_lengths}
 
 -- two parts at most, and none of a unit below the second
-abbrev pub coarse : Limits
-coarse = record { largest = Year; smallest = Second; parts = 2 }
+abbrev pub coarse : Format
+coarse = record { largest = Year; smallest = Second; parts = 2; style = Short }
 
 -- The text shows a time that is not more than what is left, and that has at most two parts; what is left is shown
 -- exactly if it has so few itself. It is read as that time below 2^64 nanoseconds, which is shown as the same text

@@ -1,5 +1,6 @@
 -- What the text of an example is read as or refused for.
-use Rattle.std.specs.Prelude.{◌≡◌, ℕ, List, ◌↔◌, Result, Ok, Err}
+use Rattle.std.specs.Prelude.{◌≡◌, ℕ, List, ◌↔◌, Result, Ok, Err, None}
+use Rattle.duration_str.specs.Units.{unit_of_word}
 use Rattle.uses.specs.Common.{Duration, as_nanos, Options, Cause, IsRead, IsRefused}
 
 -- the answer with its duration in nanoseconds
@@ -11,3 +12,7 @@ in_nanos (Err cause) = Err cause
 pub record IsOnlyAnswerTo (o : Options) (text : List ℕ) (answer : Result Duration Cause) : Type 0 where
   pub read : (nanos : ℕ) → (IsRead o text nanos ↔ in_nanos answer ≡ Ok nanos)
   pub refused : (cause : Cause) → (IsRefused o text cause ↔ in_nanos answer ≡ Err cause)
+
+-- The word names no unit, under any options.
+abbrev pub IsNoUnit : List ℕ → Type 0
+IsNoUnit word = (o : Options) → unit_of_word o word ≡ None

@@ -2,39 +2,45 @@
 #![tactic(auto, using(crate::proofs::CacheLemmas::key_is_canonical))]
 
 ghost use Rattle.std.specs.Prelude.{◌≡◌, ℕ, List, ◌↔◌, IsTrue, IfOk, IfErr, ◌⊎◌, chars};
-ghost use Rattle.uses.specs.Common.{as_nanos, Options as Choice, IsRead, IsPrinted, off};
+ghost use Rattle.uses.specs.Common.{as_nanos, Options as Choice, IsRead, IsPrintedIn, off};
+ghost use Rattle.duration_str.specs.declared.format.Style.{Style as AnyStyle};
 ghost use Rattle.uses.specs.Cache.{IsKey, IsCanonical, IsAnswerTo, Refuses};
 
+use crate::countdown::in_parts;
 use duration_str::laws::{equal_texts, greatest_breakdown, one_sentence, reads_back};
-use duration_str::{Cause, Fault, TimeUnit, parse, write_human};
+use duration_str::{Cause, Fault, Style, TimeUnit, parse};
 use std::time::Duration;
 
 /// The first number of nanoseconds that is not read.
 const LIMIT: u128 = 1 << 64;
 
-/// The key of a duration, in the caller's buffer: its printed text. It is the only text of this duration, and no other
-/// breakdown into units begins with larger counts of the longer ones.
-pub fn key<'b>(length: Duration, buffer: &'b mut [u8; 64]) -> &'b str
-    ensures { IsKey (as_nanos length) (chars result.now) }
+/// The key of a duration, in the caller's buffer: its printed text in a style. It is the only text of this duration in
+/// that style, and no other breakdown into units begins with larger counts of the longer ones.
+pub fn key<'b>(length: Duration, style: Style, buffer: &'b mut [u8; 144]) -> &'b str
+    ensures { IsKey style (as_nanos length) (chars result.now) }
 {
     equal_texts();
     greatest_breakdown();
-    write_human(&length, buffer)
+    in_parts(&length, 11, style, buffer)
 }
 
 /// The canonical text of an expression, in the caller's buffer: the key of its value. It is read back as this value
 /// under every choice of options.
 ///
 /// ```text
-/// canonical("30 + 1m", &mut buffer) // Ok("1min 30s")
-/// canonical("45s*2", &mut buffer)   // Ok("1min 30s")
+/// canonical("30 + 1m", Style::Short, &mut buffer) // Ok("1min 30s")
+/// canonical("45s*2", Style::Long, &mut buffer)    // Ok("1 minute 30 seconds")
 /// ```
-pub fn canonical<'a, 'b>(text: &'a str, buffer: &'b mut [u8; 64]) -> Result<&'b str, Fault<'a>>
-    ensures key { IfOk result (λ key. IsCanonical (chars text.now) (chars key.now)) }
+pub fn canonical<'a, 'b>(
+    text: &'a str,
+    style: Style,
+    buffer: &'b mut [u8; 144],
+) -> Result<&'b str, Fault<'a>>
+    ensures key { IfOk result (λ key. IsCanonical style (chars text.now) (chars key.now)) }
     ensures fault { IfErr result (Refuses text.now) }
 {
     reads_back();
-    Ok(key(parse(text)?, buffer))
+    Ok(key(parse(text)?, style, buffer))
 }
 
 /// Whether two expressions share an entry of the cache, since they have one value. Their keys are compared.
@@ -47,11 +53,14 @@ pub fn share_entry<'a>(text: &'a str, other: &'a str) -> Result<bool, Fault<'a>>
     one_sentence();
     let length = parse(text)?;
     let other_length = parse(other)?;
-    Ok(key(length, &mut [0; 64]) == key(other_length, &mut [0; 64]))
+    Ok(
+        key(length, Style::Compact, &mut [0; 144])
+            == key(other_length, Style::Compact, &mut [0; 144]),
+    )
 }
 
-/// What reading the printed text of a duration answers under every choice of options. The text is neither made nor
-/// read, so a program can ask before it stores a duration as its text.
+/// What reading the printed text of a duration, in any style, answers under every choice of options. The text is
+/// neither made nor read, so a program can ask before it stores a duration as its text.
 ///
 /// ```text
 /// read_back(Duration::new(18_446_744_073, 709_551_615)) // Ok, the same duration
@@ -59,7 +68,7 @@ pub fn share_entry<'a>(text: &'a str, other: &'a str) -> Result<bool, Fault<'a>>
 /// read_back(Duration::MAX)                              // Err, Overflow at 0
 /// ```
 pub fn read_back(d: Duration) -> Result<Duration, Cause>
-    ensures { (o : Choice) (text : List ℕ) → IsPrinted (as_nanos d) text
+    ensures { (o : Choice) (style : AnyStyle) (text : List ℕ) → IsPrintedIn style (as_nanos d) text
         → IsAnswerTo o text result }
 {
     reads_back();

@@ -2,11 +2,11 @@
 #![tactic(auto)]
 
 ghost use Rattle.std.specs.Prelude.{◌≤◌, ℕ, chars};
-ghost use Rattle.uses.specs.Common.{as_nanos, IsPrinted};
+ghost use Rattle.uses.specs.Common.{as_nanos, IsPrintedIn};
 ghost use Rattle.uses.specs.Countdown.{IsShown};
 
 use duration_str::laws::{all_parts, never_more};
-use duration_str::{Limits, TimeUnit, write_within};
+use duration_str::{Format, Style, TimeUnit, write_within};
 use std::time::Duration;
 
 /// The time that is left, in the caller's buffer: in two parts at most, and in no unit below the second; never more
@@ -16,26 +16,27 @@ use std::time::Duration;
 /// time_left(&Duration::new(5_400, 999_999_999), &mut buffer) // "1h 30min"
 /// time_left(&Duration::new(0, 999_999_999), &mut buffer)     // "0s"
 /// ```
-pub fn time_left<'b>(left: &Duration, buffer: &'b mut [u8; 64]) -> &'b str
+pub fn time_left<'b>(left: &Duration, buffer: &'b mut [u8; 144]) -> &'b str
     ensures { (shown : ℕ) × IsShown (as_nanos left.now) (chars result.now) shown }
 {
     never_more();
-    let limits = Limits {
-        smallest: TimeUnit::Second,
-        parts: 2,
-        ..Limits::none()
-    };
-    write_within(left, limits, buffer)
+    write_within(
+        left,
+        Format::whole().smallest(TimeUnit::Second).parts(2),
+        buffer,
+    )
 }
 
-/// The duration in so many parts at most, in the caller's buffer. From eleven parts on all of it is printed.
-pub fn in_parts<'b>(length: &Duration, parts: usize, buffer: &'b mut [u8; 64]) -> &'b str
-    ensures { 11 ≤ parts → IsPrinted (as_nanos length.now) (chars result.now) }
+/// The duration in so many parts at most and in a style, in the caller's buffer. From eleven parts on all of it is
+/// printed.
+pub fn in_parts<'b>(
+    length: &Duration,
+    parts: usize,
+    style: Style,
+    buffer: &'b mut [u8; 144],
+) -> &'b str
+    ensures { 11 ≤ parts → IsPrintedIn style (as_nanos length.now) (chars result.now) }
 {
     all_parts();
-    let limits = Limits {
-        parts,
-        ..Limits::none()
-    };
-    write_within(length, limits, buffer)
+    write_within(length, Format::whole().parts(parts).style(style), buffer)
 }

@@ -1,8 +1,8 @@
 //! The examples of a help page.
 ghost use Rattle.uses.specs.Common.{AllByRecursion, chars};
-ghost use Rattle.uses.specs.Help.{IsOnlyAnswerTo};
+ghost use Rattle.uses.specs.Help.{IsNoUnit, IsOnlyAnswerTo};
 
-use duration_str::laws::one_sentence;
+use duration_str::laws::{near_words, one_sentence};
 use duration_str::{Cause, Expected, Options};
 use std::time::Duration;
 
@@ -58,4 +58,17 @@ pub fn examples() -> [Example; 5]
         ("1M", LOWERCASE, Err(NO_UNIT)),
         ("3天", CN_UNIT, Ok(Duration::from_secs(259_200))),
     ]
+}
+
+/// Words of a help page that people write for units and that are none, under any options: for each the line of a fault
+/// says what to write.
+///
+/// ```text
+/// refused_words()[1] // `mins`
+/// ```
+pub fn refused_words() -> [&'static str; 4]
+    ensures { AllByRecursion (λ word. IsNoUnit (chars word.now)) result }
+{
+    near_words();
+    ["hrs", "mins", "secs", "yrs"]
 }

@@ -26,13 +26,11 @@ The units, and their Chinese names, which are read with `cn_unit`:
     nanosecond   ns, nsec, nanosecond, nanoseconds                                 纳秒
 
 `parse` reads a text as a timedelta, `parse_ns` as a number of nanoseconds, and `parse_seconds` as a float of seconds.
-`format(value, /, *, parts=11, largest="y", smallest="ns") -> str` prints an int of nanoseconds or a timedelta; it is not
-in `__all__`, so that `from duration_str import *` leaves the builtin function. `parse_many` reads a column of texts by few calls,
-`parse_buffers` one that stands in buffers, `to_timedelta` one for NumPy or pandas, and `format_many` prints a column.
-`Duration` is a field of pydantic's models, and `duration_str.click.DURATION` a type of Click's options.
-
-`library` is the version of the library inside, and how it was made: `0.19.0, proved` by the Rattle toolchain, or of the
-same sources without their contracts, by rustc.
+`format(value, /, *, parts=11, largest="y", smallest="ns", style="short") -> str` prints an int of nanoseconds or a timedelta;
+it is not in `__all__`, so that `from duration_str import *` leaves the builtin function. `parse_many` reads a column of texts
+by few calls, `parse_buffers` one that stands in buffers, `to_timedelta` one for NumPy or pandas, and `format_many` prints a
+column. `Duration` is a field of pydantic's models; `duration_str.click.DURATION` is a type of Click's options, and
+`duration_str.argparse.DURATION` one of argparse's. `Unit` and `Style` are the types of what `format` takes by name.
 """
 
 from __future__ import annotations
@@ -41,11 +39,10 @@ from ._arrays import format_many, to_timedelta
 from ._columns import parse_buffers, parse_many
 from ._models import Duration
 from ._native import format as format
-from ._native import library as library
 from ._native import parse, parse_ns, parse_seconds
-from ._texts import Cause, DurationError, DurationTypeError, Expected
+from ._texts import Cause, DurationError, DurationTypeError, Expected, Style, Unit
 
-__all__ = ["Cause", "Duration", "DurationError", "DurationTypeError", "Expected", "format_many", "parse"]
+__all__ = ["Cause", "Duration", "DurationError", "DurationTypeError", "Expected", "Style", "Unit", "format_many", "parse"]
 __all__ += ["parse_buffers", "parse_many", "parse_ns", "parse_seconds", "to_timedelta"]
 __version__ = "0.19.0"
 

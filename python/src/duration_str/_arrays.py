@@ -6,12 +6,15 @@ import datetime
 import sys
 from functools import partial
 from importlib import import_module
-from typing import Any
+from typing import TYPE_CHECKING, Any, overload
 
 from . import _native
 from ._columns import Errors, checked, values_of, zeros
-from ._texts import DurationTypeError, Unit, nanos_a_step, nanos_of, option_bits
+from ._texts import DurationTypeError, Style, Unit, nanos_a_step, nanos_of, option_bits
 
+if TYPE_CHECKING:
+    import numpy
+    from numpy.typing import NDArray
 
 #: NaT as a number
 _NAT = -(2**63)
@@ -92,6 +95,27 @@ def _kept_lengths(values: Any, lengths: Any, raises: bool) -> Any:
     return _like(values, nanos.view("timedelta64[ns]"))
 
 
+@overload
+def to_timedelta(
+    values: None, *, errors: Errors = ..., no_calc: bool = ..., lowercase: bool = ..., cn_unit: bool = ...
+) -> None: ...
+@overload
+def to_timedelta(
+    values: str, *, errors: Errors = ..., no_calc: bool = ..., lowercase: bool = ..., cn_unit: bool = ...
+) -> Any: ...
+@overload
+def to_timedelta(
+    values: list[Any] | tuple[Any, ...] | NDArray[Any],
+    *,
+    errors: Errors = ...,
+    no_calc: bool = ...,
+    lowercase: bool = ...,
+    cn_unit: bool = ...,
+) -> NDArray[numpy.timedelta64]: ...
+@overload
+def to_timedelta(
+    values: Any, *, errors: Errors = ..., no_calc: bool = ..., lowercase: bool = ..., cn_unit: bool = ...
+) -> Any: ...
 def to_timedelta(
     values: Any, *, errors: Errors = "raise", no_calc: bool = False, lowercase: bool = False, cn_unit: bool = False
 ) -> Any:
@@ -100,7 +124,7 @@ def to_timedelta(
     pandas is imported, or else a timedelta64. It needs NumPy, and no pandas. The options are those of `parse_ns`.
 
     Timedeltas are kept, and an array of timedelta64[ns] is returned as it is. None, NaN, NaT, pandas' NA, and what an
-    array masks become NaT.
+    array masks become NaT; but None by itself is None, as for pandas.
 
     With `errors="raise"` the first text that is refused raises its DurationError, which has its position as `index`. So
     does a value of 2**63 nanoseconds or more, some 292 years, which timedelta64 does not have. Any other value, such as
@@ -108,10 +132,14 @@ def to_timedelta(
     these become NaT.
     """
     raises, options = checked(errors), option_bits(no_calc, lowercase, cn_unit)
+    if values is None:
+        return None
     numpy: Any = import_module("numpy")
     if (lengths := _lengths(values)) is not None and not isinstance(values, numpy.timedelta64):
         return _kept_lengths(values, lengths, raises)
     is_one = isinstance(values, (str, datetime.timedelta, numpy.timedelta64))
+    # Of a column pandas would look at each value.
+    is_one = is_one or (not hasattr(values, "__iter__") and _is_missing(values))
     texts = [values] if is_one else _flat(values)
     nanos = zeros(len(texts))
     _native.read_list(texts, nanos, options, raises, -1 if is_one else 0, partial(_kept, raises=raises))
@@ -122,11 +150,13 @@ def to_timedelta(
     return pandas.Timedelta(result[0]) if pandas is not None else result[0]
 
 
-def format_many(values: Any, *, parts: int = 11, largest: Unit = "y", smallest: Unit = "ns") -> Any:
+def format_many(
+    values: Any, *, parts: int = 11, largest: Unit = "y", smallest: Unit = "ns", style: Style = "short"
+) -> Any:
     """The texts of a column of durations, each an int of nanoseconds or a timedelta, as `format` prints it within the
-    same limits: of a list or any other iterable a list of str, of a Series, an Index or a NumPy array one of objects,
-    with the same shape, index and name. These may also have timedelta64, of units from weeks to nanoseconds. What is
-    missing, as in `to_timedelta`, is None.
+    same limits and in the same style: of a list or any other iterable a list of str, of a Series, an Index or a NumPy
+    array one of objects, with the same shape, index and name. These may also have timedelta64, of units from weeks to
+    nanoseconds. What is missing, as in `to_timedelta`, is None.
 
     Raises what `format` raises, with the position in its message.
 
@@ -135,7 +165,7 @@ def format_many(values: Any, *, parts: int = 11, largest: Unit = "y", smallest: 
     >>> duration_str.format_many([90 * 10**9, None], largest="s")
     ['90s', None]
     """
-    limits = _native.limits(parts=parts, largest=largest, smallest=smallest)
+    limits = _native.limits(parts=parts, largest=largest, smallest=smallest, style=style)
     given = _durations(values) if hasattr(values, "__array__") else list(values)
     texts: list[str | None] = []
     try:

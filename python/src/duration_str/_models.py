@@ -3,10 +3,22 @@
 from __future__ import annotations
 
 import datetime
+from contextlib import suppress
 from importlib import import_module
-from typing import Annotated, Any
+from typing import TYPE_CHECKING, Annotated, Any, NoReturn
 
 from ._native import format, parse
+from ._texts import DurationError
+
+
+def _parsed(text: Any) -> datetime.timedelta:
+    """The value of a text. Raises pydantic's own error, whose message is the line, and whose context what the error has."""
+    try:
+        return parse(text)
+    except DurationError as error:
+        told = {name: getattr(error, name) for name in ["one_line", "line", "place", "column", "found"]}
+        told["cause"] = error.cause.name
+        raise import_module("pydantic_core").PydanticCustomError("duration", "{one_line}", told) from None
 
 
 def _read(value: Any) -> datetime.timedelta:
@@ -14,7 +26,23 @@ def _read(value: Any) -> datetime.timedelta:
     if isinstance(value, datetime.timedelta):
         format(value)
         return value
-    return parse(value)
+    return _parsed(value)
+
+
+def _printed(value: Any) -> str:
+    """The text of a timedelta; a text, which a default that isn't validated may be, as it is."""
+    return value if isinstance(value, str) else format(value)
+
+
+class _Shown(dict[str, Any]):
+    """A JSON schema, to which pydantic adds a field's default last: a timedelta in ISO 8601, or as a number of seconds."""
+
+    def __setitem__(self, key: str, value: Any) -> None:
+        if key == "default" and (isinstance(value, float) or str(value).startswith("P")):
+            # A negative one has no text.
+            with suppress(ValueError):
+                value = format(import_module("pydantic").TypeAdapter(datetime.timedelta).validate_python(value))
+        super().__setitem__(key, value)
 
 
 class _Texts:
@@ -24,19 +52,30 @@ class _Texts:
         schema: Any = import_module("pydantic_core.core_schema")
         text = schema.str_schema()
         # What `Field` demands of the timedelta, such as `gt`
-        demands = handler(source)
-        read_json = schema.no_info_after_validator_function(parse, text)
+        demands = handler(datetime.timedelta)
+        read_json = schema.no_info_after_validator_function(_parsed, text)
         return schema.json_or_python_schema(
             json_schema=schema.chain_schema([read_json, demands]),
             python_schema=schema.chain_schema([schema.no_info_plain_validator_function(_read), demands]),
-            serialization=schema.plain_serializer_function_ser_schema(format, return_schema=text, when_used="json"),
+            serialization=schema.plain_serializer_function_ser_schema(_printed, return_schema=text, when_used="json"),
         )
 
     def __get_pydantic_json_schema__(self, schema: Any, handler: Any) -> Any:
         # pydantic writes demands that JSON Schema doesn't have of a string.
-        return {key: value for key, value in handler(schema).items() if key not in ("gt", "ge", "lt", "le")}
+        return _Shown((key, value) for key, value in handler(schema).items() if key not in ("gt", "ge", "lt", "le"))
 
 
-Duration = Annotated[datetime.timedelta, _Texts()]
-"""A timedelta in a model of pydantic: a text is read, a timedelta is kept, and the JSON has the printed text. `gt`, `ge`,
-`lt` and `le` of a `Field` are timedeltas."""
+class _Timedelta(datetime.timedelta):
+    """A timedelta to pydantic 2, and an error to pydantic 1, which would take no notice of `_Texts`."""
+
+    @classmethod
+    def __get_validators__(cls) -> NoReturn:
+        raise TypeError("duration_str.Duration needs pydantic 2")
+
+
+if TYPE_CHECKING:
+    Duration = Annotated[datetime.timedelta, _Texts()]
+else:
+    Duration = Annotated[_Timedelta, _Texts()]
+"""A timedelta in a model of pydantic 2: a text is read, a timedelta is kept, and the JSON has the printed text. `gt`, `ge`,
+`lt` and `le` of a `Field` are timedeltas. pydantic 1 refuses it."""

@@ -7,10 +7,10 @@
 
 #define SECOND 1000000000u
 
-/* What the module keeps of Python: the names of the options, in the order of their bits; of the limits; of a timedelta's
- * parts; and what it makes and calls. */
-enum kept { NO_CALC, LOWERCASE, CN_UNIT, OPTIONS, LARGEST = OPTIONS, SMALLEST, PARTS, DAYS, SECONDS, MICROSECONDS, ERROR,
-            TYPE_ERROR, NANOS_OF, TIMEDELTA, A_MICROSECOND, A_SECOND, KEPT };
+/* What the module keeps of Python: the names of the options, in the order of their bits; of what limits printing; of a
+ * timedelta's parts; and what it makes and calls. */
+enum kept { NO_CALC, LOWERCASE, CN_UNIT, OPTIONS, LARGEST = OPTIONS, SMALLEST, PARTS, STYLE, DAYS, SECONDS, MICROSECONDS,
+            ERROR, TYPE_ERROR, NANOS_OF, TIMEDELTA, A_MICROSECOND, A_SECOND, KEPT };
 
 /* timedelta64's NaT, and the days that it can have whatever else is added. */
 #define MISSING ((uint64_t)INT64_MIN)
@@ -31,13 +31,16 @@ static PyObject *size_or_none(bool is_there, size_t size) {
     return is_there ? PyLong_FromSize_t(size) : Py_NewRef(Py_None);
 }
 
-/* Raises the package's error with this message about the text, references that it takes; index -1 is none. */
-static void raise_error(struct state *state, PyObject *message, PyObject *text, const struct duration_str_answer *answer,
-                        const uint8_t *bytes, Py_ssize_t index) {
+/* Raises the package's error of a text, with this line about it, references that it takes. Index -1 is none, and so are
+ * options of -1, for a line that isn't the library's. */
+static void raise_error(struct state *state, PyObject *line, PyObject *text, const struct duration_str_answer *answer,
+                        const uint8_t *bytes, long long options, Py_ssize_t index) {
     const char *found = answer->found_length ? (const char *)bytes + answer->place : NULL;
-    PyObject *error = PyObject_CallFunction(state->kept[ERROR], "NNINIz#N", message, text, answer->cause,
+    PyObject *error = PyObject_CallFunction(state->kept[ERROR], "NNINIz#NN", line, text, answer->cause,
                                             size_or_none(answer->has_place, answer->place), answer->expected, found,
-                                            (Py_ssize_t)answer->found_length, size_or_none(index >= 0, (size_t)index));
+                                            (Py_ssize_t)answer->found_length,
+                                            size_or_none(options >= 0, (size_t)options),
+                                            size_or_none(index >= 0, (size_t)index));
     if (error)
         PyErr_SetObject(state->kept[ERROR], error);
     Py_XDECREF(error);
@@ -53,13 +56,19 @@ static void raise_type_error(struct state *state, PyObject *value, Py_ssize_t in
     Py_XDECREF(name);
 }
 
-/* The message about a text that is refused. */
-static PyObject *message_of(struct text text, uint32_t options) {
-    const size_t length = duration_str_message(text.bytes, text.length, options, NULL, 0);
+/* report(text, options): the message about a text that is refused under these options */
+static PyObject *report(PyObject *self, PyObject *arguments) {
+    const char *text;
+    Py_ssize_t size;
+    unsigned int options;
+    (void)self;
+    if (!PyArg_ParseTuple(arguments, "s#I", &text, &size, &options))
+        return NULL;
+    const size_t length = duration_str_message((const uint8_t *)text, (size_t)size, options, NULL, 0);
     PyObject *bytes = length > PY_SSIZE_T_MAX ? PyErr_NoMemory() : PyBytes_FromStringAndSize(NULL, (Py_ssize_t)length);
     if (!bytes)
         return NULL;
-    duration_str_message(text.bytes, text.length, options, (uint8_t *)PyBytes_AsString(bytes), length);
+    duration_str_message((const uint8_t *)text, (size_t)size, options, (uint8_t *)PyBytes_AsString(bytes), length);
     PyObject *message = PyUnicode_FromEncodedObject(bytes, "utf-8", NULL);
     Py_DECREF(bytes);
     return message;
@@ -68,16 +77,23 @@ static PyObject *message_of(struct text text, uint32_t options) {
 /* Turns the pending error of a str that is no text into the package's. */
 static void raise_surrogate(struct state *state, PyObject *text, Py_ssize_t index) {
     const struct duration_str_answer answer = {.cause = DURATION_STR_NOT_TEXT};
-    PyObject *type, *error, *traceback, *message = NULL;
+    PyObject *type, *error, *traceback, *line = NULL;
     Py_ssize_t start = 0;
     PyErr_Fetch(&type, &error, &traceback);
     PyErr_NormalizeException(&type, &error, &traceback);
     if (!PyUnicodeEncodeError_GetStart(error, &start))
-        message = PyUnicode_FromFormat("no text: character %zd is a lone surrogate", start);
-    raise_error(state, message, PyUnicode_FromObject(text), &answer, NULL, index);
+        line = PyUnicode_FromFormat("not UTF-8: the character at index %zd is a lone surrogate", start);
+    raise_error(state, line, PyUnicode_FromObject(text), &answer, NULL, -1, index);
     Py_XDECREF(type);
     Py_XDECREF(error);
     Py_XDECREF(traceback);
+}
+
+/* The line about a text that the library refuses, and its answer; null, and no error, if the text is read. */
+static PyObject *line_of(struct text text, uint32_t options, struct duration_str_answer *answer) {
+    uint8_t line[DURATION_STR_ONE_LINE_BUFFER_SIZE];
+    const size_t length = duration_str_one_line(text.bytes, text.length, options, answer, line);
+    return length ? PyUnicode_FromStringAndSize((const char *)line, (Py_ssize_t)length) : NULL;
 }
 
 /* Reads the text of a str, whatever a subclass says of itself. Returns 1 if it is read, 0 if it is refused, and -1 with an
@@ -98,13 +114,16 @@ static int read_str(struct state *state, PyObject *given, uint32_t options, uint
         return 1;
     if (!options && !raises)
         return 0;
-    if (duration_str_parse_with(text.bytes, text.length, options, &answer)) {
+    PyObject *line = raises ? line_of(text, options, &answer) : NULL;
+    if (!raises)
+        duration_str_parse_with(text.bytes, text.length, options, &answer);
+    if (answer.cause == DURATION_STR_READ) {
         *nanos = answer.nanos;
         return 1;
     }
     if (!raises)
         return 0;
-    raise_error(state, message_of(text, options), PyUnicode_FromObject(given), &answer, text.bytes, index);
+    raise_error(state, line, PyUnicode_FromObject(given), &answer, text.bytes, options, index);
     return -1;
 }
 
@@ -132,8 +151,10 @@ static int read_call(struct state *state, PyObject *const *arguments, Py_ssize_t
     for (Py_ssize_t at = 0; at < words; at++) {
         const int option = place_of(state, PyTuple_GetItem(keywords, at), NO_CALC, OPTIONS);
         PyObject *value = arguments[count + at];
+        if (option < 0)
+            return -1;
         const int is_on = value == Py_True ? 1 : value == Py_False ? 0 : PyObject_IsTrue(value);
-        if (option < 0 || is_on < 0)
+        if (is_on < 0)
             return -1;
         options |= (uint32_t)is_on << option;
     }
@@ -170,70 +191,92 @@ static PyObject *parse_seconds(PyObject *self, PyObject *const *arguments, Py_ss
     return seconds;
 }
 
-/* The limits within which durations are printed. */
+/* The limits within which durations are printed, and how. */
 struct limits {
     uint32_t units[2]; /* the largest and the smallest */
     uint32_t parts;
+    uint32_t style;
 };
 
-/* All units, and as many parts as there are units */
-static const struct limits no_limits = {{DURATION_STR_YEAR, DURATION_STR_NANOSECOND}, DURATION_STR_NANOSECOND + 1};
+/* All units, as many parts as there are units, and the short style */
+static const struct limits no_limits = {
+    {DURATION_STR_YEAR, DURATION_STR_NANOSECOND}, DURATION_STR_NANOSECOND + 1, DURATION_STR_SHORT};
 
-/* The names of the units as they are printed, in Latin-1 */
+/* The names of the units as they are printed, in Latin-1, and of the styles */
 static const char *const unit_names[] = {"y", "q", "mon", "w", "d", "h", "min", "s", "ms", "\xb5s", "ns"};
+static const char *const style_names[] = {"short", "compact", "long"};
+
+/* The place of a name among some. Returns -1 with an error. */
+static int place_among(PyObject *name, const char *const *names, int count, const char *keyword, const char *told) {
+    for (int place = 0; PyUnicode_Check(name) && place < count; place++)
+        if (!PyUnicode_CompareWithASCIIString(name, names[place]))
+            return place;
+    PyErr_Format(PyUnicode_Check(name) ? PyExc_ValueError : PyExc_TypeError,
+                 "%s must be one of %s, not %R", keyword, told, name);
+    return -1;
+}
 
 /* The number of a unit by its name. Returns -1 with an error. */
 static int unit_of(PyObject *name, const char *keyword) {
-    for (int unit = DURATION_STR_YEAR; PyUnicode_Check(name) && unit <= DURATION_STR_NANOSECOND; unit++)
-        if (!PyUnicode_CompareWithASCIIString(name, unit_names[unit]))
-            return unit;
     if (PyUnicode_Check(name) && !PyUnicode_CompareWithASCIIString(name, "us"))
         return DURATION_STR_MICROSECOND;
-    PyErr_Format(PyUnicode_Check(name) ? PyExc_ValueError : PyExc_TypeError,
-                 "%s must be one of %s, not %R", keyword, "y, q, mon, w, d, h, min, s, ms, \xc2\xb5s or us, ns", name);
-    return -1;
+    const char *told = "y, q, mon, w, d, h, min, s, ms, \xc2\xb5s or us, ns";
+    return place_among(name, unit_names, DURATION_STR_NANOSECOND + 1, keyword, told);
 }
 
 /* Takes a count of parts. Returns -1 with an error. */
 static int take_parts(PyObject *value, uint32_t *parts) {
-    PyObject *number = PyBool_Check(value) ? NULL : PyNumber_Index(value);
     int overflow;
-    if (!number)
+    if (PyBool_Check(value) || !PyIndex_Check(value))
         return (PyErr_Format(PyExc_TypeError, "parts must be a whole number, not %R", value), -1);
-    const long long count = PyLong_AsLongLongAndOverflow(number, &overflow);
-    Py_DECREF(number);
-    if (overflow < 0 || (!overflow && count < 0))
-        return (PyErr_Format(PyExc_ValueError, "parts must not be negative: %R", value), -1);
+    PyObject *number = PyNumber_Index(value);
+    const long long count = number ? PyLong_AsLongLongAndOverflow(number, &overflow) : -1;
+    Py_XDECREF(number);
+    if (!number)
+        return -1;
+    if (overflow < 0 || (!overflow && count < 1))
+        return (PyErr_SetString(PyExc_ValueError, "parts must be 1 or more"), -1);
     *parts = overflow || count > no_limits.parts ? no_limits.parts : (uint32_t)count;
     return 0;
+}
+
+/* Takes the value of a keyword. Returns -1 with an error. */
+static int take_limit(struct state *state, PyObject *keyword, PyObject *value, struct limits *limits) {
+    const int limit = place_of(state, keyword, LARGEST, STYLE + 1 - LARGEST);
+    if (limit < 0)
+        return -1;
+    if (LARGEST + limit == PARTS)
+        return take_parts(value, &limits->parts);
+    if (LARGEST + limit == STYLE) {
+        const int style = place_among(value, style_names, DURATION_STR_LONG + 1, "style", "short, compact, long");
+        limits->style = (uint32_t)style;
+        return style < 0 ? -1 : 0;
+    }
+    const int unit = unit_of(value, limit ? "smallest" : "largest");
+    limits->units[limit] = (uint32_t)unit;
+    return unit < 0 ? -1 : 0;
 }
 
 /* Takes the limits that a call has by keywords. Returns -1 with an error. */
 static int take_limits(struct state *state, PyObject *const *values, PyObject *keywords, struct limits *limits) {
     const Py_ssize_t words = keywords ? PyTuple_Size(keywords) : 0;
     *limits = no_limits;
-    for (Py_ssize_t at = 0; at < words; at++) {
-        const int limit = place_of(state, PyTuple_GetItem(keywords, at), LARGEST, PARTS + 1 - LARGEST);
-        if (limit < 0 || (LARGEST + limit == PARTS && take_parts(values[at], &limits->parts)))
+    for (Py_ssize_t at = 0; at < words; at++)
+        if (take_limit(state, PyTuple_GetItem(keywords, at), values[at], limits))
             return -1;
-        if (LARGEST + limit == PARTS)
-            continue;
-        const int unit = unit_of(values[at], limit ? "smallest" : "largest");
-        if (unit < 0)
-            return -1;
-        limits->units[limit] = (uint32_t)unit;
-    }
-    return 0;
+    if (limits->units[0] <= limits->units[1])
+        return 0;
+    PyErr_SetString(PyExc_ValueError, "largest must not be a shorter unit than smallest");
+    return -1;
 }
 
 /* The text of a duration; without limits the call that has none is the faster one. */
 static PyObject *printed(uint64_t secs, uint32_t nanos, const struct limits *limits) {
-    uint8_t buffer[DURATION_STR_FORMAT_BUFFER_SIZE];
-    const bool is_whole = limits->units[0] == no_limits.units[0] && limits->units[1] == no_limits.units[1] &&
-                          limits->parts == no_limits.parts;
-    const size_t length =
-        is_whole ? duration_str_format(secs, nanos, buffer)
-                 : duration_str_format_within(secs, nanos, limits->units[0], limits->units[1], limits->parts, buffer);
+    uint8_t buffer[DURATION_STR_STYLED_BUFFER_SIZE];
+    const bool is_whole = !memcmp(limits, &no_limits, sizeof *limits);
+    const size_t length = is_whole ? duration_str_format(secs, nanos, buffer)
+                                   : duration_str_format_styled(secs, nanos, limits->units[0], limits->units[1],
+                                                                limits->parts, limits->style, buffer);
     return PyUnicode_FromStringAndSize((const char *)buffer, (Py_ssize_t)length);
 }
 
@@ -241,7 +284,10 @@ static PyObject *printed(uint64_t secs, uint32_t nanos, const struct limits *lim
 static PyObject *printed_int(struct state *state, PyObject *nanos, const struct limits *limits) {
     int overflow;
     const long long few = PyLong_AsLongLongAndOverflow(nanos, &overflow);
-    if (overflow < 0 || (!overflow && few < 0))
+    /* Python prints no int of more than some thousand digits. */
+    if (overflow < 0)
+        return PyErr_Format(PyExc_ValueError, "a negative duration has no text: below -2**63 nanoseconds");
+    if (!overflow && few < 0)
         return PyErr_Format(PyExc_ValueError, "a negative duration has no text: %R", nanos);
     if (!overflow)
         return printed((uint64_t)few / SECOND, (uint32_t)((uint64_t)few % SECOND), limits);
@@ -299,12 +345,12 @@ static PyObject *format(PyObject *self, PyObject *const *arguments, Py_ssize_t c
     return printed_value(state, arguments[0], state->kept[NANOS_OF], &limits);
 }
 
-/* limits(*, parts, largest, smallest): the limits as format_list takes them */
+/* limits(*, parts, largest, smallest, style): the limits as format_list takes them */
 static PyObject *limits(PyObject *self, PyObject *const *arguments, Py_ssize_t count, PyObject *keywords) {
     struct limits limits;
     if (take_limits(PyModule_GetState(self), arguments + count, keywords, &limits))
         return NULL;
-    return Py_BuildValue("(III)", limits.units[0], limits.units[1], limits.parts);
+    return Py_BuildValue("(IIII)", limits.units[0], limits.units[1], limits.parts, limits.style);
 }
 
 /* format_list(values, function, texts, limits): appends to `texts` the text of each value, so that its length tells where
@@ -312,8 +358,8 @@ static PyObject *limits(PyObject *self, PyObject *const *arguments, Py_ssize_t c
 static PyObject *format_list(PyObject *self, PyObject *arguments) {
     PyObject *values, *function, *texts;
     struct limits limits;
-    if (!PyArg_ParseTuple(arguments, "O!OO!(III)", &PyList_Type, &values, &function, &PyList_Type, &texts, &limits.units[0],
-                          &limits.units[1], &limits.parts))
+    if (!PyArg_ParseTuple(arguments, "O!OO!(IIII)", &PyList_Type, &values, &function, &PyList_Type, &texts,
+                          &limits.units[0], &limits.units[1], &limits.parts, &limits.style))
         return NULL;
     for (Py_ssize_t at = 0; at < PyList_Size(values); at++) {
         PyObject *value = Py_NewRef(PyList_GetItem(values, at));
@@ -385,10 +431,8 @@ static int keep(struct state *state, const struct list *list, Py_ssize_t at, PyO
 /* Raises that timedelta64 doesn't have a text's value. */
 static void raise_beyond(struct state *state, PyObject *given, Py_ssize_t index) {
     const struct duration_str_answer answer = {.cause = DURATION_STR_OVERFLOW};
-    PyObject *text = PyUnicode_FromObject(given);
-    const char *format = "%U\n2**63 nanoseconds or more, which timedelta64 doesn't have";
-    PyObject *message = text ? PyUnicode_FromFormat(format, text) : NULL;
-    raise_error(state, message, text, &answer, NULL, index);
+    PyObject *line = PyUnicode_FromString("duration of 2^63 nanoseconds or more, which timedelta64 doesn't have");
+    raise_error(state, line, PyUnicode_FromObject(given), &answer, NULL, -1, index);
 }
 
 /* Reads a text of the list, as read_str does. */
@@ -493,11 +537,13 @@ static void raise_between(struct state *state, const Py_buffer *data, const size
         return;
     struct duration_str_answer answer;
     const struct text text = {(const uint8_t *)PyBytes_AsString(copy), end - start};
-    if (duration_str_parse_with(text.bytes, text.length, options, &answer)) {
+    PyObject *line = line_of(text, options, &answer);
+    if (answer.cause == DURATION_STR_READ) {
         PyErr_Format(PyExc_RuntimeError, "the text changed while it was read, at index %zd", index);
     } else {
         PyObject *given = PyUnicode_DecodeUTF8((const char *)text.bytes, (Py_ssize_t)text.length, "surrogateescape");
-        raise_error(state, message_of(text, options), given, &answer, text.bytes, index);
+        const bool is_text = answer.cause != DURATION_STR_NOT_TEXT;
+        raise_error(state, line, given, &answer, text.bytes, is_text ? (long long)options : -1, index);
     }
     Py_DECREF(copy);
 }
@@ -601,14 +647,17 @@ PyDoc_STRVAR(parse_doc, "parse" OPTIONS_DOC
 PyDoc_STRVAR(parse_seconds_doc, "parse_seconds" OPTIONS_DOC
 "The value of a text in seconds, rounded to the nearest float; `parse_ns`, which has the same options and errors, is\n"
 "exact.");
-PyDoc_STRVAR(format_doc, "format($module, value, /, *, parts=11, largest='y', smallest='ns')\n--\n\n"
+PyDoc_STRVAR(format_doc, "format($module, value, /, *, parts=11, largest='y', smallest='ns', style='short')\n--\n\n"
 "A duration's text, such as `3min 13s 29ms`, of an int of nanoseconds or of a timedelta, also of NumPy. Raises\n"
 "ValueError where it is negative, OverflowError where it is 2**64 seconds or more, and TypeError where it is neither.\n\n"
 "It is printed in at most so many parts, and in the units from the largest to the smallest alone: `y`, `q`, `mon`, `w`,\n"
 "`d`, `h`, `min`, `s`, `ms`, `\xc2\xb5s` or `us`, and `ns`. The rest is left out, so a text is never of more than the\n"
-"duration. If there are no parts, it is `0` and the smallest unit, or `0s`.\n\n"
+"duration. If all counts are 0, it is `0` and the smallest unit, or `0s`. No parts, and a largest unit that is shorter\n"
+"than the smallest, are a ValueError. The style `compact` leaves out the blanks, and `long` has whole words.\n\n"
 ">>> duration_str.format(193_029_000_000, parts=2)\n"
-"'3min 13s'");
+"'3min 13s'\n"
+">>> duration_str.format(193_029_000_000, style='long')\n"
+"'3 minutes 13 seconds 29 milliseconds'");
 
 #define FAST(call) (PyCFunction)(void (*)(void))call, METH_FASTCALL | METH_KEYWORDS
 static PyMethodDef methods[] = {
@@ -616,6 +665,7 @@ static PyMethodDef methods[] = {
     {"parse", FAST(parse), parse_doc},
     {"parse_seconds", FAST(parse_seconds), parse_seconds_doc},
     {"format", FAST(format), format_doc},
+    {"report", report, METH_VARARGS, NULL},
     {"limits", FAST(limits), NULL},
     {"format_list", format_list, METH_VARARGS, NULL},
     {"read_list", read_list, METH_VARARGS, NULL},
@@ -631,16 +681,6 @@ static PyObject *member(const char *module, const char *name) {
     return taken;
 }
 
-/* Says which library the module is linked with. */
-static int add_library(PyObject *module) {
-    const unsigned version = duration_str_version();
-    PyObject *told = PyUnicode_FromFormat("%u.%u.%u, %s", version / 1000000, version / 1000 % 1000, version % 1000,
-                                          IS_PROVED ? "proved" : "the proved sources without their contracts, by rustc");
-    const int status = told ? PyModule_AddObjectRef(module, "library", told) : -1;
-    Py_XDECREF(told);
-    return status;
-}
-
 static int begin(PyObject *module) {
     struct state *state = PyModule_GetState(module);
     int is_there = 1;
@@ -650,6 +690,7 @@ static int begin(PyObject *module) {
     state->kept[LARGEST] = PyUnicode_InternFromString("largest");
     state->kept[SMALLEST] = PyUnicode_InternFromString("smallest");
     state->kept[PARTS] = PyUnicode_InternFromString("parts");
+    state->kept[STYLE] = PyUnicode_InternFromString("style");
     state->kept[DAYS] = PyUnicode_InternFromString("days");
     state->kept[SECONDS] = PyUnicode_InternFromString("seconds");
     state->kept[MICROSECONDS] = PyUnicode_InternFromString("microseconds");
@@ -662,7 +703,7 @@ static int begin(PyObject *module) {
     state->kept[A_SECOND] = PyLong_FromLong(SECOND);
     for (int at = 0; at < KEPT; at++)
         is_there = is_there && state->kept[at];
-    return is_there ? add_library(module) : -1;
+    return is_there ? 0 : -1;
 }
 
 static void end(void *module) {
@@ -671,8 +712,16 @@ static void end(void *module) {
         Py_CLEAR(state->kept[at]);
 }
 
-static PyModuleDef_Slot slots[] = {{Py_mod_exec, begin}, {0, NULL}};
+/* ISO C turns a function's address into a number, and no function into an object. From CPython 3.12 on a slot says that
+ * interpreters with a lock of their own may have the module: its number and its value are those of
+ * Py_mod_multiple_interpreters and Py_MOD_PER_INTERPRETER_GIL_SUPPORTED, which earlier headers lack. Earlier interpreters
+ * refuse slots that they don't know. */
+static PyModuleDef_Slot slots[] = {{Py_mod_exec, (void *)(uintptr_t)begin}, {0, NULL}, {0, NULL}};
 static struct PyModuleDef definition = {
     PyModuleDef_HEAD_INIT, "_native", NULL, sizeof(struct state), methods, slots, NULL, NULL, end};
 
-PyMODINIT_FUNC PyInit__native(void) { return PyModuleDef_Init(&definition); }
+PyMODINIT_FUNC PyInit__native(void) {
+    if (Py_Version >= 0x030c0000)
+        slots[1] = (PyModuleDef_Slot){3, (void *)2};
+    return PyModuleDef_Init(&definition);
+}

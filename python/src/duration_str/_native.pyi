@@ -3,7 +3,7 @@ from collections.abc import Callable
 from datetime import timedelta
 from typing import Any, Protocol
 
-from ._texts import Unit
+from ._texts import Style, Unit
 
 class NumpyDuration(Protocol):
     """An integer of NumPy or its timedelta64: both have a denominator, and its floats have none."""
@@ -11,8 +11,6 @@ class NumpyDuration(Protocol):
     @property
     def denominator(self) -> Any: ...
     def astype(self, dtype: str, /) -> Any: ...
-
-library: str
 
 def parse_ns(
     text: str, /, *, no_calc: bool = False, lowercase: bool = False, cn_unit: bool = False
@@ -24,11 +22,22 @@ def parse_seconds(
     text: str, /, *, no_calc: bool = False, lowercase: bool = False, cn_unit: bool = False
 ) -> float: ...
 def format(
-    value: int | timedelta | NumpyDuration, /, *, parts: int = 11, largest: Unit = "y", smallest: Unit = "ns"
+    value: int | timedelta | NumpyDuration,
+    /,
+    *,
+    parts: int = 11,
+    largest: Unit = "y",
+    smallest: Unit = "ns",
+    style: Style = "short",
 ) -> str: ...
-def limits(*, parts: int, largest: Unit, smallest: Unit) -> tuple[int, int, int]: ...
+def report(text: str, options: int, /) -> str: ...
+def limits(*, parts: int, largest: Unit, smallest: Unit, style: Style) -> tuple[int, int, int, int]: ...
 def format_list(
-    values: list[Any], function: Callable[[Any], int | None], texts: list[str | None], limits: tuple[int, int, int], /
+    values: list[Any],
+    function: Callable[[Any], int | None],
+    texts: list[str | None],
+    limits: tuple[int, int, int, int],
+    /,
 ) -> None: ...
 def read_list(
     texts: list[Any],

@@ -11,6 +11,9 @@ from typing import Any, Literal
 #: A unit by the name that is printed, or `us`
 Unit = Literal["y", "q", "mon", "w", "d", "h", "min", "s", "ms", "µs", "us", "ns"]
 
+#: How a duration is printed: `1h 30min`, `1h30min`, `1 hour 30 minutes`
+Style = Literal["short", "compact", "long"]
+
 #: The units of timedelta64 that have a length in nanoseconds
 _NANOS = {"W": 604_800 * 10**9, "D": 86_400 * 10**9, "h": 3_600 * 10**9, "m": 60 * 10**9}
 _NANOS |= {"s": 10**9, "ms": 10**6, "us": 1000, "ns": 1}
@@ -46,14 +49,20 @@ class DurationTypeError(TypeError, ValueError):
     """A value that is no text. It is a ValueError too, since pydantic takes only these for refusals."""
 
 
+_CAUSES = {int(cause): cause for cause in Cause}
+_EXPECTED = [Expected(bits) for bits in range(16)]
+
+
 class DurationError(ValueError):
-    """A refused text. As a string it is the message for a person: the text, a caret below the place, and what is wrong;
-    and for a text of a column its index.
+    """A refused text. As a string it is one line for people, which says where and what is wrong, and often what to write;
+    for a text of a column it ends with its index.
 
     >>> try:
     ...     duration_str.parse("3h 2 hurs")
     ... except duration_str.DurationError as error:
+    ...     print(error)
     ...     print(error.cause.name, error.column, error.found)
+    unknown unit "hurs" at column 6
     SYNTAX 5 hurs
     """
 
@@ -64,29 +73,44 @@ class DurationError(ValueError):
     place: int | None
     """Where the fault stands, as a byte of the text in UTF-8, or None where it has no place."""
     column: int | None
-    """The same as a count of characters: `text[column:]` begins with `found`."""
+    """The same as a count of characters from 0, where the line counts from 1: `text[column:]` begins with `found`."""
     expected: Expected
     """What could stand at the place of a syntax fault; for other faults no flag is set."""
     found: str | None
     """The token that stands at the place of a syntax fault, or None at the end and for other faults."""
-    line: str
-    """The last line of the message alone, which says what is wrong."""
     index: int | None
     """The position of the text in the column that was read, or None where it was read by itself."""
 
     def __init__(
-        self, message: str, text: str, cause: int, place: int | None = None, expected: int | Expected = 0,
-        found: str | None = None, index: int | None = None,
+        self, one_line: str, text: str, cause: int, place: int | None = None, expected: int = 0,
+        found: str | None = None, options: int | None = None, index: int | None = None,
     ) -> None:  # fmt: skip
-        super().__init__(message if index is None else f"{message}\nat index {index}")
-        self.text, self.cause, self.place, self.expected = text, Cause(cause), place, Expected(expected)
-        self.found, self.index = found, index
-        self.line = message.rpartition("\n")[2].removeprefix(f"byte {place}: ")
-        self.column = None if place is None else len(text.encode()[:place].decode())
+        super().__init__(one_line if index is None else f"{one_line}, at index {index}")
+        self.text, self.cause, self.place, self.expected = text, _CAUSES[cause], place, _EXPECTED[expected]
+        self.found, self.index, self._options = found, index, options
+        self.column = place if place is None or text.isascii() else len(text.encode()[:place].decode())
+
+    @property
+    def one_line(self) -> str:
+        """The error as a string."""
+        return str(self)
+
+    @property
+    def report(self) -> str:
+        """The text, a caret below the place, and `line`: the lines of a message for a terminal. Of a text that has a line
+        feed it is `byte N: ` and `line`; where there is no place it is `line`."""
+        if self._options is None:
+            return str(self).removesuffix(f", at index {self.index}")
+        told: str = import_module("duration_str._native").report(self.text, self._options)
+        return told
+
+    @property
+    def line(self) -> str:
+        """What is wrong, or what was expected at the place, without the place or the text."""
+        return self.report.rpartition("\n")[2].removeprefix(f"byte {self.place}: ")
 
     def __reduce__(self) -> tuple[type[DurationError], tuple[object, ...], dict[str, object]]:
-        made_of = (str(self), self.text, self.cause, self.place, self.expected, self.found)
-        return type(self), made_of, self.__dict__
+        return type(self), (str(self), self.text, self.cause), self.__dict__
 
 
 def option_bits(no_calc: bool, lowercase: bool, cn_unit: bool) -> int:

@@ -1,5 +1,8 @@
 """A type for options of Click, which is imported here alone."""
 
+# mypy: disallow-any-generics=False
+# From Click 8.4 on its class has a parameter, which earlier ones refuse.
+
 from __future__ import annotations
 
 import datetime
@@ -12,18 +15,24 @@ from ._texts import DurationError
 
 
 class DurationParamType(click.ParamType):
-    """A timedelta, read from a text. Of a refusal Click shows the line that says what is wrong, since a caret would stand
-    below something else. A default may be a timedelta, too."""
+    """A timedelta, read from a text under these options. A refusal is shown as the value and the error's line. A default
+    may be a timedelta, too."""
 
     name = "duration"
 
-    def convert(self, value: Any, param: click.Parameter | None, ctx: click.Context | None) -> Any:
+    def __init__(self, *, no_calc: bool = False, lowercase: bool = False, cn_unit: bool = False) -> None:
+        self._options = {"no_calc": no_calc, "lowercase": lowercase, "cn_unit": cn_unit}
+
+    def __repr__(self) -> str:
+        return "DURATION"
+
+    def convert(self, value: Any, param: click.Parameter | None, ctx: click.Context | None) -> datetime.timedelta:
         if isinstance(value, datetime.timedelta):
             return value
         try:
-            return parse(value)
+            return parse(value, **self._options)
         except DurationError as error:
-            self.fail(error.line, param, ctx)
+            self.fail(f"{value!r}: {error}", param, ctx)
 
 
 DURATION = DurationParamType()

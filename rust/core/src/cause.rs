@@ -1,7 +1,7 @@
 // Made by tools/erase of crates/duration_str/src/cause.rt.
 //! Why a text is refused: what could stand at the place of a syntax fault, the cause, and its line.
 
-use super::operator::CondUnit;
+use crate::operator::CondUnit;
 
 /// What could stand at the place of a syntax fault.
 ///
@@ -98,6 +98,7 @@ pub enum Cause {
     /// The date is out of range.
     OutOfRange,
     /// A configuration value is not a text.
+    #[doc(hidden)]
     NotText {
         /// Whether the value may be missing.
         optional: bool,

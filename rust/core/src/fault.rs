@@ -1,9 +1,9 @@
 // Made by tools/erase of crates/duration_str/src/fault.rt.
 //! A refused text with its cause, and the token at the place of a syntax fault.
 
-use super::cause::Cause;
-use super::options::Options;
-use super::token::Tokens;
+use crate::cause::Cause;
+use crate::options::Options;
+use crate::token::Tokens;
 
 /// A refusal: the text that was read, and the cause. It prints as a message for people.
 ///

@@ -1,29 +1,24 @@
 // Made by tools/erase of crates/duration_str/src/lib.rt.
 //! Duration expressions such as `3m + 13s + 29ms`, read and printed.
 #![no_std]
-#![deny(unsafe_code, missing_docs)]
-// The toolchain writes some things otherwise.
-#![allow(
-    clippy::precedence,
-    clippy::question_mark,
-    clippy::while_let_on_iterator
-)]
 
 #[forbid(unsafe_code)]
 mod impls; // Written by hand.
 
+pub use self::impls::UnknownUnit;
+
 #[forbid(unsafe_code)]
 mod cause;
-#[allow(unsafe_code)] // Blocks: 1.
-mod ext;
 #[forbid(unsafe_code)]
 mod eye;
 #[forbid(unsafe_code)]
 mod fault;
 #[forbid(unsafe_code)]
-mod limits;
+mod format;
 #[allow(unsafe_code)] // Blocks: 1.
 mod message;
+#[allow(unsafe_code)] // Blocks: 1.
+mod one_line;
 #[forbid(unsafe_code)]
 mod operator;
 #[forbid(unsafe_code)]
@@ -32,6 +27,8 @@ mod options;
 mod packed;
 #[forbid(unsafe_code)]
 mod parser;
+#[allow(unsafe_code)] // Blocks: 1.
+mod printing;
 #[forbid(unsafe_code)]
 mod reader;
 #[forbid(unsafe_code)]
@@ -39,8 +36,9 @@ mod token;
 #[forbid(unsafe_code)]
 mod unit;
 
-pub use self::ext::{MAX_PRINTED_LEN, write_human};
-pub use self::limits::{Limits, write_within};
-pub use self::parser::{Cause, Expected, Fault, parse, parse_looked, parse_std, parse_with};
+pub use self::format::{Format, Style};
+pub use self::one_line::MAX_ONE_LINE_LEN;
+pub use self::parser::{Cause, Expected, Fault, parse, parse_looked, parse_nanos, parse_std, parse_with};
+pub use self::printing::{MAX_LONG_LEN, MAX_PRINTED_LEN, write_human, write_within};
 pub use self::token::{Token, Tokens, What};
 pub use self::unit::{CondUnit, Options, TimeUnit};

@@ -4,9 +4,9 @@
 //! A `Display` may fail for reasons that its contract does not name, so no contract can promise that it prints. Into a
 //! buffer a message for which there is room is always written.
 
-use super::cause::Cause;
-use super::ext::put_number;
-use super::fault::Fault;
+use crate::cause::Cause;
+use crate::fault::Fault;
+use crate::printing::put_number;
 use core::fmt;
 
 impl Cause {
@@ -163,7 +163,8 @@ impl Layout {
 }
 
 /// The number of characters before the place. In ASCII it is that of the bytes, which takes less time.
-fn chars_before(text: &str, place: usize) -> usize {
+#[inline(never)]
+pub(crate) fn chars_before(text: &str, place: usize) -> usize {
     let before = &text[..place];
     if before.is_ascii() {
         before.len()
@@ -190,7 +191,7 @@ fn put_caret(buffer: &mut [u8], text: &str, spaces: usize, line: &str) -> Option
 }
 
 /// Writes a part after the first `at` bytes, and returns where it ends; `None` if there is no room.
-fn put(buffer: &mut [u8], at: usize, part: &[u8]) -> Option<usize> {
+pub(crate) fn put(buffer: &mut [u8], at: usize, part: &[u8]) -> Option<usize> {
     if part.len() > buffer.len() - at {
         return None;
     }
@@ -210,7 +211,7 @@ fn put_spaces(buffer: &mut [u8], at: usize, count: usize) -> Option<usize> {
 }
 
 /// Writes a number in decimal as `put` does.
-fn put_decimal(buffer: &mut [u8], at: usize, number: usize) -> Option<usize> {
+pub(crate) fn put_decimal(buffer: &mut [u8], at: usize, number: usize) -> Option<usize> {
     let mut digits = [0; 64];
     let end = put_number(&mut digits, 0, number as u64);
     put(buffer, at, &digits[..end])

@@ -1,11 +1,11 @@
 // Made by tools/erase of crates/duration_str/src/parser.rt.
 //! Reading: the duration that a text means, or why it means none.
 
-pub use super::cause::{Cause, Expected};
-pub use super::fault::Fault;
-use super::options::Options;
-use super::reader::{Begun, read_first, read_rest};
-use super::token::Tokens;
+pub use crate::cause::{Cause, Expected};
+pub use crate::fault::Fault;
+use crate::options::Options;
+use crate::reader::read;
+use crate::token::Tokens;
 use core::time::Duration;
 
 /// The duration that a text means with all options off.
@@ -22,9 +22,7 @@ use core::time::Duration;
 /// ```
 #[inline(never)]
 pub fn parse(input: &str) -> Result<Duration, Fault<'_>> {
-    let off = Options::off();
-    let (mut tokens, begun) = begin(input, off);
-    finish(input, &mut tokens, off, begun)
+    as_duration(parse_nanos(input, Options::off()))
 }
 
 /// What `parse` returns.
@@ -64,8 +62,17 @@ pub fn parse_with(input: &str, o: Options) -> Result<Duration, Fault<'_>> {
 /// What `parse_with` returns where an option is on.
 #[inline(never)]
 fn parse_chosen(input: &str, o: Options) -> Result<Duration, Fault<'_>> {
-    let (mut tokens, begun) = begin(input, o);
-    finish(input, &mut tokens, o, begun)
+    as_duration(parse_nanos(input, o))
+}
+
+/// The nanoseconds of what `parse_with` returns, or its refusal.
+///
+/// ```text
+/// parse_nanos("1ms 5ns", Options::off()) // Ok(1_000_005)
+/// ```
+#[inline(always)]
+pub fn parse_nanos(input: &str, o: Options) -> Result<u64, Fault<'_>> {
+    read_text(input, o).0
 }
 
 /// What `parse_with` returns, and how many times a character of the text was looked at.
@@ -77,36 +84,32 @@ fn parse_chosen(input: &str, o: Options) -> Result<Duration, Fault<'_>> {
 /// parse_looked("3m 13s", Options::off()) // (Ok(Duration::from_secs(193)), 6)
 /// ```
 pub fn parse_looked(input: &str, o: Options) -> (Result<Duration, Fault<'_>>, u64) {
-    let (mut tokens, begun) = begin(input, o);
-    let result = finish(input, &mut tokens, o, begun);
-    (result, tokens.looked())
+    let (answer, looks) = read_text(input, o);
+    (as_duration(answer), looks)
 }
 
-/// The tokens of the text as far as `read_first` takes them, and what it returns.
+/// The nanoseconds as a duration, or the same refusal.
 #[inline(always)]
-fn begin(input: &str, o: Options) -> (Tokens<'_>, Begun) {
-    let mut tokens = Tokens::new(input, o);
-    if input.is_empty() {
-        return (tokens, Err(Cause::Empty));
-    }
-    let begun = read_first(&mut tokens, o.no_calc);
-    (tokens, begun)
-}
-
-/// What the text means, given what `begin` returns of it. The tokens are read to their end, or to a fault.
-#[inline(always)]
-fn finish<'a>(
-    input: &'a str,
-    tokens: &mut Tokens<'_>,
-    o: Options,
-    begun: Begun,
-) -> Result<Duration, Fault<'a>> {
-    let answer = match begun {
-        Ok((first, operator)) => read_rest(tokens, o.no_calc, first, operator),
-        Err(cause) => return Err(Fault { text: input, cause }),
-    };
+fn as_duration(answer: Result<u64, Fault<'_>>) -> Result<Duration, Fault<'_>> {
     match answer {
         Ok(nanos) => Ok(Duration::from_nanos(nanos)),
-        Err(cause) => Err(Fault { text: input, cause }),
+        Err(fault) => Err(fault),
+    }
+}
+
+/// What `parse_nanos` returns, and how many times a character of the text was looked at.
+#[inline(always)]
+fn read_text(input: &str, o: Options) -> (Result<u64, Fault<'_>>, u64) {
+    let mut tokens = Tokens::new(input, o);
+    if input.is_empty() {
+        let fault = Fault {
+            text: input,
+            cause: Cause::Empty,
+        };
+        return (Err(fault), 0);
+    }
+    match read(&mut tokens, o.no_calc) {
+        Ok(nanos) => (Ok(nanos), tokens.looked()),
+        Err(cause) => (Err(Fault { text: input, cause }), tokens.looked()),
     }
 }

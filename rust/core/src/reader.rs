@@ -1,62 +1,36 @@
 // Made by tools/erase of crates/duration_str/src/reader.rt.
 //! The one pass over the tokens of a text.
 
-use super::cause::{Cause, Expected};
-use super::operator::CondUnit;
-use super::token::{Sort, Tokens};
-use super::unit::TimeUnit;
+use crate::cause::{Cause, Expected};
+use crate::operator::CondUnit;
+use crate::token::{TokenStart, Tokens};
+use crate::unit::TimeUnit;
 
-/// The value of the first term with the operator after it, `None` at the end, or the fault for which they are refused.
-pub(crate) type Begun = Result<(u64, Option<CondUnit>), Cause>;
-
-/// Reads the first term and the operator after it. The other terms are read by `read_rest`: both in one function would
-/// be too long for the toolchain's compiler to inline.
+/// The value of the tokens in nanoseconds, or the cause of their refusal.
+///
+/// The later terms are combined first, by the operator before the second term, and the first term is combined with
+/// their total at the end. Under `no_calc` the first term is the beginning of that total.
 #[inline(always)]
-pub(crate) fn read_first(tokens: &mut Tokens<'_>, no_calc: bool) -> Begun {
+pub(crate) fn read(tokens: &mut Tokens<'_>, no_calc: bool) -> Result<u64, Cause> {
     expect_number(tokens)?;
     let number = tokens.take_number();
-    let unit = read_unit(tokens, no_calc)?;
-    let first = unit.times(number, Some(0))?;
-    let operator = read_operator(tokens, no_calc)?;
-    Ok((first, operator))
-}
-
-/// The value of the tokens, or the cause of their refusal, once the first term and the operator after it are read.
-#[inline(always)]
-pub(crate) fn read_rest(
-    tokens: &mut Tokens<'_>,
-    no_calc: bool,
-    first: u64,
-    operator: Option<CondUnit>,
-) -> Result<u64, Cause> {
-    match operator {
-        None => Ok(first),
-        Some(operator) => read_later(tokens, no_calc, first, operator),
-    }
-}
-
-/// Reads the terms after the first one, and combines them by the operator before the second one.
-#[inline(always)]
-fn read_later(
-    tokens: &mut Tokens<'_>,
-    no_calc: bool,
-    first: u64,
-    operator: CondUnit,
-) -> Result<u64, Cause> {
-    let mut total = identity_of(operator);
-    let mut next = operator;
-    loop {
+    let value = read_unit(tokens, no_calc)?.times(number, Some(0))?;
+    let (first, mut later) = if no_calc {
+        (0, Some((CondUnit::Plus, value)))
+    } else {
+        (value, None)
+    };
+    while let Some(next) = read_operator(tokens, no_calc)? {
         let number = tokens.take_number();
         let unit = read_unit(tokens, no_calc)?;
-        match with_term(operator, total, next, number, unit) {
-            Ok(more) => total = more,
+        match with_term(later, next, number, unit) {
+            Ok(total) => later = Some((next, total)),
             Err(fault) => return read_on(tokens, no_calc, fault),
         }
-        check_sum(no_calc, first, total)?;
-        match read_operator(tokens, no_calc)? {
-            None => return within(combination(operator, first, total)),
-            Some(later) => next = later,
-        }
+    }
+    match later {
+        None => Ok(first),
+        Some((operator, total)) => within(combination(operator, first, total)),
     }
 }
 
@@ -85,58 +59,55 @@ fn expect_number(tokens: &mut Tokens<'_>) -> Result<(), Cause> {
 /// Reads the unit after a number. Seconds if an operator or the end follows, which is not taken.
 #[inline(always)]
 fn read_unit(tokens: &mut Tokens<'_>, no_calc: bool) -> Result<TimeUnit, Cause> {
-    let ahead = tokens.sort_after_number();
-    let fault = Cause::syntax(tokens.place(), Expected::after_number(no_calc));
-    let Some(sort) = ahead else {
+    let Some(sort) = tokens.sort_after_number() else {
         return Ok(TimeUnit::Second);
     };
+    let place = tokens.place();
     match sort {
-        Sort::Word => match tokens.take_word() {
-            Some(unit) => Ok(unit),
-            None => Err(fault),
-        },
-        Sort::Operator(_) => {
-            if no_calc {
-                Err(fault)
-            } else {
-                Ok(TimeUnit::Second)
-            }
-        }
-        Sort::Number | Sort::Other => Err(fault),
+        TokenStart::Word => tokens.take_word().ok_or(no_unit(place, no_calc)),
+        TokenStart::Operator(_) if !no_calc => Ok(TimeUnit::Second),
+        TokenStart::Operator(_) => Err(no_unit(place, no_calc)),
+        TokenStart::Number | TokenStart::Other => Err(no_unit(place, no_calc)),
     }
+}
+
+/// The fault of what stands after a number and is neither a unit nor what may follow seconds.
+#[inline(always)]
+fn no_unit(place: usize, no_calc: bool) -> Cause {
+    Cause::syntax(place, Expected::after_number(no_calc))
 }
 
 /// Reads the operator after a unit, up to the number that must follow: a plus if it is left out, `None` at the end.
 #[inline(always)]
 fn read_operator(tokens: &mut Tokens<'_>, no_calc: bool) -> Result<Option<CondUnit>, Cause> {
-    let ahead = tokens.sort_ahead();
-    let fault = Cause::syntax(tokens.place(), Expected::after_unit(no_calc));
-    let Some(sort) = ahead else {
+    let Some(sort) = tokens.sort_ahead() else {
         return Ok(None);
     };
+    let fault = Cause::syntax(tokens.place(), Expected::after_unit(no_calc));
     match sort {
-        Sort::Number => Ok(Some(CondUnit::Plus)),
-        Sort::Operator(operator) => {
-            if no_calc {
-                return Err(fault);
-            }
+        TokenStart::Number => Ok(Some(CondUnit::Plus)),
+        TokenStart::Operator(operator) if !no_calc => {
             tokens.advance();
             expect_number(tokens)?;
             Ok(Some(operator))
         }
-        Sort::Word | Sort::Other => Err(fault),
+        TokenStart::Operator(_) => Err(fault),
+        TokenStart::Word | TokenStart::Other => Err(fault),
     }
 }
 
-/// The value of the later terms with one more, or its fault. `next` stands before it.
+/// The total of the later terms with one more, or its fault: `later` is the operator between them with their total so
+/// far, and `next` stands before this one.
 #[inline(always)]
 fn with_term(
-    operator: CondUnit,
-    total: u64,
+    later: Option<(CondUnit, u64)>,
     next: CondUnit,
     number: Option<u64>,
     unit: TimeUnit,
 ) -> Result<u64, Cause> {
+    let Some((operator, total)) = later else {
+        return unit.times(number, None);
+    };
     if next != operator {
         return Err(Cause::Mixed {
             first: operator,
@@ -147,30 +118,12 @@ fn with_term(
     within(combination(operator, total, value))
 }
 
-/// Under `no_calc`, whether the sum of the first term and the later ones so far is below 2^64.
-#[inline(always)]
-fn check_sum(no_calc: bool, first: u64, total: u64) -> Result<(), Cause> {
-    match first.checked_add(total) {
-        None if no_calc => Err(Cause::Overflow { place: None }),
-        _ => Ok(()),
-    }
-}
-
 /// The value, or an overflow.
 #[inline]
 fn within(value: Option<u64>) -> Result<u64, Cause> {
     match value {
         Some(value) => Ok(value),
         None => Err(Cause::Overflow { place: None }),
-    }
-}
-
-/// The neutral value: 0 for sums, one second for products.
-#[inline]
-fn identity_of(operator: CondUnit) -> u64 {
-    match operator {
-        CondUnit::Plus => 0,
-        CondUnit::Star => TimeUnit::Second.nanos(),
     }
 }
 

@@ -1,16 +1,16 @@
 // Made by tools/erase of crates/duration_str/src/token.rt.
 //! The tokens of a text: numbers, words, operators, and other single characters.
 
-use super::eye::Eye;
-use super::operator::CondUnit;
-use super::options::Options;
-use super::packed::unit_of_packed;
-use super::unit::TimeUnit;
+use crate::eye::Eye;
+use crate::operator::CondUnit;
+use crate::options::Options;
+use crate::packed::unit_of_packed;
+use crate::unit::TimeUnit;
 
 /// What a token is: a number, a word with the unit that it names, an operator, or another character.
 ///
 /// ```
-/// use duration_str::{Options, TimeUnit, Tokens, What};
+/// use duration_str_core::{Options, TimeUnit, Tokens, What};
 ///
 /// let mut tokens = Tokens::new("3 hours", Options::off());
 /// assert_eq!(tokens.next().unwrap().what, What::Number);
@@ -31,7 +31,7 @@ pub enum What {
 /// A token of a text.
 ///
 /// ```
-/// use duration_str::{CondUnit, Options, Token, Tokens, What};
+/// use duration_str_core::{CondUnit, Options, Token, Tokens, What};
 ///
 /// let plus = Token { start: 2, text: "+", what: What::Operator(CondUnit::Plus) };
 /// assert_eq!(Tokens::new("1s+2m", Options::off()).nth(2), Some(plus));
@@ -48,26 +48,26 @@ pub struct Token<'a> {
 
 /// The sort of a token, by its first character.
 #[derive(Clone, Copy)]
-pub(crate) enum Sort {
+pub(crate) enum TokenStart {
     Number,
     Word,
     Operator(CondUnit),
     Other,
 }
 
-impl Sort {
+impl TokenStart {
     /// The sort of a token that starts with this character.
     #[inline(always)]
-    fn at(first: char, o: Options) -> Sort {
+    fn at(first: char, o: Options) -> TokenStart {
         if first.is_ascii_digit() {
-            return Sort::Number;
+            return TokenStart::Number;
         }
         if is_unit_letter(first, o) {
-            return Sort::Word;
+            return TokenStart::Word;
         }
         match CondUnit::from_char(first) {
-            Some(operator) => Sort::Operator(operator),
-            None => Sort::Other,
+            Some(operator) => TokenStart::Operator(operator),
+            None => TokenStart::Other,
         }
     }
 }
@@ -82,7 +82,7 @@ struct Letters {
 /// The tokens of a text, in order. Each character is looked at once, when it is reached.
 ///
 /// ```
-/// use duration_str::{Options, Tokens};
+/// use duration_str_core::{Options, Tokens};
 ///
 /// let texts: Vec<&str> = Tokens::new("13s + 29ms", Options::off()).map(|token| token.text).collect();
 /// assert_eq!(texts, ["13", "s", "+", "29", "ms"]);
@@ -98,7 +98,7 @@ impl<'a> Tokens<'a> {
     /// The tokens of a text, cut under these options.
     ///
     /// ```
-    /// use duration_str::{Options, Tokens};
+    /// use duration_str_core::{Options, Tokens};
     ///
     /// assert_eq!(Tokens::new("13s", Options::off()).count(), 2);
     /// ```
@@ -117,7 +117,7 @@ impl<'a> Tokens<'a> {
     /// How many times a character of the text was looked at.
     ///
     /// ```
-    /// use duration_str::{Options, Tokens};
+    /// use duration_str_core::{Options, Tokens};
     ///
     /// let mut tokens = Tokens::new("13s", Options::off());
     /// assert_eq!(tokens.by_ref().count(), 2);
@@ -146,8 +146,12 @@ impl<'a> Tokens<'a> {
     /// Moves past the blanks.
     #[inline(always)]
     fn skip_blanks(&mut self) {
-        while self.head.is_some_and(is_blank) {
-            self.advance();
+        while let Some(c) = self.head {
+            if is_blank(c) {
+                self.advance();
+            } else {
+                break;
+            }
         }
     }
 
@@ -155,9 +159,13 @@ impl<'a> Tokens<'a> {
     #[inline(always)]
     fn take_digits(&mut self) -> u64 {
         let mut number = 0u64;
-        while let Some(c) = self.head.filter(char::is_ascii_digit) {
-            number = ((number as u128 * 10 + (c as u32 - 48) as u128) % MODULUS) as u64;
-            self.advance();
+        while let Some(c) = self.head {
+            if c.is_ascii_digit() {
+                number = ((number as u128 * 10 + (c as u32 - 48) as u128) % MODULUS) as u64;
+                self.advance();
+            } else {
+                break;
+            }
         }
         number
     }
@@ -213,18 +221,18 @@ impl<'a> Tokens<'a> {
 
     /// Takes the token ahead, which is of this sort.
     #[inline(always)]
-    fn take_token(&mut self, sort: Sort) -> What {
+    fn take_token(&mut self, sort: TokenStart) -> What {
         match sort {
-            Sort::Number => {
+            TokenStart::Number => {
                 let _ = self.take_number();
                 What::Number
             }
-            Sort::Word => What::Word(self.take_word()),
-            Sort::Operator(operator) => {
+            TokenStart::Word => What::Word(self.take_word()),
+            TokenStart::Operator(operator) => {
                 self.advance();
                 What::Operator(operator)
             }
-            Sort::Other => {
+            TokenStart::Other => {
                 self.advance();
                 What::Other
             }
@@ -233,10 +241,10 @@ impl<'a> Tokens<'a> {
 
     /// Moves past the blanks, and returns the sort of the token ahead; `None` at the end.
     #[inline(always)]
-    pub(crate) fn sort_ahead(&mut self) -> Option<Sort> {
+    pub(crate) fn sort_ahead(&mut self) -> Option<TokenStart> {
         self.skip_blanks();
         let first = self.head?;
-        Some(Sort::at(first, self.options))
+        Some(TokenStart::at(first, self.options))
     }
 
     /// Moves past the blanks, and returns whether a number is ahead.
@@ -252,9 +260,11 @@ impl<'a> Tokens<'a> {
     /// What `sort_ahead` returns. After a number a word is most likely, so letters are tested first: `3m 13s 29ms`
     /// takes 5 % fewer instructions.
     #[inline(always)]
-    pub(crate) fn sort_after_number(&mut self) -> Option<Sort> {
-        if self.head.is_some_and(|c| c.is_ascii_alphabetic()) {
-            return Some(Sort::Word);
+    pub(crate) fn sort_after_number(&mut self) -> Option<TokenStart> {
+        if let Some(c) = self.head {
+            if c.is_ascii_alphabetic() {
+                return Some(TokenStart::Word);
+            }
         }
         self.sort_ahead()
     }
@@ -312,8 +322,7 @@ fn first_number(c: char, o: Options) -> u64 {
 }
 
 /// The number of a unit letter beyond ASCII: `µ`, and those that the option `cn_unit` adds; 0 of any other character.
-#[cold]
-#[inline(never)]
+#[inline]
 fn wide_number(c: char, cn_unit: bool) -> u64 {
     if c == 'µ' {
         return 27;
@@ -346,7 +355,7 @@ static BLANKS: [bool; 33] = [
 
 /// Space, tab, carriage return, line feed.
 #[inline]
-fn is_blank(c: char) -> bool {
+pub(crate) fn is_blank(c: char) -> bool {
     c <= ' ' && BLANKS[c as usize]
 }
 

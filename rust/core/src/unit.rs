@@ -1,9 +1,9 @@
 // Made by tools/erase of crates/duration_str/src/unit.rt.
 //! The units of time and their names, with the options and operators that are used with them.
 
-use super::cause::Cause;
-pub use super::operator::CondUnit;
-pub use super::options::Options;
+use crate::cause::Cause;
+pub use crate::operator::CondUnit;
+pub use crate::options::Options;
 use core::fmt;
 
 /// A unit of time.
@@ -66,9 +66,26 @@ impl TimeUnit {
         self.row().printed
     }
 
+    /// The long name of one of the unit.
+    pub(crate) const fn long_name(self) -> &'static str {
+        match self {
+            TimeUnit::Year => "year",
+            TimeUnit::Quarter => "quarter",
+            TimeUnit::Month => "month",
+            TimeUnit::Week => "week",
+            TimeUnit::Day => "day",
+            TimeUnit::Hour => "hour",
+            TimeUnit::Minute => "minute",
+            TimeUnit::Second => "second",
+            TimeUnit::MilliSecond => "millisecond",
+            TimeUnit::MicroSecond => "microsecond",
+            TimeUnit::NanoSecond => "nanosecond",
+        }
+    }
+
     /// How many units are longer.
     #[inline(always)]
-    pub(crate) fn place(self) -> usize {
+    pub(crate) fn rank(self) -> usize {
         self as usize
     }
 

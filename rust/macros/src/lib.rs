@@ -22,6 +22,10 @@ use proc_macro::{Delimiter, Span, TokenStream, TokenTree};
 /// ```compile_fail
 /// const TIMEOUT: std::time::Duration = duration_str::duration!("1m 3-5");
 /// ```
+///
+/// ```compile_fail
+/// const TIMEOUT: std::time::Duration = duration_str::duration!("1H", lowercase);
+/// ```
 #[proc_macro]
 pub fn duration(input: TokenStream) -> TokenStream {
     value(input).unwrap_or_else(|(message, span)| refused(&message, span))

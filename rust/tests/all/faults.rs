@@ -1,6 +1,6 @@
 //! Texts that are refused, and what their faults tell.
-use crate::all_options;
 use crate::vectors::vectors;
+use crate::{FEATURES, all_options};
 use duration_str::{
     Cause, CondUnit, DError, Expected, Fault, Options, parse, parse_duration, parse_with,
 };
@@ -32,11 +32,11 @@ fn check(name: &str, is_told: impl Fn(Options) -> bool) {
             };
             let fault = fault(text, options);
             assert_eq!(
-                (fault.to_string(), fault.line(), fault.text()),
+                (fault.to_string(), fault.cause().line(), fault.text()),
                 (message.clone(), &line[..], &text[..]),
                 "{options:?}"
             );
-            if options == Options::of_features() {
+            if options == FEATURES {
                 assert_eq!(parse(text), Err(message));
             }
         }
@@ -155,10 +155,14 @@ fn becomes_an_error() {
         ("1s+2*3", DError::ParseError(line("plus, then star"))),
         ("580y*2", DError::OverflowError),
         ("600y", DError::OverflowError),
+        (
+            "99999999999999999999",
+            DError::ParseError(line("number too large")),
+        ),
     ];
     for (text, error) in rows {
         let fault = fault(text, Options::off());
-        assert_eq!(error.to_string(), fault.line(), "{text}");
+        assert_eq!(error.to_string(), fault.cause().line(), "{text}");
         assert_eq!(DError::from(fault), error, "{text}");
         assert_eq!(fault.to_derror(), error, "{text}");
     }
@@ -177,6 +181,11 @@ fn shows_faults_to_programmers() {
     assert_eq!(format!("{} {}", CondUnit::Plus, CondUnit::Star), "+ *");
 }
 
+/// The line of a fault.
+fn one_line(text: &str, options: Options) -> String {
+    fault(text, options).into_owned().to_string()
+}
+
 #[test]
 fn tells_in_one_line() {
     let number = "9".repeat(50);
@@ -191,16 +200,63 @@ fn tells_in_one_line() {
             "expected a number at column 4, found the end".to_string(),
         ),
         (
+            "3h 2 hurs",
+            r#"unknown unit "hurs" at column 6"#.to_string(),
+        ),
+        (
+            "30 mins",
+            r#"unknown unit "mins" at column 4: write "min""#.to_string(),
+        ),
+        (
+            "1 h\u{a0}2\u{3bc}s",
+            r#"expected a number, '+', '*' or the end at column 4, found "\u{00a0}""#.to_string(),
+        ),
+        (
+            "1\u{3bc}s",
+            "unknown unit \"\u{3bc}s\" at column 2: write \"us\"".to_string(),
+        ),
+        (
+            "2 Hrs",
+            r#"unknown unit "Hrs" at column 3: write "h""#.to_string(),
+        ),
+        ("6 Mo", r#"unknown unit "Mo" at column 3"#.to_string()),
+        (
+            "1.5h",
+            r#"expected a unit, '+', '*' or the end at column 2, found ".": a number has digits alone, no point or comma"#
+                .to_string(),
+        ),
+        (
             "-1",
+            r#"expected a number at column 1, found "-": negative durations are not read"#.to_string(),
+        ),
+        (
+            "- 1",
             r#"expected a number at column 1, found "-""#.to_string(),
         ),
         (
+            "PT5M",
+            r#"expected a number at column 1, found "PT": ISO 8601 is not read: write each number before its unit"#
+                .to_string(),
+        ),
+        (
             "1µs\r\n\u{7}x",
-            r#"expected a number, '+', '*' or the end at column 6, found "\u{7}""#.to_string(),
+            r#"expected a number, '+', '*' or the end at column 6, found "\u{0007}""#.to_string(),
+        ),
+        (
+            "1s \u{7f}",
+            r#"expected a number, '+', '*' or the end at column 4, found "\u{007f}""#.to_string(),
+        ),
+        (
+            "1s \u{2066}h",
+            r#"expected a number, '+', '*' or the end at column 4, found "\u{2066}""#.to_string(),
+        ),
+        (
+            r"1s \h",
+            r#"expected a number, '+', '*' or the end at column 4, found "\\""#.to_string(),
         ),
         (
             "600y",
-            r#"duration of 2^64 nanoseconds or more at column 1, found "600y""#.to_string(),
+            r#"duration of 2^64 nanoseconds or more in "600y""#.to_string(),
         ),
         (
             "1s 600y",
@@ -216,21 +272,22 @@ fn tells_in_one_line() {
         ),
     ];
     for (text, line) in rows {
-        let fault = fault(text, Options::off());
-        assert_eq!(fault.one_line().to_string(), line);
-        assert_eq!(fault.into_owned().one_line().to_string(), line);
+        assert_eq!(one_line(text, Options::off()), line);
     }
-    let no_calc = fault("1+2", NO_CALC);
     assert_eq!(
-        no_calc.one_line().to_string(),
+        one_line("1+2", NO_CALC),
         r#"expected a unit or the end at column 2, found "+""#
+    );
+    assert_eq!(
+        one_line("1m+2", NO_CALC),
+        r#"expected a number or the end at column 3, found "+""#
     );
 }
 
 #[test]
 fn tells_of_a_long_text_in_a_short_line() {
     let word = format!("1{}", "é".repeat(1 << 20));
-    let line = parse_duration(&word).unwrap_err().one_line().to_string();
+    let line = parse_duration(&word).unwrap_err().to_string();
     assert!(line.len() < 200, "{line}");
 }
 
@@ -245,7 +302,7 @@ fn takes_as_much_memory_as_the_message_is_long() {
         "99999999999999999999",
     ] {
         let message = parse(text).unwrap_err();
-        let fault = parse_duration(text).unwrap_err();
+        let fault = fault(text, FEATURES);
         assert_eq!(
             (&message, message.capacity()),
             (&fault.to_string(), fault.message_len())

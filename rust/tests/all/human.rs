@@ -1,7 +1,10 @@
 //! Durations as text, which serde writes and reads.
 use duration_str::HumanDuration;
 use duration_str::human::{self, HumanText};
-use serde::de::value::{BytesDeserializer, Error};
+use duration_str::human_or_seconds;
+use serde::de::value::{
+    BytesDeserializer, Error, F64Deserializer, I64Deserializer, U64Deserializer,
+};
 use serde::de::{Deserializer, Error as _, Visitor};
 use serde::{Deserialize, Serialize, forward_to_deserialize_any};
 use serde_json::{Value, from_value, json, to_value, value::Serializer};
@@ -103,6 +106,9 @@ fn reads_required_and_optional_texts_in_one_way() {
     assert_eq!(read(|| Untyped("")), Err("empty text".to_string()));
     let required: Result<Duration, Error> = duration_str::deserialize_duration(Untyped("60"));
     assert_eq!(required, Err(Error::custom("the type is not known")));
+    let optional: Result<Option<Duration>, Error> =
+        duration_str::deserialize_duration(Untyped("60"));
+    assert_eq!(optional, Ok(Some(Duration::from_secs(60))));
     let optional = Option::<HumanDuration>::deserialize(Untyped(""));
     assert_eq!(optional, Err(Error::custom("empty text")));
     static LONG: LazyLock<String> = LazyLock::new(|| "1x".repeat(1 << 20));
@@ -173,4 +179,67 @@ fn writes_nothing_that_it_refuses() {
             "a negative duration can't be read back"
         );
     }
+}
+
+/// What is read of a value of a format, in one way by a field of each type.
+fn with_numbers<'de, D: Deserializer<'de, Error = Error>>(value: D) -> Result<Duration, String> {
+    human_or_seconds::deserialize(value).map_err(|error| error.to_string())
+}
+
+#[test]
+fn reads_whole_seconds_and_texts() {
+    let minute = Ok(Duration::from_secs(60));
+    // JSON and YAML tell of positive numbers without a sign, and TOML of all with one.
+    assert_eq!(with_numbers(U64Deserializer::new(60)), minute);
+    assert_eq!(with_numbers(I64Deserializer::new(60)), minute);
+    assert_eq!(with_numbers(BytesDeserializer::new(b"1m")), minute);
+    let longest = u64::MAX / 1_000_000_000;
+    assert_eq!(
+        with_numbers(U64Deserializer::new(longest)),
+        Ok(Duration::from_secs(longest))
+    );
+    for value in [json!("1m"), json!("60"), json!(60)] {
+        let required: Duration = human_or_seconds::deserialize(value.clone()).unwrap();
+        assert_eq!(required, Duration::from_secs(60));
+        let optional: Option<Duration> = human_or_seconds::deserialize(value).unwrap();
+        assert_eq!(optional, Some(required));
+    }
+    let nothing: Option<Duration> = human_or_seconds::deserialize(json!(null)).unwrap();
+    assert_eq!(nothing, None);
+    let several: Vec<Option<Duration>> =
+        human_or_seconds::deserialize(json!([1, "2s", null])).unwrap();
+    assert_eq!(
+        several,
+        [1, 2, 0].map(|secs| (secs > 0).then(|| Duration::from_secs(secs)))
+    );
+    assert_eq!(
+        human_or_seconds::serialize(&several, Serializer).unwrap(),
+        json!(["1s", "2s", null])
+    );
+}
+
+#[test]
+fn refuses_other_numbers_in_one_line() {
+    let refusal = |sort: &str| {
+        let expected = "a duration such as '1min 30s', or whole seconds below 2^64 nanoseconds";
+        Err(format!("invalid {sort}, expected {expected}"))
+    };
+    assert_eq!(
+        with_numbers(I64Deserializer::new(-1)),
+        refusal("value: integer `-1`")
+    );
+    assert_eq!(
+        with_numbers(U64Deserializer::new(18_446_744_074)),
+        refusal("value: integer `18446744074`")
+    );
+    assert_eq!(
+        with_numbers(F64Deserializer::new(1.5)),
+        refusal("type: floating point `1.5`")
+    );
+    let long: Result<Duration, _> = human_or_seconds::deserialize(json!("600y"));
+    assert_eq!(
+        long.unwrap_err().to_string(),
+        r#"duration of 2^64 nanoseconds or more in "600y""#
+    );
+    assert!(human::deserialize::<Duration, _>(json!(60)).is_err());
 }

@@ -1,9 +1,10 @@
 //! Faults that own their text, durations that are written as text, and the parts of texts.
 use crate::all_options;
 use duration_str::{
-    Cause, CondUnit, HumanDuration, Options, OwnedFault, TimeUnit, Tokens, What, format_duration,
-    parse_duration, parse_with,
+    Cause, CondUnit, DError, HumanDuration, Options, OwnedFault, TimeUnit, UnknownUnit,
+    format_duration, parse_duration, parse_with,
 };
+use duration_str_core::{self as proved, Tokens, What};
 use std::collections::HashSet;
 use std::error::Error;
 use std::time::Duration;
@@ -27,25 +28,11 @@ fn owns_what_the_fault_tells() {
             let owned = OwnedFault::from(fault);
             assert_eq!(owned.as_fault(), fault);
             assert_eq!((owned.text(), owned.cause()), (text, fault.cause()));
-            assert_eq!(
-                (owned.place(), owned.expected()),
-                (fault.place(), fault.expected())
-            );
-            assert_eq!(
-                (owned.found(), owned.to_string()),
-                (fault.found(), fault.to_string())
-            );
-            assert_eq!(
-                (owned.line(), owned.message_len(), owned.to_derror()),
-                (fault.line(), fault.message_len(), fault.to_derror())
-            );
-            assert_eq!(fault.cause().to_string(), fault.line());
-            let (mut message, mut same) = ([0; 256], [0; 256]);
-            assert_eq!(
-                owned.write_message(&mut message),
-                fault.write_message(&mut same)
-            );
-            assert_eq!(message, same);
+            assert_eq!(owned.place(), fault.place());
+            let bare = proved::Fault::new(text, fault.cause()).unwrap();
+            assert_eq!(owned.to_string(), bare.write_one_line(&mut [0; 384]));
+            assert_eq!(DError::from(owned), fault.to_derror());
+            assert_eq!(fault.cause().to_string(), fault.cause().line());
         }
     }
 }
@@ -55,13 +42,12 @@ fn is_an_error_that_threads_share() {
     fn is_shared(_: &(dyn Error + Send + Sync + 'static)) {}
     let fault = "1x".parse::<HumanDuration>().unwrap_err();
     is_shared(&fault);
-    let cause = Cause::Syntax {
-        place: 1,
-        expected: fault.expected().unwrap(),
-    };
     assert_eq!(
-        format!("{fault:?}"),
-        format!("OwnedFault {{ text: \"1x\", cause: {cause:?} }}")
+        [format!("{fault:#}"), format!("{fault:?}")],
+        [
+            r#"unknown unit "x" at column 2"#,
+            r#"OwnedFault(unknown unit "x" at column 2)"#
+        ]
     );
 }
 
@@ -85,8 +71,6 @@ fn reads_and_prints_as_text() {
         ["1min 30s**| 1min 30s  |1min 30s", "1min 30s|1min 30s |"]
     );
     assert_eq!(timeout.as_secs(), timeout.as_ref().as_secs());
-    assert_eq!(timeout.get_ref(), timeout.as_ref());
-    assert_eq!(HumanDuration::try_from("1m 30s"), Ok(timeout));
     assert_eq!(parse_duration("1m 30s"), Ok(*timeout));
     assert_eq!(format_duration(*timeout).to_string(), "1min 30s");
     assert_eq!(HumanDuration::default().to_string(), "0s");
@@ -149,4 +133,47 @@ fn keeps_faults_in_sets() {
     .map(|text| parse_with(text, Options::off()).map_err(|fault| fault.cause()));
     let different: HashSet<Cause> = causes.into_iter().filter_map(Result::err).collect();
     assert_eq!(different.len(), 8);
+    let faults = ["1x", "1x", "2x"].map(|text| parse_with(text, Options::off()).unwrap_err());
+    assert_eq!(HashSet::from(faults).len(), 2);
+    let owned: HashSet<OwnedFault> = faults.map(OwnedFault::from).into();
+    assert_eq!(owned.len(), 2);
+    let errors: HashSet<DError> = faults.map(DError::from).into();
+    assert_eq!(errors.len(), 1);
+    let bare = faults.map(|fault| proved::parse(fault.text()).unwrap_err());
+    assert_eq!(HashSet::from(bare).len(), 2);
+}
+
+#[test]
+fn orders_units_by_length() {
+    let longest = [
+        TimeUnit::Year,
+        TimeUnit::Quarter,
+        TimeUnit::Month,
+        TimeUnit::Week,
+        TimeUnit::Day,
+        TimeUnit::Hour,
+        TimeUnit::Minute,
+        TimeUnit::Second,
+        TimeUnit::MilliSecond,
+        TimeUnit::MicroSecond,
+        TimeUnit::NanoSecond,
+    ];
+    assert!(longest.is_sorted_by(|longer, shorter| longer > shorter));
+}
+
+#[test]
+fn reads_units() {
+    let rows = [
+        ("q", Ok(TimeUnit::Quarter)),
+        ("Hours", Ok(TimeUnit::Hour)),
+        ("usecond", Ok(TimeUnit::MicroSecond)),
+        ("分", Err(UnknownUnit)),
+        ("", Err(UnknownUnit)),
+        (" h", Err(UnknownUnit)),
+    ];
+    for (word, unit) in rows {
+        assert_eq!(word.parse(), unit, "{word}");
+    }
+    let refusal: Box<dyn Error + Send + Sync> = UnknownUnit.into();
+    assert_eq!(refusal.to_string(), "no unit of time such as h or min");
 }

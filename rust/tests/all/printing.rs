@@ -1,8 +1,8 @@
 //! Printed durations.
 use crate::vectors::vectors;
 use duration_str::{
-    Cause, HumanFormat, Limits, Options, PrintedWithin, TimeUnit, format_duration, parse_with,
-    write_human, write_within,
+    Cause, Format, FormattedDuration, HumanDuration, HumanFormat, Options, Style, TimeUnit,
+    format_duration, parse_with, write_human, write_within,
 };
 use proptest::prelude::*;
 use std::time::Duration;
@@ -43,17 +43,25 @@ fn prints_the_longest() {
 
 /// The duration printed within limits by each call, which have to agree.
 fn within(length: Duration, largest: TimeUnit, smallest: TimeUnit, parts: usize) -> String {
-    let limits = Limits {
-        largest,
-        smallest,
-        parts,
-    };
-    let human = format_duration(length);
-    let printed = write_within(&length, limits, &mut [0xff; 64]).to_string();
+    let format = Format::whole()
+        .largest(largest)
+        .smallest(smallest)
+        .parts(parts);
+    let human = HumanDuration(length);
+    let whole = format_duration(length);
+    let printed = write_within(&length, format, &mut [0xff; 144]).to_string();
     for other in [
+        whole.parts(parts).largest(largest).smallest(smallest),
+        whole.largest(largest).smallest(smallest).parts(parts),
+        whole.smallest(smallest).parts(parts).largest(largest),
         human.parts(parts).largest(largest).smallest(smallest),
         human.largest(largest).smallest(smallest).parts(parts),
         human.smallest(smallest).parts(parts).largest(largest),
+        length
+            .formatted()
+            .parts(parts)
+            .largest(largest)
+            .smallest(smallest),
     ] {
         assert_eq!(other.to_string(), printed);
     }
@@ -87,10 +95,30 @@ fn prints_within_limits() {
 #[test]
 fn chooses_one_limit() {
     let build = format_duration(Duration::from_millis(5_400_029));
-    let printed = |within: PrintedWithin| within.to_string();
+    let printed = |within: FormattedDuration| within.to_string();
     assert_eq!(printed(build.parts(1)), "1h");
     assert_eq!(printed(build.largest(TimeUnit::Minute)), "90min 29ms");
     assert_eq!(printed(build.smallest(TimeUnit::Minute)), "1h 30min");
+}
+
+#[test]
+fn prints_in_styles() {
+    let rows = [
+        (Style::Short, "1h 30min 1s", "0s"),
+        (Style::Compact, "1h30min1s", "0s"),
+        (Style::Long, "1 hour 30 minutes 1 second", "0 seconds"),
+    ];
+    for (style, text, zero) in rows {
+        let length = Duration::from_secs(5_401);
+        assert_eq!(format_duration(length).style(style).to_string(), text);
+        assert_eq!(HumanDuration(length).style(style).to_string(), text);
+        assert_eq!(length.formatted().style(style).to_string(), text);
+        assert_eq!(
+            format_duration(Duration::ZERO).style(style).to_string(),
+            zero
+        );
+    }
+    assert_eq!(Format::default(), Format::whole());
 }
 
 /// A precision would cut the text of the duration to that of another one.
@@ -101,6 +129,8 @@ fn pads_and_ignores_a_precision() {
         format!("{human:.2}|{human:*>10.2}|{human:^10}|"),
         "1min 30s|**1min 30s| 1min 30s |"
     );
+    let micros = format_duration(Duration::from_micros(5));
+    assert_eq!(format!("{micros:>5}|{micros:-<6}|"), "  5µs|5µs---|");
     let part = human.parts(1);
     assert_eq!(
         format!("{part:.2}|{part:*>10.2}|{part:^10}|"),
@@ -108,10 +138,26 @@ fn pads_and_ignores_a_precision() {
     );
 }
 
+/// How minus 5401 seconds print, padded, in a unit and in a style.
+#[cfg(any(feature = "chrono", feature = "time"))]
+fn prints_negative(length: impl HumanFormat) {
+    let printed = length.formatted();
+    assert_eq!(
+        format!("{printed}|{printed:>14}|{printed:14}|"),
+        "-1h 30min 1s|  -1h 30min 1s|-1h 30min 1s  |"
+    );
+    assert_eq!(printed.largest(TimeUnit::Minute).to_string(), "-90min 1s");
+    assert_eq!(printed.smallest(TimeUnit::Minute).to_string(), "-1h 30min");
+    let hours = printed.parts(1).style(Style::Long);
+    assert_eq!(hours.to_string(), "-1 hour");
+    assert_eq!(printed.get_ref(), &Duration::from_secs(5_401));
+}
+
 #[test]
 #[cfg(feature = "chrono")]
 fn prints_negative_durations_of_chrono() {
     use chrono::Duration as Signed;
+    prints_negative(Signed::seconds(-5_401));
     assert_eq!(Signed::nanoseconds(-1).human_format(), "-1ns");
     assert_eq!(
         Signed::milliseconds(-193_029).human_format(),
@@ -135,6 +181,7 @@ fn prints_negative_durations_of_chrono() {
 #[cfg(feature = "time")]
 fn prints_negative_durations_of_time() {
     use time::Duration as Signed;
+    prints_negative(Signed::seconds(-5_401));
     assert_eq!(Signed::nanoseconds(-1).human_format(), "-1ns");
     assert_eq!(
         Signed::milliseconds(-193_029).human_format(),

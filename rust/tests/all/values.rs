@@ -1,6 +1,6 @@
 //! Texts that are read, and their values.
-use crate::all_options;
 use crate::vectors::vectors;
+use crate::{FEATURES, all_options};
 use duration_str::{Options, parse, parse_std, parse_with};
 use std::time::Duration;
 
@@ -27,7 +27,7 @@ fn check(name: &str, reads: impl Fn(Options) -> bool) {
                 let answer = parse_with(text, options);
                 let wanted = reads(options).then_some(Duration::new(*secs, *nanos));
                 assert_eq!(answer.ok(), wanted, "{text:?} under {options:?}");
-                if options == Options::of_features() {
+                if options == FEATURES {
                     let wanted = answer.map_err(|fault| fault.to_string());
                     assert!(
                         answers(text).iter().all(|answer| *answer == wanted),

@@ -35,7 +35,7 @@ lower-encode c = elim (cases_lt c 128) [
   | inr big ↦ rw (lower_big c big, lower_encode_big c big)
 ]
 
-lower-encodes : (cs : List ℕ) → map to_ascii_lowercase (encodes cs) ≡ encodes (map to_ascii_lowercase cs)
+pub lower-encodes : (cs : List ℕ) → map to_ascii_lowercase (encodes cs) ≡ encodes (map to_ascii_lowercase cs)
 lower-encodes [] = refl
 lower-encodes (c ∷ cs) = rw (map-append to_ascii_lowercase (encode c) (encodes cs), lower-encode c, lower-encodes cs)
 
@@ -55,7 +55,7 @@ small_form o name h =
     elim (cases_Bool o.lowercase) [ inl e ↦ rw e | inr e ↦ rw e same ]
 
 -- texts are equal if their bytes are
-bytes_eq-encodes : (v w : List ℕ) → bytes_eq (encodes v) (encodes w) ≡ bytes_eq v w
+pub bytes_eq-encodes : (v w : List ℕ) → bytes_eq (encodes v) (encodes w) ≡ bytes_eq v w
 bytes_eq-encodes v w =
     let bytes = bytes_eq-Decides (encodes v) (encodes w) in
     same_from_decides _ _ (λ t. encodes_same v w (bytes.0 t), λ e. bytes.1 (ap encodes e)) (bytes_eq-Decides v w)

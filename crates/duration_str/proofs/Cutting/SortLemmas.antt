@@ -1,7 +1,8 @@
 -- Tokens by their first character.
 use Rattle.duration_str.proofs.Common.{◌≡◌, ℕ, Bool, true, false, inl, inr, List, [], ◌∷◌, length, ◌<◌, Option, Some}
 use Rattle.duration_str.proofs.Common.{None, refl, sym, ◌∙◌, add-zero, arith, IsTrue, if◌then◌else◌, cases_Bool}
-use Rattle.duration_str.proofs.Common.{and_parts, list_all, Options, TimeUnit, CondUnit, Sort, Number, Word, is_blank}
+use Rattle.duration_str.proofs.Common.{and_parts, list_all, Options, TimeUnit, CondUnit, TokenStart, Number, Word}
+use Rattle.duration_str.proofs.Common.{is_blank}
 use Rattle.duration_str.proofs.Common.{is_digit, is_unit_letter, operator_of, number_of, IsNumber, unit_of_word}
 use Rattle.duration_str.proofs.Common.{Terminal, number, word, operator_or_other, terminal_of, EndsRun, are_of_one_run}
 use Rattle.duration_str.proofs.Common.{goes_on, IsLexeme, AreTokens, tokens_from, ahead, StandsAt, Between, Passes}
@@ -98,7 +99,7 @@ module _ (o : Options) where
   pub letter_of_sort : (c : ℕ) → Word ≡ sort_at o c → is_unit_letter o c ≡ true
   letter_of_sort c is = grind arith
 
-  pub sign_of_sort : (c : ℕ) (sort : Sort) → IsSign sort → sort ≡ sort_at o c
+  pub sign_of_sort : (c : ℕ) (sort : TokenStart) → IsSign sort → sort ≡ sort_at o c
       → (is_digit c ≡ false) × (is_unit_letter o c ≡ false) × (sort ≡ sign_sort (operator_of c))
   sign_of_sort c sort sign is = elim (cases_Bool (is_digit c)) [
     | inl e ↦ absurd (rw (is, e) at sign)

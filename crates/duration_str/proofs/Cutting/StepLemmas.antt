@@ -1,7 +1,8 @@
 -- The steps of `Tokens`: what is ahead, and the next token.
 use Rattle.duration_str.proofs.Common.{◌≡◌, ℕ, ◌-◌, ◌<◌, ◌≤◌, drop, length-drop, arith, true, List, [], ◌∷◌, length}
 use Rattle.duration_str.proofs.Common.{Option, Some, None, IsUtf8, refl, ap, sym, ◌∙◌, slice_range, IsCharBoundary}
-use Rattle.duration_str.proofs.Common.{length-take-le, ForSome, IsUtf8-had, TimeUnit, CondUnit, Sort, Number, Word}
+use Rattle.duration_str.proofs.Common.{length-take-le, ForSome, IsUtf8-had, TimeUnit, CondUnit, TokenStart, Number}
+use Rattle.duration_str.proofs.Common.{Word}
 use Rattle.duration_str.proofs.Common.{Operator, Other, Tokens, Terminal, word, operator, other, operator_or_other}
 use Rattle.duration_str.proofs.Common.{terminal_of, is_blank, is_digit, is_unit_letter, operator_of, number_of}
 use Rattle.duration_str.proofs.Common.{tokens_from, ahead, StandsAt, Passes, Stops, TakesDigits, sort_of, u64_from}
@@ -36,7 +37,7 @@ pub fewer_ahead : {s t : Tokens} {c : ℕ} → KeepsInput s t
 fewer_ahead kept past is = simp (kept.text, (past _ is).head) (omega arith)
 
 -- skipping the blanks from s to t
-pub looks_ahead : {s t : Tokens} (sort : Option Sort) → KeepsInput s t
+pub looks_ahead : {s t : Tokens} (sort : Option TokenStart) → KeepsInput s t
     → Passes is_blank (source s) (cut_place s) (cut_place t) → IsAhead t sort → LooksAhead s t sort
 looks_ahead {s} sort kept blanks ahead =
     record { kept = kept; same_left = rw (left_same kept, blanks_passed (options_of s) blanks); ahead = ahead }
@@ -47,7 +48,7 @@ none_left s end =
     (rw (s.none end), place_at_end (source s) (cut_place s) utf8 s.eye.at_place (s.none end))
 
 -- The first token that is left starts at the place, and its terminal has the sort ahead.
-pub first_left : (s : Tokens) (sort : Sort) → IsAhead s (Some sort)
+pub first_left : (s : Tokens) (sort : TokenStart) → IsAhead s (Some sort)
     → (cs : List ℕ) × (rest : List Token) × (tokens_left s ≡ record { start = cut_place s; characters = cs } ∷ rest)
     × (sort ≡ sort_of (terminal_of (options_of s) cs))
 first_left s sort h =
@@ -104,7 +105,7 @@ takes_word {s} h kept taken stops =
     takes_token kept (word_stands (options_of s) taken (simp kept.text at stops) (s.some h.character h.is_head) letter)
 
 -- taking the single character ahead
-pub takes_sign : {s t : Tokens} (sort : Sort) → IsSign sort → IsAhead s (Some sort) → KeepsInput s t
+pub takes_sign : {s t : Tokens} (sort : TokenStart) → IsSign sort → IsAhead s (Some sort) → KeepsInput s t
     → ((c : ℕ) → s.head ≡ Some c → StandsAt (source s) (cut_place s) (cut_place t) c)
     → TakesTokenWith s t (λ terminal. sort ≡ sort_of terminal)
 takes_sign {s} sort sign h kept past =

@@ -1,16 +1,18 @@
 -- Two durations print the same text exactly if they are equal.
-use Rattle.duration_str.proofs.Common.{◌≡◌, ℕ, List, FitsDuration, off, terminals_of, sum_of, terms_of, IsPrinted}
-use Rattle.duration_str.proofs.Common.{EqualTexts}
+use Rattle.duration_str.proofs.Common.{◌≡◌, ℕ, List, FitsDuration, off, terminals_of, sum_of, terms_of, Style}
+use Rattle.duration_str.proofs.Common.{IsPrintedIn, EqualTexts}
 use Rattle.duration_str.proofs.Sentences.SpellingLemmas.{sentence_terminals}
 use Rattle.duration_str.proofs.Printer.PrintingLemmas.{duration_lexemes, counts_are, printed_is_sum, duration_sum}
 
 -- A printed text determines its duration: it is the sum of its terms.
-printed_sum : (nanos : ℕ) (text : List ℕ) → FitsDuration nanos → IsPrinted nanos text
+printed_sum : (style : Style) (nanos : ℕ) (text : List ℕ) → FitsDuration nanos → IsPrintedIn style nanos text
     → sum_of (terms_of (terminals_of off text)) ≡ nanos
-printed_sum nanos text h p =
-    let sentence = (printed_is_sum off nanos text h p).sentence in
-    rw (← sentence_terminals off text (duration_lexemes nanos) sentence) (duration_sum off nanos h)
+printed_sum style nanos text h p =
+    let sentence = (printed_is_sum off style nanos text h p).sentence in
+    rw (← sentence_terminals off text (duration_lexemes style nanos) sentence) (duration_sum off style nanos h)
 
 pub equal_texts_hold : EqualTexts
-equal_texts_hold m n a b fits_m fits_n p q =
-    (λ e. cc (printed_sum m a fits_m p, printed_sum n b fits_n q), λ e. cc (counts_are m a p, counts_are n b q))
+equal_texts_hold style m n a b fits_m fits_n p q = (
+  λ e. cc (printed_sum style m a fits_m p, printed_sum style n b fits_n q),
+  λ e. cc (counts_are style m a p, counts_are style n b q),
+)

@@ -1,7 +1,7 @@
 -- The counts within limits by quotients and remainders are the greatest.
 use Rattle.duration_str.proofs.Common.{◌≡◌, ℕ, ◌+◌, ◌-◌, ◌*◌, ◌/◌, ◌%◌, ◌≤◌, ◌<◌, ◌⊎◌, inl, inr, false, List, [], ◌∷◌}
 use Rattle.duration_str.proofs.Common.{length, arith, refl, sym, ⊤, ◌==◌, cases_Bool, le-div_iff_mul-le, div-add-mod'}
-use Rattle.duration_str.proofs.Common.{cases_lt, leb, leb-true, map, TimeUnit, nanos_of, Limits, units_within}
+use Rattle.duration_str.proofs.Common.{cases_lt, leb, leb-true, map, TimeUnit, nanos_of, Format, units_within}
 use Rattle.duration_str.proofs.Common.{lengths_within, weighted_sum, IsBefore, part_count, IsGreatestWithin}
 use Rattle.duration_str.proofs.Common.{counts_within, nat_tests}
 use Rattle.duration_str.proofs.Characters.EachUnit.{all_units}
@@ -114,28 +114,28 @@ pub lengths_positive : (us : List TimeUnit) → ArePositive (map nanos_of us)
 lengths_positive [] = tt
 lengths_positive (u ∷ us) = (some_length u, lengths_positive us)
 
-pub greatest_within : (limits : Limits) (nanos : ℕ)
-    → IsGreatestWithin (lengths_within limits) limits.parts nanos
-    (counts_within (lengths_within limits) limits.parts nanos)
-greatest_within limits nanos =
-    let lengths : List ℕ = lengths_within limits in
+pub greatest_within : (format : Format) (nanos : ℕ)
+    → IsGreatestWithin (lengths_within format) format.parts nanos
+    (counts_within (lengths_within format) format.parts nanos)
+greatest_within format nanos =
+    let lengths : List ℕ = lengths_within format in
     record {
       within = record {
-        one_each = within_each lengths limits.parts nanos;
-        few = within_few lengths limits.parts nanos;
-        no_more = within_sum lengths limits.parts nanos;
+        one_each = within_each lengths format.parts nanos;
+        few = within_few lengths format.parts nanos;
+        no_more = within_sum lengths format.parts nanos;
       };
       greatest = λ others o.
-          within_greatest lengths limits.parts nanos others
-          (lengths_positive (units_within limits)) o.one_each o.few o.no_more;
+          within_greatest lengths format.parts nanos others
+          (lengths_positive (units_within format)) o.one_each o.few o.no_more;
     }
 
 -- The counts within limits are those by quotients and remainders.
-pub one_greatest_within : (limits : Limits) (nanos : ℕ) (counts : List ℕ)
-    → IsGreatestWithin (lengths_within limits) limits.parts nanos counts
-    → counts ≡ counts_within (lengths_within limits) limits.parts nanos
-one_greatest_within limits nanos counts h =
-    let own = greatest_within limits nanos in
+pub one_greatest_within : (format : Format) (nanos : ℕ) (counts : List ℕ)
+    → IsGreatestWithin (lengths_within format) format.parts nanos counts
+    → counts ≡ counts_within (lengths_within format) format.parts nanos
+one_greatest_within format nanos counts h =
+    let own = greatest_within format nanos in
     elim (h.greatest _ own.within) [
       | inl same ↦ sym same
       | inr before ↦ elim (own.greatest counts h.within) [

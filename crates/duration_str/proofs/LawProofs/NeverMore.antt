@@ -1,8 +1,8 @@
--- What is printed within limits is the greatest duration that they can show.
+-- What is printed within limits is the greatest duration whose own breakdown keeps within them.
 use Rattle.duration_str.proofs.Common.{◌≡◌, ℕ, ◌+◌, ◌-◌, ◌*◌, ◌/◌, ◌%◌, ◌^◌, ◌≤◌, ◌<◌, ◌==◌, ◌∙◌, inl, inr, true, false}
 use Rattle.duration_str.proofs.Common.{List, [], ◌∷◌, ◌++◌, length, map, if◌then◌else◌, arith, refl, sym, ap, subst}
 use Rattle.duration_str.proofs.Common.{cases_Bool, cases_lt, nat_tests, le-div_iff_mul-le, div-add-mod', map-append}
-use Rattle.duration_str.proofs.Common.{Options, TimeUnit, Year, nanos_of, units, nat_lt, Limits, units_within}
+use Rattle.duration_str.proofs.Common.{Options, TimeUnit, Year, nanos_of, units, nat_lt, Format, units_within}
 use Rattle.duration_str.proofs.Common.{units_from, units_down_to, lengths_within, zero_unit, counts_within, text_within}
 use Rattle.duration_str.proofs.Common.{part_count, IsRead, IsGreatestBreakdown, counts_of, weighted_sum, terminal_of}
 use Rattle.duration_str.proofs.Common.{NeverMore}
@@ -192,60 +192,63 @@ each_below (l ∷ lengths) (n ∷ counts) h e small =
     let product : n ≤ n * l = le-mul_of_pos_right n h.0 in
     (omega arith, each_below lengths counts h.1 (omega arith) (omega arith))
 
-reads : (o : Options) (limits : Limits) (counts text : List ℕ) → length counts ≡ length (lengths_within limits)
-    → weighted_sum (lengths_within limits) counts < 2 ^ 64 → text ≡ text_within limits counts
-    → IsRead o text (weighted_sum (lengths_within limits) counts)
-reads o limits counts text each small same =
-    let us = units_within limits in
-    let zero = zero_unit limits.smallest in
+reads : (o : Options) (format : Format) (counts text : List ℕ) → length counts ≡ length (lengths_within format)
+    → weighted_sum (lengths_within format) counts < 2 ^ 64 → text ≡ text_within format counts
+    → IsRead o text (weighted_sum (lengths_within format) counts)
+reads o format counts text each small same =
+    let us = units_within format in
+    let zero = zero_unit format.smallest in
     let ps = kept us counts in
-    let below = each_below (lengths_within limits) counts (lengths_positive us) each small in
-    let are : map (terminal_of o) (lexemes (or_zero zero ps)) ≡ terminals (or_zero zero ps) =
-    terminals_or_zero o zero ps (terminals_kept o us counts below) in
-    sum_read {lexemes = lexemes (or_zero zero ps)} (record {
-      sentence = (rw are (units_sentence o.no_calc zero ps), rw (same, parts_kept us counts) (all_spelled zero ps));
+    let below = each_below (lengths_within format) counts (lengths_positive us) each small in
+    let are : map (terminal_of o) (lexemes format.style (or_zero zero ps)) ≡ terminals (or_zero zero ps) =
+    terminals_or_zero o format.style zero ps (terminals_kept o format.style us counts below) in
+    sum_read {lexemes = lexemes format.style (or_zero zero ps)} (record {
+      sentence = (
+        rw are (units_sentence o.no_calc zero ps),
+        rw (same, parts_kept format.style us counts) (all_spelled format.style zero ps),
+      );
       plus = rw are (units_plus (or_zero zero ps));
     }) (rw (are, sum_or_zero zero ps, sum_kept us counts)) small
 
 pub never_more_holds : NeverMore
-never_more_holds limits nanos text p =
-    let lengths : List ℕ = lengths_within limits in
-    let more : List ℕ = map nanos_of (after limits.smallest (units_from limits.largest units)) in
-    let whole : List ℕ = map nanos_of (units_from limits.largest units) in
-    let counts : List ℕ = counts_within lengths limits.parts nanos in
-    let positive : ArePositive lengths = lengths_positive (units_within limits) in
-    let each = within_each lengths limits.parts nanos in
-    let same : text ≡ text_within limits counts =
-    p.2 ∙ ap (text_within limits) (one_greatest_within limits nanos p.0 p.1) in
+never_more_holds format nanos text p =
+    let lengths : List ℕ = lengths_within format in
+    let more : List ℕ = map nanos_of (after format.smallest (units_from format.largest units)) in
+    let whole : List ℕ = map nanos_of (units_from format.largest units) in
+    let counts : List ℕ = counts_within lengths format.parts nanos in
+    let positive : ArePositive lengths = lengths_positive (units_within format) in
+    let each = within_each lengths format.parts nanos in
+    let same : text ≡ text_within format counts =
+    p.2 ∙ ap (text_within format) (one_greatest_within format nanos p.0 p.1) in
     let split : whole ≡ lengths ++ more =
-    ap (map nanos_of) (then_after limits.smallest (units_from limits.largest units)) ∙ map-append _ _ _ in
-    let most : ℕ = shown lengths limits.parts nanos in
+    ap (map nanos_of) (then_after format.smallest (units_from format.largest units)) ∙ map-append _ _ _ in
+    let most : ℕ = shown lengths format.parts nanos in
     let own : counts_of whole most ≡ counts ++ counts_of more 0 =
-    ap (λ ls. counts_of ls most) split ∙ own_counts lengths more limits.parts nanos positive in (
+    ap (λ ls. counts_of ls most) split ∙ own_counts lengths more format.parts nanos positive in (
       most,
       record {
         again = (
-          counts_within lengths limits.parts most,
-          greatest_within limits most,
-          same ∙ ap (text_within limits) (sym (within_again lengths limits.parts nanos positive)),
+          counts_within lengths format.parts most,
+          greatest_within format most,
+          same ∙ ap (text_within format) (sym (within_again lengths format.parts nanos positive)),
         );
-        read = λ o small. reads o limits counts text each small same;
-        never_more = within_sum lengths limits.parts nanos;
+        read = λ o small. reads o format counts text each small same;
+        never_more = within_sum lengths format.parts nanos;
         own = (
           counts ++ counts_of more 0,
           record {
             breakdown = subst (λ cs. IsGreatestBreakdown whole most cs) own
-                (breakdown_of whole most (from_end_in_one limits.largest));
-            few = rw (no_more_parts counts more) (within_few lengths limits.parts nanos);
+                (breakdown_of whole most (from_end_in_one format.largest));
+            few = rw (no_more_parts counts more) (within_few lengths format.parts nanos);
             whole = sum_of_front lengths counts (counts_of more 0) each;
           },
         );
         greatest = λ between others above up w.
             let are : others ≡ counts_of (lengths ++ more) between =
             one_greatest whole between others (counts_of whole between) w.breakdown
-            (breakdown_of whole between (from_end_in_one limits.largest)) ∙ ap (λ ls. counts_of ls between) split in
+            (breakdown_of whole between (from_end_in_one format.largest)) ∙ ap (λ ls. counts_of ls between) split in
             let few = rw are at w.few in
             let sum = rw are at w.whole in
-            omega (arith, above, most_within lengths more limits.parts between nanos positive up few sum);
+            omega (arith, above, most_within lengths more format.parts between nanos positive up few sum);
       },
     )

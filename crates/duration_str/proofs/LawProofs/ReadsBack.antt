@@ -2,8 +2,8 @@
 use Rattle.duration_str.proofs.Common.{◌≡◌, ℕ, ◌+◌, ◌*◌, ◌/◌, ◌^◌, ◌≤◌, ◌<◌, Bool, true, false, ◌==◌, List, [], ◌∷◌}
 use Rattle.duration_str.proofs.Common.{map, drop, Some, None, arith, sym, ne_eqb, lt-ltb, le-ltb, FitsDuration, Options}
 use Rattle.duration_str.proofs.Common.{Year, Overflow, units, nanos_of, unit_lengths, Terminal, number, word}
-use Rattle.duration_str.proofs.Common.{terminal_of, sum_of, terms_of, early_fault, IsRead, early, IsRefused, IsPrinted}
-use Rattle.duration_str.proofs.Common.{counts_of, ReadsBack}
+use Rattle.duration_str.proofs.Common.{terminal_of, sum_of, terms_of, early_fault, IsRead, early, IsRefused, Style}
+use Rattle.duration_str.proofs.Common.{IsPrintedIn, counts_of, ReadsBack}
 use Rattle.duration_str.proofs.Sentences.AnswerLemmas.{sentence_refused}
 use Rattle.duration_str.proofs.Sentences.SumReadings.{terms_of_lexemes, sum_read, EachFits, sum_fits_each}
 use Rattle.duration_str.proofs.Sentences.SumReadings.{sum_overflows}
@@ -17,30 +17,31 @@ years nanos = nanos / nanos_of Year
 abbrev after_years : ℕ → List Terminal
 after_years nanos = terminals (kept (drop 1 units) (drop 1 (counts_of unit_lengths nanos)))
 
-years_first : (o : Options) (nanos : ℕ) → FitsDuration nanos → nanos_of Year ≤ nanos
-    → map (terminal_of o) (duration_lexemes nanos) ≡ number (years nanos) ∷ word (Some Year) ∷ after_years nanos
-years_first o nanos h low =
+years_first : (o : Options) (style : Style) (nanos : ℕ) → FitsDuration nanos → nanos_of Year ≤ nanos
+    → map (terminal_of o) (duration_lexemes style nanos) ≡ number (years nanos) ∷ word (Some Year) ∷ after_years nanos
+years_first o style nanos h low =
     let some : years nanos == 0 ≡ false = ne_eqb (years nanos) 0 (λ (e : years nanos ≡ 0). omega arith) in
-    rw (terminals_of_duration o nanos h, some)
+    rw (terminals_of_duration o style nanos h, some)
 
-reads_below : (o : Options) (nanos : ℕ) (text : List ℕ) → nanos < 2 ^ 64 → IsPrinted nanos text → IsRead o text nanos
-reads_below o nanos text h p =
+reads_below : (o : Options) (style : Style) (nanos : ℕ) (text : List ℕ) → nanos < 2 ^ 64
+    → IsPrintedIn style nanos text → IsRead o text nanos
+reads_below o style nanos text h p =
     let within : FitsDuration nanos = omega arith in
-    sum_read (printed_is_sum o nanos text within p) (duration_sum o nanos within) h
+    sum_read (printed_is_sum o style nanos text within p) (duration_sum o style nanos within) h
 
-overflows_above : (o : Options) (nanos : ℕ) (text : List ℕ) → 2 ^ 64 ≤ nanos → nanos < 585 * nanos_of Year
-    → IsPrinted nanos text → IsRefused o text (Overflow None)
-overflows_above o nanos text low high p =
+overflows_above : (o : Options) (style : Style) (nanos : ℕ) (text : List ℕ) → 2 ^ 64 ≤ nanos
+    → nanos < 585 * nanos_of Year → IsPrintedIn style nanos text → IsRefused o text (Overflow None)
+overflows_above o style nanos text low high p =
     let within : FitsDuration nanos = omega arith in
-    let lexemes : List (List ℕ) = duration_lexemes nanos in
+    let lexemes : List (List ℕ) = duration_lexemes style nanos in
     let rest : List Terminal = after_years nanos in
     let terminals : map (terminal_of o) lexemes ≡ number (years nanos) ∷ word (Some Year) ∷ rest =
-    years_first o nanos within (omega arith) in
-    let whole : sum_of (terms_of_lexemes o lexemes) ≡ nanos = duration_sum o nanos within in
+    years_first o style nanos within (omega arith) in
+    let whole : sum_of (terms_of_lexemes o lexemes) ≡ nanos = duration_sum o style nanos within in
     let parts : years nanos * nanos_of Year + sum_of (terms_of rest) ≡ nanos = rw terminals at whole in
     let each : EachFits (terms_of_lexemes o lexemes) =
     rw terminals (omega arith, sum_fits_each (terms_of rest) (omega arith)) in
-    sum_overflows (printed_is_sum o nanos text within p) each (omega arith)
+    sum_overflows (printed_is_sum o style nanos text within p) each (omega arith)
 
 -- The years overflow by themselves.
 first_overflows : (no_calc : Bool) (n : ℕ) (rest : List Terminal) → n < 2 ^ 64 → 2 ^ 64 ≤ n * nanos_of Year
@@ -48,13 +49,17 @@ first_overflows : (no_calc : Bool) (n : ℕ) (rest : List Terminal) → n < 2 ^ 
 first_overflows false n rest small large = rw (lt-ltb n _ small, le-ltb (n * nanos_of Year) _ large)
 first_overflows true n rest small large = rw (lt-ltb n _ small, le-ltb (n * nanos_of Year) _ large)
 
-overflows_far_above : (o : Options) (nanos : ℕ) (text : List ℕ) → 585 * nanos_of Year ≤ nanos → FitsDuration nanos
-    → IsPrinted nanos text → IsRefused o text (Overflow (Some 0))
-overflows_far_above o nanos text low high p =
-    let terminals = sym (years_first o nanos high (omega arith)) in
+overflows_far_above : (o : Options) (style : Style) (nanos : ℕ) (text : List ℕ) → 585 * nanos_of Year ≤ nanos
+    → FitsDuration nanos → IsPrintedIn style nanos text → IsRefused o text (Overflow (Some 0))
+overflows_far_above o style nanos text low high p =
+    let terminals = sym (years_first o style nanos high (omega arith)) in
     let fault = first_overflows o.no_calc (years nanos) (after_years nanos) (omega arith) (omega arith) in
-    sentence_refused o text (duration_lexemes nanos) (Overflow (Some 0)) (printed_is_sum o nanos text high p).sentence
-    (λ place. early (rw (← terminals) fault))
+    sentence_refused o text (duration_lexemes style nanos) (Overflow (Some 0))
+    (printed_is_sum o style nanos text high p).sentence (λ place. early (rw (← terminals) fault))
 
 pub reads_back_holds : ReadsBack
-reads_back_holds = record { below = reads_below; above = overflows_above; far_above = overflows_far_above }
+reads_back_holds = record {
+  below = reads_below;
+  above = overflows_above;
+  far_above = overflows_far_above;
+}

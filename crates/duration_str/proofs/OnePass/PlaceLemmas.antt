@@ -1,5 +1,5 @@
 -- The place of a fault is a character boundary of the text.
-use Rattle.duration_str.proofs.Common.{◌≡◌, ℕ, Ok, Result, Cause, zero, suc, ◌+◌, ◌-◌, ◌≤◌, Bool, true, false, List, []}
+use Rattle.duration_str.proofs.Common.{◌≡◌, ℕ, Cause, zero, suc, ◌+◌, ◌-◌, ◌≤◌, Bool, true, false, List, []}
 use Rattle.duration_str.proofs.Common.{◌∷◌, ◌++◌, length, take, drop, Option, Some, None, Err, IfSome, IsUtf8, refl, ap}
 use Rattle.duration_str.proofs.Common.{sym, subst, ◌∙◌, arith, append_assoc, append-nil, length-append, IsCharBoundary}
 use Rattle.duration_str.proofs.Common.{chars, ForSome, IsUtf8-take, encodes-append, encodes-chars, scalars-chars}
@@ -9,12 +9,9 @@ use Rattle.duration_str.proofs.Common.{unless, terms_of, fault_of_terms, evaluat
 use Rattle.duration_str.proofs.Common.{running_fault, early_fault, late_fault, answer, IsRefused, early, syntax_fault}
 use Rattle.duration_str.proofs.Common.{late, IsCharBoundary-start, IsCharBoundary-at_seam, length-encode, Token}
 use Rattle.std.proofs.Math.Seq.{drop-nil, take-add}
-use Rattle.std.specs.Prelude.{IfErr}
-use Rattle.std.specs.declared.time.Duration.{Duration}
-use Rattle.duration_str.specs.declared.fault.Fault.{Fault}
 use Rattle.duration_str.specs.Faults.{place_of}
 use Rattle.duration_str.specs.Results.{ReachesPlace}
-use Rattle.duration_str.specs.Internal.Rest.{IsPlacedUpTo, ReturnsAnswer}
+use Rattle.duration_str.specs.Internal.Rest.{IsPlacedUpTo}
 use Rattle.duration_str.proofs.Characters.TextLemmas.{width-scalar, byte_len-append}
 use Rattle.duration_str.proofs.Cutting.TokenLemmas.{tokens_are}
 use Rattle.duration_str.proofs.Sentences.AnswerLemmas.{answer_is_reading_holds}
@@ -127,11 +124,10 @@ chars_before bs place at utf8 boundary order =
     (omega (arith, length-append (chars front) (chars more)))
 
 -- Where a text is looked at up to a byte, and refused for a fault at or before it, its place is reached.
-pub reaches_place : (o : Options) (bs : List ℕ) (at looks : ℕ) (r : Result Duration Fault) → IsUtf8 bs
-    → ReturnsAnswer (answer o (chars bs)) bs r → IfErr r (λ f. IsPlacedUpTo at f.cause)
-    → length (chars (take at bs)) ≤ looks → IfErr r (λ f. ReachesPlace bs f.cause looks)
-reaches_place o bs at looks (Ok d) utf8 is placed least = tt
-reaches_place o bs at looks (Err f) utf8 is placed least = λ place expected e.
-    let boundary = fault_placed o bs utf8 is.1 place (ap place_of e) in
+pub reaches_place : (o : Options) (bs : List ℕ) (at looks : ℕ) (cause : Cause) → IsUtf8 bs
+    → answer o (chars bs) ≡ Err cause → IsPlacedUpTo at cause → length (chars (take at bs)) ≤ looks
+    → ReachesPlace bs cause looks
+reaches_place o bs at looks cause utf8 is placed least place expected e =
+    let boundary = fault_placed o bs utf8 is place (ap place_of e) in
     let before = chars_before bs place at utf8 boundary (placed place (ap place_of e)) in
     omega (arith, before, least)

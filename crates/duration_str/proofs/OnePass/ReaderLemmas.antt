@@ -1,15 +1,15 @@
 -- The reader's steps: what comes next, by the sort ahead, and what is left after it.
-use Rattle.duration_str.proofs.Common.{◌≡◌, ℕ, Bool, true, false, length, Option, Some, None, Result, Ok, Err, IsTrue}
-use Rattle.duration_str.proofs.Common.{refl, sym, ap, ◌∙◌, if◌then◌else◌, TimeUnit, CondUnit, Plus, Cause, Syntax, Sort}
+use Rattle.duration_str.proofs.Common.{◌≡◌, ℕ, true, false, length, Option, Some, None, Ok}
+use Rattle.duration_str.proofs.Common.{refl, sym, ap, ◌∙◌, if◌then◌else◌, TimeUnit, CondUnit, Syntax, TokenStart}
 use Rattle.duration_str.proofs.Common.{Tokens, Terminal, number, word, operator, other, terminal_of, expected_at_start}
 use Rattle.duration_str.proofs.Common.{sort_of, source, options_of, tokens_left, LooksAhead, is_number, TakesToken}
 use Rattle.duration_str.proofs.Common.{TakesSign, Rest, terminal_at, end_at, rest_from, rest_of, number_fault, fault_or}
-use Rattle.duration_str.proofs.Common.{ReadItem, leaving, operator_read, IfSome}
+use Rattle.duration_str.proofs.Common.{leaving, operator_read}
 use Rattle.duration_str.specs.Iteration.{cut_place}
 use Rattle.duration_str.proofs.Cutting.StepLemmas.{none_left, first_left}
-use Rattle.duration_str.specs.declared.token.Sort.TheVariants as sorts
+use Rattle.duration_str.specs.declared.token.TokenStart.TheVariants as sorts
 
-pub same_rest : {s m : Tokens} {sort : Option Sort} → LooksAhead s m sort → rest_of m ≡ rest_of s
+pub same_rest : {s m : Tokens} {sort : Option TokenStart} → LooksAhead s m sort → rest_of m ≡ rest_of s
 same_rest look = (λ i. rest_from (look.kept.options i) (length (look.kept.text i)) (look.same_left i))
 
 -- At the end the whole source is cut.
@@ -18,7 +18,7 @@ pub at_end : {s m : Tokens} → LooksAhead s m None
 at_end {s} {m} look = let none = none_left m look.ahead in (rw (← same_rest look, none.0, ← none.1), none.1)
 
 -- The rest starts at this byte, with a terminal of this sort.
-abbrev pub StartsWith : Sort → ℕ → Rest → Type 0
+abbrev pub StartsWith : TokenStart → ℕ → Rest → Type 0
 StartsWith sorts.Number at rest = (n : ℕ) × (more : Rest) × (rest ≡ terminal_at at (number n) more)
 StartsWith sorts.Word at rest = (u : Option TimeUnit) × (more : Rest) × (rest ≡ terminal_at at (word u) more)
 StartsWith (sorts.Operator op) at rest = (more : Rest) × (rest ≡ terminal_at at (operator op) more)
@@ -31,7 +31,7 @@ by_terminal (word u) at rest more is = (u, more, is)
 by_terminal (operator op) at rest more is = (more, is)
 by_terminal other at rest more is = (more, is)
 
-pub starts : {s m : Tokens} {ahead : Option Sort} {sort : Sort} → LooksAhead s m ahead → ahead ≡ Some sort
+pub starts : {s m : Tokens} {ahead : Option TokenStart} {sort : TokenStart} → LooksAhead s m ahead → ahead ≡ Some sort
     → StartsWith sort (cut_place m) (rest_of s)
 starts {s} {m} {sort = sort} look is =
     let (cs, rest, left_is, sort_is) = first_left m sort (rw is at look.ahead) in
@@ -39,7 +39,7 @@ starts {s} {m} {sort = sort} look is =
     rw sort_is (by_terminal (terminal_of (options_of m) cs) (cut_place m) (rest_of s) _ here)
 
 -- A number follows, or its absence is a fault at the place.
-pub number_comes : {s m : Tokens} {sort : Option Sort} → LooksAhead s m sort
+pub number_comes : {s m : Tokens} {sort : Option TokenStart} → LooksAhead s m sort
     → number_fault (rest_of s) ≡ (if is_number sort then None else Some (Syntax (cut_place m) expected_at_start))
 number_comes {sort = None} look = rw (at_end look).0
 number_comes {sort = Some sorts.Number} look = rw (starts look refl).2
@@ -48,7 +48,7 @@ number_comes {sort = Some (sorts.Operator op)} look = rw (starts look refl).1
 number_comes {sort = Some sorts.Other} look = rw (starts look refl).1
 
 -- The only sort of numbers is `Number`.
-pub number_is : (sort : Option Sort) → is_number sort ≡ true → sort ≡ Some sorts.Number
+pub number_is : (sort : Option TokenStart) → is_number sort ≡ true → sort ≡ Some sorts.Number
 number_is (Some sorts.Number) e = refl
 number_is _ e = absurd cc
 
@@ -64,22 +64,9 @@ after_token {s} {t} taken =
     ∙ (λ i. terminal_at (cut_place s) (sym taken.is_terminal i)
     (rest_from (sym taken.kept.options i) (length (sym taken.kept.text i)) (tokens_left t)))
 
-pub operator_taken : {s m : Tokens} {ahead : Option Sort} {op : CondUnit} (t : Tokens) → LooksAhead s m ahead
+pub operator_taken : {s m : Tokens} {ahead : Option TokenStart} {op : CondUnit} (t : Tokens) → LooksAhead s m ahead
     → ahead ≡ Some (sorts.Operator op) → TakesSign m t
     → operator_read false (rest_of s) ≡ leaving (rest_of t) (fault_or (number_fault (rest_of t)) (Ok (Some op)))
 operator_taken {m = m} {op = op} t look is takes =
     let taken = takes (sorts.Operator op) tt (rw is at look.ahead) in
     rw (← same_rest look, after_token taken.token, operator_terminal taken.terminal op taken.has)
-
--- the operator that was read
-abbrev operator_of : Result (ReadItem (Option CondUnit)) Cause → Option CondUnit
-operator_of (Ok r) = r.item
-operator_of (Err cause) = None
-
--- Under `no_calc` the only operator is a plus that is left out.
-pub plus_alone : {after : Rest} (op : Option CondUnit) (no_calc : Bool) (rest : Rest)
-    → leaving after (Ok op) ≡ operator_read no_calc rest → IsTrue no_calc → IfSome op (λ op. op ≡ Plus)
-plus_alone None no_calc rest e h = tt
-plus_alone (Some op) no_calc (end_at at) e h = let none = ap operator_of e in absurd cc
-plus_alone (Some op) no_calc (terminal_at at (number n) rest) e h = let same = ap operator_of e in cc
-plus_alone (Some op) no_calc _ e h = absurd cc

@@ -1,25 +1,21 @@
 -- The terms that are left while a text is read, and the answer that they give.
-use Rattle.duration_str.proofs.Common.{◌≡◌, ℕ, ◌^◌, ◌<◌, Bool, true, false, List, [], ◌∷◌, ◌++◌, length, take, drop}
+use Rattle.duration_str.proofs.Common.{◌≡◌, ℕ, Bool, true, false, List, [], ◌∷◌, ◌++◌, length, take, drop}
 use Rattle.duration_str.proofs.Common.{is_some, Option, Some, None, Result, Ok, Err, if◌then◌else◌, IsTrue, refl, sym}
-use Rattle.duration_str.proofs.Common.{ap, subst, ◌∙◌, arith, TimeUnit, NanoSecond, CondUnit, Plus, Cause, Number}
-use Rattle.duration_str.proofs.Common.{Tokens, nanos_of, Terminal, number, operator, AllPlus, Term, value_of_term}
+use Rattle.duration_str.proofs.Common.{ap, subst, ◌∙◌, TimeUnit, CondUnit, Plus, Cause}
+use Rattle.duration_str.proofs.Common.{Tokens, nanos_of, Terminal, number, operator, AllPlus, Term}
 use Rattle.duration_str.proofs.Common.{terms_of, terms_after, unless, checked_term, term_of, without_last_number}
 use Rattle.duration_str.proofs.Common.{complete_terminals, late_answer, answer_at, expected_after, last_of, front_of}
-use Rattle.duration_str.proofs.Common.{IsAhead, LooksAhead, TakesNumber, Rest, terminal_at, rest_of, start_left}
+use Rattle.duration_str.proofs.Common.{TakesNumber, Rest, terminal_at, rest_of, start_left}
 use Rattle.duration_str.proofs.Common.{terminals_in, ReadItem, leaving, unit_read, operator_read, answer_left}
-use Rattle.duration_str.proofs.Common.{first_term, fault_or, fault_at, fault_left, identity_of, sum_fault, with_term}
+use Rattle.duration_str.proofs.Common.{fault_or, fault_at, fault_left, with_term}
 use Rattle.duration_str.proofs.Common.{Second, word}
-use Rattle.std.specs.Prelude.{IfSome}
-use Rattle.duration_str.specs.Internal.Rest.{answer_begun}
 use Rattle.duration_str.specs.Iteration.{cut_place}
-use Rattle.duration_str.proofs.Sentences.FaultLemmas.{term_below_no_fault}
 use Rattle.duration_str.proofs.Sentences.FrontLemmas.{begins_allowed, table_front}
 use Rattle.duration_str.proofs.Sentences.SumLemmas.{AreAdded, terms_added}
 use Rattle.duration_str.proofs.Sentences.AnswerLemmas.{allowed_plus}
 use Rattle.duration_str.proofs.OnePass.EvaluationLemmas.{answer_of, checked_term_is, after_term, answer_with}
 use Rattle.duration_str.proofs.OnePass.EvaluationLemmas.{answer_after_first, one_by_one}
-use Rattle.duration_str.proofs.OnePass.ReaderLemmas.{starts, after_token}
-use Rattle.duration_str.proofs.Cutting.StepLemmas.{keeps_all}
+use Rattle.duration_str.proofs.OnePass.ReaderLemmas.{after_token}
 
 -- terms, and the syntax fault after them
 pub record Ended : Type 0 where
@@ -91,26 +87,23 @@ number_taken {s} {a} no_calc op taken r is =
     rw (after_token taken.token, terms_read no_calc op (cut_place s) taken.n (rest_of a), is)
 
 -- An operator that was read and a number are passed, up to the unit.
-pub term_passed : {s a : Tokens} {n : Option ℕ} (no_calc : Bool) (b : Rest) (read : Option CondUnit)
+pub term_passed : {s a : Tokens} {n : Option ℕ} {next : CondUnit} (no_calc : Bool) (b : Rest)
+    → leaving (rest_of s) (Ok (Some next)) ≡ operator_read no_calc b → (taken : TakesNumber s a n)
+    → (r : Result (ReadItem TimeUnit) Cause) → r ≡ unit_read no_calc (rest_of a)
+    → after_unit no_calc (operator_read no_calc b) ≡ after_number no_calc next taken.n r
+term_passed {next = next} no_calc b is taken r unit =
+    ap (after_unit no_calc) (sym is) ∙ number_taken no_calc next taken r unit
+
+-- The same, where it is known that an operator was read.
+pub some_passed : {s a : Tokens} {n : Option ℕ} (no_calc : Bool) (b : Rest) (read : Option CondUnit)
     → is_some read ≡ true → leaving (rest_of s) (Ok read) ≡ operator_read no_calc b → (taken : TakesNumber s a n)
     → (r : Result (ReadItem TimeUnit) Cause) → r ≡ unit_read no_calc (rest_of a)
     → (op : CondUnit) × (after_unit no_calc (operator_read no_calc b) ≡ after_number no_calc op taken.n r)
-term_passed no_calc b None some is taken r unit = absurd cc
-term_passed no_calc b (Some op) some is taken r unit =
-    (op, ap (after_unit no_calc) (sym is) ∙ number_taken no_calc op taken r unit)
+some_passed no_calc b None some is taken r unit = absurd cc
+some_passed no_calc b (Some op) some is taken r unit = (op, term_passed no_calc b is taken r unit)
 
 abbrev pub count : Ended → ℕ
 count left = length left.terms
-
--- Taking a term leaves fewer.
-pub fewer : {s a : Tokens} {b : Rest} {n : Option ℕ} {u : TimeUnit} {next : CondUnit} (no_calc : Bool) (op : CondUnit)
-    → TakesNumber s a n → leaving b (Ok u) ≡ unit_read no_calc (rest_of a)
-    → (rest : Rest) → leaving rest (Ok (Some next)) ≡ operator_read no_calc b
-    → count (left_after no_calc next rest) < count (left_after no_calc op (rest_of s))
-fewer no_calc op taken unit rest read =
-    let here = ap count (number_taken no_calc op taken _ unit) in
-    let after = ap (λ r. count (after_unit no_calc r)) read in
-    omega (arith, here, after)
 
 -- Of what is left after a unit, the syntax fault is that after the terms.
 pub fault_after_unit : (no_calc : Bool) (rest : Rest)
@@ -121,46 +114,24 @@ fault_after_unit no_calc rest = refl
 
 -- ---- Steps of the answer
 
--- the answer, given the first value and that of the later terms so far, and what is left
-abbrev pub with_left : Bool → ℕ → CondUnit → ℕ → Ended → Result ℕ Cause
-with_left no_calc first op total left = answer_with no_calc first op total left.terms left.fault
+-- the answer, given the first value, the later terms so far, and what is left
+abbrev pub with_left : Bool → ℕ → Option (CondUnit × ℕ) → Ended → Result ℕ Cause
+with_left no_calc first later left = answer_with no_calc first later left.terms left.fault
 
--- the answer, given the first value and what is left after it
+-- the answer, given the value of the first term and what is left after it
 abbrev pub total_of : Bool → ℕ → Ended → Result ℕ Cause
-total_of no_calc first left = answer_after_first no_calc first left.terms left.fault
+total_of no_calc value left = answer_after_first no_calc value left.terms left.fault
 
--- The first of the later terms sets the operator.
-pub operator_set : (no_calc : Bool) (first : ℕ) (op : CondUnit) {s : Tokens} → IsAhead s (Some Number)
-    → with_left no_calc first op (identity_of op) (left_after no_calc op (rest_of s))
-    ≡ total_of no_calc first (left_after no_calc op (rest_of s))
-operator_set no_calc first op {s} ahead =
-    let look : LooksAhead s s (Some Number) = record { kept = keeps_all s; same_left = refl; ahead = ahead } in
-    let (n, rest, is) = starts look refl in
-    let read : left_after no_calc op (rest_of s) ≡ after_number no_calc op n (unit_read no_calc rest) =
-    rw (is, terms_read no_calc op (cut_place s) n rest) refl in
-    subst (λ (l : Ended). with_left no_calc first op (identity_of op) l ≡ total_of no_calc first l) (sym read)
-    (elim (unit_read no_calc rest) as (λ r. with_left no_calc first op (identity_of op) (after_number no_calc op n r)
-    ≡ total_of no_calc first (after_number no_calc op n r))
-    [ Ok r ↦ refl | Err cause ↦ refl ])
-
--- A later term is read up to b and added.
-pub later_step : (no_calc : Bool) (first : ℕ) (op : CondUnit) (total : ℕ) {s a : Tokens} {b : Rest} {n : Option ℕ}
-    {u : TimeUnit} (next : CondUnit) → TakesNumber s a n → leaving b (Ok u) ≡ unit_read no_calc (rest_of a)
+-- A later term is read from p up to b and combined.
+pub later_step : (no_calc : Bool) (first : ℕ) (later : Option (CondUnit × ℕ)) (p : Rest) {s a : Tokens} {b : Rest}
+    {n : Option ℕ} {u : TimeUnit} {next : CondUnit} → leaving (rest_of s) (Ok (Some next)) ≡ operator_read no_calc p
+    → TakesNumber s a n → leaving b (Ok u) ≡ unit_read no_calc (rest_of a)
     → let left = after_unit no_calc (operator_read no_calc b) in
-    with_left no_calc first op total (left_after no_calc next (rest_of s))
-    ≡ after_term no_calc left.fault
-    (λ more. fault_or (sum_fault no_calc first more) (with_left no_calc first op more left))
-    (with_term op total next n (nanos_of u))
-later_step no_calc first op total next taken unit =
-    ap (with_left no_calc first op total) (number_taken no_calc next taken _ unit) ∙ rw taken.is_value refl
-
-pub later_added : (no_calc : Bool) (first : ℕ) (op : CondUnit) (total : ℕ) {s a : Tokens} {b : Rest} {n : Option ℕ}
-    {u : TimeUnit} {more : ℕ} (next : CondUnit) → TakesNumber s a n → leaving b (Ok u) ≡ unit_read no_calc (rest_of a)
-    → Ok more ≡ with_term op total next n (nanos_of u) → None ≡ sum_fault no_calc first more
-    → with_left no_calc first op total (left_after no_calc next (rest_of s))
-    ≡ with_left no_calc first op more (after_unit no_calc (operator_read no_calc b))
-later_added no_calc first op total next taken unit value none =
-    later_step no_calc first op total next taken unit ∙ rw (← value, ← none) refl
+    with_left no_calc first later (after_unit no_calc (operator_read no_calc p))
+    ≡ after_term no_calc left.fault (λ total. with_left no_calc first (Some (next, total)) left)
+    (with_term later next n (nanos_of u))
+later_step no_calc first later p read taken unit =
+    ap (with_left no_calc first later) (term_passed no_calc p read taken _ unit) ∙ rw taken.is_value refl
 
 -- ---- The answer in order: the early fault, the syntax fault, the late fault, and the value
 
@@ -209,7 +180,7 @@ by_first-fault no_calc None first left = refl
 by_first-fault no_calc (Some cause) first left = refl
 
 from_start : (no_calc : Bool) (rest : Rest) (left : Ended) → left_after no_calc Plus rest ≡ left
-    → answer_of no_calc left.terms left.fault ≡ answer_left no_calc [] rest
+    → answer_of no_calc left.terms left.fault ≡ answer_left no_calc rest
 from_start no_calc rest left is =
     ap (λ (l : Ended). answer_of no_calc l.terms l.fault) (sym is)
     ∙ in_order no_calc (start_left (front_of no_calc (terminals_in rest)) rest) (front_in no_calc rest)
@@ -217,7 +188,7 @@ from_start no_calc rest left is =
 
 -- The first unit cannot be read.
 pub first_unread : {m a : Tokens} {s : Rest} {n : Option ℕ} {cause : Cause} (no_calc : Bool) → rest_of m ≡ s
-    → TakesNumber m a n → Err cause ≡ unit_read no_calc (rest_of a) → Err cause ≡ answer_left no_calc [] s
+    → TakesNumber m a n → Err cause ≡ unit_read no_calc (rest_of a) → Err cause ≡ answer_left no_calc s
 first_unread {m} {cause = cause} no_calc same taken unit =
     rw (← same, ← from_start no_calc (rest_of m) _ (number_taken no_calc Plus taken _ unit))
     (elim no_calc as (λ b. Err cause ≡ answer_of b [] (Some cause)) [ false ↦ refl | true ↦ refl ])
@@ -226,7 +197,7 @@ first_unread {m} {cause = cause} no_calc same taken unit =
 pub first_step : {m a : Tokens} {s b : Rest} {n : Option ℕ} {u : TimeUnit} {first : Result ℕ Cause} (no_calc : Bool)
     → rest_of m ≡ s → TakesNumber m a n → leaving b (Ok u) ≡ unit_read no_calc (rest_of a)
     → first ≡ checked_term (Some 0) n (nanos_of u)
-    → answer_left no_calc [] s ≡ by_first no_calc first (after_unit no_calc (operator_read no_calc b))
+    → answer_left no_calc s ≡ by_first no_calc first (after_unit no_calc (operator_read no_calc b))
 first_step {m} {b = b} {u = u} no_calc same taken unit is =
     let t = term_of taken.n u in
     let more = after_unit no_calc (operator_read no_calc b) in
@@ -236,38 +207,3 @@ first_step {m} {b = b} {u = u} no_calc same taken unit is =
     let start = from_start no_calc (rest_of m) _ read in
     rw (← same, ← start, is, taken.is_value, checked_term_is (Some 0) t, by_first-fault no_calc)
     (one_by_one no_calc t more.terms more.fault added)
-
-same_kinds : (no_calc : Bool) (op : CondUnit) (front : List Terminal)
-    → expected_after no_calc (last_of (Some (operator op)) front) ≡ expected_after no_calc (last_of None front)
-same_kinds no_calc op [] = refl
-same_kinds no_calc op (terminal ∷ front) = refl
-
--- A first term of this many nanoseconds can stand for the first value.
-pub from_later : (no_calc : Bool) (first : ℕ) (op : CondUnit) (rest : Rest) → first < 2 ^ 64
-    → (IsTrue no_calc → op ≡ Plus)
-    → total_of no_calc first (left_after no_calc op rest) ≡ answer_left no_calc (first_term first op) rest
-from_later no_calc first op rest below plus =
-    let front = front_in no_calc rest in
-    let after = after_in no_calc rest in
-    let left = left_after no_calc op rest in
-    let f = term_of first NanoSecond in
-    let value : value_of_term f ≡ first = omega arith in
-    let none = term_below_no_fault (Some 0) f (omega arith) (omega (arith, below)) in
-    let added : IsTrue no_calc → AreAdded (f ∷ left.terms) =
-    λ h. (refl, omega arith, left_added no_calc op rest (plus h) h) in
-    let all = first_term first op ++ front in
-    rw (
-      ← in_order no_calc (start_left (front_of no_calc (terminals_in rest)) rest) all after,
-      pulled (first_term first op) front after refl,
-      same_kinds no_calc op front,
-      one_by_one no_calc f left.terms left.fault added,
-      none,
-      value,
-    )
-
--- The answer, once the first term and the operator after it are read.
-pub begun_answer : (no_calc : Bool) (first : ℕ) (op : Option CondUnit) (rest : Rest) → first < 2 ^ 64
-    → (IsTrue no_calc → IfSome op (λ op. op ≡ Plus))
-    → total_of no_calc first (next_terms no_calc op rest) ≡ answer_begun no_calc rest (Ok (first, op))
-begun_answer no_calc first None rest below plus = refl
-begun_answer no_calc first (Some op) rest below plus = from_later no_calc first op rest below plus

@@ -20,14 +20,14 @@ same_start o zero len (p ∷ tokens) = refl
 same_start o (suc n) len (p ∷ tokens) = same_start o n len tokens
 
 nonempty_answer : (o : Options) (text : List ℕ) → 0 < byte_len text
-    → answer o text ≡ answer_left o.no_calc [] (rest_from o (byte_len text) (tokens_of o text))
+    → answer o text ≡ answer_left o.no_calc (rest_from o (byte_len text) (tokens_of o text))
 nonempty_answer o [] h = absurd (omega arith)
 nonempty_answer o (c ∷ text) h = simp (all_terminals, same_start)
 
 pub text_answer : {o : Options} {bs : List ℕ} {r : Result ℕ Cause} (tokens : Tokens) → IsUtf8 bs
     → false ≡ (length bs == 0) → source tokens ≡ bs → options_of tokens ≡ o
     → tokens_left tokens ≡ tokens_of o (chars bs)
-    → r ≡ answer_left o.no_calc [] (rest_of tokens) → answer o (chars bs) ≡ r
+    → r ≡ answer_left o.no_calc (rest_of tokens) → answer o (chars bs) ≡ r
 text_answer {o} {bs} tokens utf8 filled text options all is =
     let count = byte_count bs utf8 in
     let some = eqb-false (length bs) 0 (sym filled) in

@@ -1,136 +1,147 @@
 -- The steps of printing within limits, and the most bytes that it takes.
-use Rattle.duration_str.proofs.Common.{zero, and_parts, rules, ◌≡◌, ℕ, ◌+◌, ◌-◌, ◌*◌, ◌/◌, ◌%◌, ◌^◌, ◌<◌, ◌≤◌, ◌==◌}
-use Rattle.duration_str.proofs.Common.{◌++◌, Bool, true, false, inl, inr, List, [], ◌∷◌, length, take, drop, map}
-use Rattle.duration_str.proofs.Common.{decimal, encode_utf8_all, codes, arith, ap, ◌∙◌, sym, refl, lit<, suc, leb}
-use Rattle.duration_str.proofs.Common.{leb-true, ltb, ltb-true, length-append, append_assoc, IsUtf8, cases_Bool}
-use Rattle.duration_str.proofs.Common.{nat_tests, list_all, le-div_iff_mul-le, div-le_self, mod-le, pow-succ'}
-use Rattle.duration_str.proofs.Common.{decimal_digit, decimal_step_wide, decimal_by_steps_wide, length-decimal-le_wide}
-use Rattle.duration_str.proofs.Common.{take_more_set, TimeUnit, Year, Quarter, Month, Week, Day, Hour, units, row_of}
-use Rattle.duration_str.proofs.Common.{nanos_of, byte_len, Limits, units_down_to, units_within, lengths_within}
-use Rattle.duration_str.proofs.Common.{zero_text, zero_unit, counts_within, text_within, with_space, with_part}
-use Rattle.duration_str.proofs.Common.{with_counts, max_printed_len, IsUtf8-from_ascii, IsAscii-decimal_wide, ⊤}
-use Rattle.std.specs.Prelude.{slice_index_or}
-use Rattle.std.proofs.lemmas.List.{take_rest}
+use Rattle.duration_str.proofs.Common.{◌≡◌, ℕ, ◌+◌, ◌-◌, ◌*◌, ◌/◌, ◌%◌, ◌^◌, ◌<◌, ◌≤◌, ◌==◌}
+use Rattle.duration_str.proofs.Common.{◌++◌, false, inl, inr, List, [], ◌∷◌, length, map}
+use Rattle.duration_str.proofs.Common.{decimal, encode_utf8_all, arith, refl, leb}
+use Rattle.duration_str.proofs.Common.{leb-true, ltb, ltb-true, length-append, IsUtf8, cases_Bool}
+use Rattle.duration_str.proofs.Common.{nat_tests, list_all, le-div_iff_mul-le, div-le_self, mod-le}
+use Rattle.duration_str.proofs.Common.{TimeUnit, Year, units}
+use Rattle.duration_str.proofs.Common.{nanos_of, Format, units_within, lengths_within}
+use Rattle.duration_str.proofs.Common.{zero_unit, counts_within, with_part}
+use Rattle.duration_str.proofs.Common.{with_counts}
+use Rattle.duration_str.proofs.Common.{true, ap, sym, chars, chars_from_encodes, Style, Short, Compact, Long, between}
+use Rattle.duration_str.proofs.Common.{with_gap, part_bytes, name_part, most_len, text_within, IsPrintedWithin}
 use Rattle.duration_str.proofs.Characters.EachUnit.{Each, each_unit, all_units}
-use Rattle.duration_str.proofs.Characters.NameLemmas.{length_name, scalar_name}
-use Rattle.duration_str.proofs.Printer.DigitLemmas.{length_one}
-use Rattle.duration_str.proofs.Printer.PrintedBytesLemmas.{AreShort, ended, ended_parts, encode_part, some_decimal}
-use Rattle.duration_str.proofs.Printer.PrintedBytesLemmas.{IsUtf8-spaced}
-use Rattle.duration_str.proofs.LawProofs.GreatestWithin.{some_length, below_length}
+use Rattle.duration_str.proofs.Characters.NameLemmas.{length_part, name_len}
+use Rattle.duration_str.proofs.Printer.DigitLemmas.{length_smaller, length_one}
+use Rattle.duration_str.proofs.Printer.PrintedBytesLemmas.{AreShort, ended, ended_parts}
+use Rattle.duration_str.proofs.Printer.PrintedBytesLemmas.{IsUtf8-joined, no_gap}
+use Rattle.duration_str.proofs.LawProofs.GreatestWithin.{some_length, below_length, greatest_within}
 use Rattle.duration_str.specs.Internal.PrintedBytes.{digits}
-use Rattle.duration_str.specs.Internal.UnitTable.{place_of}
+use Rattle.duration_str.specs.Internal.UnitTable.{rank_of}
+use Rattle.std.proofs.Math.Nat.{zero-div}
 use borrow.Rule.Slice.PartMut.{mid_of}
 
 -- ---- The units
 
-slice_each : (parts : ℕ) (l : TimeUnit)
-    → Each (λ s. mid_of (place_of l) (place_of s + 1 - place_of l) units
-    ≡ units_within (record { largest = l; smallest = s; parts = parts })) units
-slice_each parts Year = assumption
-slice_each parts l = assumption
+slice_each : (parts : ℕ) (style : Style) (l : TimeUnit)
+    → Each (λ s. mid_of (rank_of l) (rank_of s + 1 - rank_of l) units
+    ≡ units_within (record { largest = l; smallest = s; parts = parts; style = style })) units
+slice_each parts style Year = assumption
+slice_each parts style l = assumption
 
-pub slice_within : (limits : Limits)
-    → mid_of (place_of limits.largest) (place_of limits.smallest + 1 - place_of limits.largest) units
-    ≡ units_within limits
-slice_within limits =
-    each_unit (λ s. mid_of (place_of limits.largest) (place_of s + 1 - place_of limits.largest) units
-    ≡ units_within (record { largest = limits.largest; smallest = s; parts = limits.parts }))
-    (slice_each limits.parts limits.largest) limits.smallest
+pub slice_within : (format : Format)
+    → mid_of (rank_of format.largest) (rank_of format.smallest + 1 - rank_of format.largest) units
+    ≡ units_within format
+slice_within format =
+    each_unit (λ s. mid_of (rank_of format.largest) (rank_of s + 1 - rank_of format.largest) units
+    ≡ units_within (record { largest = format.largest; smallest = s; parts = format.parts; style = format.style }))
+    (slice_each format.parts format.style format.largest) format.smallest
 
-pub none_within : (limits : Limits) → place_of limits.smallest < place_of limits.largest → [] ≡ units_within limits
-none_within limits h =
-    let none : place_of limits.smallest + 1 - place_of limits.largest ≡ 0 = omega arith in
-    rw none at (slice_within limits)
-
--- ---- The digits
-
-pub length_step_wide : (n : ℕ) → 10 ≤ n → n < 10 ^ 64 → length (decimal n) ≡ length (decimal (n / 10)) + 1
-length_step_wide n low high = ap length (decimal_step_wide n low high) ∙ length-append _ _
-
-pub put_last_wide : (bytes before after : List ℕ) (n : ℕ) → after ≡ before ++ decimal (n % 10)
-    → before ≡ bytes ++ decimal (n / 10) → 10 ≤ n → n < 10 ^ 64 → after ≡ bytes ++ decimal n
-put_last_wide bytes before after n last first low high =
-    rw (last, first, decimal_digit (n % 10) (omega arith), decimal_step_wide n low high)
-    (append_assoc bytes (decimal (n / 10)) ((48 + n % 10) ∷ []))
-
-pub ruleset put_steps_wide = (decimal_digit, length_one, length_step_wide, take_more_set)
-
-below_power : (n : ℕ) → n < 10 ^ 64 → n < 10 ^ length (decimal n)
-below_power = decimal_by_steps_wide (λ n ds. n < 10 ^ length ds) (λ n small. omega arith) (λ n ds big below.
-    let longer : length (ds ++ (48 + n % 10) ∷ []) ≡ suc (length ds) =
-    omega (arith, length-append ds ((48 + n % 10) ∷ [])) in
-    rw (longer, pow-succ' 10 (length ds)) (omega (arith, below)))
-
--- A smaller number has no more digits.
-length_smaller : (m n : ℕ) → m ≤ n → n < 10 ^ 64 → length (decimal m) ≤ length (decimal n)
-length_smaller m n h small =
-    length-decimal-le_wide (length (decimal n)) m (some_decimal n small) (omega (arith, below_power n small))
-    (omega arith)
+pub none_within : (format : Format) → rank_of format.smallest < rank_of format.largest → [] ≡ units_within format
+none_within format h =
+    let none : rank_of format.smallest + 1 - rank_of format.largest ≡ 0 = omega arith in
+    rw none at (slice_within format)
 
 -- ---- The parts
 
 -- No parts are left to print.
-pub with_none : (us : List TimeUnit) (bytes : List ℕ) (most nanos : ℕ) → most ≡ 0
-    → bytes ≡ with_counts bytes us (counts_within (map nanos_of us) most nanos)
-with_none [] bytes most nanos none = refl
-with_none (u ∷ us) bytes most nanos none = rw none (with_none us bytes 0 nanos refl)
+pub with_none : (style : Style) (us : List TimeUnit) (bytes : List ℕ) (most nanos : ℕ) → most ≡ 0
+    → bytes ≡ with_counts style bytes us (counts_within (map nanos_of us) most nanos)
+with_none style [] bytes most nanos none = refl
+with_none style (u ∷ us) bytes most nanos none = rw none (with_none style us bytes 0 nanos refl)
 
-part_grows : (bytes : List ℕ) (u : TimeUnit) (n : ℕ) → length bytes ≤ length (with_part bytes u n)
-part_grows bytes u n = elim (cases_Bool (n == 0)) [ inl e ↦ rw e (omega arith) | inr e ↦ rw e (grows bytes) ]
-  where
-    grows : (bs : List ℕ) → length bs ≤ length (with_space bs ++ (decimal n ++ encode_utf8_all (row_of u).printed))
-    grows [] = omega arith
-    grows (b ∷ bs) = simp length-append (omega arith)
+gap_grows : (style : Style) (bytes : List ℕ) → length bytes ≤ length (with_gap style bytes)
+gap_grows Compact bytes = omega arith
+gap_grows style [] = omega arith
+gap_grows Short (b ∷ bytes) = simp length-append (omega arith)
+gap_grows Long (b ∷ bytes) = simp length-append (omega arith)
 
-counts_grow : (us : List TimeUnit) (bytes counts : List ℕ) → length bytes ≤ length (with_counts bytes us counts)
-counts_grow (u ∷ us) bytes (n ∷ counts) =
-    omega (arith, part_grows bytes u n, counts_grow us (with_part bytes u n) counts)
-counts_grow _ bytes _ = omega arith
+part_grows : (style : Style) (bytes : List ℕ) (u : TimeUnit) (n : ℕ) → length bytes ≤ length (with_part style bytes u n)
+part_grows style bytes u n = elim (cases_Bool (n == 0)) [
+  | inl e ↦ rw e (omega arith)
+  | inr e ↦
+      rw e (omega (arith, gap_grows style bytes, length-append (with_gap style bytes) (part_bytes style n u)))
+]
 
--- The first part fits if all parts do.
-pub first_room : (us : List TimeUnit) (bytes : List ℕ) (most nanos l : ℕ) → 1 ≤ length us → 1 ≤ most
-    → l ≡ nanos_of (slice_index_or us 0 Year) → 1 ≤ l → l ≤ nanos
-    → length (with_counts bytes us (counts_within (map nanos_of us) most nanos)) ≤ 64
-    → length (with_part bytes (slice_index_or us 0 Year) (nanos / l)) ≤ 64
-first_room [] bytes most nanos l some left e positive h room = absurd (omega arith)
-first_room (u ∷ us) bytes most nanos l some left e positive h room =
-    let whole_one : 1 * l ≤ nanos = omega arith in
-    let one : 1 ≤ nanos / nanos_of u = rw (← e) ((le-div_iff_mul-le positive).1 whole_one) in
+counts_grow : (style : Style) (us : List TimeUnit) (bytes counts : List ℕ)
+    → length bytes ≤ length (with_counts style bytes us counts)
+counts_grow style (u ∷ us) bytes (n ∷ counts) =
+    omega (arith, part_grows style bytes u n, counts_grow style us (with_part style bytes u n) counts)
+counts_grow style _ bytes _ = omega arith
+
+-- Nothing is left to print.
+with_nothing : (style : Style) (us : List TimeUnit) (bytes : List ℕ) (most nanos : ℕ) → nanos ≡ 0
+    → bytes ≡ with_counts style bytes us (counts_within (map nanos_of us) most nanos)
+with_nothing style [] bytes most nanos none = refl
+with_nothing style (u ∷ us) bytes most nanos none = elim (cases_Bool (most == 0)) [
+  | inl done ↦ rw done (with_nothing style us bytes most nanos none)
+  | inr some ↦
+      let count : nanos / nanos_of u ≡ 0 = rw (none, zero-div (nanos_of u)) in
+      rw (some, count) (with_nothing style us bytes most nanos none)
+]
+
+-- The first unit goes into the duration: its part, then those of what it leaves.
+first_part : (style : Style) (u : TimeUnit) (us : List TimeUnit) (bytes : List ℕ) (most nanos : ℕ) → 1 ≤ most
+    → nanos_of u ≤ nanos
+    → with_counts style bytes (u ∷ us) (counts_within (map nanos_of (u ∷ us)) most nanos)
+    ≡ with_counts style (with_part style bytes u (nanos / nanos_of u)) us
+    (counts_within (map nanos_of us) (most - 1) (nanos % nanos_of u))
+first_part style u us bytes most nanos left h =
+    let whole_one : 1 * nanos_of u ≤ nanos = omega arith in
+    let one : 1 ≤ nanos / nanos_of u = (le-div_iff_mul-le (some_length u)).1 whole_one in
     let parts : (most == 0) ≡ false = grind (arith, nat_tests) in
-    let count : (nanos / nanos_of u == 0) ≡ false = grind (arith, nat_tests) in
-    let whole = rw (parts, count) at room in
-    rw e (omega (
+    let count : (nanos / nanos_of u == 0) ≡ false = grind (arith, nat_tests) in rw (parts, count, count)
+
+-- It fits if all parts do.
+pub first_room : (style : Style) (u : TimeUnit) (us : List TimeUnit) (bytes : List ℕ) (most nanos room : ℕ)
+    → 1 ≤ most → nanos_of u ≤ nanos
+    → length (with_counts style bytes (u ∷ us) (counts_within (map nanos_of (u ∷ us)) most nanos)) ≤ room
+    → length (with_part style bytes u (nanos / nanos_of u)) ≤ room
+first_room style u us bytes most nanos room left h fits =
+    let whole = rw (first_part style u us bytes most nanos left h) at fits in
+    omega (
       arith,
-      counts_grow us (with_part bytes u (nanos / nanos_of u))
+      counts_grow style us (with_part style bytes u (nanos / nanos_of u))
           (counts_within (map nanos_of us) (most - 1) (nanos % nanos_of u)),
       whole,
-    ))
+    )
+
+-- It is the only part if it leaves nothing.
+pub only_part : (style : Style) (u : TimeUnit) (us : List TimeUnit) (bytes : List ℕ) (most nanos : ℕ)
+    → 1 ≤ most → nanos_of u ≤ nanos → nanos % nanos_of u ≡ 0
+    → with_part style bytes u (nanos / nanos_of u)
+    ≡ with_counts style bytes (u ∷ us) (counts_within (map nanos_of (u ∷ us)) most nanos)
+only_part style u us bytes most nanos left h nothing =
+    rw (first_part style u us bytes most nanos left h)
+    (with_nothing style us _ (most - 1) (nanos % nanos_of u) nothing)
 
 -- ---- The most bytes
 
 -- the most bytes that the parts of less than `limit` nanoseconds in these units can have, with a space after each
-abbrev most_bytes : ℕ → List TimeUnit → ℕ
-most_bytes limit [] = 0
-most_bytes limit (u ∷ us) =
-    length (decimal ((limit - 1) / nanos_of u)) + byte_len (row_of u).printed + 1 + most_bytes (nanos_of u) us
+abbrev most_bytes : Style → ℕ → List TimeUnit → ℕ
+most_bytes style limit [] = 0
+most_bytes style limit (u ∷ us) =
+    length (decimal ((limit - 1) / nanos_of u)) + name_len style u + length (between style)
+    + most_bytes style (nanos_of u) us
 
-space_more : (bytes : List ℕ) → length (with_space bytes) ≤ length bytes + 1
-space_more [] = omega arith
-space_more (b ∷ bytes) = simp length-append (omega arith)
+gap_more : (style : Style) (bytes : List ℕ) → length (with_gap style bytes) ≤ length bytes + length (between style)
+gap_more Compact bytes = omega arith
+gap_more style [] = omega arith
+gap_more Short (b ∷ bytes) = simp length-append (omega arith)
+gap_more Long (b ∷ bytes) = simp length-append (omega arith)
 
-part_more : (bytes : List ℕ) (u : TimeUnit) (n most : ℕ) → n ≤ most → most < 10 ^ 64
-    → length (with_space (with_part bytes u n))
-    ≤ length (with_space bytes) + (length (decimal most) + byte_len (row_of u).printed + 1)
-part_more bytes u n most h small = elim (cases_Bool (n == 0)) [
+part_more : (style : Style) (bytes : List ℕ) (u : TimeUnit) (n most : ℕ) → n ≤ most → most < 10 ^ 64
+    → length (with_gap style (with_part style bytes u n))
+    ≤ length (with_gap style bytes) + (length (decimal most) + name_len style u + length (between style))
+part_more style bytes u n most h small = elim (cases_Bool (n == 0)) [
   | inl e ↦ rw e (omega arith)
   | inr e ↦
-      let part = decimal n ++ encode_utf8_all (row_of u).printed in
       rw e (omega (
         arith,
-        space_more (with_space bytes ++ part),
-        length-append (with_space bytes) part,
-        length-append (decimal n) (encode_utf8_all (row_of u).printed),
-        length_name u,
+        gap_more style (with_gap style bytes ++ part_bytes style n u),
+        length-append (with_gap style bytes) (part_bytes style n u),
+        length-append (decimal n) (encode_utf8_all (name_part style (n == 1) u)),
+        length_part style (n == 1) u,
         length_smaller n most h small,
       ))
 ]
@@ -139,14 +150,15 @@ short_length : (u : TimeUnit) → nanos_of u < 10 ^ 64
 short_length u = ltb-true (nanos_of u) (10 ^ 64) (all_units (λ v. ltb (nanos_of v) (10 ^ 64)) refl u)
 
 -- The parts take no more than these bytes.
-parts_fit : (us : List TimeUnit) (limit : ℕ) (bytes : List ℕ) (most nanos : ℕ) → nanos < limit → limit ≤ 10 ^ 64
-    → length (with_space (with_counts bytes us (counts_within (map nanos_of us) most nanos)))
-    ≤ length (with_space bytes) + most_bytes limit us
-parts_fit [] limit bytes most nanos h small = omega arith
-parts_fit (u ∷ us) limit bytes most nanos h small = elim (cases_Bool (most == 0)) [
+parts_fit : (style : Style) (us : List TimeUnit) (limit : ℕ) (bytes : List ℕ) (most nanos : ℕ)
+    → nanos < limit → limit ≤ 10 ^ 64
+    → length (with_gap style (with_counts style bytes us (counts_within (map nanos_of us) most nanos)))
+    ≤ length (with_gap style bytes) + most_bytes style limit us
+parts_fit style [] limit bytes most nanos h small = omega arith
+parts_fit style (u ∷ us) limit bytes most nanos h small = elim (cases_Bool (most == 0)) [
   | inl none ↦
       let no : most ≡ 0 = grind (arith, nat_tests) in
-      rw (← with_none (u ∷ us) bytes most nanos no) (omega arith)
+      rw (← with_none style (u ∷ us) bytes most nanos no) (omega arith)
   | inr some ↦
       let l = nanos_of u in
       let positive : 1 ≤ l = some_length u in
@@ -155,7 +167,7 @@ parts_fit (u ∷ us) limit bytes most nanos h small = elim (cases_Bool (most == 
         | inl nothing ↦
             let none : nanos / l ≡ 0 = grind (arith, nat_tests) in
             let below : nanos < l = below_length nanos l positive none in
-            rw (some, nothing) (omega (arith, parts_fit us l bytes most nanos below (omega arith)))
+            rw (some, nothing) (omega (arith, parts_fit style us l bytes most nanos below (omega arith)))
         | inr count ↦
             let below : nanos % l < l = omega arith in
             let product : nanos / l * l ≤ limit - 1 = omega arith in
@@ -163,38 +175,67 @@ parts_fit (u ∷ us) limit bytes most nanos h small = elim (cases_Bool (most == 
             rw (some, count)
             (omega (
               arith,
-              part_more bytes u (nanos / l) ((limit - 1) / l) fewer (omega (arith, div-le_self (limit - 1) l)),
-              parts_fit us l (with_part bytes u (nanos / l)) (most - 1) (nanos % l) below (omega arith),
+              part_more style bytes u (nanos / l) ((limit - 1) / l) fewer (omega (arith, div-le_self (limit - 1) l)),
+              parts_fit style us l (with_part style bytes u (nanos / l)) (most - 1) (nanos % l) below (omega arith),
             ))
       ]
 ]
 
 -- the most bytes for any duration
-abbrev bytes_within : TimeUnit → TimeUnit → ℕ
-bytes_within l s = most_bytes (2 ^ 64 * 10 ^ 9) (units_within (record { largest = l; smallest = s; parts = 0 }))
+abbrev bytes_within : Style → TimeUnit → TimeUnit → ℕ
+bytes_within style l s =
+    most_bytes style (2 ^ 64 * 10 ^ 9) (units_within (record { largest = l; smallest = s; parts = 0; style = Short }))
 
-each_fits : (l s : TimeUnit) → bytes_within l s ≤ 61
+each_fits : (style : Style) (l s : TimeUnit) → bytes_within style l s ≤ most_len style + length (between style)
 unfolding digits
-each_fits l s =
-    leb-true (bytes_within l s) 61 (all_units (λ s. leb (bytes_within l s) 61)
-    (all_units (λ l. list_all (λ s. leb (bytes_within l s) 61) units) refl l) s)
+each_fits style l s =
+    leb-true (bytes_within style l s) (most_len style + length (between style))
+    (all_units (λ s. leb (bytes_within style l s) (most_len style + length (between style)))
+    (all_units (λ l. list_all (λ s. leb (bytes_within style l s) (most_len style + length (between style))) units)
+    (all style) l) s)
+  where
+    all : (style : Style)
+        → list_all (λ l. list_all (λ s. leb (bytes_within style l s) (most_len style + length (between style))) units)
+        units ≡ true
+    all Short = refl
+    all Compact = refl
+    all Long = refl
 
-less_space : (bytes : List ℕ) → length (with_space bytes) ≤ 61 → length bytes ≤ 60
-less_space [] h = omega arith
-less_space (b ∷ bytes) h = let more = simp length-append at h in omega arith
+-- The bytes fit if they do with what stands between two parts.
+less_gap : (style : Style) (bytes : List ℕ) (most : ℕ) → length (with_gap style bytes) ≤ most + length (between style)
+    → length bytes ≤ most
+less_gap Compact bytes most h = omega (arith, h)
+less_gap style [] most h = omega arith
+less_gap Short (b ∷ bytes) most h = let more = simp length-append at h in omega arith
+less_gap Long (b ∷ bytes) most h = let more = simp length-append at h in omega arith
 
-pub within_fits : (limits : Limits) (nanos : ℕ) → nanos < 2 ^ 64 * 10 ^ 9
-    → length (with_counts [] (units_within limits) (counts_within (lengths_within limits) limits.parts nanos)) ≤ 60
-within_fits limits nanos h =
-    less_space _ (omega (
+pub within_fits : (format : Format) (nanos : ℕ) → nanos < 2 ^ 64 * 10 ^ 9
+    → length (with_counts format.style [] (units_within format)
+    (counts_within (lengths_within format) format.parts nanos)) ≤ most_len format.style
+within_fits format nanos h =
+    let style = format.style in
+    let none = ap length (no_gap style) in
+    less_gap style _ (most_len style) (omega (
       arith,
-      parts_fit (units_within limits) (2 ^ 64 * 10 ^ 9) [] limits.parts nanos h (omega arith),
-      each_fits limits.largest limits.smallest,
+      none,
+      parts_fit style (units_within format) (2 ^ 64 * 10 ^ 9) [] format.parts nanos h (omega arith),
+      each_fits style format.largest format.smallest,
     ))
 
-pub sixty : max_printed_len ≡ 60
-unfolding digits
-sixty = refl
+-- The zero fits.
+pub zero_fits : (style : Style) (u : TimeUnit) → length (part_bytes style 0 u) ≤ 60
+zero_fits style u = omega (
+  arith,
+  length-append (decimal 0) (encode_utf8_all (name_part style false u)),
+  length_one 0 (omega arith),
+  length_part style false u,
+  leb-true (name_len style u) 59 (all_units (λ u. leb (name_len style u) 59) (each style) u),
+)
+  where
+    each : (style : Style) → list_all (λ u. leb (name_len style u) 59) units ≡ true
+    each Short = refl
+    each Compact = refl
+    each Long = refl
 
 -- ---- The text
 
@@ -212,23 +253,24 @@ within_short (l ∷ lengths) most nanos h = elim (cases_Bool (most == 0)) [
   ]
 ]
 
-pub encode_zero : (u : TimeUnit)
-    → decimal 0 ++ encode_utf8_all (row_of u).printed ≡ encode_utf8_all (codes "0" ++ (row_of u).printed)
-encode_zero u = rw (← encode_part 0 (row_of u).printed (omega arith), decimal_digit 0 (omega arith))
+pub within_ended : (format : Format) (nanos : ℕ) → nanos < 10 ^ 64
+    → ended (part_bytes format.style 0 (zero_unit format.smallest))
+    (with_counts format.style [] (units_within format) (counts_within (lengths_within format) format.parts nanos))
+    ≡ encode_utf8_all (text_within format (counts_within (lengths_within format) format.parts nanos))
+within_ended format nanos h =
+    ended_parts format.style (zero_unit format.smallest) (units_within format) _
+    (within_short (lengths_within format) format.parts nanos h)
 
-pub within_ended : (limits : Limits) (nanos : ℕ) → nanos < 10 ^ 64
-    → ended (encode_utf8_all (zero_text limits.smallest))
-    (with_counts [] (units_within limits) (counts_within (lengths_within limits) limits.parts nanos))
-    ≡ encode_utf8_all (text_within limits (counts_within (lengths_within limits) limits.parts nanos))
-within_ended limits nanos h =
-    ended_parts (zero_text limits.smallest) (units_within limits) _
-    (within_short (lengths_within limits) limits.parts nanos h)
+pub within_utf8 : (format : Format) (nanos : ℕ) → nanos < 10 ^ 64
+    → IsUtf8 (encode_utf8_all (text_within format (counts_within (lengths_within format) format.parts nanos)))
+within_utf8 format nanos h =
+    IsUtf8-joined format.style (zero_unit format.smallest) (units_within format) _
+    (within_short (lengths_within format) format.parts nanos h)
 
-zero_utf8 : (u : TimeUnit) → IsUtf8 (encode_utf8_all (codes "0" ++ (row_of u).printed))
-zero_utf8 u = (codes "0" ++ (row_of u).printed, (scalar_name u, refl))
-
-pub within_utf8 : (limits : Limits) (nanos : ℕ) → nanos < 10 ^ 64
-    → IsUtf8 (encode_utf8_all (text_within limits (counts_within (lengths_within limits) limits.parts nanos)))
-within_utf8 limits nanos h =
-    IsUtf8-spaced (zero_text limits.smallest) (units_within limits) _ (zero_utf8 (zero_unit limits.smallest))
-    (within_short (lengths_within limits) limits.parts nanos h)
+-- The bytes of such a text print the duration.
+pub printed_within : (format : Format) (nanos : ℕ) (bytes : List ℕ) → IsUtf8 bytes
+    → bytes ≡ encode_utf8_all (text_within format (counts_within (lengths_within format) format.parts nanos))
+    → IsPrintedWithin format nanos (chars bytes)
+printed_within format nanos bytes utf8 same =
+    let counts = counts_within (lengths_within format) format.parts nanos in
+    (counts, greatest_within format nanos, sym (chars_from_encodes (text_within format counts) bytes utf8 (sym same)))

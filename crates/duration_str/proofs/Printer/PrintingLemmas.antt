@@ -1,10 +1,12 @@
 -- A printed text is spelled by a sum whose total is the duration.
 use Rattle.duration_str.proofs.Common.{◌≡◌, ℕ, ◌%◌, ◌^◌, ◌<◌, inl, inr, Bool, true, false, ◌==◌, List, [], ◌∷◌, ◌++◌}
-use Rattle.duration_str.proofs.Common.{map, drop, Some, if◌then◌else◌, decimal, codes, arith, refl, append_assoc}
-use Rattle.duration_str.proofs.Common.{append-nil, sym, eqb-true, flat_map, ⊤, cases_Bool, decimal_digit, FitsDuration}
+use Rattle.duration_str.proofs.Common.{map, drop, Some, if◌then◌else◌, decimal, arith, refl, append_assoc}
+use Rattle.duration_str.proofs.Common.{append-nil, eqb-true, flat_map, ⊤, cases_Bool, FitsDuration}
 use Rattle.duration_str.proofs.Common.{Options, TimeUnit, Year, Second, row_of, units, nanos_of, unit_lengths, Terminal}
 use Rattle.duration_str.proofs.Common.{number, word, terminal_of, IsSentence, Spells, AllPlus, sum_of, terms_of}
-use Rattle.duration_str.proofs.Common.{weighted_sum, IsPrinted, counts_of, printed_parts, spaced_parts, printed_counts}
+use Rattle.duration_str.proofs.Common.{weighted_sum, IsPrintedIn, counts_of, printed_parts, joined_parts}
+use Rattle.duration_str.proofs.Common.{Style, Short, Compact, Long, IsBlank, ap, between, before_name, name_in}
+use Rattle.duration_str.proofs.Common.{printed_part, printed_counts}
 use Rattle.duration_str.proofs.Characters.NumberLemmas.{decimal_terminal}
 use Rattle.duration_str.proofs.LawProofs.GreatestBreakdown.{one_greatest, greatest_breakdown_holds}
 use Rattle.duration_str.proofs.Sentences.SumReadings.{IsSumOf, terms_of_lexemes}
@@ -21,9 +23,9 @@ or_zero u [] = (0, u) ∷ []
 or_zero u (p ∷ ps) = p ∷ ps
 
 -- the lexemes and terminals of counts
-abbrev pub lexemes : List (ℕ × TimeUnit) → List (List ℕ)
-lexemes [] = []
-lexemes (p ∷ ps) = decimal p.0 ∷ (row_of p.1).printed ∷ lexemes ps
+abbrev pub lexemes : Style → List (ℕ × TimeUnit) → List (List ℕ)
+lexemes style [] = []
+lexemes style (p ∷ ps) = decimal p.0 ∷ name_in style (p.0 == 1) p.1 ∷ lexemes style ps
 
 abbrev pub terminals : List (ℕ × TimeUnit) → List Terminal
 terminals [] = []
@@ -33,73 +35,120 @@ terminals (p ∷ ps) = number p.0 ∷ word (Some p.1) ∷ terminals ps
 abbrev pub printed : ℕ → List (ℕ × TimeUnit)
 printed nanos = or_zero Second (kept units (counts_of unit_lengths nanos))
 
-abbrev pub duration_lexemes : ℕ → List (List ℕ)
-duration_lexemes nanos = lexemes (printed nanos)
+abbrev pub duration_lexemes : Style → ℕ → List (List ℕ)
+duration_lexemes style nanos = lexemes style (printed nanos)
 
 -- ---- The lexemes spell the text
 
-abbrev pub part : ℕ × TimeUnit → List ℕ
-part p = decimal p.0 ++ (row_of p.1).printed
+abbrev pub part : Style → ℕ × TimeUnit → List ℕ
+part style p = printed_part style p.0 p.1
 
-pub parts_kept : (us : List TimeUnit) (counts : List ℕ) → printed_parts us counts ≡ map part (kept us counts)
-parts_kept (u ∷ us) (n ∷ counts) =
-    elim (cases_Bool (n == 0)) [ inl e ↦ rw e (parts_kept us counts) | inr e ↦ rw (e, parts_kept us counts) ]
-parts_kept _ _ = refl
+pub parts_kept : (style : Style) (us : List TimeUnit) (counts : List ℕ)
+    → printed_parts style us counts ≡ map (part style) (kept us counts)
+parts_kept style (u ∷ us) (n ∷ counts) = elim (cases_Bool (n == 0)) [
+  | inl e ↦ rw e (parts_kept style us counts)
+  | inr e ↦ rw (e, parts_kept style us counts)
+]
+parts_kept style _ _ = refl
 
-later_spelled : (ps : List (ℕ × TimeUnit)) → Spells (lexemes ps) (flat_map (λ part. codes " " ++ part) (map part ps))
-later_spelled [] = refl
-later_spelled (p ∷ ps) =
-    begins_with (codes " ") _ refl (simp append_assoc) (begins_with [] _ refl refl (later_spelled ps))
+blank_between : (style : Style) → IsBlank (between style)
+blank_between Short = refl
+blank_between Compact = refl
+blank_between Long = refl
 
-pub all_spelled : (u : TimeUnit) (ps : List (ℕ × TimeUnit))
-    → Spells (lexemes (or_zero u ps)) (spaced_parts (codes "0" ++ (row_of u).printed) (map part ps))
-all_spelled u [] =
-    begins_with [] (row_of u).printed refl (rw (decimal_digit 0 (omega arith)))
-    (begins_with [] [] refl (sym (append-nil (row_of u).printed)) refl)
-all_spelled u (p ∷ ps) =
-    begins_with [] _ refl (append_assoc (decimal p.0) _ _) (begins_with [] _ refl refl (later_spelled ps))
+blank_before : (style : Style) → IsBlank (before_name style)
+blank_before Short = refl
+blank_before Compact = refl
+blank_before Long = refl
+
+-- A part and what follows it.
+part_spelled : (style : Style) (blanks rest : List ℕ) (p : ℕ × TimeUnit) (ps : List (ℕ × TimeUnit)) → IsBlank blanks
+    → Spells (lexemes style ps) rest → Spells (lexemes style (p ∷ ps)) (blanks ++ (part style p ++ rest))
+part_spelled style blanks rest p ps blank more =
+    begins_with blanks _ blank (ap (λ bytes. blanks ++ bytes) (append_assoc (decimal p.0) _ rest))
+    (begins_with (before_name style) rest (blank_before style) (append_assoc (before_name style) _ rest) more)
+
+later_spelled : (style : Style) (ps : List (ℕ × TimeUnit))
+    → Spells (lexemes style ps) (flat_map (λ part. between style ++ part) (map (part style) ps))
+later_spelled style [] = refl
+later_spelled style (p ∷ ps) =
+    rw (append_assoc (between style))
+    (part_spelled style (between style) _ p ps (blank_between style) (later_spelled style ps))
+
+pub all_spelled : (style : Style) (u : TimeUnit) (ps : List (ℕ × TimeUnit))
+    → Spells (lexemes style (or_zero u ps))
+    (joined_parts style u (map (part style) ps))
+all_spelled style u [] = rw append-nil at (part_spelled style [] [] (0, u) [] refl refl)
+all_spelled style u (p ∷ ps) = part_spelled style [] _ p ps refl (later_spelled style ps)
 
 -- ---- The lexemes have these terminals
 
--- Each printed name is a name of its unit under all options.
-pub printed_terminal : (o : Options) (u : TimeUnit) → terminal_of o (row_of u).printed ≡ word (Some u)
-printed_terminal o = at o.no_calc o.lowercase o.cn_unit
-  where
-    at : (no_calc lowercase cn_unit : Bool) (u : TimeUnit)
-        → terminal_of (record { no_calc = no_calc; lowercase = lowercase; cn_unit = cn_unit }) (row_of u).printed
-        ≡ word (Some u)
-    at no_calc true true Year = refl
-    at no_calc true false Year = refl
-    at no_calc false true Year = refl
-    at no_calc false false Year = refl
-    at no_calc lowercase cn_unit u = refl
+short_terminal : (no_calc lowercase cn_unit : Bool) (u : TimeUnit)
+    → terminal_of (record { no_calc = no_calc; lowercase = lowercase; cn_unit = cn_unit }) ((row_of u).printed)
+    ≡ word (Some u)
+short_terminal no_calc true true Year = refl
+short_terminal no_calc true false Year = refl
+short_terminal no_calc false true Year = refl
+short_terminal no_calc false false Year = refl
+short_terminal no_calc lowercase cn_unit u = refl
+
+one_terminal : (no_calc lowercase cn_unit : Bool) (u : TimeUnit)
+    → terminal_of (record { no_calc = no_calc; lowercase = lowercase; cn_unit = cn_unit }) (name_in Long true u)
+    ≡ word (Some u)
+one_terminal no_calc true true Year = refl
+one_terminal no_calc true false Year = refl
+one_terminal no_calc false true Year = refl
+one_terminal no_calc false false Year = refl
+one_terminal no_calc lowercase cn_unit u = refl
+
+long_terminal : (no_calc lowercase cn_unit : Bool) (u : TimeUnit)
+    → terminal_of (record { no_calc = no_calc; lowercase = lowercase; cn_unit = cn_unit }) (name_in Long false u)
+    ≡ word (Some u)
+long_terminal no_calc true true Year = refl
+long_terminal no_calc true false Year = refl
+long_terminal no_calc false true Year = refl
+long_terminal no_calc false false Year = refl
+long_terminal no_calc lowercase cn_unit u = refl
+
+-- Each name is a name of its unit under all options.
+pub printed_terminal : (o : Options) (style : Style) (one : Bool) (u : TimeUnit)
+    → terminal_of o (name_in style one u) ≡ word (Some u)
+printed_terminal o Short one = short_terminal o.no_calc o.lowercase o.cn_unit
+printed_terminal o Compact one = short_terminal o.no_calc o.lowercase o.cn_unit
+printed_terminal o Long true = one_terminal o.no_calc o.lowercase o.cn_unit
+printed_terminal o Long false = long_terminal o.no_calc o.lowercase o.cn_unit
 
 abbrev pub EachBelow : List ℕ → Type 0
 EachBelow [] = ⊤
 EachBelow (n ∷ counts) = (n < 2 ^ 64) × EachBelow counts
 
-pub terminals_kept : (o : Options) (us : List TimeUnit) (counts : List ℕ) → EachBelow counts
-    → map (terminal_of o) (lexemes (kept us counts)) ≡ terminals (kept us counts)
-terminals_kept o (u ∷ us) (n ∷ counts) small = elim (cases_Bool (n == 0)) [
-  | inl e ↦ rw e (terminals_kept o us counts small.1)
-  | inr e ↦ rw (e, decimal_terminal o n small.0, printed_terminal o u, terminals_kept o us counts small.1)
+pub terminals_kept : (o : Options) (style : Style) (us : List TimeUnit) (counts : List ℕ) → EachBelow counts
+    → map (terminal_of o) (lexemes style (kept us counts)) ≡ terminals (kept us counts)
+terminals_kept o style (u ∷ us) (n ∷ counts) small = elim (cases_Bool (n == 0)) [
+  | inl e ↦ rw e (terminals_kept o style us counts small.1)
+  | inr e ↦ rw (
+    e,
+    decimal_terminal o n small.0,
+    printed_terminal o style (n == 1) u,
+    terminals_kept o style us counts small.1,
+  )
 ]
-terminals_kept o _ _ small = refl
+terminals_kept o style _ _ small = refl
 
-pub terminals_or_zero : (o : Options) (u : TimeUnit) (ps : List (ℕ × TimeUnit))
-    → map (terminal_of o) (lexemes ps) ≡ terminals ps
-    → map (terminal_of o) (lexemes (or_zero u ps)) ≡ terminals (or_zero u ps)
-terminals_or_zero o u [] h = rw (decimal_terminal o 0 (omega arith), printed_terminal o u)
-terminals_or_zero o u (p ∷ ps) h = h
+pub terminals_or_zero : (o : Options) (style : Style) (u : TimeUnit) (ps : List (ℕ × TimeUnit))
+    → map (terminal_of o) (lexemes style ps) ≡ terminals ps
+    → map (terminal_of o) (lexemes style (or_zero u ps)) ≡ terminals (or_zero u ps)
+terminals_or_zero o style u [] h = rw (decimal_terminal o 0 (omega arith), printed_terminal o style false u)
+terminals_or_zero o style u (p ∷ ps) h = h
 
 counts_below : (lengths : List ℕ) (nanos : ℕ) → nanos < 2 ^ 64 → EachBelow (counts_of lengths nanos)
 counts_below [] nanos h = tt
 counts_below (l ∷ lengths) nanos h = (omega arith, counts_below lengths (nanos % l) (omega arith))
 
-pub terminals_of_duration : (o : Options) (nanos : ℕ) → FitsDuration nanos
-    → map (terminal_of o) (duration_lexemes nanos) ≡ terminals (printed nanos)
-terminals_of_duration o nanos h =
-    terminals_or_zero o Second _ (terminals_kept o units (counts_of unit_lengths nanos)
+pub terminals_of_duration : (o : Options) (style : Style) (nanos : ℕ) → FitsDuration nanos
+    → map (terminal_of o) (duration_lexemes style nanos) ≡ terminals (printed nanos)
+terminals_of_duration o style nanos h =
+    terminals_or_zero o style Second _ (terminals_kept o style units (counts_of unit_lengths nanos)
     (omega arith, counts_below (drop 1 unit_lengths) (nanos % nanos_of Year) (omega arith)))
 
 -- ---- The terminals are a sentence without operators
@@ -114,22 +163,23 @@ pub units_plus : (ps : List (ℕ × TimeUnit)) → AllPlus (terminals ps)
 units_plus [] = tt
 units_plus (p ∷ ps) = units_plus ps
 
-pub counts_are : (nanos : ℕ) (text : List ℕ) → IsPrinted nanos text
-    → text ≡ printed_counts (counts_of unit_lengths nanos)
-counts_are nanos text p =
+pub counts_are : (style : Style) (nanos : ℕ) (text : List ℕ) → IsPrintedIn style nanos text
+    → text ≡ printed_counts style (counts_of unit_lengths nanos)
+counts_are style nanos text p =
     let same = one_greatest unit_lengths nanos p.0 (counts_of unit_lengths nanos) p.1
     (greatest_breakdown_holds nanos) in cc (p.2)
 
-pub printed_is_sum : (o : Options) (nanos : ℕ) (text : List ℕ) → FitsDuration nanos → IsPrinted nanos text
-    → IsSumOf o (duration_lexemes nanos) text
-printed_is_sum o nanos text h p =
+pub printed_is_sum : (o : Options) (style : Style) (nanos : ℕ) (text : List ℕ) → FitsDuration nanos
+    → IsPrintedIn style nanos text → IsSumOf o (duration_lexemes style nanos) text
+printed_is_sum o style nanos text h p =
     let counts : List ℕ = counts_of unit_lengths nanos in
     record {
       sentence = (
-        rw (terminals_of_duration o nanos h) (units_sentence o.no_calc Second (kept units counts)),
-        rw (counts_are nanos text p, parts_kept units counts) (all_spelled Second (kept units counts)),
+        rw (terminals_of_duration o style nanos h) (units_sentence o.no_calc Second (kept units counts)),
+        rw (counts_are style nanos text p, parts_kept style units counts)
+            (all_spelled style Second (kept units counts)),
       );
-      plus = rw (terminals_of_duration o nanos h) (units_plus (printed nanos));
+      plus = rw (terminals_of_duration o style nanos h) (units_plus (printed nanos));
     }
 
 -- ---- The total is the duration
@@ -147,9 +197,9 @@ pub sum_or_zero : (u : TimeUnit) (ps : List (ℕ × TimeUnit))
 sum_or_zero u [] = omega arith
 sum_or_zero u (p ∷ ps) = refl
 
-pub duration_sum : (o : Options) (nanos : ℕ) → FitsDuration nanos
-    → sum_of (terms_of_lexemes o (duration_lexemes nanos)) ≡ nanos
-duration_sum o nanos h =
+pub duration_sum : (o : Options) (style : Style) (nanos : ℕ) → FitsDuration nanos
+    → sum_of (terms_of_lexemes o (duration_lexemes style nanos)) ≡ nanos
+duration_sum o style nanos h =
     let counts : List ℕ = counts_of unit_lengths nanos in
-    rw (terminals_of_duration o nanos h, sum_or_zero Second (kept units counts), sum_kept units counts)
+    rw (terminals_of_duration o style nanos h, sum_or_zero Second (kept units counts), sum_kept units counts)
     (greatest_breakdown_holds nanos).breakdown.whole

@@ -1,20 +1,51 @@
 -- The result of a call, in terms of the sentences of the text.
-use Rattle.duration_str.proofs.Common.{ℕ, List, Result, Ok, Err, IfOk, ◌^◌, ◌<◌, refl, chars, as_nanos, Options}
-use Rattle.duration_str.proofs.Common.{Fault, answer, ReturnsAnswer, ParsesText}
+use Rattle.duration_str.proofs.Common.{◌≡◌, ℕ, List, Result, Ok, Err, refl, chars, Options, Cause, Fault, answer}
+use Rattle.duration_str.proofs.Common.{ParsesText}
+use Rattle.std.specs.Prelude.{OnOk, IfErr}
 use Rattle.std.specs.declared.time.Duration.{Duration}
-use Rattle.duration_str.proofs.Sentences.AnswerLemmas.{answer_is_reading_holds}
+use Rattle.duration_str.specs.Results.{IsValueOrFault, ReadsText}
+use Rattle.duration_str.specs.Internal.Rest.{IsDurationOf}
+use Rattle.duration_str.proofs.Sentences.AnswerLemmas.{answer_is_reading_holds, read_below}
 
-pub parses_text : (o : Options) (bytes : List ℕ) (r : Result Duration Fault)
-    → ReturnsAnswer (answer o (chars bytes)) bytes r → IfOk r (λ d. as_nanos d < 2 ^ 64) → ParsesText o bytes r
-parses_text o bytes (Ok d) h fits = record {
-  read = (answer_is_reading_holds.read o (chars bytes) (as_nanos d)).0 h;
+-- The computed answer is what the text is read as.
+pub reads_text : (o : Options) (bytes : List ℕ) (r : Result ℕ Fault)
+    → IsValueOrFault (λ nanos. answer o (chars bytes) ≡ Ok nanos) (λ cause. answer o (chars bytes) ≡ Err cause) bytes r
+    → ReadsText o bytes r
+reads_text o bytes (Ok nanos) h = record {
+  read = (answer_is_reading_holds.read o (chars bytes) nanos).0 h;
   accepts = λ n read. refl;
   refused = tt;
-  fits = fits;
 }
-parses_text o bytes (Err f) h fits = record {
+reads_text o bytes (Err f) h = record {
   read = tt;
   accepts = λ n read. cc (h.1, (answer_is_reading_holds.read o (chars bytes) n).1 read);
   refused = (h.0, (answer_is_reading_holds.refused o (chars bytes) f.cause).0 h.1);
-  fits = fits;
 }
+
+-- What holds of nanoseconds holds of them as a duration.
+pub parses_text : (o : Options) (bytes : List ℕ) (n : Result ℕ Fault) (r : Result Duration Fault) → IsDurationOf n r
+    → ReadsText o bytes n → ParsesText o bytes r
+parses_text o bytes (Ok nanos) (Ok d) is h = record {
+  read = rw is h.read;
+  accepts = h.accepts;
+  refused = tt;
+  fits = rw is (read_below h.read);
+}
+parses_text o bytes (Err f) (Err g) is h = record {
+  read = tt;
+  accepts = h.accepts;
+  refused = rw is h.refused;
+  fits = tt;
+}
+parses_text o bytes _ _ is h = absurd is
+
+pub same_on_ok : (A : Type 0) (n : Result ℕ Fault) (r : Result Duration Fault) → IsDurationOf n r → OnOk n A → OnOk r A
+same_on_ok A (Ok nanos) (Ok d) is h = h
+same_on_ok A (Err f) (Err g) is h = h
+same_on_ok A _ _ is h = absurd is
+
+pub same_on_err : (P : Cause → Type 0) (n : Result ℕ Fault) (r : Result Duration Fault) → IsDurationOf n r
+    → IfErr n (λ f. P f.cause) → IfErr r (λ f. P f.cause)
+same_on_err P (Ok nanos) (Ok d) is h = h
+same_on_err P (Err f) (Err g) is h = rw is h
+same_on_err P _ _ is h = absurd is

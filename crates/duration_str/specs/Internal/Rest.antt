@@ -1,31 +1,29 @@
 -- What is left of a text while it is read: the next thing to read, and the answer.
-use Rattle.std.specs.Prelude.{◌≡◌, ℕ, zero, suc, ◌+◌, ◌≤◌, Bool, false, List, [], ◌∷◌, ◌++◌, length, take}
-use Rattle.std.specs.Prelude.{drop, Option, Some, None, Result, Ok, Err, IfOk, IfErr, IfSome, IsTrue, if◌then◌else◌}
+use Rattle.std.specs.Prelude.{◌≡◌, ℕ, zero, suc, ◌≤◌, Bool, false, List, [], ◌∷◌, length, take}
+use Rattle.std.specs.Prelude.{drop, Option, Some, None, Result, Ok, Err, IfErr, if◌then◌else◌}
 use Rattle.std.specs.Option.{ForSome, ok_or}
 use Rattle.std.specs.Duration.{as_nanos}
-use Rattle.std.specs.Str.{chars}
 use Rattle.std.specs.declared.time.Duration.{Duration}
 use Rattle.duration_str.specs.declared.options.Options.{Options}
 use Rattle.duration_str.specs.declared.unit.TimeUnit.{TimeUnit}
-use Rattle.duration_str.specs.declared.unit.TimeUnit.TheVariants.{Second, NanoSecond}
+use Rattle.duration_str.specs.declared.unit.TimeUnit.TheVariants.{Second}
 use Rattle.duration_str.specs.declared.operator.CondUnit.{CondUnit}
-use Rattle.duration_str.specs.declared.operator.CondUnit.TheVariants.{Plus, Star}
+use Rattle.duration_str.specs.declared.operator.CondUnit.TheVariants.{Plus}
 use Rattle.duration_str.specs.declared.cause.Cause.{Cause}
 use Rattle.duration_str.specs.declared.cause.Cause.TheVariants.{Syntax, Overflow, Mixed}
 use Rattle.duration_str.specs.declared.cause.Expected.{Expected}
 use Rattle.duration_str.specs.declared.fault.Fault.{Fault}
 use Rattle.duration_str.specs.declared.token.Tokens.{Tokens}
-use Rattle.duration_str.specs.Results.{IsValueOrFault}
 use Rattle.duration_str.specs.Grammar.{Terminal, number, word, operator, terminal_of}
 use Rattle.duration_str.specs.Tokens.{Token}
-use Rattle.duration_str.specs.Value.{second, combination, fits, is_same_operator, unless, fault_or}
+use Rattle.duration_str.specs.Value.{combination, is_same_operator, unless, fault_or}
 use Rattle.duration_str.specs.Internal.Numbers.{u64_from, checked_term}
-use Rattle.duration_str.specs.Answer.{answer, answer_at, expected_at_start, expected_after_number}
+use Rattle.duration_str.specs.Answer.{answer_at, expected_at_start, expected_after_number}
 use Rattle.duration_str.specs.Answer.{expected_after_unit, expected_after, last_of, front_after, front_of}
 use Rattle.duration_str.specs.Faults.{place_of}
 use Rattle.duration_str.specs.Iteration.{source, options_of, cut_place, tokens_left}
 use Rattle.duration_str.specs.Internal.Steps.{IsAhead}
-use Rattle.duration_str.specs.declared.token.Sort.TheVariants.{Number}
+use Rattle.duration_str.specs.declared.token.TokenStart.TheVariants.{Number}
 
 -- ---- What is left, and what is read next
 
@@ -99,40 +97,31 @@ IsPlaceless cause = place_of cause ≡ None
 
 -- ---- The answer
 
--- the answer to a text that starts with these terminals, when this rest is left and must start with a number
-abbrev pub answer_left : Bool → List Terminal → Rest → Result ℕ Cause
-answer_left no_calc front rest =
+-- the answer to a text when this rest is left and must start with a number
+abbrev pub answer_left : Bool → Rest → Result ℕ Cause
+answer_left no_calc rest =
     let terminals = terminals_in rest in
     let n = front_of no_calc terminals in
-    answer_at no_calc (start_left n rest) (front ++ take n terminals) (drop n terminals)
+    answer_at no_calc (start_left n rest) (take n terminals) (drop n terminals)
 
--- The result is the computed answer `a`, as a duration or as a fault of these bytes.
-abbrev pub ReturnsAnswer : Result ℕ Cause → List ℕ → Result Duration Fault → Type 0
-ReturnsAnswer a bytes result = IsValueOrFault (λ d. a ≡ Ok (as_nanos d)) (λ cause. a ≡ Err cause) bytes result
-
--- a first term of `nanos` nanoseconds, and the operator after it
-abbrev pub first_term : ℕ → CondUnit → List Terminal
-first_term nanos op = number nanos ∷ word (Some NanoSecond) ∷ operator op ∷ []
+-- The result is these nanoseconds as a duration, or the same fault.
+abbrev pub IsDurationOf : Result ℕ Fault → Result Duration Fault → Type 0
+IsDurationOf (Ok nanos) (Ok d) = as_nanos d ≡ nanos
+IsDurationOf (Err fault) (Err same) = same ≡ fault
+IsDurationOf _ _ = ⊥
 
 -- ---- Values, or the first fault
-
--- the neutral value: 0 for sums, one second for products
-abbrev pub identity_of : CondUnit → ℕ
-identity_of Plus = 0
-identity_of Star = second
 
 -- two values combined, the second one or its fault given, if that is below 2^64; otherwise an overflow
 abbrev pub checked_combination : CondUnit → ℕ → Result ℕ Cause → Result ℕ Cause
 checked_combination op x (Ok y) = ok_or (u64_from (combination op x y)) (Overflow None)
 checked_combination op x (Err cause) = Err cause
 
--- the overflow of the first value and the later ones so far, which is reported under `no_calc`
-abbrev pub sum_fault : Bool → ℕ → ℕ → Option Cause
-sum_fault no_calc first total = if no_calc then unless (fits (first + total)) (Overflow None) else None
-
--- the value of the later terms, `total` so far, with one more, or its fault; the operator `next` stands before it
-abbrev pub with_term : CondUnit → ℕ → CondUnit → Option ℕ → ℕ → Result ℕ Cause
-with_term op total next n length =
+-- the total of the later terms with one more, or its fault: `later` is the operator between them with their total so
+-- far, and the operator `next` stands before this one
+abbrev pub with_term : Option (CondUnit × ℕ) → CondUnit → Option ℕ → ℕ → Result ℕ Cause
+with_term None next n length = checked_term None n length
+with_term (Some (op, total)) next n length =
     fault_or (unless (is_same_operator op next) (Mixed op next))
     (checked_combination op total (checked_term None n length))
 
@@ -168,24 +157,3 @@ pub record CutsOn {A : Type 0} (old new : Tokens) (result : Result A Cause) : Ty
 abbrev pub IsFollowed : Tokens → Option CondUnit → Type 0
 IsFollowed s None = cut_place s ≡ length (source s)
 IsFollowed s (Some op) = IsAhead s (Some Number)
-
--- ---- Once the first term is read
-
--- the answer, given the first value with the operator after it, or its fault, and this rest
-abbrev pub answer_begun : Bool → Rest → Result (ℕ × Option CondUnit) Cause → Result ℕ Cause
-answer_begun no_calc rest (Ok (first, None)) = Ok first
-answer_begun no_calc rest (Ok (first, Some op)) = answer_left no_calc (first_term first op) rest
-answer_begun no_calc rest (Err cause) = Err cause
-
--- After the operator a number is ahead, and without one the whole source is cut. Under `no_calc` it is a plus.
-pub record IsBegun (no_calc : Bool) (s : Tokens) (op : Option CondUnit) : Type 0 where
-  pub next : IsFollowed s op
-  pub plus : IsTrue no_calc → IfSome op (λ op. op ≡ Plus)
-
--- The tokens are those of the text, read up to the operator after the first term, or up to the fault before it.
-pub record BeginsText (o : Options) (bytes : List ℕ) (s : Tokens) (r : Result (ℕ × Option CondUnit) Cause)
-    : Type 0 where
-  pub same_source : source s ≡ bytes
-  pub same_answer : answer o (chars bytes) ≡ answer_begun o.no_calc (rest_of s) r
-  pub next : IfOk r (λ begun. IsBegun o.no_calc s begun.1)
-  pub reached : IfErr r (IsPlacedUpTo (cut_place s))

@@ -2,8 +2,8 @@
 use Rattle.std.specs.Prelude.{◌≡◌, ℕ, Bool, true, false, List, ◌∷◌, Option, Some, None, ⊤, if◌then◌else◌}
 use Rattle.duration_str.specs.declared.options.Options.{Options}
 use Rattle.duration_str.specs.declared.operator.CondUnit.{CondUnit}
-use Rattle.duration_str.specs.declared.token.Sort.{Sort}
-use Rattle.duration_str.specs.declared.token.Sort.TheVariants as sorts
+use Rattle.duration_str.specs.declared.token.TokenStart.{TokenStart}
+use Rattle.duration_str.specs.declared.token.TokenStart.TheVariants as sorts
 use Rattle.duration_str.specs.declared.token.Tokens.{Tokens}
 use Rattle.duration_str.specs.Text.{is_blank, is_digit, is_unit_letter, operator_of}
 use Rattle.duration_str.specs.Grammar.{Terminal, number, word, operator, other, terminal_of}
@@ -14,16 +14,16 @@ use Rattle.duration_str.specs.Internal.Positions.{Between}
 -- ---- Sorts
 
 -- the sort of an operator, or `Other` without one
-abbrev pub sign_sort : Option CondUnit → Sort
+abbrev pub sign_sort : Option CondUnit → TokenStart
 sign_sort (Some op) = sorts.Operator op
 sign_sort None = sorts.Other
 
 -- the sort of a token that begins with this character
-abbrev pub sort_at : Options → ℕ → Sort
+abbrev pub sort_at : Options → ℕ → TokenStart
 sort_at o c = if is_digit c then sorts.Number else if is_unit_letter o c then sorts.Word else sign_sort (operator_of c)
 
 -- the sort of a token that stands for this terminal
-abbrev pub sort_of : Terminal → Sort
+abbrev pub sort_of : Terminal → TokenStart
 sort_of (number n) = sorts.Number
 sort_of (word u) = sorts.Word
 sort_of (operator op) = sorts.Operator op
@@ -32,37 +32,37 @@ sort_of other = sorts.Other
 -- ---- What is ahead
 
 -- The character ahead starts a token of this sort.
-pub record StartsToken (s : Tokens) (sort : Sort) : Type 0 where
+pub record StartsToken (s : Tokens) (sort : TokenStart) : Type 0 where
   pub character : ℕ
   pub is_head : s.head ≡ Some character
   pub not_blank : is_blank character ≡ false
   pub is_sort : sort ≡ sort_at (options_of s) character
 
 -- A token of this sort is ahead; `None` at the end.
-abbrev pub IsAhead : Tokens → Option Sort → Type 0
+abbrev pub IsAhead : Tokens → Option TokenStart → Type 0
 IsAhead s None = s.head ≡ None
 IsAhead s (Some sort) = StartsToken s sort
 
 -- Blanks are skipped, so the same tokens are left, and the character ahead starts a token of this sort; `None` at the
 -- end.
-pub record LooksAhead (old new : Tokens) (sort : Option Sort) : Type 0 where
+pub record LooksAhead (old new : Tokens) (sort : Option TokenStart) : Type 0 where
   pub kept : KeepsInput old new
   pub same_left : tokens_left new ≡ tokens_left old
   pub ahead : IsAhead new sort
 
 -- whether a number is ahead
-abbrev pub is_number : Option Sort → Bool
+abbrev pub is_number : Option TokenStart → Bool
 is_number (Some sorts.Number) = true
 is_number _ = false
 
 -- Blanks are skipped, and the answer is whether a number is ahead.
 pub record LooksForNumber (old new : Tokens) (answer : Bool) : Type 0 where
-  pub sort : Option Sort
+  pub sort : Option TokenStart
   pub look : LooksAhead old new sort
   pub is_answer : answer ≡ is_number sort
 
 -- The sort is of a single character, neither a digit nor a unit letter.
-abbrev pub IsSign : Sort → Type 0
+abbrev pub IsSign : TokenStart → Type 0
 IsSign sorts.Number = ⊥
 IsSign sorts.Word = ⊥
 IsSign _ = ⊤
@@ -92,4 +92,5 @@ pub record TakesTokenWith (old new : Tokens) (Has : Terminal → Type 0) : Type 
 -- If a token of a single character is ahead, it is taken; it stands for a terminal of its sort.
 abbrev pub TakesSign : Tokens → Tokens → Type 0
 TakesSign old new =
-    (sort : Sort) → IsSign sort → IsAhead old (Some sort) → TakesTokenWith old new (λ terminal. sort ≡ sort_of terminal)
+    (sort : TokenStart) → IsSign sort → IsAhead old (Some sort)
+    → TakesTokenWith old new (λ terminal. sort ≡ sort_of terminal)

@@ -17,5 +17,5 @@ pub record IsRow (row : Row) (r : UnitRow) : Type 0 where
   pub chinese : AreEncoded row.chinese.now r.chinese
 
 -- how many units are longer
-abbrev pub place_of : TimeUnit → ℕ
-place_of u = count_by (λ v. nat_lt (nanos_of u) (nanos_of v)) units
+abbrev pub rank_of : TimeUnit → ℕ
+rank_of u = count_by (λ v. nat_lt (nanos_of u) (nanos_of v)) units

@@ -69,11 +69,14 @@ impl Read for Blanks {
     }
 }
 
+/// The bytes that a `Sink` can hold.
+const ROOM: usize = 2_048;
+
 /// Takes at most `step` bytes per call into a fixed buffer, and counts the flushes. The call after `calls` calls fails,
 /// or the first flush if `flushes` is not set, and later ones work again.
 #[derive(Drop)]
 struct Sink {
-    held: [u8; 64],
+    held: [u8; ROOM],
     len: usize,
     step: usize,
     calls: usize,
@@ -81,7 +84,7 @@ struct Sink {
     flushes: bool,
     has_failed: bool,
     is_called_again: bool,
-    ghost within: { len ≤ 64 },
+    ghost within: { len ≤ 2_048 },
 }
 
 impl Sink {
@@ -91,7 +94,7 @@ impl Sink {
 
     fn taking(step: usize, calls: usize) -> Sink {
         Sink {
-            held: [0; 64],
+            held: [0; ROOM],
             len: 0,
             step,
             calls,
@@ -115,7 +118,7 @@ impl Write for Sink {
             return Err(io::Error::from(ErrorKind::Other));
         }
         self.calls = self.calls.saturating_sub(1);
-        let count = buf.len().min(self.step).min(64 - self.len);
+        let count = buf.len().min(self.step).min(ROOM - self.len);
         self.held[self.len..self.len + count].copy_from_slice(&buf[..count]);
         self.len += count;
         Ok(count)
@@ -165,6 +168,35 @@ fn answers_each_line(rt: HostRuntime) {
     for (input, wanted, output) in rows {
         assert!(rt; ends(rt.alloc(), Source::new(input), Sink::new(), wanted, output));
     }
+}
+
+#[test]
+fn flushes_outputs_of_all_lengths(rt: HostRuntime) -> Result<(), Fail> {
+    let (mut input, mut output) = (Vec::new(rt.alloc()), Vec::new(rt.alloc()));
+    for lines in 0..400u32 {
+        let (source, sink) = (Source::new(&input), Sink::new());
+        assert!(rt;
+            ends(rt.alloc(), source, sink, Ok(true), &output),
+            "{lines}"
+        );
+        input.extend_from_slice(b"0\n")?;
+        output.extend_from_slice(b"0 0s\n")?;
+    }
+    Ok(())
+}
+
+#[test]
+fn reads_inputs_about_each_power_of_two(rt: HostRuntime) -> Result<(), Fail> {
+    let blanks = vec![in rt.alloc(); b' '; 1_048_576]?;
+    for power in 0..21u32 {
+        for len in (1usize << power) - 1..(1usize << power) + 2 {
+            let mut source = Source::new(blanks.get(..len).unwrap_or(b" "));
+            let mut written = Vec::new(rt.alloc());
+            let answer = run(rt.alloc(), &mut source, &mut written, Options::off());
+            assert!(rt; answer == Ok(len == 0) && source.bytes.is_empty(), "{len}");
+        }
+    }
+    Ok(())
 }
 
 #[test]

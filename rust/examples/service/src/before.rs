@@ -1,5 +1,5 @@
 //! The program before it was changed over, for the test of what its texts meant then.
-use humantime::{format_duration, parse_duration, Duration as HumanDuration};
+use ::humantime;
 use std::error::Error;
 
 mod service;
@@ -13,7 +13,7 @@ const IS_BEFORE: bool = true;
 
 /// Stands in for the crate humantime-serde, which Debian does not have.
 mod humantime_serde {
-    use super::{format_duration, parse_duration};
+    use crate::humantime::{format_duration, parse_duration};
     use serde::{de::Error, Deserialize, Deserializer, Serializer};
     use std::time::Duration;
 

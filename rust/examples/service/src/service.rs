@@ -1,5 +1,6 @@
 //! The settings of a service, from its command line and a configuration file.
-use crate::{format_duration, humantime_serde, parse_duration, HumanDuration};
+use crate::humantime::{self, format_duration, parse_duration};
+use crate::humantime_serde;
 use clap::Parser;
 use serde::{Deserialize, Serialize};
 use std::error::Error;
@@ -14,7 +15,7 @@ pub struct Arguments {
     pub timeout: Option<Duration>,
     /// The time between two attempts
     #[arg(long, default_value = "1s 500ms")]
-    pause: HumanDuration,
+    pause: humantime::Duration,
     /// The configuration, a file of JSON
     config: PathBuf,
 }
@@ -54,6 +55,10 @@ pub fn main() -> Result<(), Box<dyn Error + Send + Sync>> {
     println!("{}", settings(&Arguments::parse())?);
     Ok(())
 }
+
+#[cfg(test)]
+#[path = "../../../tests/all/humantime_items.rs"]
+mod humantime_items;
 
 #[cfg(test)]
 mod tests {

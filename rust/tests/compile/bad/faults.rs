@@ -6,4 +6,5 @@ fn main() {
     duration!("");
     duration!("1+2", no_calc);
     duration!("3分");
+    duration!("2H", lowercase);
 }

@@ -6,4 +6,4 @@ use Rattle.uses.proofs.cache.key.Goals as goal
 pub returns : goal.returns
 returns c =
     let fits : FitsDuration (as_nanos c.args.length) = omega arith in
-    printed_is_key c.greatest_breakdown.ensures c.equal_texts.ensures _ _ fits c.write_human.ensures.text
+    printed_is_key c.greatest_breakdown.ensures c.equal_texts.ensures _ _ _ fits (c.in_parts.ensures (omega arith))

@@ -7,7 +7,8 @@ pub returns : goal.returns
 returns c =
     let left : ℕ = as_nanos c.args.left.now in
     let text : List ℕ = chars c.write_within.result.now in
-    let printed : IsPrintedWithin coarse left text = rw c.none.ensures at c.write_within.ensures.text in
+    let printed : IsPrintedWithin coarse left text =
+    rw (c.parts.ensures, c.smallest.ensures, c.whole.ensures) at c.write_within.ensures.text in
     let law = c.never_more.ensures coarse left text printed in
     let most : IsMostWithin coarse left text law.0 = law.1 in (
       law.0,

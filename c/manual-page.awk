@@ -1,0 +1,32 @@
+# The header as the description of a manual page: each comment as paragraphs, and below it what it describes.
+BEGIN { RS = "" }
+
+# Prints words in lines of up to 50 bytes, each sentence on a line of its own, as manual pages want it.
+function fill(text, word, count, line, at) {
+    count = split(text, word, " ")
+    for (at = 1; at <= count; at++) {
+        if (line != "" && (line ~ /\.$/ || length(line) + length(word[at]) > 50)) {
+            print line
+            line = ""
+        }
+        line = line (line == "" ? (word[at] ~ /^[.']/ ? "\\&" : "") : " ") word[at]
+    }
+    print line
+}
+
+/^\/\*/ && !/__GNUC__/ {
+    end = index($0, "*/")
+    comment = substr($0, 4, end - 5)
+    declaration = substr($0, end + 3)
+    gsub(/DURATION_STR_(MUST_USE|NONNULL\([0-9, ]*\))[ \n]*|#(ifndef|define) DURATION_STR_H\n?/, "", declaration)
+    gsub(/\\/, "\\e", declaration)
+    count = split(comment, paragraph, /\n \*\n \* /)
+    for (at = 1; at <= count; at++) {
+        gsub(/\n \*/, "", paragraph[at])
+        if (NR > 1 || at > 1)
+            print ".Pp"
+        fill(paragraph[at])
+    }
+    if (declaration != "")
+        print ".Bd -literal\n" declaration "\n.Ed"
+}

@@ -1,0 +1,139 @@
+// Made by tools/erase of crates/duration_str_c/src/answer.rt.
+//! Answers: the value of a text or everything about its fault, as a C struct.
+
+use duration_str_core::{Cause, CondUnit, Expected, Fault, Options};
+
+const EMPTY: u32 = 1;
+
+const SYNTAX: u32 = 2;
+
+const NUMBER_TOO_LARGE: u32 = 3;
+
+const OVERFLOW: u32 = 4;
+
+const MIXED: u32 = 5;
+
+const OUT_OF_RANGE: u32 = 6;
+
+const NOT_TEXT: u32 = 7;
+
+const NUMBER: u32 = 1;
+
+const UNIT: u32 = 2;
+
+const OPERATOR: u32 = 4;
+
+const END: u32 = 8;
+
+/// What a text is read as, or why it is refused. Fields that a case does not use are 0.
+#[repr(C)]
+#[derive(Clone, Copy)]
+pub struct Answer {
+    /// The value in nanoseconds, if the text is read.
+    pub nanos: u64,
+    /// The byte offset of the fault, if it has a place.
+    pub place: usize,
+    /// For a syntax fault: the length in bytes of the token at the place; 0 at the end.
+    pub found_length: usize,
+    /// 0 if the text is read, otherwise the number of the cause, from 1 for `Empty` to 7 for `NotText`.
+    pub cause: u32,
+    /// For a syntax fault: what could stand at the place, as bits: 1 a number, 2 a unit, 4 an operator, 8 the end.
+    pub expected: u32,
+    /// 1 if the fault has a place, otherwise 0.
+    pub has_place: u8,
+    /// For mixed operators: the one that came first, as its character.
+    pub first_operator: u8,
+    /// For mixed operators: the one that came later.
+    pub later_operator: u8,
+}
+
+impl Answer {
+    /// The answer with a value.
+    pub(crate) fn value(nanos: u64) -> Answer {
+        Answer {
+            nanos,
+            place: 0,
+            found_length: 0,
+            cause: 0,
+            expected: 0,
+            has_place: 0,
+            first_operator: 0,
+            later_operator: 0,
+        }
+    }
+
+    /// The answer with a refusal, and the length of the token at its place.
+    pub(crate) fn refusal(cause: Cause, found_length: usize) -> Answer {
+        let place = cause.place();
+        let (first_operator, later_operator) = signs_of(cause);
+        Answer {
+            nanos: 0,
+            place: place.unwrap_or(0),
+            found_length,
+            cause: cause_number(cause),
+            expected: expected_bits(cause),
+            has_place: u8::from(place.is_some()),
+            first_operator,
+            later_operator,
+        }
+    }
+}
+
+/// The answer with the fault for which a text is refused under these options.
+pub(crate) fn refused(fault: Fault<'_>, options: Options) -> Answer {
+    Answer::refusal(fault.cause(), found_length(&fault, options))
+}
+
+/// The length in bytes of the token at the place of a syntax fault; 0 without one.
+fn found_length(fault: &Fault<'_>, options: Options) -> usize {
+    match fault.found(options) {
+        Some(token) => token.len(),
+        None => 0,
+    }
+}
+
+/// The number of a cause.
+pub(crate) fn cause_number(cause: Cause) -> u32 {
+    match cause {
+        Cause::Empty => EMPTY,
+        Cause::Syntax { .. } => SYNTAX,
+        Cause::NumberTooLarge { .. } => NUMBER_TOO_LARGE,
+        Cause::Overflow { .. } => OVERFLOW,
+        Cause::Mixed { .. } => MIXED,
+        Cause::OutOfRange => OUT_OF_RANGE,
+        _ => NOT_TEXT,
+    }
+}
+
+/// The bits of the kinds that could stand at the place of a syntax fault; 0 for other causes.
+fn expected_bits(cause: Cause) -> u32 {
+    match cause {
+        Cause::Syntax { expected, .. } => bits_of(expected),
+        _ => 0,
+    }
+}
+
+/// The bits of the kinds that could stand at a place.
+fn bits_of(expected: Expected) -> u32 {
+    let number = if expected.number { NUMBER } else { 0 };
+    let unit = if expected.unit_word { UNIT } else { 0 };
+    let operator = if expected.operator { OPERATOR } else { 0 };
+    let end = if expected.text_end { END } else { 0 };
+    number + unit + operator + end
+}
+
+/// The characters of the first and the later operator for mixed operators, otherwise 0.
+fn signs_of(cause: Cause) -> (u8, u8) {
+    match cause {
+        Cause::Mixed { first, later } => (sign_code(first), sign_code(later)),
+        _ => (0, 0),
+    }
+}
+
+/// The character of an operator.
+fn sign_code(operator: CondUnit) -> u8 {
+    match operator {
+        CondUnit::Plus => b'+',
+        CondUnit::Star => b'*',
+    }
+}

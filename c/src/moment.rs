@@ -1,0 +1,105 @@
+// Made by tools/erase of crates/duration_str_c/src/moment.rt.
+//! Moments, and how the value of a text moves them.
+
+use crate::answer::{Answer, refused};
+use crate::{options_of_bits, read, text_of};
+use duration_str_core::Cause;
+use crate::jiff::Timestamp;
+use core::time::Duration;
+
+const SECOND: i128 = 1_000_000_000;
+
+/// A moment, counted from 1970-01-01T00:00:00Z.
+#[repr(C)]
+#[derive(Clone, Copy)]
+pub struct Moment {
+    /// Whole seconds, negative before 1970.
+    pub secs: i64,
+    /// The nanoseconds after them, below 1,000,000,000.
+    pub nanos: u32,
+}
+
+/// The direction in which a moment moves.
+#[derive(Clone, Copy)]
+enum Direction {
+    /// Forward.
+    After,
+    /// Back.
+    Before,
+}
+
+/// The timestamp of the moment, if there is one.
+fn timestamp_of(moment: Moment) -> Option<Timestamp> {
+    if i128::from(moment.nanos) >= SECOND {
+        return None;
+    }
+    let instant = i128::from(moment.secs) * SECOND + i128::from(moment.nanos);
+    match Timestamp::from_nanosecond(instant) {
+        Ok(timestamp) => Some(timestamp),
+        Err(_) => None,
+    }
+}
+
+/// The moment of a timestamp.
+fn moment_of(timestamp: Timestamp) -> Moment {
+    let instant = timestamp.as_nanosecond();
+    Moment {
+        secs: instant.div_euclid(SECOND) as i64,
+        nanos: instant.rem_euclid(SECOND) as u32,
+    }
+}
+
+/// The moment this long after or before a timestamp; `None` if out of range.
+fn moved(from: Timestamp, length: Duration, direction: Direction) -> Option<Moment> {
+    let reached = match direction {
+        Direction::After => from.checked_add(length),
+        Direction::Before => from.checked_sub(length),
+    };
+    match reached {
+        Ok(timestamp) => Some(moment_of(timestamp)),
+        Err(_) => None,
+    }
+}
+
+/// Moves the moment by the value of a text, and returns the answer.
+fn answer_to_move(text: &[u8], options: u32, moment: &mut Moment, direction: Direction) -> Answer {
+    let Some(from) = timestamp_of(*moment) else {
+        return Answer::refusal(Cause::OutOfRange, 0);
+    };
+    let Some(text) = text_of(text) else {
+        return Answer::refusal(Cause::NotText { optional: false }, 0);
+    };
+    let options = options_of_bits(options);
+    let nanos = match read(text, options) {
+        Ok(nanos) => nanos,
+        Err(fault) => return refused(fault, options),
+    };
+    let Some(reached) = moved(from, Duration::from_nanos(nanos), direction) else {
+        return Answer::refusal(Cause::OutOfRange, 0);
+    };
+    *moment = reached;
+    Answer::value(nanos)
+}
+
+/// Moves the moment forward by the value of a text, which is read under the options whose bits are set. Returns true if
+/// it is moved; otherwise it is unchanged, and the answer says why.
+pub fn duration_str_after(
+    text: &[u8],
+    options: u32,
+    moment: &mut Moment,
+    answer: &mut Answer,
+) -> bool {
+    *answer = answer_to_move(text, options, moment, Direction::After);
+    answer.cause == 0
+}
+
+/// Moves the moment back, in the same way as `duration_str_after` moves it forward.
+pub fn duration_str_before(
+    text: &[u8],
+    options: u32,
+    moment: &mut Moment,
+    answer: &mut Answer,
+) -> bool {
+    *answer = answer_to_move(text, options, moment, Direction::Before);
+    answer.cause == 0
+}

@@ -1,0 +1,13 @@
+use Rattle.duration_str.proofs.Common.{◌≡◌, rest_of, answer_left, operator_read, source}
+use Rattle.duration_str.proofs.OnePass.TermsLemmas.{after_unit, with_left, count}
+use Rattle.duration_str.proofs.reader.read.Given as goal
+
+abbrev pub invariant-loop-next : goal.invariant-loop-next
+invariant-loop-next l = record {
+  same_source : source l.tokens ≡ source l.fn.tokens;
+  same : with_left l.no_calc l.first l.later (after_unit l.no_calc (operator_read l.no_calc (rest_of l.tokens)))
+      ≡ answer_left l.no_calc (rest_of l.fn.tokens);
+}
+
+abbrev pub decreases-loop-next : goal.decreases-loop-next
+decreases-loop-next l = count (after_unit l.no_calc (operator_read l.no_calc (rest_of l.tokens)))

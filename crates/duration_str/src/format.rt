@@ -1,0 +1,140 @@
+//! How a duration is printed: in the units from a largest to a smallest, in so many parts at most, and in a style.
+ghost use Rattle.std.specs.Prelude.{◌≡◌};
+ghost use Rattle.duration_str.specs.Limits.{units_within, whole_format};
+
+use crate::unit::{TimeUnit, UNITS};
+
+/// How a duration is printed: in which units, in how many parts at most, and in which style. It begins with
+/// [`Format::whole`], since a later version may have more fields.
+///
+/// ```
+/// use duration_str::{Format, TimeUnit, write_within};
+/// use std::time::Duration;
+///
+/// let days = Format::whole().largest(TimeUnit::Day);
+/// assert_eq!(write_within(&Duration::new(120 * 86_400, 5), days, &mut [0; 144]), "120d 5ns");
+/// ```
+#[derive(Clone, Copy, Debug, PartialEq, Eq, Hash)]
+pub struct Format {
+    /// The largest unit that is printed. If it is shorter than the smallest, every duration prints as the zero, as
+    /// [`write_within`](crate::write_within) says.
+    pub largest: TimeUnit,
+    /// The smallest unit that is printed.
+    pub smallest: TimeUnit,
+    /// How many parts are printed at most. If it is 0, every duration prints as the zero.
+    pub parts: usize,
+    /// How the parts are written.
+    pub style: Style,
+}
+
+/// How the parts of a printed duration are written.
+#[derive(Clone, Copy, Debug, PartialEq, Eq, Hash)]
+pub enum Style {
+    /// `1h 30min`
+    Short,
+    /// `1h30min`
+    Compact,
+    /// `1 hour 30 minutes`
+    Long,
+}
+
+impl Format {
+    /// All units, as many parts as there are units, and the short style: so everything is printed, as `write_human`
+    /// does.
+    ///
+    /// ```
+    /// assert_eq!(duration_str::Format::whole().parts, 11);
+    /// ```
+    #[must_use]
+    pub const fn whole() -> Format
+        ensures { result ≡ whole_format }
+    {
+        Format {
+            largest: TimeUnit::Year,
+            smallest: TimeUnit::NanoSecond,
+            parts: UNITS.len(),
+            style: Style::Short,
+        }
+    }
+
+    /// The same format with this largest unit.
+    ///
+    /// ```
+    /// use duration_str::{Format, TimeUnit, write_within};
+    /// use std::time::Duration;
+    ///
+    /// let minutes = Format::whole().largest(TimeUnit::Minute);
+    /// assert_eq!(write_within(&Duration::new(5_430, 0), minutes, &mut [0; 144]), "90min 30s");
+    /// ```
+    #[inline]
+    #[must_use]
+    pub const fn largest(self, largest: TimeUnit) -> Format
+        ensures { result ≡ record self { largest = largest } }
+    {
+        Format { largest, ..self }
+    }
+
+    /// The same format with this smallest unit.
+    ///
+    /// ```
+    /// use duration_str::{Format, TimeUnit, write_within};
+    /// use std::time::Duration;
+    ///
+    /// let minutes = Format::whole().smallest(TimeUnit::Minute);
+    /// assert_eq!(write_within(&Duration::new(5_430, 0), minutes, &mut [0; 144]), "1h 30min");
+    /// assert_eq!(write_within(&Duration::new(30, 0), minutes, &mut [0; 144]), "0min");
+    /// ```
+    #[inline]
+    #[must_use]
+    pub const fn smallest(self, smallest: TimeUnit) -> Format
+        ensures { result ≡ record self { smallest = smallest } }
+    {
+        Format { smallest, ..self }
+    }
+
+    /// The same format with so many parts at most.
+    ///
+    /// ```
+    /// use duration_str::{Format, write_within};
+    /// use std::time::Duration;
+    ///
+    /// let one_part = Format::whole().parts(1);
+    /// assert_eq!(write_within(&Duration::new(5_430, 0), one_part, &mut [0; 144]), "1h");
+    /// ```
+    #[inline]
+    #[must_use]
+    pub const fn parts(self, parts: usize) -> Format
+        ensures { result ≡ record self { parts = parts } }
+    {
+        Format { parts, ..self }
+    }
+
+    /// The same format in this style.
+    ///
+    /// ```
+    /// use duration_str::{Format, Style, write_within};
+    /// use std::time::Duration;
+    ///
+    /// let long = Format::whole().style(Style::Long);
+    /// assert_eq!(write_within(&Duration::new(5_430, 0), long, &mut [0; 144]), "1 hour 30 minutes 30 seconds");
+    /// ```
+    #[inline]
+    #[must_use]
+    pub const fn style(self, style: Style) -> Format
+        ensures { result ≡ record self { style = style } }
+    {
+        Format { style, ..self }
+    }
+
+    /// The units from the largest to the smallest.
+    pub(crate) fn units(self) -> &'static [TimeUnit]
+        ensures { result.now ≡ units_within self }
+    {
+        let first = self.largest.rank();
+        let last = self.smallest.rank();
+        if last < first {
+            return &[];
+        }
+        &UNITS[first..last + 1]
+    }
+}

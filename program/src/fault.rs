@@ -1,0 +1,23 @@
+// Made by tools/erase of crates/durstr_run/src/fault.rt.
+//! Why a run ended before all was written.
+
+use crate::outside::AllocError;
+
+/// Why a run ended before everything was written.
+#[derive(Clone, Copy, Debug, PartialEq, Eq)]
+pub enum RunFault {
+    /// A read failed.
+    Read,
+    /// A write or the flush failed, or a write of a nonempty part took nothing.
+    Write,
+    /// The reader gave more than 1,048,576 bytes.
+    TooLong,
+    /// Memory was refused.
+    Memory,
+}
+
+impl From<AllocError> for RunFault {
+    fn from(_error: AllocError) -> RunFault {
+        RunFault::Memory
+    }
+}

@@ -1,0 +1,30 @@
+//! Reads durations from standard input, one on each line, and prints them. The words of the command line choose the
+//! options: `no_calc`, `lowercase`, `cn_unit`.
+#![forbid(unsafe_code)]
+
+use duration_str_core::Options;
+use durstr_run::{Heap, ending, run, with_word};
+use std::io::{self, Write};
+use std::process::ExitCode;
+
+/// Runs with the words of the command line, and returns the status and the line for standard error.
+fn ended() -> (u8, &'static str) {
+    let mut options = Options::off();
+    for word in std::env::args_os().skip(1) {
+        match word.to_str().and_then(|word| with_word(options, word)) {
+            Some(next) => options = next,
+            None => return (2, "durstr: unknown word"),
+        }
+    }
+    let (mut input, mut output) = (io::stdin().lock(), io::stdout().lock());
+    ending(run(Heap, &mut input, &mut output, options))
+}
+
+fn main() -> ExitCode {
+    let (status, line) = ended();
+    if !line.is_empty() {
+        // The status says the same, so a failure to write this line is ignored.
+        let _ = writeln!(io::stderr(), "{line}");
+    }
+    ExitCode::from(status)
+}

@@ -1,0 +1,70 @@
+//! What stands here for the toolchain's library: a vector and a text whose memory can be refused.
+use std::fmt;
+use std::marker::PhantomData;
+use std::ops::Deref;
+
+/// Memory was refused.
+pub struct AllocError;
+
+/// From where memory is taken.
+pub trait Allocator {}
+
+/// Rust's own allocator, whatever is named.
+pub struct Heap;
+
+impl Allocator for Heap {}
+
+impl<A: Allocator> Allocator for &A {}
+
+/// A vector whose memory can be refused.
+pub struct Vec<T, A>(std::vec::Vec<T>, PhantomData<A>);
+
+impl<T: Clone, A: Allocator> Vec<T, A> {
+    pub fn new(_: A) -> Vec<T, A> {
+        Vec(std::vec::Vec::new(), PhantomData)
+    }
+
+    pub fn extend_from_slice(&mut self, slice: &[T]) -> Result<(), AllocError> {
+        self.0.try_reserve(slice.len()).map_err(|_| AllocError)?;
+        self.0.extend_from_slice(slice);
+        Ok(())
+    }
+}
+
+impl<T, A> Deref for Vec<T, A> {
+    type Target = [T];
+
+    fn deref(&self) -> &[T] {
+        &self.0
+    }
+}
+
+/// A text whose memory can be refused.
+pub struct String<A>(std::string::String, PhantomData<A>);
+
+impl<A: Allocator> String<A> {
+    pub fn new(_: A) -> String<A> {
+        String(std::string::String::new(), PhantomData)
+    }
+
+    pub fn push_str(&mut self, text: &str) -> Result<(), AllocError> {
+        self.0.try_reserve(text.len()).map_err(|_| AllocError)?;
+        self.0.push_str(text);
+        Ok(())
+    }
+
+    /// What `write!` calls. Nothing fails but memory.
+    pub fn write_fmt(&mut self, arguments: fmt::Arguments<'_>) -> Result<(), AllocError> {
+        fmt::Write::write_fmt(self, arguments).map_err(|_| AllocError)
+    }
+
+    pub fn as_bytes(&self) -> &[u8] {
+        self.0.as_bytes()
+    }
+}
+
+impl<A: Allocator> fmt::Write for String<A> {
+    fn write_str(&mut self, text: &str) -> fmt::Result {
+        self.push_str(text).map_err(|_| fmt::Error)
+    }
+}

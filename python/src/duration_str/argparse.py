@@ -1,0 +1,26 @@
+"""A type for arguments of argparse, which is imported here alone."""
+
+from __future__ import annotations
+
+import argparse
+import datetime
+
+from ._native import parse
+from ._texts import DurationError
+
+
+class DurationType:
+    """Reads a timedelta from a text, under these options. A refusal is shown as the text and the error's line."""
+
+    def __init__(self, *, no_calc: bool = False, lowercase: bool = False, cn_unit: bool = False) -> None:
+        self._options = {"no_calc": no_calc, "lowercase": lowercase, "cn_unit": cn_unit}
+
+    def __call__(self, text: str) -> datetime.timedelta:
+        try:
+            return parse(text, **self._options)
+        except DurationError as error:
+            raise argparse.ArgumentTypeError(f"{text!r}: {error}") from None
+
+
+DURATION = DurationType()
+"""For `parser.add_argument(type=DURATION)`"""

@@ -1,0 +1,288 @@
+// Made by tools/erase of crates/duration_str/src/printing.rt.
+//! Durations printed for people, such as `3min 13s 29ms`: whole, or within limits and in a style.
+//!
+//! The text has the greatest possible count of the largest unit, then the greatest count of the next in what is left,
+//! and so on down to the smallest unit, until there are so many parts. Counts of 0 are left out, and what is left then
+//! is too. The duration 0 is `0s`.
+
+use crate::format::{Format, Style};
+use crate::unit::TimeUnit;
+use core::time::Duration;
+
+/// The most bytes in a printed duration that is not in the long style:
+/// `100000000000y 3q 2mon 3w 6d 23h 59min 59s 999ms 999µs 999ns`.
+///
+/// ```
+/// use duration_str::{MAX_PRINTED_LEN, write_human};
+/// use std::time::Duration;
+///
+/// let longest = Duration::new(3_153_600_000_031_190_399, 999_999_999);
+/// assert_eq!(write_human(&longest, &mut [0; 64]).len(), MAX_PRINTED_LEN);
+/// ```
+pub const MAX_PRINTED_LEN: usize = 60;
+
+/// Prints a duration to the start of a buffer, whatever the buffer holds. The text has at most `MAX_PRINTED_LEN` bytes.
+/// Allocates nothing and cannot fail.
+///
+/// ```
+/// use duration_str::write_human;
+/// use std::time::Duration;
+///
+/// let mut buffer = [0; 64];
+/// assert_eq!(write_human(&Duration::new(193, 29_000_000), &mut buffer), "3min 13s 29ms");
+/// assert_eq!(write_human(&Duration::ZERO, &mut buffer), "0s");
+/// ```
+#[must_use]
+pub fn write_human<'b>(d: &Duration, buffer: &'b mut [u8; 64]) -> &'b str {
+    // Most durations are below a day, and have no longer units to look for.
+    let largest = if d.as_secs() < 86_400 {
+        TimeUnit::Hour
+    } else {
+        TimeUnit::Year
+    };
+    let end = fill(*d, Format::whole().largest(largest), buffer);
+    printed(buffer, end)
+}
+
+/// The most bytes in a printed duration of the long style:
+/// `100000000000 years 3 quarters 2 months 3 weeks 6 days 23 hours 59 minutes 59 seconds 999 milliseconds
+/// 999 microseconds 999 nanoseconds`.
+pub const MAX_LONG_LEN: usize = 134;
+
+/// Prints a duration within limits and in a style to the start of a buffer, whatever the buffer holds: the
+/// lexicographically greatest breakdown with only these units and so few parts that is not above the duration. If all
+/// its counts are 0, the text is the zero: `0` and the smallest unit's name, or that of the second where the unit is
+/// shorter. So it is for every duration if the largest unit is shorter than the smallest, or there are no parts. The
+/// text has at most `MAX_PRINTED_LEN` bytes, in the long style `MAX_LONG_LEN`. Allocates nothing and cannot fail.
+///
+/// ```
+/// use duration_str::{Format, Style, TimeUnit, write_within};
+/// use std::time::Duration;
+///
+/// let build = Duration::new(193, 29_000_000);
+/// let mut buffer = [0; 144];
+/// let two_parts = Format::whole().parts(2);
+/// assert_eq!(write_within(&build, two_parts, &mut buffer), "3min 13s");
+/// let hours = Format::whole().smallest(TimeUnit::Hour);
+/// assert_eq!(write_within(&build, hours, &mut buffer), "0h");
+/// assert_eq!(write_within(&build, hours.largest(TimeUnit::Minute), &mut buffer), "0h");
+/// let long = two_parts.style(Style::Long);
+/// assert_eq!(write_within(&build, long, &mut buffer), "3 minutes 13 seconds");
+/// ```
+#[inline(always)]
+#[must_use]
+pub fn write_within<'b>(d: &Duration, format: Format, buffer: &'b mut [u8; 144]) -> &'b str {
+    let end = fill(*d, format, buffer);
+    printed(buffer, end)
+}
+
+/// Writes a digit at `at`, and returns where it ends.
+#[inline(always)]
+fn put_digit(buffer: &mut [u8], at: usize, digit: u64) -> usize {
+    buffer[at] = b'0' + digit as u8;
+    at + 1
+}
+
+/// Writes the digits of `n` from `at` on, and returns where they end.
+pub(crate) fn put_number(buffer: &mut [u8], at: usize, n: u64) -> usize {
+    if n < 10 {
+        return put_digit(buffer, at, n);
+    }
+    let end = put_number(buffer, at, n / 10);
+    put_digit(buffer, end, n % 10)
+}
+
+/// Writes a count as `put_number` does. Most counts have one or two digits, which need no call: without it printing
+/// `3min 13s 29ms` takes 38 % more instructions.
+#[inline(always)]
+fn put_count(buffer: &mut [u8], at: usize, n: u64) -> usize {
+    if n < 10 {
+        return put_digit(buffer, at, n);
+    }
+    if n < 100 {
+        let tens = n / 10;
+        let end = put_digit(buffer, at, tens);
+        return put_digit(buffer, end, n - 10 * tens);
+    }
+    put_number(buffer, at, n)
+}
+
+/// Writes a text from `at` on, and returns where it ends.
+#[inline(always)]
+fn put_text(buffer: &mut [u8], at: usize, text: &str) -> usize {
+    let end = at + text.len();
+    buffer[at..end].copy_from_slice(text.as_bytes());
+    end
+}
+
+/// Writes what stands between two parts after the first `at` bytes unless `at` is 0, and returns where it ends.
+#[inline(always)]
+fn put_gap(buffer: &mut [u8], at: usize, style: Style) -> usize {
+    if at == 0 || style == Style::Compact {
+        return at;
+    }
+    put_text(buffer, at, " ")
+}
+
+/// Writes the digits of a number of up to 128 bits from `at` on, and returns where they end.
+fn put_wide(buffer: &mut [u8], at: usize, n: u128) -> usize {
+    if let Ok(small) = u64::try_from(n) {
+        return put_count(buffer, at, small);
+    }
+    let end = put_wide(buffer, at, n / 10);
+    put_digit(buffer, end, (n % 10) as u64)
+}
+
+/// Writes a unit's name from `at` on, and returns where it ends. In each arm the name is known, so that no call copies
+/// it.
+#[inline(always)]
+fn put_name(buffer: &mut [u8], at: usize, unit: TimeUnit) -> usize {
+    match unit {
+        TimeUnit::Year => put_text(buffer, at, TimeUnit::Year.name()),
+        TimeUnit::Quarter => put_text(buffer, at, TimeUnit::Quarter.name()),
+        TimeUnit::Month => put_text(buffer, at, TimeUnit::Month.name()),
+        TimeUnit::Week => put_text(buffer, at, TimeUnit::Week.name()),
+        TimeUnit::Day => put_text(buffer, at, TimeUnit::Day.name()),
+        TimeUnit::Hour => put_text(buffer, at, TimeUnit::Hour.name()),
+        TimeUnit::Minute => put_text(buffer, at, TimeUnit::Minute.name()),
+        TimeUnit::Second => put_text(buffer, at, TimeUnit::Second.name()),
+        TimeUnit::MilliSecond => put_text(buffer, at, TimeUnit::MilliSecond.name()),
+        TimeUnit::MicroSecond => put_text(buffer, at, TimeUnit::MicroSecond.name()),
+        TimeUnit::NanoSecond => put_text(buffer, at, TimeUnit::NanoSecond.name()),
+    }
+}
+
+/// Writes a unit's long name after its count from `at` on, and returns where it ends.
+#[inline(never)]
+fn put_long_name(buffer: &mut [u8], at: usize, unit: TimeUnit, one: bool) -> usize {
+    let start = put_text(buffer, at, " ");
+    let end = put_text(buffer, start, unit.long_name());
+    if one {
+        return end;
+    }
+    put_text(buffer, end, "s")
+}
+
+/// Writes what follows a count: its unit's name.
+#[inline(always)]
+fn put_name_in(buffer: &mut [u8], at: usize, unit: TimeUnit, one: bool, style: Style) -> usize {
+    match style {
+        Style::Long => put_long_name(buffer, at, unit, one),
+        _ => put_name(buffer, at, unit),
+    }
+}
+
+/// Writes a unit's part after the first `at` bytes, and returns where it ends.
+#[inline(always)]
+fn put_part(buffer: &mut [u8], at: usize, count: u128, unit: TimeUnit, style: Style) -> usize {
+    let start = put_gap(buffer, at, style);
+    let end = match u64::try_from(count) {
+        Ok(small) => put_count(buffer, start, small),
+        Err(_) => put_wide(buffer, start, count),
+    };
+    put_name_in(buffer, end, unit, count == 1, style)
+}
+
+/// Writes at most `most` parts of so many nanoseconds in these units after the first `at` bytes, and returns where they
+/// end.
+#[inline(always)]
+fn put_parts(
+    buffer: &mut [u8],
+    at: usize,
+    units: &[TimeUnit],
+    most: usize,
+    nanos: u64,
+    style: Style,
+) -> usize {
+    let mut end = at;
+    let mut left = most;
+    let mut rest = nanos;
+    for unit in units {
+        let length = unit.nanos();
+        if length <= rest {
+            if left == 0 {
+                return end;
+            }
+            end = put_part(buffer, end, u128::from(rest / length), *unit, style);
+            left -= 1;
+            rest %= length;
+            if rest == 0 {
+                return end;
+            }
+        }
+    }
+    end
+}
+
+/// The same in the short style, of which the compiler makes code of its own.
+#[inline(never)]
+fn put_short(buffer: &mut [u8], units: &[TimeUnit], most: usize, nanos: u64) -> usize {
+    put_parts(buffer, 0, units, most, nanos, Style::Short)
+}
+
+/// The same in any style.
+#[inline(never)]
+fn put_styled(buffer: &mut [u8], units: &[TimeUnit], most: usize, nanos: u64, style: Style) -> usize {
+    put_parts(buffer, 0, units, most, nanos, style)
+}
+
+/// The same for a duration of 2^64 nanoseconds or more, into which each unit goes, and leaves less.
+#[inline(never)]
+fn put_long(buffer: &mut [u8], units: &[TimeUnit], most: usize, nanos: u128, style: Style) -> usize {
+    let [unit, shorter @ ..] = units else {
+        return 0;
+    };
+    if most == 0 {
+        return 0;
+    }
+    let length = u128::from(unit.nanos());
+    let end = put_part(buffer, 0, nanos / length, *unit, style);
+    put_parts(
+        buffer,
+        end,
+        shorter,
+        most - 1,
+        (nanos % length) as u64,
+        style,
+    )
+}
+
+/// Writes the parts of so many nanoseconds to the start of the buffer, and returns where they end.
+#[inline(always)]
+fn put_within(buffer: &mut [u8], format: Format, nanos: u128) -> usize {
+    let units = format.units();
+    match u64::try_from(nanos) {
+        Ok(small) => match format.style {
+            Style::Short => put_short(buffer, units, format.parts, small),
+            style => put_styled(buffer, units, format.parts, small, style),
+        },
+        Err(_) => put_long(buffer, units, format.parts, nanos, format.style),
+    }
+}
+
+/// Writes the zero that is printed if there are no parts, and returns where it ends.
+fn put_zero(buffer: &mut [u8], smallest: TimeUnit, style: Style) -> usize {
+    let unit = if smallest.nanos() < TimeUnit::Second.nanos() {
+        TimeUnit::Second
+    } else {
+        smallest
+    };
+    let end = put_digit(buffer, 0, 0);
+    put_name_in(buffer, end, unit, false, style)
+}
+
+/// Writes the printed text to the start of the buffer, and returns its length.
+#[inline(always)]
+fn fill(d: Duration, format: Format, buffer: &mut [u8]) -> usize {
+    let end = put_within(buffer, format, d.as_nanos());
+    if end == 0 {
+        return put_zero(buffer, format.smallest, format.style);
+    }
+    end
+}
+
+/// The printed text, the first bytes of a buffer.
+#[inline(always)]
+fn printed(buffer: &[u8], end: usize) -> &str {
+    unsafe { core::str::from_utf8_unchecked(&buffer[..end]) }
+}

@@ -1,0 +1,204 @@
+//! Durations that are printed.
+use crate::human_duration::HumanDuration;
+use core::fmt::{self, Write};
+use core::time::Duration;
+use duration_str_core::{Format, Style, TimeUnit, write_human, write_within};
+
+/// A duration that is printed for people by its `Display`, which allocates nothing: whole, or in some units, in so many
+/// parts and in a style. [`format_duration`] makes it, and for durations of `chrono` and `time`
+/// [`HumanFormat::formatted`](crate::HumanFormat::formatted).
+///
+/// The text has the greatest possible count of the largest unit, then that of the next in what is left, and so on down to
+/// the smallest unit, until there are so many parts. Counts of 0 are left out, and what is left then is too. If all counts
+/// are 0, the text is `0` and the smallest unit's name, or `0s` for a unit shorter than a second; so it is for every
+/// duration if there are no parts, or the largest unit is shorter than the smallest.
+///
+/// ```
+/// use duration_str::{Style, TimeUnit, format_duration};
+/// use std::time::Duration;
+///
+/// let uptime = format_duration(Duration::from_secs(1_000_000));
+/// assert_eq!(uptime.to_string(), "1w 4d 13h 46min 40s");
+/// assert_eq!(uptime.parts(2).to_string(), "1w 4d");
+/// assert_eq!(uptime.largest(TimeUnit::Hour).smallest(TimeUnit::Minute).to_string(), "277h 46min");
+/// assert_eq!(uptime.parts(2).style(Style::Long).to_string(), "1 week 4 days");
+/// ```
+///
+/// Width and fill pad the text, and a precision is ignored. A duration of 2^64 nanoseconds or more, some 584 years, and a
+/// negative one print as texts that no call reads.
+#[derive(Clone, Copy, Debug, PartialEq, Eq, Hash)]
+pub struct FormattedDuration {
+    is_negative: bool,
+    magnitude: Duration,
+    /// `None` is whole: most are printed so, which takes less time apart.
+    chosen: Option<Format>,
+}
+
+/// The duration as what prints it. It has the name of humantime's function.
+///
+/// ```
+/// use duration_str::format_duration;
+/// use std::time::Duration;
+///
+/// assert_eq!(format!("{}", format_duration(Duration::from_secs(90))), "1min 30s");
+/// ```
+#[must_use]
+pub const fn format_duration(duration: Duration) -> FormattedDuration {
+    FormattedDuration::signed(false, duration)
+}
+
+impl FormattedDuration {
+    /// A duration by its sign and magnitude.
+    pub(crate) const fn signed(is_negative: bool, magnitude: Duration) -> FormattedDuration {
+        FormattedDuration {
+            is_negative,
+            magnitude,
+            chosen: None,
+        }
+    }
+
+    /// The duration; of a negative one the magnitude. It has the name of humantime's method.
+    ///
+    /// ```
+    /// use duration_str::format_duration;
+    /// use std::time::Duration;
+    ///
+    /// assert_eq!(format_duration(Duration::ZERO).get_ref(), &Duration::ZERO);
+    /// ```
+    #[must_use]
+    pub const fn get_ref(&self) -> &Duration {
+        &self.magnitude
+    }
+}
+
+/// The calls that choose how a duration is printed: of what is printed, and of [`HumanDuration`], which becomes that.
+macro_rules! chooses {
+    ($($(#[$doc:meta])* $name:ident: $Value:ty,)+) => {
+        impl FormattedDuration {$(
+            $(#[$doc])*
+            #[must_use]
+            pub const fn $name(self, $name: $Value) -> FormattedDuration {
+                let format = match self.chosen {
+                    Some(format) => format,
+                    None => Format::whole(),
+                };
+                FormattedDuration {
+                    chosen: Some(format.$name($name)),
+                    ..self
+                }
+            }
+        )+}
+
+        impl HumanDuration {$(
+            $(#[$doc])*
+            #[must_use]
+            pub const fn $name(self, $name: $Value) -> FormattedDuration {
+                format_duration(self.0).$name($name)
+            }
+        )+}
+    };
+}
+
+chooses! {
+    /// The duration, printed in this unit and shorter ones.
+    ///
+    /// ```
+    /// use duration_str::{TimeUnit, format_duration};
+    /// use std::time::Duration;
+    ///
+    /// let retention = Duration::from_secs(120 * 86_400);
+    /// assert_eq!(format_duration(retention).largest(TimeUnit::Day).to_string(), "120d");
+    /// ```
+    largest: TimeUnit,
+
+    /// The duration, printed in this unit and longer ones.
+    ///
+    /// ```
+    /// use duration_str::{TimeUnit, format_duration};
+    /// use std::time::Duration;
+    ///
+    /// let build = format_duration(Duration::from_millis(193_029));
+    /// assert_eq!(build.smallest(TimeUnit::Second).to_string(), "3min 13s");
+    /// assert_eq!(build.smallest(TimeUnit::Hour).to_string(), "0h");
+    /// ```
+    smallest: TimeUnit,
+
+    /// The duration, printed in at most so many parts.
+    ///
+    /// ```
+    /// use duration_str::format_duration;
+    /// use std::time::Duration;
+    ///
+    /// let build = Duration::from_millis(193_029);
+    /// assert_eq!(format_duration(build).parts(2).to_string(), "3min 13s");
+    /// ```
+    parts: usize,
+
+    /// The duration, printed in this style.
+    ///
+    /// ```
+    /// use duration_str::{Style, format_duration};
+    /// use std::time::Duration;
+    ///
+    /// let meeting = format_duration(Duration::from_secs(5_400));
+    /// assert_eq!(meeting.style(Style::Compact).to_string(), "1h30min");
+    /// assert_eq!(meeting.style(Style::Long).to_string(), "1 hour 30 minutes");
+    /// ```
+    style: Style,
+}
+
+/// A minus where the duration is negative, and the text of its magnitude.
+impl fmt::Display for FormattedDuration {
+    fn fmt(&self, f: &mut fmt::Formatter<'_>) -> fmt::Result {
+        if let Some(format) = self.chosen {
+            return self.write_within(f, format);
+        }
+        if self.magnitude.is_zero() {
+            return self.pad(f, "0s");
+        }
+        self.pad(f, write_human(&self.magnitude, &mut [0; 64]))
+    }
+}
+
+impl FormattedDuration {
+    /// Writes it in the units, parts and style that were chosen.
+    #[inline(never)]
+    fn write_within(&self, f: &mut fmt::Formatter<'_>, format: Format) -> fmt::Result {
+        self.pad(f, write_within(&self.magnitude, format, &mut [0; 144]))
+    }
+
+    /// Writes the sign and the magnitude with the width and the fill that are asked for. A precision, which
+    /// `Formatter::pad` cuts at, is ignored.
+    #[inline]
+    fn pad(&self, f: &mut fmt::Formatter<'_>, magnitude: &str) -> fmt::Result {
+        match f.width() {
+            None => self.write(f, magnitude),
+            Some(width) => self.pad_to(width, f, magnitude),
+        }
+    }
+
+    /// Writes them, and the fill around them that makes so many characters.
+    #[cold]
+    #[inline(never)]
+    fn pad_to(&self, width: usize, f: &mut fmt::Formatter<'_>, magnitude: &str) -> fmt::Result {
+        let count = usize::from(self.is_negative) + magnitude.chars().count();
+        let missing = width.saturating_sub(count);
+        let before = match f.align() {
+            Some(fmt::Alignment::Right) => missing,
+            Some(fmt::Alignment::Center) => missing / 2,
+            Some(fmt::Alignment::Left) | None => 0,
+        };
+        let fill = f.fill();
+        (0..before).try_for_each(|_| f.write_char(fill))?;
+        self.write(f, magnitude)?;
+        (before..missing).try_for_each(|_| f.write_char(fill))
+    }
+
+    /// Writes the sign and the magnitude.
+    fn write(&self, f: &mut fmt::Formatter<'_>, magnitude: &str) -> fmt::Result {
+        if self.is_negative {
+            f.write_char('-')?;
+        }
+        f.write_str(magnitude)
+    }
+}

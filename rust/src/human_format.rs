@@ -1,0 +1,85 @@
+//! Printing, of the durations of each crate.
+use crate::formatted::{FormattedDuration, format_duration};
+use crate::sealed::Sealed;
+use alloc::string::{String, ToString};
+use core::time::Duration;
+use duration_str_core::write_human;
+
+/// Durations that can be printed for people: those of `std`, `chrono` and `time`.
+///
+/// ```
+/// use duration_str::HumanFormat;
+/// use std::time::Duration;
+///
+/// assert_eq!(Duration::from_millis(193_029).human_format(), "3min 13s 29ms");
+/// assert_eq!(Duration::ZERO.human_format(), "0s");
+/// ```
+///
+/// A duration of 2^64 nanoseconds or more, some 584 years, prints as a text that no call reads.
+///
+/// A duration of `chrono` or `time` may be negative. Then it is printed as a minus and the text of its magnitude, which no
+/// call reads back, since texts have no minus:
+///
+#[cfg_attr(feature = "chrono", doc = "```")]
+#[cfg_attr(not(feature = "chrono"), doc = "```ignore")]
+/// # use duration_str::HumanFormat;
+/// assert_eq!(chrono::Duration::minutes(-90).human_format(), "-1h 30min");
+/// assert_eq!(chrono::Duration::minutes(-90).formatted().parts(1).to_string(), "-1h");
+/// ```
+pub trait HumanFormat: Sealed {
+    /// The duration as what prints it, in units, in so many parts and in a style that are chosen.
+    ///
+    /// ```
+    /// use duration_str::{HumanFormat, Style};
+    /// use std::time::Duration;
+    ///
+    /// let timeout = Duration::from_secs(5_400);
+    /// assert_eq!(timeout.formatted().style(Style::Long).to_string(), "1 hour 30 minutes");
+    /// ```
+    #[must_use]
+    fn formatted(&self) -> FormattedDuration;
+
+    /// The counts of the units from the years to the nanoseconds, without those that are 0.
+    #[must_use]
+    fn human_format(&self) -> String {
+        self.formatted().to_string()
+    }
+}
+
+impl HumanFormat for Duration {
+    fn formatted(&self) -> FormattedDuration {
+        format_duration(*self)
+    }
+
+    fn human_format(&self) -> String {
+        String::from(write_human(self, &mut [0; 64]))
+    }
+}
+
+#[cfg(feature = "chrono")]
+impl HumanFormat for chrono::Duration {
+    fn formatted(&self) -> FormattedDuration {
+        let secs = self.num_seconds();
+        let after_secs = *self - chrono::Duration::seconds(secs);
+        let nanos = after_secs
+            .num_nanoseconds()
+            .expect("less than a second is left");
+        signed(*self < chrono::Duration::zero(), secs, nanos)
+    }
+}
+
+#[cfg(feature = "time")]
+impl HumanFormat for time::Duration {
+    fn formatted(&self) -> FormattedDuration {
+        let nanos = self.subsec_nanoseconds().into();
+        signed(self.is_negative(), self.whole_seconds(), nanos)
+    }
+}
+
+/// A duration of so many seconds and nanoseconds, which have one sign.
+#[cfg(any(feature = "chrono", feature = "time"))]
+fn signed(is_negative: bool, secs: i64, nanos: i64) -> FormattedDuration {
+    let magnitude =
+        Duration::from_secs(secs.unsigned_abs()) + Duration::from_nanos(nanos.unsigned_abs());
+    FormattedDuration::signed(is_negative, magnitude)
+}

@@ -1,0 +1,54 @@
+//! For `#[serde(with = "duration_str::human_or_seconds")]`: as [`human`], and numbers are read too,
+//! as seconds.
+//!
+//! So `timeout = 30` of TOML, `"timeout": 30` of JSON and `timeout: 30` of YAML are 30 seconds. The number is whole, and not
+//! negative; for anything shorter there are texts such as `"1500ms"`. A text is written. The format has to tell its values'
+//! types, which bincode and its like don't.
+//!
+//! Needs the feature `serde`.
+//!
+//! ```
+//! use serde::{Deserialize, Serialize};
+//! use std::time::Duration;
+//!
+//! #[derive(Serialize, Deserialize)]
+//! struct Settings {
+//!     #[serde(with = "duration_str::human_or_seconds")]
+//!     timeout: Duration,
+//!     #[serde(default, with = "duration_str::human_or_seconds")]
+//!     keep_alive: Option<Duration>,
+//! }
+//!
+//! let settings: Settings = serde_json::from_str(r#"{ "timeout": 90, "keep_alive": "1h" }"#).unwrap();
+//! assert_eq!(settings.timeout, Duration::from_secs(90));
+//! let text = serde_json::to_string(&settings).unwrap();
+//! assert_eq!(text, r#"{"timeout":"1min 30s","keep_alive":"1h"}"#);
+//! ```
+use crate::human::{self, HumanText};
+use serde::de::Deserializer;
+
+#[doc(no_inline)]
+pub use human::serialize;
+
+/// Reads durations, which must be texts or whole seconds.
+///
+/// # Errors
+///
+/// That of the format, also for a text or a number that is refused.
+///
+/// ```
+/// use duration_str::human_or_seconds;
+/// use serde_json::json;
+/// use std::time::Duration;
+///
+/// let minute: Duration = human_or_seconds::deserialize(json!(60)).unwrap();
+/// assert_eq!(minute, Duration::from_secs(60));
+/// let fraction: Result<Duration, _> = human_or_seconds::deserialize(json!(1.5));
+/// let expected = "a duration such as '1min 30s', or whole seconds below 2^64 nanoseconds";
+/// assert_eq!(fraction.unwrap_err().to_string(), format!("invalid type: floating point `1.5`, expected {expected}"));
+/// ```
+pub fn deserialize<'de, T: HumanText, D: Deserializer<'de>>(
+    deserializer: D,
+) -> Result<T, D::Error> {
+    T::deserialize_human::<D, true>(deserializer)
+}

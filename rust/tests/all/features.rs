@@ -1,0 +1,72 @@
+//! Which calls read by the features.
+use duration_str::{HumanDuration, parse, parse_duration, parse_std};
+
+/// Texts, and whether they are read by the calls of `duration-str` 0.19.0 and by all others. Of the features only the one
+/// that adds names counts for these.
+const TEXTS: [(&str, bool, bool); 4] = [
+    ("1m", true, true),
+    ("1m+1", cfg!(not(feature = "no_calc")), true),
+    ("1M", cfg!(not(feature = "lowercase")), true),
+    ("1分", cfg!(feature = "cn_unit"), cfg!(feature = "cn_unit")),
+];
+
+#[test]
+fn reads_by_all_features_as_before() {
+    for (text, is_read, _) in TEXTS {
+        assert_eq!(parse(text).is_ok(), is_read, "{text}");
+        assert_eq!(parse_std(text).is_ok(), is_read, "{text}");
+    }
+}
+
+#[test]
+#[cfg(feature = "time")]
+fn reads_durations_of_time_by_all_features() {
+    for (text, is_read, _) in TEXTS {
+        assert_eq!(duration_str::parse_time(text).is_ok(), is_read, "{text}");
+    }
+}
+
+#[test]
+#[cfg(feature = "chrono")]
+fn reads_durations_and_dates_of_chrono_by_all_features() {
+    use duration_str::{
+        after_naive_date, after_naive_date_time, before_naive_date, before_naive_date_time,
+        parse_chrono,
+    };
+    for (text, is_read, _) in TEXTS {
+        let answers = [
+            parse_chrono(text).is_ok(),
+            after_naive_date(text).is_ok(),
+            after_naive_date_time(text).is_ok(),
+            before_naive_date(text).is_ok(),
+            before_naive_date_time(text).is_ok(),
+        ];
+        assert_eq!(answers, [is_read; 5], "{text}");
+    }
+}
+
+#[test]
+fn reads_whatever_another_crate_takes_away() {
+    for (text, _, is_read) in TEXTS {
+        assert_eq!(parse_duration(text).is_ok(), is_read, "{text}");
+        assert_eq!(text.parse::<HumanDuration>().is_ok(), is_read, "{text}");
+    }
+}
+
+#[test]
+#[cfg(feature = "serde")]
+fn reads_fields_whatever_another_crate_takes_away() {
+    use duration_str::{deserialize_duration, human, human_or_seconds};
+    use serde_json::json;
+    use std::time::Duration;
+    for (text, is_read_by_the_older, is_read) in TEXTS {
+        let older: Result<Duration, _> = deserialize_duration(json!(text));
+        let optional: Result<Option<Duration>, _> = deserialize_duration(json!(text));
+        let of_human: Result<Duration, _> = human::deserialize(json!(text));
+        let with_numbers: Result<Duration, _> = human_or_seconds::deserialize(json!(text));
+        let older = [older.is_ok(), optional.is_ok()];
+        assert_eq!(older, [is_read_by_the_older; 2], "{text}");
+        let others = [of_human.is_ok(), with_numbers.is_ok()];
+        assert_eq!(others, [is_read; 2], "{text}");
+    }
+}
