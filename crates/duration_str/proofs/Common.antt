@@ -44,6 +44,7 @@ pub use Rattle.duration_str.specs.declared.fault.Fault.{Fault}
 pub use Rattle.duration_str.specs.declared.operator.CondUnit.{CondUnit}
 pub use Rattle.duration_str.specs.declared.operator.CondUnit.TheVariants.{Plus, Star}
 pub use Rattle.duration_str.specs.declared.options.Options.{Options}
+pub use Rattle.duration_str.specs.declared.packed.TheConstants.{SLOT_NAMES, SLOT_UNITS, SPREAD}
 pub use Rattle.duration_str.specs.declared.token.TheConstants.{BLANKS}
 pub use Rattle.duration_str.specs.declared.token.TokenStart.{TokenStart}
 pub use Rattle.duration_str.specs.declared.token.TokenStart.TheVariants.{Number, Operator, Other, Word}

@@ -1,17 +1,20 @@
 -- Packed names and their slots.
-use Rattle.duration_str.proofs.Common.{◌≡◌, ℕ, ◌+◌, ◌-◌, ◌*◌, ◌%◌, ◌^◌, ◌<◌, ◌≤◌, Bool, true, false}
-use Rattle.duration_str.proofs.Common.{not, leb, ◌==◌, ◌&&◌, ◌||◌, List, [], ◌∷◌, map, length}
-use Rattle.duration_str.proofs.Common.{Some, None, refl, sym, ◌∙◌, arith, inl, inr, lit<, eq-eqb}
+use Rattle.duration_str.proofs.Common.{◌≡◌, ℕ, ◌+◌, ◌-◌, ◌*◌, ◌/◌, ◌%◌, ◌^◌, ◌<◌, ◌≤◌, Bool, true, false}
+use Rattle.duration_str.proofs.Common.{not, leb, eqb, ◌==◌, ◌&&◌, ◌||◌, List, [], ◌∷◌, map, length, get_or, Option}
+use Rattle.duration_str.proofs.Common.{Some, None, refl, ap, sym, ◌∙◌, arith, inl, inr, lit<, eq-eqb}
 use Rattle.duration_str.proofs.Common.{eqb-true, leb-true, if◌then◌else◌, bytes_eq, pow-succ', cases_Bool}
 use Rattle.duration_str.proofs.Common.{and_parts, and_from, false_from_ne_true, nat_tests, bytes_eq-Decides}
 use Rattle.duration_str.proofs.Common.{same_from_decides, list_all, list_any, list_any-append, to_ascii_lowercase}
-use Rattle.duration_str.proofs.Common.{is_ascii_alphabetic, is_ascii_uppercase, Options, TimeUnit, all_names}
+use Rattle.duration_str.proofs.Common.{is_ascii_alphabetic, is_ascii_uppercase, Options, TimeUnit, SPREAD, all_names}
 use Rattle.duration_str.proofs.Common.{byte_len, chinese_letters, is_chinese, is_unit_letter, width, letter_number}
 use Rattle.duration_str.proofs.Common.{number_in, units, row_of, comparison_form, is_named, unit_of_word}
 use Rattle.duration_str.proofs.Common.{packed_number_after, packed_number, packs_to, pow-le-pow_right, or_cases}
 use Rattle.duration_str.proofs.Common.{or_parts, length-reverse, reverse-reverse}
 use mathlib.Core.List.{reverse_aux, reverse}
+use Rattle.std.specs.List.{range_with_len}
 use Rattle.duration_str.specs.Internal.Packed.{unit_of_packed}
+use Rattle.std.proofs.lemmas.List.{get_or-map}
+use Rattle.std.proofs.lemmas.List.FromFn.{get_or-map-range_with_len}
 use Rattle.duration_str.proofs.Characters.EachUnit.{all_units}
 use Rattle.duration_str.proofs.Characters.UnitLemmas.{among_all, any_same, named_passes}
 
@@ -266,3 +269,46 @@ byte_len-form o w = elim (cases_Bool o.lowercase) [ inl on ↦ rw on refl | inr 
 pub no_long_name : (o : Options) (w : List ℕ) → 12 < byte_len w → None ≡ unit_of_word o w
 no_long_name o w long = no_name o w (λ name. leb (byte_len name) 12) refl
     (false_from_ne_true _ (λ t. absurd (omega (arith, leb-true _ _ t, byte_len-form o w))))
+
+-- ---- slots
+
+abbrev pub slot : ℕ → ℕ
+slot n = n * SPREAD / 2 ^ 57 % 128
+
+-- the unit in a slot or, if the slot's number belongs there, the unit of that number
+abbrev pub found_at : List ℕ → List TimeUnit → ℕ → TimeUnit → ℕ → Option TimeUnit
+found_at names table m u i =
+    if eqb (slot (get_or names i m)) i then unit_of_packed (get_or names i m) else Some (get_or table i u)
+
+-- if the number in the slot is the one searched for, its unit is found
+pub slot_found : (names : List ℕ) (table : List TimeUnit) (m : ℕ) (u : TimeUnit) (n : ℕ) → length table ≡ 128
+    → map (found_at names table m u) (range_with_len 0 128) ≡ map Some table → get_or names (slot n) m ≡ n
+    → Some (get_or table (slot n) u) ≡ unit_of_packed n
+slot_found names table m u n same right key =
+    let there = get_or-map Some table (slot n) u None (omega (arith, same)) in
+    let here = get_or-map-range_with_len (found_at names table m u) 0 128 (slot n) (slot n) None (omega arith)
+    (omega arith) in
+    sym there ∙ ap (λ units. get_or units (slot n) None) (sym right) ∙ here ∙ rw (key, eq-eqb (slot n) _ refl) refl
+
+-- whether a name is in its slot
+abbrev pub is_kept : List ℕ → ℕ → List ℕ → Bool
+is_kept names m name = eqb (get_or names (slot (packed_number name)) m) (packed_number name)
+
+-- a number whose slot has another one is that of no name in its slot
+not_kept : (names : List ℕ) (m n : ℕ) → (get_or names (slot n) m ≡ n → ⊥) → (ns : List (List ℕ))
+    → list_all (is_kept names m) ns ≡ true → list_any (packs_to n) ns ≡ false
+not_kept names m n differs [] kept = refl
+not_kept names m n differs (name ∷ ns) kept =
+    let b = and_parts (is_kept names m name) (list_all (is_kept names m) ns) kept in
+    let other = false_from_ne_true (packs_to n name)
+    (λ e. differs (rw (eqb-true (packed_number name) n e) at (eqb-true _ _ b.0))) in
+    rw (other, not_kept names m n differs ns b.1)
+
+-- if the number in the slot is another one, no name has the number searched for
+pub slot_empty : (names : List ℕ) (m n : ℕ) → (get_or names (slot n) m ≡ n → ⊥)
+    → list_all (λ u. list_all (is_kept names m) (all_names u)) units ≡ true → None ≡ unit_of_packed n
+unfolding unit_of_packed
+slot_empty names m n differs kept =
+    let none = λ (u : TimeUnit). not_kept names m n differs (all_names u)
+    (all_units (λ v. list_all (is_kept names m) (all_names v)) kept u) in
+    simp none
