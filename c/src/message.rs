@@ -29,8 +29,8 @@ pub fn duration_str_line(text: &[u8], options: u32, buffer: &mut [u8]) -> usize 
     }
 }
 
-/// Reads a text under the options whose bits are set, as `duration_str_parse_with` does, and writes what is wrong with a
-/// refused one in one line to the start of the buffer. Returns the length of the line in bytes; 0 for a text that is
+/// Reads a text under the options whose bits are set, as `duration_str_parse_with` does, and writes what is wrong with
+/// a refused one in one line to the start of the buffer. Returns the length of the line in bytes; 0 for a text that is
 /// read. The rest of the buffer is unchanged.
 pub fn duration_str_one_line(
     text: &[u8],

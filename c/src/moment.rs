@@ -19,6 +19,29 @@ pub struct Moment {
     pub nanos: u32,
 }
 
+/// Moves the moment forward by the value of a text, which is read under the options whose bits are set. Returns true if
+/// it is moved; otherwise it is unchanged, and the answer says why.
+pub fn duration_str_after(
+    text: &[u8],
+    options: u32,
+    moment: &mut Moment,
+    answer: &mut Answer,
+) -> bool {
+    *answer = answer_to_move(text, options, moment, Direction::After);
+    answer.cause == 0
+}
+
+/// Moves the moment back, in the same way as `duration_str_after` moves it forward.
+pub fn duration_str_before(
+    text: &[u8],
+    options: u32,
+    moment: &mut Moment,
+    answer: &mut Answer,
+) -> bool {
+    *answer = answer_to_move(text, options, moment, Direction::Before);
+    answer.cause == 0
+}
+
 /// The direction in which a moment moves.
 #[derive(Clone, Copy)]
 enum Direction {
@@ -26,39 +49,6 @@ enum Direction {
     After,
     /// Back.
     Before,
-}
-
-/// The timestamp of the moment, if there is one.
-fn timestamp_of(moment: Moment) -> Option<Timestamp> {
-    if i128::from(moment.nanos) >= SECOND {
-        return None;
-    }
-    let instant = i128::from(moment.secs) * SECOND + i128::from(moment.nanos);
-    match Timestamp::from_nanosecond(instant) {
-        Ok(timestamp) => Some(timestamp),
-        Err(_) => None,
-    }
-}
-
-/// The moment of a timestamp.
-fn moment_of(timestamp: Timestamp) -> Moment {
-    let instant = timestamp.as_nanosecond();
-    Moment {
-        secs: instant.div_euclid(SECOND) as i64,
-        nanos: instant.rem_euclid(SECOND) as u32,
-    }
-}
-
-/// The moment this long after or before a timestamp; `None` if out of range.
-fn moved(from: Timestamp, length: Duration, direction: Direction) -> Option<Moment> {
-    let reached = match direction {
-        Direction::After => from.checked_add(length),
-        Direction::Before => from.checked_sub(length),
-    };
-    match reached {
-        Ok(timestamp) => Some(moment_of(timestamp)),
-        Err(_) => None,
-    }
 }
 
 /// Moves the moment by the value of a text, and returns the answer.
@@ -81,25 +71,35 @@ fn answer_to_move(text: &[u8], options: u32, moment: &mut Moment, direction: Dir
     Answer::value(nanos)
 }
 
-/// Moves the moment forward by the value of a text, which is read under the options whose bits are set. Returns true if
-/// it is moved; otherwise it is unchanged, and the answer says why.
-pub fn duration_str_after(
-    text: &[u8],
-    options: u32,
-    moment: &mut Moment,
-    answer: &mut Answer,
-) -> bool {
-    *answer = answer_to_move(text, options, moment, Direction::After);
-    answer.cause == 0
+/// The timestamp of the moment, if there is one.
+fn timestamp_of(moment: Moment) -> Option<Timestamp> {
+    if i128::from(moment.nanos) >= SECOND {
+        return None;
+    }
+    let instant = i128::from(moment.secs) * SECOND + i128::from(moment.nanos);
+    match Timestamp::from_nanosecond(instant) {
+        Ok(timestamp) => Some(timestamp),
+        Err(_) => None,
+    }
 }
 
-/// Moves the moment back, in the same way as `duration_str_after` moves it forward.
-pub fn duration_str_before(
-    text: &[u8],
-    options: u32,
-    moment: &mut Moment,
-    answer: &mut Answer,
-) -> bool {
-    *answer = answer_to_move(text, options, moment, Direction::Before);
-    answer.cause == 0
+/// The moment this long after or before a timestamp; `None` if out of range.
+fn moved(from: Timestamp, length: Duration, direction: Direction) -> Option<Moment> {
+    let reached = match direction {
+        Direction::After => from.checked_add(length),
+        Direction::Before => from.checked_sub(length),
+    };
+    match reached {
+        Ok(timestamp) => Some(moment_of(timestamp)),
+        Err(_) => None,
+    }
+}
+
+/// The moment of a timestamp.
+fn moment_of(timestamp: Timestamp) -> Moment {
+    let instant = timestamp.as_nanosecond();
+    Moment {
+        secs: instant.div_euclid(SECOND) as i64,
+        nanos: instant.rem_euclid(SECOND) as u32,
+    }
 }

@@ -59,7 +59,7 @@ abbrev pub is_whole : Bool → List Terminal → List Terminal → Bool
 is_whole no_calc front [] = (expected_after no_calc (last_of None front)).text_end
 is_whole no_calc front (terminal ∷ rest) = false
 
--- the answer to a sentence, given its evaluation's fault or `None`
+-- the answer to a sentence, given its evaluation's fault or `None`; without one there is a value, so 0 is never taken
 abbrev pub late_answer : Option Cause → List Terminal → Result ℕ Cause
 late_answer fault terminals = fault_or fault (Ok (unwrap_or (value_of (terms_of terminals)) 0))
 

@@ -34,8 +34,8 @@ const MOST_QUOTED: usize = 40;
 
 impl Fault<'_> {
     /// Writes the fault in one line to the start of a buffer, whatever the buffer holds: what is wrong, at which
-    /// column, and what stands there. At most 40 characters of the text are quoted, and what isn't safe in a line is escaped.
-    /// Allocates nothing and cannot fail.
+    /// column, and what stands there. At most 40 characters of the text are quoted, and what isn't safe in a line is
+    /// escaped. Allocates nothing and cannot fail.
     ///
     /// ```
     /// use duration_str::{Options, parse_with};
@@ -111,7 +111,8 @@ fn put_unknown(buffer: &mut [u8], text: &str, place: usize, word: &str, help: &s
     put_text(buffer, column, help)
 }
 
-/// What to write for a word that is near a unit's name, the last one for microseconds with a Greek mu; otherwise nothing.
+/// What to write for a word that is near a unit's name, the last one for microseconds with a Greek mu; otherwise
+/// nothing.
 #[tactic(auto, unfolding(std::specs::Prelude::encode_utf8))]
 fn near_advice(word: &str) -> &'static str
     ensures { result.now ≡ near_advice word.now }

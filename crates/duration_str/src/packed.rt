@@ -22,12 +22,12 @@ pub(crate) fn unit_of_packed(packed: u64) -> Option<TimeUnit>
     }
 }
 
-/// A multiplier that gives each packed name a slot of its own: bits 57 to 63 of the product. `tools/slots` finds it, and
-/// writes the tables below.
+/// A multiplier that gives each packed name a slot of its own: bits 57 to 63 of the product. `tools/slots` finds it,
+/// and writes the tables below.
 const SPREAD: u64 = 439_394_506_952_439_165;
 
-/// The packed name in each slot, and 2 in an empty one: no name packs to 2, and the slot of 2 has a name, so it is never
-/// found. One array of pairs takes 13 instructions more for `3m 13s 29ms`.
+/// The packed name in each slot, and 2 in an empty one: no name packs to 2, and the slot of 2 has a name, so it is
+/// never found. One array of pairs takes 13 instructions more for `3m 13s 29ms`.
 static SLOT_NAMES: [u64; 128] = [
     2,
     2,

@@ -1,4 +1,7 @@
 // Texts printed within limits.
+use duration_str::TimeUnit::{
+    Day, Hour, MicroSecond, MilliSecond, Minute, Month, NanoSecond, Quarter, Second, Week, Year,
+};
 use duration_str::{
     Cause, Format, MAX_PRINTED_LEN, Options, TimeUnit, parse_with, write_human, write_within,
 };
@@ -7,17 +10,17 @@ use std::time::Duration;
 /// The units, the longest first, each with its length in nanoseconds, the text of one of it, that of a nanosecond less
 /// in one part, and the zero where it is the smallest unit.
 const UNITS: [(TimeUnit, u64, &str, &str, &str); 11] = [
-    (TimeUnit::Year, 31_536_000_000_000_000, "1y", "4q", "0y"),
-    (TimeUnit::Quarter, 7_862_400_000_000_000, "1q", "3mon", "0q"),
-    (TimeUnit::Month, 2_592_000_000_000_000, "1mon", "4w", "0mon"),
-    (TimeUnit::Week, 604_800_000_000_000, "1w", "6d", "0w"),
-    (TimeUnit::Day, 86_400_000_000_000, "1d", "23h", "0d"),
-    (TimeUnit::Hour, 3_600_000_000_000, "1h", "59min", "0h"),
-    (TimeUnit::Minute, 60_000_000_000, "1min", "59s", "0min"),
-    (TimeUnit::Second, 1_000_000_000, "1s", "999ms", "0s"),
-    (TimeUnit::MilliSecond, 1_000_000, "1ms", "999µs", "0s"),
-    (TimeUnit::MicroSecond, 1_000, "1µs", "999ns", "0s"),
-    (TimeUnit::NanoSecond, 1, "1ns", "0s", "0s"),
+    (Year, 31_536_000_000_000_000, "1y", "4q", "0y"),
+    (Quarter, 7_862_400_000_000_000, "1q", "3mon", "0q"),
+    (Month, 2_592_000_000_000_000, "1mon", "4w", "0mon"),
+    (Week, 604_800_000_000_000, "1w", "6d", "0w"),
+    (Day, 86_400_000_000_000, "1d", "23h", "0d"),
+    (Hour, 3_600_000_000_000, "1h", "59min", "0h"),
+    (Minute, 60_000_000_000, "1min", "59s", "0min"),
+    (Second, 1_000_000_000, "1s", "999ms", "0s"),
+    (MilliSecond, 1_000_000, "1ms", "999µs", "0s"),
+    (MicroSecond, 1_000, "1µs", "999ns", "0s"),
+    (NanoSecond, 1, "1ns", "0s", "0s"),
 ];
 
 /// Whether the duration prints within the limits as this text.
@@ -47,71 +50,23 @@ fn prints_about_the_length_of_each_unit(rt: HostRuntime) {
 #[test]
 fn leaves_out_the_rest(rt: HostRuntime) {
     for (nanos, largest, smallest, parts, text) in [
-        (
-            193_029_000_000,
-            TimeUnit::Year,
-            TimeUnit::NanoSecond,
-            2,
-            "3min 13s",
-        ),
-        (
-            193_029_000_000,
-            TimeUnit::Second,
-            TimeUnit::MilliSecond,
-            11,
-            "193s 29ms",
-        ),
-        (
-            3_605_000_000_000,
-            TimeUnit::Year,
-            TimeUnit::NanoSecond,
-            2,
-            "1h 5s",
-        ),
-        (
-            10_368_000_000_000_000,
-            TimeUnit::Year,
-            TimeUnit::NanoSecond,
-            1,
-            "1q",
-        ),
-        (
-            10_368_000_000_000_000,
-            TimeUnit::Month,
-            TimeUnit::NanoSecond,
-            2,
-            "4mon",
-        ),
-        (
-            31_536_000_000_000_000,
-            TimeUnit::Quarter,
-            TimeUnit::NanoSecond,
-            1,
-            "4q",
-        ),
-        (
-            31_622_400_000_000_000,
-            TimeUnit::Day,
-            TimeUnit::Day,
-            1,
-            "366d",
-        ),
+        (193_029_000_000, Year, NanoSecond, 2, "3min 13s"),
+        (193_029_000_000, Second, MilliSecond, 11, "193s 29ms"),
+        (3_605_000_000_000, Year, NanoSecond, 2, "1h 5s"),
+        (10_368_000_000_000_000, Year, NanoSecond, 1, "1q"),
+        (10_368_000_000_000_000, Month, NanoSecond, 2, "4mon"),
+        (31_536_000_000_000_000, Quarter, NanoSecond, 1, "4q"),
+        (31_622_400_000_000_000, Day, Day, 1, "366d"),
         (
             u64::MAX,
-            TimeUnit::NanoSecond,
-            TimeUnit::NanoSecond,
+            NanoSecond,
+            NanoSecond,
             1,
             "18446744073709551615ns",
         ),
-        (59_999_999_999, TimeUnit::Year, TimeUnit::Minute, 2, "0min"),
-        (
-            193_029_000_000,
-            TimeUnit::Year,
-            TimeUnit::NanoSecond,
-            0,
-            "0s",
-        ),
-        (193_029_000_000, TimeUnit::Second, TimeUnit::Hour, 3, "0h"),
+        (59_999_999_999, Year, Minute, 2, "0min"),
+        (193_029_000_000, Year, NanoSecond, 0, "0s"),
+        (193_029_000_000, Second, Hour, 3, "0h"),
     ] {
         let format = Format::whole()
             .largest(largest)

@@ -151,6 +151,7 @@ impl Cause {
             }
             Cause::NumberTooLarge { .. } => "number too large to fit in target type",
             Cause::Overflow { .. } => "overflow error",
+            // No text is refused for two equal operators, but a caller can make such a cause.
             Cause::Mixed { first, later } => match (first, later) {
                 (CondUnit::Plus, CondUnit::Plus) => "not support '+' with '+' calculate",
                 (CondUnit::Plus, CondUnit::Star) => "not support '+' with '*' calculate",

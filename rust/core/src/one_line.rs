@@ -23,8 +23,8 @@ const MOST_QUOTED: usize = 40;
 
 impl Fault<'_> {
     /// Writes the fault in one line to the start of a buffer, whatever the buffer holds: what is wrong, at which
-    /// column, and what stands there. At most 40 characters of the text are quoted, and what isn't safe in a line is escaped.
-    /// Allocates nothing and cannot fail.
+    /// column, and what stands there. At most 40 characters of the text are quoted, and what isn't safe in a line is
+    /// escaped. Allocates nothing and cannot fail.
     ///
     /// ```
     /// use duration_str_core::{Options, parse_with};
@@ -87,7 +87,8 @@ fn put_unknown(buffer: &mut [u8], text: &str, place: usize, word: &str, help: &s
     put_text(buffer, column, help)
 }
 
-/// What to write for a word that is near a unit's name, the last one for microseconds with a Greek mu; otherwise nothing.
+/// What to write for a word that is near a unit's name, the last one for microseconds with a Greek mu; otherwise
+/// nothing.
 fn near_advice(word: &str) -> &'static str {
     if word == "mo" || word == "mos" || is_word(word, "mth") || is_word(word, "mths") {
         r#": write "mon""#
