@@ -275,14 +275,14 @@ fn put_parts(
     let mut left = most;
     let mut rest = nanos;
     for unit in units {
-        let length = unit.nanos();
-        if length <= rest {
+        if unit.nanos() <= rest {
             if left == 0 {
                 return end;
             }
-            end = put_part(buffer, end, u128::from(rest / length), *unit, style);
+            let (count, after) = unit.division(rest);
+            end = put_part(buffer, end, u128::from(count), *unit, style);
             left -= 1;
-            rest %= length;
+            rest = after;
             if rest == 0 {
                 return end;
             }

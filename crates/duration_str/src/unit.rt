@@ -1,5 +1,5 @@
 //! The units of time and their names, with the options and operators that are used with them.
-ghost use Rattle.std.specs.Prelude.{◌≡◌, None, Some, true, encode_utf8_all};
+ghost use Rattle.std.specs.Prelude.{◌≡◌, ◌/◌, ◌%◌, None, Some, true, encode_utf8_all};
 ghost use Rattle.std.specs.List.{list_any};
 ghost use Rattle.std.specs.Fmt.{padded};
 ghost use Rattle.std.specs.Str.{bytes_eq, chars};
@@ -119,60 +119,70 @@ impl TimeUnit {
         match self {
             TimeUnit::Year => Row {
                 nanos: 31_536_000_000_000_000,
+                reciprocal: u64::MAX / 31_536_000_000_000_000,
                 printed: "y",
                 names: &["y", "year", "years"],
                 chinese: &["年"],
             },
             TimeUnit::Quarter => Row {
                 nanos: 7_862_400_000_000_000,
+                reciprocal: u64::MAX / 7_862_400_000_000_000,
                 printed: "q",
                 names: &["q", "quarter", "quarters"],
                 chinese: &[],
             },
             TimeUnit::Month => Row {
                 nanos: 2_592_000_000_000_000,
+                reciprocal: u64::MAX / 2_592_000_000_000_000,
                 printed: "mon",
                 names: &["mon", "month", "months"],
                 chinese: &["月"],
             },
             TimeUnit::Week => Row {
                 nanos: 604_800_000_000_000,
+                reciprocal: u64::MAX / 604_800_000_000_000,
                 printed: "w",
                 names: &["w", "week", "weeks"],
                 chinese: &["周"],
             },
             TimeUnit::Day => Row {
                 nanos: 86_400_000_000_000,
+                reciprocal: u64::MAX / 86_400_000_000_000,
                 printed: "d",
                 names: &["d", "day", "days"],
                 chinese: &["日", "天"],
             },
             TimeUnit::Hour => Row {
                 nanos: 3_600_000_000_000,
+                reciprocal: u64::MAX / 3_600_000_000_000,
                 printed: "h",
                 names: &["h", "hr", "hour", "hours"],
                 chinese: &["时"],
             },
             TimeUnit::Minute => Row {
                 nanos: 60_000_000_000,
+                reciprocal: u64::MAX / 60_000_000_000,
                 printed: "min",
                 names: &["m", "min", "minute", "minutes"],
                 chinese: &["分"],
             },
             TimeUnit::Second => Row {
                 nanos: 1_000_000_000,
+                reciprocal: u64::MAX / 1_000_000_000,
                 printed: "s",
                 names: &["s", "sec", "second", "seconds"],
                 chinese: &["秒"],
             },
             TimeUnit::MilliSecond => Row {
                 nanos: 1_000_000,
+                reciprocal: u64::MAX / 1_000_000,
                 printed: "ms",
                 names: &["ms", "msec", "millisecond", "milliseconds"],
                 chinese: &["毫秒"],
             },
             TimeUnit::MicroSecond => Row {
                 nanos: 1_000,
+                reciprocal: u64::MAX / 1_000,
                 printed: "µs",
                 names: &[
                     "µs",
@@ -188,10 +198,28 @@ impl TimeUnit {
             },
             TimeUnit::NanoSecond => Row {
                 nanos: 1,
+                reciprocal: u64::MAX / 1,
                 printed: "ns",
                 names: &["ns", "nsec", "nanosecond", "nanoseconds"],
                 chinese: &["纳秒"],
             },
+        }
+    }
+
+    /// How often the unit goes into so many nanoseconds, and what it leaves. The multiplication gives that number or one
+    /// less, in a third of the time of a division.
+    #[inline(always)]
+    pub(crate) fn division(self, nanos: u64) -> (u64, u64)
+        ensures count { result.0 ≡ nanos / nanos_of self }
+        ensures rest { result.1 ≡ nanos % nanos_of self }
+    {
+        let row = self.row();
+        let count = (nanos as u128 * row.reciprocal as u128 >> 64) as u64;
+        let rest = nanos - count * row.nanos;
+        if rest < row.nanos {
+            (count, rest)
+        } else {
+            (count + 1, rest - row.nanos)
         }
     }
 
@@ -271,6 +299,8 @@ impl fmt::Display for TimeUnit {
 struct Row {
     /// The length in nanoseconds.
     nanos: u64,
+    /// The greatest `u64` divided by the length.
+    reciprocal: u64,
     /// The printed name.
     printed: &'static str,
     /// The names that are read under all options.

@@ -20,7 +20,7 @@ put_part-end-requires-clause-room c =
     (drop c.loop-unit.unit-index c.args.units.now) (counts_within
     (map nanos_of (drop c.loop-unit.unit-index c.args.units.now)) c.loop-unit.left c.loop-unit.rest))
     ≤ length c.loop-unit.buffer = rw c.loop-unit.invariant.same (omega arith) in
-    rw (c.from.ensures, c.nanos-length.ensures) (first_room c.args.style u us bytes c.loop-unit.left c.loop-unit.rest
+    rw (c.from.ensures, c.division-count.ensures.count) (first_room c.args.style u us bytes c.loop-unit.left c.loop-unit.rest
     (length c.loop-unit.buffer) (omega arith) (omega arith) (rw more at left))
 
 pub returns-then-rest-eq0-clause-text : goal.returns-then-rest-eq0-clause-text
@@ -30,7 +30,7 @@ returns-then-rest-eq0-clause-text c =
     let us = drop (at + 1) c.args.units.now in
     let bytes = take c.loop-unit.end c.loop-unit.buffer in
     let more : drop at c.args.units.now ≡ u ∷ us = drop_more c.args.units.now at Year c.loop-unit-test.true in
-    rw (c.from.ensures, c.nanos-length.ensures) at c.put_part-end.ensures.text
+    rw (c.from.ensures, c.division-count.ensures.count) at c.put_part-end.ensures.text
     ∙ only_part c.args.style u us bytes c.loop-unit.left c.loop-unit.rest (omega arith) (omega arith)
-    (rw c.nanos-length.ensures at c.if-rest-eq0.true)
+    (rw c.division-count.ensures.rest at c.if-rest-eq0.true)
     ∙ (rw more at c.loop-unit.invariant.same)
