@@ -89,7 +89,6 @@ pub fn refused(name: &str) -> String {
         "later-sum" => "580y 580y",
         "mixed" => "1m + 2s * 3",
         "start" => return with_minus(0, 100),
-        "middle" => return with_minus(48, 100),
         "end" => return with_minus(99, 100),
         _ => panic!("no refused text: {name}"),
     };
