@@ -2,7 +2,6 @@
 as `3m 13s 29ms`; of them a column has a million, or fewer where each takes a call. Of each it is the least of the rounds,
 which take turns, and the time of the processor, since a call is longer than what a busy machine gives a program at once."""
 
-import datetime
 import random
 import time
 from array import array
@@ -30,10 +29,6 @@ def in_a_loop(call):
     return lambda texts: [call(text) for text in texts]
 
 
-def under_all_options(texts):
-    return [duration_str.parse_ns(text, no_calc=True, lowercase=True, cn_unit=True) for text in texts]
-
-
 def refused(texts):
     for text in texts:
         try:
@@ -58,28 +53,18 @@ def main():
         raise SystemExit("columns: pandas reads the texts otherwise")
     if duration_str.parse_many(whole).tolist() != [pytimeparse.parse(text) * 10**9 for text in whole]:
         raise SystemExit("columns: pytimeparse reads the texts otherwise")
-    data, wide = "".join(texts).encode(), array("q", accumulate(map(len, texts), initial=0))
-    narrow = array("i", wide)
+    data, offsets = "".join(texts).encode(), array("q", accumulate(map(len, texts), initial=0))
     # Each is a str of its own.
     same = [f"{1}h {30}m" for _ in range(COUNT)]
-    half = pandas.Series([text if place % 2 else None for place, text in enumerate(same)])
-    timedeltas = [datetime.timedelta(seconds=place % 9999, microseconds=place) for place in range(FEW)]
 
     timed = [
         ("`parse_ns`, called one by one", in_a_loop(duration_str.parse_ns), same[:FEW]),
-        ("the same under all three options", under_all_options, same[:FEW]),
         ("`parse`, called one by one", in_a_loop(duration_str.parse), same[:FEW]),
         ("`parse_ns` refuses `1m 3-5`, and makes the `DurationError`", refused, ["1m 3-5"] * FEW),
         ("`to_timedelta` of a Series", duration_str.to_timedelta, pandas.Series(same)),
-        ("`to_timedelta` of a Series half None", duration_str.to_timedelta, half),
-        ("`to_timedelta` of a Series of timedelta64", duration_str.to_timedelta, lengths),
-        ("`pandas.to_timedelta` of the same", pandas.to_timedelta, lengths),
-        ("`to_timedelta` of a list of timedeltas", duration_str.to_timedelta, timedeltas),
-        ("`format_many` of it, which prints", duration_str.format_many, timedeltas),
         ("`format_many` of a Series of timedelta64", duration_str.format_many, lengths[:FEW]),
         ("`parse_ns` of `3m 13s 29ms`, called one by one", in_a_loop(duration_str.parse_ns), texts[:FEW]),
-        ("`parse_buffers` of such texts, offsets of 8 bytes", lambda _: parse_buffers(data, wide), texts),
-        ("`parse_buffers` of such texts, offsets of 4 bytes", lambda _: parse_buffers(data, narrow), texts),
+        ("`parse_buffers` of such texts", lambda _: parse_buffers(data, offsets), texts),
         ("`parse_many` of a list of such texts", duration_str.parse_many, texts),
         ("`to_timedelta` of a Series of such texts", duration_str.to_timedelta, series),
         ("`pandas.to_timedelta` of the same", pandas.to_timedelta, series[:FEW]),

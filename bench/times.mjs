@@ -9,7 +9,6 @@ const TIMES = 100;
 
 const texts = readFileSync(0, "utf8").trimEnd().split("\n");
 const values = texts.map((text) => parse(text));
-const options = { noCalc: true, lowercase: true, cnUnit: true };
 
 function refuse(text) {
     try {
@@ -23,7 +22,6 @@ function refuse(text) {
 /** The calls, and what each is called with. */
 const calls = [
     ["`parse`", (text) => parse(text), texts],
-    ["`parse` under all three options", (text) => parse(text, options), texts],
     ["`parseMs`", (text) => parseMs(text), texts],
     ["`format`, over their values", format, values],
     ["`parse` refuses `1m 3-5`, and makes the `DurationError`", refuse, Array(10).fill("1m 3-5")],

@@ -1,10 +1,9 @@
 //! Times of this library and of humantime, and single calls of humantime for a program that counts instructions.
-//! `calls.rs` has those of this library. The Rust crate is measured, unless the archive is named.
+//! `calls.rs` has those of this library. The Rust crate is measured.
 //!
 //! - `bench expressions`: the 1,000 expressions of `texts.rs`, a line each.
 //! - `bench times`: nanoseconds a call over them, a line with WHAT, OURS and THEIRS for reading and for printing. In all
 //!   these lines a tab stands between the words.
-//! - `bench archive-times`: the same of the archive through C, beside the crate.
 //! - `bench calls WORDS COUNT`: humantime's calls, by the words of `calls.rs` after SIDE.
 //! - `bench count`, under callgrind: a part of its output for each way to read each text of `texts.rs`, by both sides. It
 //!   writes a line for each text: its number, whether each side reads it, and the text.
@@ -13,7 +12,7 @@ mod ours;
 mod texts;
 
 use counting::counted;
-use ours::{Archive, Crate, Library, ROOM, calls, count_ways};
+use ours::{Crate, Library, ROOM, calls, count_ways};
 use serde::de::value::Error;
 use serde::de::{Error as _, IntoDeserializer};
 use std::hint::black_box;
@@ -105,15 +104,15 @@ fn all<T: Copy, R>(of: &[T], call: impl Fn(T) -> R) {
 }
 
 /// A line for reading and for each way to print: what it is, and the nanoseconds a call of each side.
-fn times<Ours: Library, Theirs: Library>(prints_strings: bool) {
+fn times() {
     let (texts, lengths) = expressions();
     let sides: [(&str, &dyn Fn(), &dyn Fn()); 3] = [
-        ("read", &|| all(&texts, Ours::reading), &|| all(&texts, Theirs::reading)),
-        ("print", &|| all(&lengths, Ours::printing), &|| all(&lengths, Theirs::printing)),
-        ("print-string", &|| all(&lengths, Ours::printing_string), &|| all(&lengths, Theirs::printing_string)),
+        ("read", &|| all(&texts, Crate::reading), &|| all(&texts, Humantime::reading)),
+        ("print", &|| all(&lengths, Crate::printing), &|| all(&lengths, Humantime::printing)),
+        ("print-string", &|| all(&lengths, Crate::printing_string), &|| all(&lengths, Humantime::printing_string)),
     ];
-    for (what, ours, theirs) in &sides[..2 + usize::from(prints_strings)] {
-        let [ours, theirs] = nanos_a_call(texts.len(), [*ours, *theirs]);
+    for (what, ours, theirs) in sides {
+        let [ours, theirs] = nanos_a_call(texts.len(), [ours, theirs]);
         println!("{what}\t{ours:.1}\t{theirs:.1}");
     }
 }
@@ -123,9 +122,8 @@ fn main() {
     let words: Vec<&str> = words.iter().map(String::as_str).collect();
     match words.as_slice() {
         ["expressions"] => println!("{}", texts::expressions().join("\n")),
-        ["times"] => times::<Crate, Humantime>(true),
+        ["times"] => times(),
         ["count"] => count(),
-        ["archive-times"] => times::<Archive, Crate>(false),
         ["calls", words @ .., count] => calls::<Humantime>(words, count.parse().expect("a count")),
         _ => panic!("see the first lines of src/main.rs"),
     }

@@ -79,7 +79,7 @@ pub fn label(text: &str) -> String {
     }
 }
 
-/// The text that is refused for the cause of this name, or for the syntax at this end of 100 bytes.
+/// The text that is refused for the cause of this name, or for the syntax at the end of 100 bytes.
 pub fn refused(name: &str) -> String {
     let text = match name {
         "empty" => "",
@@ -88,8 +88,6 @@ pub fn refused(name: &str) -> String {
         "first-term" => "600000000000y",
         "later-sum" => "580y 580y",
         "mixed" => "1m + 2s * 3",
-        "start" => return with_minus(0, 100),
-        "middle" => return with_minus(48, 100),
         "end" => return with_minus(99, 100),
         _ => panic!("no refused text: {name}"),
     };
