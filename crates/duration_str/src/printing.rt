@@ -121,8 +121,7 @@ pub(crate) fn put_number(buffer: &mut [u8], at: usize, n: u64) -> usize
     put_digit(buffer, end, n % 10)
 }
 
-/// Writes a count as `put_number` does. Most counts have one or two digits, which need no call: without it printing
-/// `3min 13s 29ms` takes 38 % more instructions.
+/// Writes a count as `put_number` does. Most counts have one or two digits, which need no call.
 #[inline(always)]
 #[tactic(auto, using(crate::proofs::Printer::DigitLemmas::put_steps))]
 fn put_count(buffer: &mut [u8], at: usize, n: u64) -> usize

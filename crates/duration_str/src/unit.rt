@@ -207,7 +207,7 @@ impl TimeUnit {
     }
 
     /// How often the unit goes into so many nanoseconds, and what it leaves. The multiplication gives that number or one
-    /// less, in a third of the time of a division.
+    /// less, and is faster than a division.
     #[inline(always)]
     pub(crate) fn division(self, nanos: u64) -> (u64, u64)
         ensures count { result.0 ≡ nanos / nanos_of self }
