@@ -1,6 +1,6 @@
 //! The calls that are measured: those of the Rust crate, and those of the archive through C.
 use crate::counting::counted;
-use crate::texts::{EXPRESSION, long_text, refused, repeat};
+use crate::texts::{EXPRESSION, expressions, long_text, refused, repeat};
 use duration_str::{Format, HumanFormat, Options, parse, parse_duration, parse_with, write_human, write_within};
 use std::hint::black_box;
 use std::time::Duration;
@@ -210,6 +210,14 @@ pub fn calls<L: Library>(words: &[&str], count: u64) {
         ["text", bytes] => {
             let text = long_text(bytes.parse().expect("a length"));
             repeat(count, || { black_box(L::reading(black_box(&text))); });
+        }
+        ["read-expressions"] => {
+            let texts = expressions();
+            repeat(count, || texts.iter().for_each(|text| { black_box(L::reading(black_box(text))); }));
+        }
+        ["print-expressions"] => {
+            let lengths: Vec<Duration> = expressions().iter().map(|text| Crate::reading(text)).collect();
+            repeat(count, || lengths.iter().for_each(|length| { black_box(L::printing(black_box(*length))); }));
         }
         ["refuse", name] => {
             let text = refused(name);
