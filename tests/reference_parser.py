@@ -402,16 +402,6 @@ def prepare(text):
         answer_of(text, options)
 
 
-def printed(nanos):
-    """The breakdown with the greatest first count, then the greatest second one, and so on; counts of 0 are left out."""
-    parts = []
-    for unit in UNITS:
-        count, nanos = divmod(nanos, unit.length)
-        if count:
-            parts.append(f"{count}{unit.printed}")
-    return " ".join(parts) or "0s"
-
-
 def quotients(nanos, lengths, chosen):
     """A count for each of these lengths: of the chosen ones how often each goes into what is left, of others 0."""
     counts = []
@@ -419,6 +409,12 @@ def quotients(nanos, lengths, chosen):
         count, nanos = divmod(nanos, length) if length in chosen else (0, nanos)
         counts.append(count)
     return counts
+
+
+def printed(nanos):
+    """The breakdown with the greatest first count, then the greatest second one, and so on; counts of 0 are left out."""
+    lengths = [unit.length for unit in UNITS]
+    return " ".join(f"{count}{unit.printed}" for count, unit in zip(quotients(nanos, lengths, lengths), UNITS) if count) or "0s"
 
 
 @functools.lru_cache(1 << 16)

@@ -83,3 +83,14 @@ path_without() {
 # calls HEADER: those that it declares; exports LIBRARY: what a shared library has
 calls() { grep -o '\<duration_str_[a-z_]*(' "$1" | tr -d '(' | sort -u; }
 exports() { nm -D --defined-only "$1" | awk '{print $3}' | sort; }
+
+# writeless FOLDER WORDS..: runs the words, which can write nothing in the folder, also where root runs them
+writeless() {
+    local words=("${@:2}") ended
+    [ "$(id -u)" != 0 ] || words=(setpriv --bounding-set=-dac_override --inh-caps=-dac_override "${words[@]}")
+    chmod -R a-w "$1"
+    "${words[@]}"
+    ended=$?
+    chmod -R u+w "$1"
+    return "$ended"
+}

@@ -34,7 +34,6 @@ static void tell(const char *text, uint32_t options, struct told *told)
     told->length = duration_str_message(bytes, strlen(text), options, told->message, sizeof told->message);
     uint64_t nanos = told->answer.nanos;
     told->printed_length = duration_str_format(nanos / 1000000000, nanos % 1000000000, told->printed);
-    memset(told->printed + told->printed_length, 0, sizeof told->printed - told->printed_length);
 }
 
 static bool is_same(const struct told *one, const struct told *two)
@@ -42,7 +41,7 @@ static bool is_same(const struct told *one, const struct told *two)
     return one->read == two->read && one->answer.nanos == two->answer.nanos && one->answer.place == two->answer.place &&
            one->answer.cause == two->answer.cause && one->length == two->length &&
            memcmp(one->message, two->message, sizeof one->message) == 0 && one->printed_length == two->printed_length &&
-           memcmp(one->printed, two->printed, sizeof one->printed) == 0;
+           memcmp(one->printed, two->printed, one->printed_length) == 0;
 }
 
 static void *read_again(void *nothing)
