@@ -198,16 +198,14 @@ static wide instant_of(struct duration_str_moment moment)
     return (wide)moment.secs * SECOND + moment.nanos;
 }
 
-typedef bool (*mover)(const uint8_t *, size_t, uint32_t, struct duration_str_moment *, struct duration_str_answer *);
-
-/* Moves a moment by a text, and checks it against whole numbers of 128 bits. */
-static bool is_moved(mover moves, int direction, struct text text, uint32_t options, struct duration_str_answer read,
+/* Moves a moment by a text, forward (1) or back (-1), and checks it against whole numbers of 128 bits. */
+static bool is_moved(int direction, struct text text, uint32_t options, struct duration_str_answer read,
                      struct duration_str_moment *moment)
 {
     struct duration_str_moment *moved = (void *)buffer_at(moment_end, sizeof *moved);
     struct duration_str_answer *told = (void *)buffer_at(answers_end, sizeof *told), out = {.cause = DURATION_STR_OUT_OF_RANGE};
     *moved = *moment;
-    bool done = moves(text.bytes, text.length, options, moved, told);
+    bool done = (direction > 0 ? duration_str_after : duration_str_before)(text.bytes, text.length, options, moved, told);
     wide reached = instant_of(*moment) + direction * (wide)read.nanos;
     bool fits = moment->nanos < SECOND && is_moment(instant_of(*moment));
     HOLDS(is_untouched(moment_end - sizeof *moved - CANARIES, moment_end - sizeof *moved));
@@ -229,10 +227,9 @@ static bool is_moved(mover moves, int direction, struct text text, uint32_t opti
 static void check_moments(struct text text, uint32_t options, struct duration_str_answer read)
 {
     struct duration_str_moment start = any_moment(), moment = start;
-    bool forward = any() % 2;
-    mover there = forward ? duration_str_after : duration_str_before, back = forward ? duration_str_before : duration_str_after;
-    if (is_moved(there, forward ? 1 : -1, text, options, read, &moment)) {
-        HOLDS(is_moved(back, forward ? -1 : 1, text, options, read, &moment));
+    int direction = any() % 2 ? 1 : -1;
+    if (is_moved(direction, text, options, read, &moment)) {
+        HOLDS(is_moved(-direction, text, options, read, &moment));
         HOLDS(moment.secs == start.secs && moment.nanos == start.nanos);
     }
 }
