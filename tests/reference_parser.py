@@ -147,9 +147,7 @@ def is_sentence(kinds, options):
     match kinds:
         case ["number"] | ["number", "unit"]:
             return True
-        case ["number", "operator", *rest] if not options.no_calc:
-            return is_sentence(rest, options)
-        case ["number", "unit", "operator", *rest] if not options.no_calc:
+        case ["number", "operator", *rest] | ["number", "unit", "operator", *rest] if not options.no_calc:
             return is_sentence(rest, options)
         case ["number", "unit", *rest]:
             return is_sentence(rest, options)
@@ -167,11 +165,6 @@ def begins_sentence(kinds, options):
     does with a single terminal.
     """
     return is_sentence(list(kinds), options) or any(is_sentence([*kinds, kind], options) for kind in KINDS)
-
-
-def with_calc(options):
-    """The options with `no_calc` off, which tells sentences apart, but neither terminals nor tokens."""
-    return Options(False, options.lowercase, options.cn_unit)
 
 
 @functools.lru_cache(1 << 10)
@@ -206,7 +199,8 @@ def sentences(text, options):
     what is left of one after a number; what is left of one after a number and a unit.
     """
     whole, after_number, after_unit = [()] * len(text) + [[]], [()] * len(text) + [[()]], [()] * len(text) + [[()]]
-    places = terminals_at_each_place(text, with_calc(options))
+    # `no_calc` tells sentences apart, but neither terminals nor tokens.
+    places = terminals_at_each_place(text, options._replace(no_calc=False))
     for at in reversed(range(len(text))):
         if text[at] in BLANKS:
             whole[at], after_number[at], after_unit[at] = whole[at + 1], after_number[at + 1], after_unit[at + 1]
@@ -243,15 +237,11 @@ def token_lists(text, options):
             if sort is None:
                 break
             for rest in lists[end]:
-                if not (rest and rest[0][0] == end and touches(sort, sort_of(rest[0][1], options))):
+                touches = rest and rest[0][0] == end and sort == sort_of(rest[0][1], options)
+                if not (touches and sort in ("digits", "letters")):
                     found.append(((at, token), rest))
         lists[at] = found
     return [listed(pairs) for pairs in lists[0]]
-
-
-def touches(sort, other):
-    """Whether tokens of these sorts are cut apart only where a blank is between them."""
-    return sort == other and sort in ("digits", "letters")
 
 
 class Front(typing.NamedTuple):
@@ -265,7 +255,7 @@ class Front(typing.NamedTuple):
 
 
 def front_of(text, options):
-    (tokens,) = token_lists(text, with_calc(options))
+    (tokens,) = token_lists(text, options._replace(no_calc=False))
     terminals = ()
     for token in tokens:
         terminal = terminal_of(token[1], options)
@@ -412,16 +402,6 @@ def prepare(text):
         answer_of(text, options)
 
 
-def printed(nanos):
-    """The breakdown with the greatest first count, then the greatest second one, and so on; counts of 0 are left out."""
-    parts = []
-    for unit in UNITS:
-        count, nanos = divmod(nanos, unit.length)
-        if count:
-            parts.append(f"{count}{unit.printed}")
-    return " ".join(parts) or "0s"
-
-
 def quotients(nanos, lengths, chosen):
     """A count for each of these lengths: of the chosen ones how often each goes into what is left, of others 0."""
     counts = []
@@ -429,6 +409,12 @@ def quotients(nanos, lengths, chosen):
         count, nanos = divmod(nanos, length) if length in chosen else (0, nanos)
         counts.append(count)
     return counts
+
+
+def printed(nanos):
+    """The breakdown with the greatest first count, then the greatest second one, and so on; counts of 0 are left out."""
+    lengths = [unit.length for unit in UNITS]
+    return " ".join(f"{count}{unit.printed}" for count, unit in zip(quotients(nanos, lengths, lengths), UNITS) if count) or "0s"
 
 
 @functools.lru_cache(1 << 16)

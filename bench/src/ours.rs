@@ -45,29 +45,24 @@ impl Library for Crate {
         parse(text).expect("a text that is read")
     }
 
-    #[inline(always)]
     fn reading_with(text: &str, options: u32) -> Duration {
         let [no_calc, lowercase, cn_unit] = [1, 2, 4].map(|bit| options & bit != 0);
         parse_with(text, Options { no_calc, lowercase, cn_unit }).expect("a text that is read")
     }
 
-    #[inline(always)]
     fn printing(length: Duration) -> usize {
         black_box(write_human(&length, &mut [0; 64])).len()
     }
 
-    #[inline(always)]
     fn printing_parts(length: Duration, parts: u32) -> usize {
         let format = Format::whole().parts(parts as usize);
         black_box(write_within(&length, format, &mut [0; 144])).len()
     }
 
-    #[inline(always)]
     fn printing_string(length: Duration) -> String {
         length.human_format()
     }
 
-    #[inline(always)]
     fn refusing(text: &str, buffer: &mut [u8; ROOM]) -> usize {
         let fault = parse_with(text, Options::off()).expect_err("a text that is refused");
         fault.write_message(buffer).expect("a message that fits")
@@ -96,7 +91,25 @@ pub fn count_ways(number: usize, text: &str) {
 /// The archive, called through C.
 pub struct Archive;
 
-/// `struct duration_str_answer`, of which nothing is read here.
+impl Archive {
+    /// Has a call print a duration, by its seconds and nanoseconds, into a buffer.
+    fn printed(length: Duration, call: impl Fn(u64, u32, *mut u8) -> usize) -> usize {
+        let mut buffer = [0; 64];
+        let end = call(length.as_secs(), length.subsec_nanos(), buffer.as_mut_ptr());
+        black_box(&buffer);
+        end
+    }
+
+    /// Reads a text under the options; the answer, and whether it is read.
+    fn answer(text: &str, options: u32) -> (Answer, bool) {
+        let mut answer = Answer::default();
+        // SAFETY: the pointer and length are a slice's, and `answer` is laid out as the header's.
+        let read = unsafe { duration_str_parse_with(text.as_ptr(), text.len(), options, &mut answer) };
+        (answer, read)
+    }
+}
+
+/// `struct duration_str_answer`, of which `nanos` alone is read here.
 #[repr(C)]
 #[derive(Default)]
 struct Answer {
@@ -114,22 +127,9 @@ struct Answer {
 unsafe extern "C" {
     fn duration_str_parse(text: *const u8, length: usize, nanos: *mut u64) -> bool;
     fn duration_str_format(secs: u64, nanos: u32, buffer: *mut u8) -> usize;
-    fn duration_str_format_within(
-        secs: u64,
-        nanos: u32,
-        largest: u32,
-        smallest: u32,
-        parts: u32,
-        buffer: *mut u8,
-    ) -> usize;
+    fn duration_str_format_within(secs: u64, nanos: u32, largest: u32, smallest: u32, parts: u32, buffer: *mut u8) -> usize;
     fn duration_str_parse_with(text: *const u8, length: usize, options: u32, answer: *mut Answer) -> bool;
-    fn duration_str_message(
-        text: *const u8,
-        length: usize,
-        options: u32,
-        buffer: *mut u8,
-        room: usize,
-    ) -> usize;
+    fn duration_str_message(text: *const u8, length: usize, options: u32, buffer: *mut u8, room: usize) -> usize;
 }
 
 impl Library for Archive {
@@ -144,43 +144,26 @@ impl Library for Archive {
         nanos
     }
 
-    #[inline(always)]
     fn reading_with(text: &str, options: u32) -> u64 {
-        let mut answer = Answer::default();
-        // SAFETY: the pointer and length are a slice's, and `answer` is laid out as the header's.
-        let read = unsafe { duration_str_parse_with(text.as_ptr(), text.len(), options, &mut answer) };
+        let (answer, read) = Archive::answer(text, options);
         assert!(read, "refused: {text}");
         answer.nanos
     }
 
-    #[inline(always)]
     fn printing(length: Duration) -> usize {
-        let mut buffer = [0; 64];
         // SAFETY: the buffer has the 64 bytes that may be written.
-        let end = unsafe { duration_str_format(length.as_secs(), length.subsec_nanos(), buffer.as_mut_ptr()) };
-        black_box(&buffer);
-        end
+        Archive::printed(length, |secs, nanos, buffer| unsafe { duration_str_format(secs, nanos, buffer) })
     }
 
-    #[inline(always)]
     fn printing_parts(length: Duration, parts: u32) -> usize {
-        let mut buffer = [0; 64];
-        let (secs, nanos) = (length.as_secs(), length.subsec_nanos());
-        // SAFETY: the buffer has the 64 bytes that may be written.
-        let end = unsafe { duration_str_format_within(secs, nanos, 0, 10, parts, buffer.as_mut_ptr()) };
-        black_box(&buffer);
-        end
+        // SAFETY: as above.
+        Archive::printed(length, |secs, nanos, buffer| unsafe { duration_str_format_within(secs, nanos, 0, 10, parts, buffer) })
     }
 
-    #[inline(always)]
     fn refusing(text: &str, buffer: &mut [u8; ROOM]) -> usize {
-        let mut answer = Answer::default();
-        // SAFETY: the pointers and lengths are those of slices that lie apart, and `answer` is laid out as the header's.
-        let length = unsafe {
-            let read = duration_str_parse_with(text.as_ptr(), text.len(), 0, &mut answer);
-            assert!(!read, "read");
-            duration_str_message(text.as_ptr(), text.len(), 0, buffer.as_mut_ptr(), ROOM)
-        };
+        assert!(!Archive::answer(text, 0).1, "read");
+        // SAFETY: the pointers and lengths are those of slices that lie apart.
+        let length = unsafe { duration_str_message(text.as_ptr(), text.len(), 0, buffer.as_mut_ptr(), ROOM) };
         assert!(0 < length && length <= ROOM);
         length
     }

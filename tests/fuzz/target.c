@@ -1,4 +1,5 @@
-/* What must hold of every answer of the library, tried on any bytes: the target of libFuzzer, and of driver.c.
+/* What must hold of every answer of the library, tried on any bytes: libFuzzer's target with WITH_LIBFUZZER, and otherwise a
+ * program that is given a file of texts, as tests/texts.py makes it.
  *
  * Each text is at the end of a page that can't be written, before a page that can't be read, and each buffer at the end
  * of a page, before one that can't be written. What the answers have to be is not said here: tests/compare does that. */
@@ -47,10 +48,7 @@ static uint8_t *mapped(int file, int protection)
 {
     int flags = file < 0 ? MAP_PRIVATE | MAP_ANONYMOUS : MAP_SHARED;
     uint8_t *start = mmap(NULL, PAGE + ROOM + PAGE, PROT_NONE, MAP_PRIVATE | MAP_ANONYMOUS, -1, 0);
-    if (start == MAP_FAILED || mmap(start + PAGE, ROOM, protection, flags | MAP_FIXED, file, 0) == MAP_FAILED) {
-        perror("mmap");
-        exit(2);
-    }
+    HOLDS(start != MAP_FAILED && mmap(start + PAGE, ROOM, protection, flags | MAP_FIXED, file, 0) != MAP_FAILED);
     return start + PAGE + ROOM;
 }
 
@@ -58,10 +56,7 @@ static uint8_t *mapped(int file, int protection)
 static struct region text_region(void)
 {
     int file = memfd_create("text", 0);
-    if (file < 0 || ftruncate(file, ROOM) != 0) {
-        perror("memfd_create");
-        exit(2);
-    }
+    HOLDS(file >= 0 && ftruncate(file, ROOM) == 0);
     return (struct region){mapped(file, PROT_READ | PROT_WRITE), mapped(file, PROT_READ)};
 }
 
@@ -99,10 +94,9 @@ static uint8_t *buffer_at(uint8_t *end, size_t room)
 
 static bool is_untouched(const uint8_t *from, const uint8_t *to)
 {
-    for (; from < to; from++)
-        if (*from != CANARY)
-            return false;
-    return true;
+    while (from < to && *from == CANARY)
+        from++;
+    return from == to;
 }
 
 /* ---- The calls */
@@ -145,25 +139,14 @@ typedef size_t (*writer)(const uint8_t *text, size_t length, uint32_t options, u
 /* A length is the same whatever the room, and what is written stands there in that many bytes, or nothing is. */
 static void check_room(writer writes, struct text text, uint32_t options)
 {
-    size_t length = writes(text.bytes, text.length, options, NULL, 0), more = length + 5;
-    uint8_t *buffer = buffer_at(output_end, more);
-    HOLDS(writes(text.bytes, text.length, options, buffer, more) == length);
-    HOLDS(is_untouched(buffer - CANARIES, buffer) && is_untouched(buffer + length, output_end));
-    if (length > 0) {
-        buffer = buffer_at(output_end, length - 1);
-        HOLDS(writes(text.bytes, text.length, options, buffer, length - 1) == length);
-        HOLDS(is_untouched(buffer - CANARIES, output_end));
+    size_t length = writes(text.bytes, text.length, options, NULL, 0);
+    const size_t rooms[] = {length > 0 ? length - 1 : 0, length, length + 5};
+    for (size_t at = 0; at < sizeof rooms / sizeof *rooms; at++) {
+        uint8_t *buffer = buffer_at(output_end, rooms[at]);
+        HOLDS(writes(text.bytes, text.length, options, buffer, rooms[at]) == length);
+        HOLDS(is_untouched(buffer - CANARIES, buffer));
+        HOLDS(is_untouched(rooms[at] < length ? buffer : buffer + length, output_end));
     }
-    buffer = buffer_at(output_end, length);
-    HOLDS(writes(text.bytes, text.length, options, buffer, length) == length);
-    HOLDS(is_untouched(buffer - CANARIES, buffer));
-}
-
-static void check_messages(struct text text, uint32_t options, bool is_read)
-{
-    HOLDS((duration_str_message(text.bytes, text.length, options, NULL, 0) == 0) == is_read);
-    check_room(duration_str_message, text, options);
-    check_room(duration_str_line, text, options);
 }
 
 /* ---- Numbers that follow from a text */
@@ -215,16 +198,14 @@ static wide instant_of(struct duration_str_moment moment)
     return (wide)moment.secs * SECOND + moment.nanos;
 }
 
-typedef bool (*mover)(const uint8_t *, size_t, uint32_t, struct duration_str_moment *, struct duration_str_answer *);
-
-/* Moves a moment by a text, and checks it against whole numbers of 128 bits. */
-static bool is_moved(mover moves, int direction, struct text text, uint32_t options, struct duration_str_answer read,
+/* Moves a moment by a text, forward (1) or back (-1), and checks it against whole numbers of 128 bits. */
+static bool is_moved(int direction, struct text text, uint32_t options, struct duration_str_answer read,
                      struct duration_str_moment *moment)
 {
     struct duration_str_moment *moved = (void *)buffer_at(moment_end, sizeof *moved);
     struct duration_str_answer *told = (void *)buffer_at(answers_end, sizeof *told), out = {.cause = DURATION_STR_OUT_OF_RANGE};
     *moved = *moment;
-    bool done = moves(text.bytes, text.length, options, moved, told);
+    bool done = (direction > 0 ? duration_str_after : duration_str_before)(text.bytes, text.length, options, moved, told);
     wide reached = instant_of(*moment) + direction * (wide)read.nanos;
     bool fits = moment->nanos < SECOND && is_moment(instant_of(*moment));
     HOLDS(is_untouched(moment_end - sizeof *moved - CANARIES, moment_end - sizeof *moved));
@@ -246,10 +227,9 @@ static bool is_moved(mover moves, int direction, struct text text, uint32_t opti
 static void check_moments(struct text text, uint32_t options, struct duration_str_answer read)
 {
     struct duration_str_moment start = any_moment(), moment = start;
-    bool forward = any() % 2;
-    mover there = forward ? duration_str_after : duration_str_before, back = forward ? duration_str_before : duration_str_after;
-    if (is_moved(there, forward ? 1 : -1, text, options, read, &moment)) {
-        HOLDS(is_moved(back, forward ? -1 : 1, text, options, read, &moment));
+    int direction = any() % 2 ? 1 : -1;
+    if (is_moved(direction, text, options, read, &moment)) {
+        HOLDS(is_moved(-direction, text, options, read, &moment));
         HOLDS(moment.secs == start.secs && moment.nanos == start.nanos);
     }
 }
@@ -289,8 +269,11 @@ static void check(struct text text)
         HOLDS(are_equal(answer, read_with(text, options | ((uint32_t)any() & ~(uint32_t)ALL_OPTIONS))));
         if (answer.cause == DURATION_STR_READ && (options == 0 || answer.nanos != answers[0].nanos))
             check_printed(answer.nanos);
-        if (options == 0 || !are_equal(answer, answers[0]))
-            check_messages(text, options, answer.cause == DURATION_STR_READ);
+        if (options > 0 && are_equal(answer, answers[0]))
+            continue;
+        HOLDS((duration_str_message(text.bytes, text.length, options, NULL, 0) == 0) == (answer.cause == DURATION_STR_READ));
+        check_room(duration_str_message, text, options);
+        check_room(duration_str_line, text, options);
     }
     check_plain(text, answers[0]);
     uint32_t options = any() % CHOICES;
@@ -310,3 +293,20 @@ int LLVMFuzzerTestOneInput(const uint8_t *data, size_t size)
     check(text_at(texts, data, size));
     return 0;
 }
+
+#ifndef WITH_LIBFUZZER
+/* Before each text of the file stand two bytes of its length, the lower one first. */
+int main(int count, char **words)
+{
+    static uint8_t text[UINT16_MAX];
+    FILE *file = count == 2 ? fopen(words[1], "rb") : NULL;
+    HOLDS(file != NULL);
+    for (int low; (low = getc(file)) != EOF;) {
+        size_t length = (size_t)low | (size_t)getc(file) << 8;
+        HOLDS(fread(text, 1, length, file) == length);
+        LLVMFuzzerTestOneInput(text, length);
+    }
+    HOLDS(tried != NULL);
+    return fclose(file);
+}
+#endif
