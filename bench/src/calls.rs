@@ -14,8 +14,6 @@
 //! - `calls SIDE refuse NAME COUNT`: a refused text, and its message written into a buffer. `texts.rs` has the names.
 //! - `calls crate error NAME COUNT`: a text refused by `parse_duration`, and the error printed into a `String`.
 #[allow(dead_code)] // for the other program
-mod counting;
-#[allow(dead_code)]
 mod ours;
 mod texts;
 

@@ -5,16 +5,10 @@
 //! - `bench times`: nanoseconds a call over them, a line with WHAT, OURS and THEIRS for reading and for printing. In all
 //!   these lines a tab stands between the words.
 //! - `bench calls WORDS COUNT`: humantime's calls, by the words of `calls.rs` after SIDE.
-//! - `bench count`, under callgrind: a part of its output for each way to read each text of `texts.rs`, by both sides. It
-//!   writes a line for each text: its number, whether each side reads it, and the text.
-mod counting;
 mod ours;
 mod texts;
 
-use counting::counted;
-use ours::{Crate, Library, ROOM, calls, count_ways};
-use serde::de::value::Error;
-use serde::de::{Error as _, IntoDeserializer};
+use ours::{Crate, Library, ROOM, calls};
 use std::hint::black_box;
 use std::io::Write;
 use std::time::{Duration, Instant};
@@ -54,25 +48,6 @@ impl Library for Humantime {
 
     fn error(text: &str) -> String {
         humantime::parse_duration(text).expect_err("a text that humantime refuses").to_string()
-    }
-}
-
-/// Counts the instructions of each way to read each text, of both sides.
-fn count() {
-    counted(0, "nothing", || { black_box(black_box(texts::EXPRESSION)); });
-    for (number, text) in texts::table().iter().enumerate() {
-        let reads = |reads| if reads { "reads" } else { "refuses" };
-        let (ours, theirs) = (duration_str::parse(text).is_ok(), humantime::parse_duration(text).is_ok());
-        println!("{number}\t{}\t{}\t{}", reads(ours), reads(theirs), texts::label(text));
-        count_ways(number, text);
-        let read = || humantime::parse_duration(black_box(text));
-        counted(number, "humantime", || { black_box(&read()); });
-        if !theirs {
-            counted(number, "humantime printed", || { black_box(&read().map_err(|error| error.to_string())); });
-            counted(number, "humantime serde", || { black_box(&read().map_err(Error::custom)); });
-        }
-        let field = || -> Result<Duration, Error> { duration_str::human::deserialize(black_box(text.as_str()).into_deserializer()) };
-        counted(number, "human", || { black_box(&field()); });
     }
 }
 
@@ -123,7 +98,6 @@ fn main() {
     match words.as_slice() {
         ["expressions"] => println!("{}", texts::expressions().join("\n")),
         ["times"] => times(),
-        ["count"] => count(),
         ["calls", words @ .., count] => calls::<Humantime>(words, count.parse().expect("a count")),
         _ => panic!("see the first lines of src/main.rs"),
     }

@@ -1,5 +1,4 @@
 //! The calls that are measured: those of the Rust crate, and those of the archive through C.
-use crate::counting::counted;
 use crate::texts::{EXPRESSION, expressions, long_text, refused, repeat};
 use duration_str::{Format, HumanFormat, Options, parse, parse_duration, parse_with, write_human, write_within};
 use std::hint::black_box;
@@ -71,20 +70,6 @@ impl Library for Crate {
     #[inline(always)]
     fn error(text: &str) -> String {
         parse_duration(text).expect_err("a text that is refused").to_string()
-    }
-}
-
-/// Counts the instructions of each way to read a text, and to print why it is refused.
-pub fn count_ways(number: usize, text: &str) {
-    let text = || black_box(text);
-    counted(number, "parse", || { black_box(&parse(text())); });
-    counted(number, "parse_with", || { black_box(&parse_with(text(), Options::off())); });
-    counted(number, "parse_duration", || { black_box(&parse_duration(text())); });
-    if parse(text()).is_err() {
-        let printed = || parse_with(text(), Options::off()).map_err(|fault| fault.to_string());
-        counted(number, "parse_with printed", || { black_box(&printed()); });
-        let printed = || parse_duration(text()).map_err(|fault| fault.to_string());
-        counted(number, "parse_duration printed", || { black_box(&printed()); });
     }
 }
 
