@@ -89,8 +89,8 @@ static void check_limits(uint8_t *printed)
            "a largest unit");
     expect(duration_str_format_within(193, 29000000, 0, day, 2, printed) == 2 && memcmp(printed, "0d", 2) == 0, "no days");
     memset(printed, '#', 64);
-    expect(duration_str_format_within(193, 29000000, 11, nanosecond, 2, printed) == 0, "a largest unit above 10");
-    expect(duration_str_format_within(193, 29000000, 0, 11, 2, printed) == 0, "a smallest unit above 10");
+    expect(duration_str_format_within(193, 29000000, nanosecond + 1, nanosecond, 2, printed) == 0, "no largest unit");
+    expect(duration_str_format_within(193, 29000000, 0, nanosecond + 1, 2, printed) == 0, "no smallest unit");
     expect(duration_str_format_within(193, 1000000000, 0, nanosecond, 2, printed) == 0, "a second within limits");
     expect(printed[0] == '#', "a buffer that stays");
 }

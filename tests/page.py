@@ -271,7 +271,7 @@ def try_printing(page):
         ({"largest": "h", "smallest": "min"}, "25h 1min",
          {"rust": ".largest(TimeUnit::Hour).smallest(TimeUnit::Minute)", "python": 'largest="h", smallest="min"',
           "javascript": '{ largest: "h", smallest: "min" }',
-          "c": "DURATION_STR_HOUR, DURATION_STR_MINUTE, 11, DURATION_STR_SHORT,"}),
+          "c": f"DURATION_STR_HOUR, DURATION_STR_MINUTE, {len(reference_parser.UNITS)}, DURATION_STR_SHORT,"}),
         ({"smallest": "µs"}, "1d 1h 1min 1s", {"rust": "TimeUnit::MicroSecond", "javascript": 'smallest: "µs"'}),
     ]
     for chosen, printed, code in rows:
@@ -359,7 +359,7 @@ def try_hostile(page):
     for link in TEXTS["hostile links"]:
         page.open(link)
         page.same(f"the elements after {link}", before, page.run(count))
-        page.same(f"what {link} chooses to print", ["short", "y", "ns", "11"],
+        page.same(f"what {link} chooses to print", ["short", "y", "ns", str(len(reference_parser.UNITS))],
                   page.told("['style', 'largest', 'smallest', 'parts'].map((id) => document.getElementById(id).value)"))
         told = page.told("document.getElementById('link-note').textContent")
         page.same(f"{link} is not understood", True, told.startswith("Not understood in the link: "))

@@ -1,4 +1,5 @@
 // What stands in the page. What is typed or stands in the link reaches it only as `textContent` and `value`.
+import { UNITS } from "./units.js";
 
 /** Longer texts, in UTF-16 units, are not marked in the input but in an excerpt, and do not stand in the link. */
 export const LONG = 2_000;
@@ -14,7 +15,7 @@ export const printing = {
     style: element("style"), largest: element("largest"), smallest: element("smallest"), parts: element("parts"),
 };
 /** What is chosen of these where everything is printed. */
-export const WHOLE = { style: "short", largest: "y", smallest: "ns", parts: "11" };
+export const WHOLE = { style: "short", largest: "y", smallest: "ns", parts: String(UNITS.length) };
 
 /** How it is to be printed, less what is as in WHOLE. */
 export function chosenLimits() {

@@ -18,6 +18,7 @@ import unittest
 
 import duration_str
 from duration_str import parse
+from tests.vectors import LINES
 
 MINUTE = datetime.timedelta(minutes=1)
 HOUR = 60 * MINUTE
@@ -101,7 +102,6 @@ class Cluster(unittest.TestCase):
         self.assertEqual(run("cluster.py"), (0, "21093 days 18:00:00 [1, 5, 9]\n", ""))
 
 
-UNITS = 'expected ["y", "q", "mon", "w", "d", "h", "m", "s", "ms", "µs", "us", "ns"]'
 LINE = 'unknown unit "mins" at column 3: write "min"'
 
 
@@ -228,7 +228,7 @@ class Models(unittest.TestCase):
             self.assertEqual((error["type"], error["loc"], error["msg"]), ("duration", ("timeout",), LINE))
             self.assertEqual(
                 error["ctx"],
-                {"one_line": LINE, "line": UNITS, "cause": "SYNTAX", "place": 2, "column": 2, "found": "mins"},
+                {"one_line": LINE, "line": LINES["units"], "cause": "SYNTAX", "place": 2, "column": 2, "found": "mins"},
             )
             self.assertEqual(json.loads(told.exception.json())[0]["ctx"], error["ctx"])
         with self.assertRaises(self.pydantic.ValidationError) as told:

@@ -1,13 +1,12 @@
 //! For tests/compare: answers each line of standard input. A line of two numbers, seconds and nanoseconds, is a
-//! duration, which is printed; three more are its limits: the largest and the smallest unit, as the header for C numbers
-//! them, and how many parts at most. Any other is a text in hexadecimal digits: what follows are the fields of the answer, as
-//! the header for C numbers them, and in hexadecimal digits the message and its last line. The words of the command
-//! line choose the options.
+//! duration, which is printed; three more words are its limits: the names of the largest and the smallest unit, and how
+//! many parts at most. Any other is a text in hexadecimal digits: what follows are the fields of the answer, as the header
+//! for C numbers them, and in hexadecimal digits the message and its last line. The words of the command line choose the
+//! options.
 #![forbid(unsafe_code)]
 
 use duration_str::{
-    Cause, CondUnit, Fault, HumanFormat, Options, TimeUnit, format_duration, parse_with,
-    write_human,
+    Cause, CondUnit, Fault, HumanFormat, Options, format_duration, parse_with, write_human,
 };
 use std::time::Duration;
 
@@ -75,32 +74,14 @@ fn answer(text: &str, options: Options) -> String {
     }
 }
 
-const UNITS: [TimeUnit; 11] = [
-    TimeUnit::Year,
-    TimeUnit::Quarter,
-    TimeUnit::Month,
-    TimeUnit::Week,
-    TimeUnit::Day,
-    TimeUnit::Hour,
-    TimeUnit::Minute,
-    TimeUnit::Second,
-    TimeUnit::MilliSecond,
-    TimeUnit::MicroSecond,
-    TimeUnit::NanoSecond,
-];
-
 fn printed(line: &str) -> String {
-    let numbers: Vec<u64> = line
-        .split(' ')
-        .map(|digits| digits.parse().expect("a number"))
-        .collect();
-    let duration = Duration::new(numbers[0], numbers[1] as u32);
-    if let [largest, smallest, parts] = numbers[2..] {
-        let (largest, smallest) = (UNITS[largest as usize], UNITS[smallest as usize]);
-        let within = format_duration(duration)
-            .largest(largest)
-            .smallest(smallest);
-        return within.parts(parts as usize).to_string();
+    let words: Vec<&str> = line.split(' ').collect();
+    let number = |at: usize| words[at].parse().expect("a number");
+    let unit = |at: usize| words[at].parse().expect("a unit");
+    let duration = Duration::new(number(0), number(1) as u32);
+    if words.len() > 2 {
+        let within = format_duration(duration).largest(unit(2)).smallest(unit(3));
+        return within.parts(number(4) as usize).to_string();
     }
     let printed = duration.human_format();
     assert_eq!(write_human(&duration, &mut [0xff; 64]), printed);

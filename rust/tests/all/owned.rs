@@ -145,19 +145,8 @@ fn keeps_faults_in_sets() {
 
 #[test]
 fn orders_units_by_length() {
-    let longest = [
-        TimeUnit::Year,
-        TimeUnit::Quarter,
-        TimeUnit::Month,
-        TimeUnit::Week,
-        TimeUnit::Day,
-        TimeUnit::Hour,
-        TimeUnit::Minute,
-        TimeUnit::Second,
-        TimeUnit::MilliSecond,
-        TimeUnit::MicroSecond,
-        TimeUnit::NanoSecond,
-    ];
+    let names = "y q mon w d h min s ms µs ns".split(' ');
+    let longest = names.map(|name| name.parse::<TimeUnit>().unwrap());
     assert!(longest.is_sorted_by(|longer, shorter| longer > shorter));
 }
 
