@@ -11,7 +11,6 @@ import dask.dataframe
 import duration_str
 import pandas
 import pytimeparse
-from duration_str import parse_buffers
 
 COUNT = 1_000_000
 FEW = 50_000
@@ -64,7 +63,7 @@ def main():
         ("`to_timedelta` of a Series", duration_str.to_timedelta, pandas.Series(same)),
         ("`format_many` of a Series of timedelta64", duration_str.format_many, lengths[:FEW]),
         ("`parse_ns` of `3m 13s 29ms`, called one by one", in_a_loop(duration_str.parse_ns), texts[:FEW]),
-        ("`parse_buffers` of such texts", lambda _: parse_buffers(data, offsets), texts),
+        ("`parse_buffers` of such texts", lambda _: duration_str.parse_buffers(data, offsets), texts),
         ("`parse_many` of a list of such texts", duration_str.parse_many, texts),
         ("`to_timedelta` of a Series of such texts", duration_str.to_timedelta, series),
         ("`pandas.to_timedelta` of the same", pandas.to_timedelta, series[:FEW]),

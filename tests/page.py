@@ -1,6 +1,6 @@
 """page.py FILE [--pictures]: tries the page in this file in Chromium, or takes its pictures; called by tests/page.
 
-page-texts.json has texts and what is shown of them, worked out by hand from README.md and docs/GRAMMAR.md: "values",
+page-texts.json has texts and what is shown of them, worked out by hand from docs/GRAMMAR.md: "values",
 printed and in nanoseconds, milliseconds, seconds and ISO 8601; the rows of their "terms"; "notes" on them; the mark and the
 sentence of "faults"; and what is offered where an option is "switched". "meant" has the values in seconds that people mean
 by texts: several where people use a text with several meanings, null where nothing may be offered. "typed" texts are typed

@@ -1,4 +1,4 @@
-"""What a text means, as docs/GRAMMAR.md and the table of README.md say it, computed the naive way.
+"""What a text means, as docs/GRAMMAR.md says it, computed the naive way.
 
 This is the parser against which `compare` holds the program, the library and the packages. It was written from the
 documents, not from the Rattle code, and works in another manner: it tries all the ways to split a text into terminals,

@@ -7,7 +7,8 @@ status=0
 rows=0
 room=$(mktemp -d)
 log=$room/log
-trap 'rm -rf "$room"' EXIT
+clears() { chmod -R u+w "$room" && rm -rf "$room"; }
+trap clears EXIT
 
 # runs WHAT WORDS..: runs the words as a step; the end of what they say, which $log has whole, is shown where they fail
 runs() {

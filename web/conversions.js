@@ -58,7 +58,7 @@ function misspelt(word) {
 }
 
 /** The library's name for a word, for a common name and for a misspelt one; nothing where there is none. */
-export function unitName(word) {
+function unitName(word) {
     const small = word.toLowerCase();
     if (unitOf(word)) return word;
     // A capital makes it megabytes; without one, it is a label.

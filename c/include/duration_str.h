@@ -224,8 +224,8 @@ bool duration_str_parse_with(const uint8_t *text, size_t length,
  * `nanos[k]` becomes the value of text `k` in nanoseconds, or 0 if it is
  * refused, and `causes[k]` why it is refused, as an `enum duration_str_cause`:
  * that of duration_str_parse_with, or DURATION_STR_BAD_OFFSETS if `offsets[k]`
- * is above `offsets[k + 1]` or that one above `length`. The texts after it are
- * read all the same.
+ * is above `offsets[k + 1]`, or `offsets[k + 1]` above `length`. The texts
+ * after it are read all the same.
  *
  * `nanos` has room for `nanos_room` numbers and `causes` for `causes_room`.
  * Only as many texts are handled as there are, and as there is room for in

@@ -200,7 +200,7 @@ function asciiLength(text) {
     return text.length;
 }
 
-/** Writes the text at TEXT, and returns its length in bytes, or the index of a lone surrogate. */
+/** Writes the text at TEXT, and returns its length in bytes, and the index of a lone surrogate, -1 without one. */
 function write(text) {
     reserve(3 * text.length);
     const short = asciiLength(text);
@@ -353,6 +353,7 @@ export function format(nanoseconds, options) {
     checkBigint(nanoseconds, "; formatMs takes milliseconds");
     return printed(nanoseconds, nanoseconds, options);
 }
+
 export function formatMs(milliseconds, options) {
     if (typeof milliseconds !== "number") {
         throw new TypeError(`milliseconds must be a number, not ${typeOf(milliseconds)}; format takes nanoseconds`);

@@ -1,4 +1,4 @@
-//! The error type of the Rust crate.
+//! The error type of `duration-str` 0.19.0.
 use crate::fault::{Fault, OwnedFault};
 use alloc::string::String;
 use core::fmt;

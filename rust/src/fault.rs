@@ -111,7 +111,7 @@ impl<'a> Fault<'a> {
     }
 
     /// Writes the message to the start of a buffer, and returns its length in bytes. `None` where the buffer is shorter;
-    /// it is unchanged then. Takes no memory, and less time than `Display`.
+    /// it is unchanged then. Allocates nothing, and takes less time than `Display`.
     ///
     /// ```
     /// use duration_str::{Options, parse_with};
@@ -125,7 +125,7 @@ impl<'a> Fault<'a> {
         self.fault.write_message(buffer)
     }
 
-    /// The error of the Rust crate for this fault.
+    /// The error of `duration-str` 0.19.0 for this fault.
     ///
     /// ```
     /// use duration_str::{DError, Options, parse_with};

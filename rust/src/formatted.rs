@@ -30,7 +30,7 @@ use duration_str_core::{Format, Style, TimeUnit, write_human, write_within};
 pub struct FormattedDuration {
     is_negative: bool,
     magnitude: Duration,
-    /// `None` is whole: most are printed so, which takes less time apart.
+    /// `None` prints all of it: most are printed so, and a branch of its own is faster.
     chosen: Option<Format>,
 }
 

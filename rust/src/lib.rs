@@ -62,8 +62,8 @@
 //! assert_eq!(uptime.largest(TimeUnit::Day).parts(2).style(Style::Long).to_string(), "11 days 13 hours");
 //! ```
 //!
-//! Durations of `chrono` and `time` have the same by [`HumanFormat::formatted`], and without memory [`write_within`] writes
-//! into a buffer.
+//! Durations of `chrono` and `time` have the same by [`HumanFormat::formatted`]. [`write_within`] writes into a buffer, and
+//! allocates nothing.
 //!
 //! # Why and where a text is refused
 //!

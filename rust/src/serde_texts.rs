@@ -121,7 +121,7 @@ where
 
 /// Implements the traits for a type and its `Option`, and makes the function that reads the `Option` alone.
 macro_rules! deserializes {
-    ($length:ty, $of_std:path, $to_std:expr, $option_name:ident, $instead:literal) => {
+    ($length:ty, $of_std:path, $to_std:expr, $option_name:ident) => {
         impl Length for $length {
             fn of_std(length: Duration) -> Self {
                 $of_std(length)
@@ -148,7 +148,7 @@ macro_rules! deserializes {
             }
         }
 
-        #[doc = concat!("Reads an optional duration as [`", $instead, "`] does.")]
+        /// Reads an optional duration as [`deserialize_duration`] does.
         ///
         /// # Errors
         ///
@@ -169,24 +169,21 @@ deserializes!(
     Duration,
     core::convert::identity,
     Some,
-    deserialize_option_duration,
-    "deserialize_duration"
+    deserialize_option_duration
 );
 #[cfg(feature = "chrono")]
 deserializes!(
     chrono::Duration,
     crate::parser::chrono_of,
     |length: chrono::Duration| length.to_std().ok(),
-    deserialize_option_duration_chrono,
-    "deserialize_duration"
+    deserialize_option_duration_chrono
 );
 #[cfg(feature = "time")]
 deserializes!(
     time::Duration,
     crate::parser::time_of,
     |length: time::Duration| length.try_into().ok(),
-    deserialize_option_duration_time,
-    "deserialize_duration"
+    deserialize_option_duration_time
 );
 
 /// Reads a duration of `chrono`, as [`deserialize_duration`] does.

@@ -11,6 +11,9 @@
  * timedelta's parts; and what it makes and calls. */
 enum kept { NO_CALC, LOWERCASE, CN_UNIT, OPTIONS, LARGEST = OPTIONS, SMALLEST, PARTS, STYLE, DAYS, SECONDS, MICROSECONDS,
             ERROR, TYPE_ERROR, NANOS_OF, TIMEDELTA, A_MICROSECOND, A_SECOND, KEPT };
+/* Those before ERROR, in their order */
+static const char *const kept_names[] = {"no_calc", "lowercase", "cn_unit", "largest", "smallest", "parts", "style", "days",
+                                         "seconds", "microseconds"};
 
 /* timedelta64's NaT, and the days that it can have whatever else is added. */
 #define MISSING ((uint64_t)INT64_MIN)
@@ -684,16 +687,8 @@ static PyObject *member(const char *module, const char *name) {
 static int begin(PyObject *module) {
     struct state *state = PyModule_GetState(module);
     int is_there = 1;
-    state->kept[NO_CALC] = PyUnicode_InternFromString("no_calc");
-    state->kept[LOWERCASE] = PyUnicode_InternFromString("lowercase");
-    state->kept[CN_UNIT] = PyUnicode_InternFromString("cn_unit");
-    state->kept[LARGEST] = PyUnicode_InternFromString("largest");
-    state->kept[SMALLEST] = PyUnicode_InternFromString("smallest");
-    state->kept[PARTS] = PyUnicode_InternFromString("parts");
-    state->kept[STYLE] = PyUnicode_InternFromString("style");
-    state->kept[DAYS] = PyUnicode_InternFromString("days");
-    state->kept[SECONDS] = PyUnicode_InternFromString("seconds");
-    state->kept[MICROSECONDS] = PyUnicode_InternFromString("microseconds");
+    for (int at = 0; at < ERROR; at++)
+        state->kept[at] = PyUnicode_InternFromString(kept_names[at]);
     state->kept[ERROR] = member("duration_str._texts", "DurationError");
     state->kept[TYPE_ERROR] = member("duration_str._texts", "DurationTypeError");
     state->kept[NANOS_OF] = member("duration_str._texts", "nanos_of");

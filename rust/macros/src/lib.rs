@@ -58,7 +58,12 @@ fn literal(token: Option<TokenTree>) -> Result<(String, Span), Refusal> {
     match token {
         Some(TokenTree::Literal(literal)) => Ok((literal.to_string(), literal.span())),
         Some(TokenTree::Group(group)) if group.delimiter() == Delimiter::None => {
-            literal(group.stream().into_iter().next())
+            let mut inside = group.stream().into_iter();
+            let first = literal(inside.next())?;
+            match inside.next() {
+                None => Ok(first),
+                Some(more) => Err(("expected a string literal".to_string(), more.span())),
+            }
         }
         other => {
             let span = other.map_or_else(Span::call_site, |token| token.span());

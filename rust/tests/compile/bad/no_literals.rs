@@ -1,5 +1,11 @@
 use duration_str::duration;
 
+macro_rules! handed_over {
+    ($text:expr) => {
+        duration!($text)
+    };
+}
+
 fn main() {
     duration!();
     duration!(5);
@@ -9,4 +15,5 @@ fn main() {
     duration!("5s", calc);
     let text = "5s";
     duration!(text);
+    handed_over!("5s".trim());
 }
