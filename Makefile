@@ -1,12 +1,13 @@
 # make                 builds the program and the library for C, and says where they lie
 # make program         the program alone
 # make library         the library alone: an archive and a shared library, or a WebAssembly module
+# make duration        the command duration, where Debian's packages of the crates that it uses are there
 # make setup           installs what the tests need, on Debian, as root or where sudo asks for no password
 # make prove           proves everything, by the Rattle toolchain's command rt
 # make check           proves everything, where there is rt, and tests what is built, in half an hour to an hour
 # make quick           proves what has changed and runs the tests that take seconds
-# make install         puts both, the header and the manual pages below prefix=/usr/local, or into bindir=, libdir=,
-#                      includedir=, mandir= and docdir=, all below DESTDIR= if that is set
+# make install         puts these, the header, the manual pages and completions below prefix=/usr/local, or into bindir=,
+#                      libdir=, includedir=, mandir=, docdir= and datarootdir=, all below DESTDIR= if that is set
 # make uninstall       removes them again, given the same variables
 # make release         fills dist/, or dist=FOLDER, with packages for machines without a toolchain
 # make page            writes out/duration_str.html, a page to try texts on
@@ -19,7 +20,7 @@ SHELL := bash
 .SHELLFLAGS := -euo pipefail -c
 .ONESHELL:
 .NOTPARALLEL:
-.PHONY: all program library setup prove check quick install uninstall release page clean help installable
+.PHONY: all program library duration setup prove check quick install uninstall release page clean help installable
 unexport MAKEFLAGS CDPATH
 MAKEFLAGS += --no-builtin-rules --no-print-directory
 
@@ -73,8 +74,26 @@ library:
 	fi
 	echo $(built)
 
+# It depends on crates of others. cargo hashes the absolute path of what lies outside of a workspace, and so gives other
+# bytes in each folder: so out/command is a workspace around both, of copies, since the gate refuses links.
+command = out/cargo/$(host)/release/duration
+crates = clap clap_complete clap_derive libc serde_json
+duration:
+	@! missing=$$(tools/cargo-debian --missing $(crates)) || {
+	    echo "duration: missing: $$missing (see shell/README.md)" >&2
+	    exit 1
+	}
+	mkdir -p out/command
+	rm -rf out/command/{rust,shell}
+	cp -a --parents rust/{Cargo.toml,core,macros,src} shell/{Cargo.toml,src} out/command
+	{ printf '[workspace]\nmembers = ["shell"]\nexclude = ["rust"]\n'; sed -n '/^\[profile/,$$p' shell/Cargo.toml; } >out/command/Cargo.toml
+	tools/cargo-debian rustc --quiet --release --manifest-path out/command/shell/Cargo.toml --target $(host) --target-dir out/cargo \
+	    -- $(if $(static),-C target-feature=+crt-static)
+	echo $(command)
+
 page:
-	@tools/page
+	@type -P python3 >/dev/null || { echo 'page: needs Python 3' >&2; exit 1; }
+	tools/page
 
 # ---- Installing, by the conventions of GNU
 
@@ -92,10 +111,13 @@ INSTALL_DATA = $(INSTALL) -m 644
 export DESTDIR
 
 open := (
-calls = $(shell grep -o '\<duration_str_[a-z_]*$(open)' $(header) | tr -d '$(open)' | sort -u)
+calls = $(shell sed '/^static /d' $(header) | grep -o '\<duration_str_[a-z_]*$(open)' | tr -d '$(open)' | sort -u)
 shared = libduration_str.so $(soname) libduration_str.so.$(version)
 cmake_files = $(addprefix cmake/duration_str/duration_str-config,.cmake -version.cmake)
-installed = $(bindir)/durstr $(mandir)/man1/durstr.1 $(includedir)/duration_str.h \
+completions = $(addprefix $(datarootdir)/,bash-completion/completions/duration zsh/site-functions/_duration \
+    fish/vendor_completions.d/duration.fish)
+installed = $(addprefix $(bindir)/,durstr duration) $(addprefix $(mandir)/man1/,durstr.1 duration.1) $(completions) \
+    $(includedir)/duration_str.h \
     $(addprefix $(libdir)/,libduration_str.a $(shared) pkgconfig/duration_str.pc $(cmake_files)) \
     $(patsubst %,$(mandir)/man3/%.3,duration_str $(calls)) $(addprefix $(docdir)/,LICENSE NOTICE)
 
@@ -103,10 +125,11 @@ installed = $(bindir)/durstr $(mandir)/man1/durstr.1 $(includedir)/duration_str.
 put = put() { $(INSTALL_DATA) -v -D "$$1" "$$DESTDIR$$2"; }
 
 # The manual page in that file, for what is installed: with the calls, the header and its units
-description = LC_ALL=C awk -f c/manual-page.awk $(header)
+description = LC_ALL=C awk $(1) -f c/manual-page.awk $(header)
 page = sed -e '/^@CALLS@$$/{r '<(printf '.Nm %s ,\n' $(calls) | sed '$$s/ ,//') -e 'd}' \
-    -e '/^@HEADER@$$/{r '<($(description)) -e 'd}' \
-    -e '/^@UNITS@$$/{r '<($(description) | sed -n '/^Units: /,/^A year has/p') -e 'd}' -e 's/@VERSION@/$(version)/' $(1)
+    -e '/^@SYNOPSIS@$$/{r '<($(call description,-v synopsis=1)) -e 'd}' \
+    -e '/^@HEADER@$$/{r '<($(call description)) -e 'd}' \
+    -e '/^@UNITS@$$/{r '<($(call description) | sed -n '/^Units: /,/^A year has/p') -e 'd}' -e 's/@VERSION@/$(version)/' $(1)
 
 # From a folder of what is installed up to the prefix, so that all of it can be moved; the prefix where the folder is not
 # below it: $(call up,FOLDER,FROM), where FROM stands for the folder
@@ -122,7 +145,7 @@ cmake_up = $(call up,$(libdir)/cmake/duration_str,$${CMAKE_CURRENT_LIST_DIR})
 # Some characters pkg-config takes for something else, and others it quotes, so that compilers misread them.
 installable:
 	@export LC_ALL=C
-	for folder in $(foreach name,prefix bindir libdir includedir mandir docdir,$(call quoted,$($(name)))); do
+	for folder in $(foreach name,prefix bindir libdir includedir datarootdir mandir docdir,$(call quoted,$($(name)))); do
 	    [[ $$folder =~ ^/[A-Za-z0-9/._+,@=~-]*$$ ]] && continue
 	    echo "install: $$folder can't be told to pkg-config: a folder has to begin with / and may have ASCII letters," \
 	        'digits and . _ + , @ = ~ -' >&2
@@ -147,6 +170,19 @@ install: installable
 	$(call page,c/duration_str.3.in) | put /dev/stdin $(mandir)/man3/duration_str.3
 	for call in $(calls); do echo '.so man3/duration_str.3' | put /dev/stdin "$(mandir)/man3/$$call.3"; done
 	for file in LICENSE NOTICE; do put "$$file" "$(docdir)/$$file"; done
+	missing=$$(tools/cargo-debian --missing $(crates)) || type -P help2man >/dev/null || missing=help2man
+	[ "$(target)" = "$(host)" ] || missing='crates for $(target)'
+	if [ -n "$$missing" ]; then
+	    echo "install: the command duration is left out, missing: $$missing (see shell/README.md)"
+	else
+	    command=$$($(MAKE) --silent duration static=$(static))
+	    $(INSTALL_PROGRAM) -v -D "$$command" "$$DESTDIR$(bindir)/duration"
+	    for file in $(completions); do
+	        case $$file in *.fish) shell=fish ;; */_*) shell=zsh ;; *) shell=bash ;; esac
+	        "$$command" --completions $$shell | put /dev/stdin "$$file"
+	    done
+	    help2man --no-info --name 'read durations such as 1h 30m, and print them' "$$command" | put /dev/stdin $(mandir)/man1/duration.1
+	fi
 	[ -n "$$DESTDIR" ] || echo 'install: programs find the shared library once ldconfig knows $(libdir)'
 
 uninstall: installable

@@ -28,7 +28,7 @@ def in_a_loop(call):
     return lambda texts: [call(text) for text in texts]
 
 
-def refused(texts):
+def refuse_each(texts):
     for text in texts:
         try:
             duration_str.parse_ns(text)
@@ -59,7 +59,7 @@ def main():
     timed = [
         ("`parse_ns`, called one by one", in_a_loop(duration_str.parse_ns), same[:FEW]),
         ("`parse`, called one by one", in_a_loop(duration_str.parse), same[:FEW]),
-        ("`parse_ns` refuses `1m 3-5`, and makes the `DurationError`", refused, ["1m 3-5"] * FEW),
+        ("`parse_ns` refuses `1m 3-5`, and makes the `DurationError`", refuse_each, ["1m 3-5"] * FEW),
         ("`to_timedelta` of a Series", duration_str.to_timedelta, pandas.Series(same)),
         ("`format_many` of a Series of timedelta64", duration_str.format_many, lengths[:FEW]),
         ("`parse_ns` of `3m 13s 29ms`, called one by one", in_a_loop(duration_str.parse_ns), texts[:FEW]),

@@ -1,18 +1,17 @@
 // Times of the package for JavaScript over the lines of the standard input: a line for each call with what it is, a tab, and
-// the nanoseconds a call, the least of the rounds.
+// the nanoseconds a call, the least of many rounds, which are short, so that some run undisturbed.
 import { readFileSync } from "node:fs";
 
-import { DurationError, format, parse, parseMs } from "../js/dist/duration-str.js";
+import { DurationError, formatNs, parseNs, parse } from "../js/dist/duration-str.js";
 
-const ROUNDS = 25;
-const TIMES = 100;
+const ROUNDS = 2_500;
 
 const texts = readFileSync(0, "utf8").trimEnd().split("\n");
-const values = texts.map((text) => parse(text));
+const values = texts.map((text) => parseNs(text));
 
 function refuse(text) {
     try {
-        parse(text);
+        parseNs(text);
     } catch (error) {
         if (error instanceof DurationError) return error;
     }
@@ -21,16 +20,16 @@ function refuse(text) {
 
 /** The calls, and what each is called with. */
 const calls = [
+    ["`parseNs`", (text) => parseNs(text), texts],
     ["`parse`", (text) => parse(text), texts],
-    ["`parseMs`", (text) => parseMs(text), texts],
-    ["`format`, over their values", format, values],
-    ["`parse` refuses `1m 3-5`, and makes the `DurationError`", refuse, Array(10).fill("1m 3-5")],
+    ["`formatNs`, over their values", formatNs, values],
+    ["`parseNs` refuses `1m 3-5`, and makes the `DurationError`", refuse, Array(100).fill("1m 3-5")],
 ];
 
 function nanosecondsACall(call, inputs) {
     const start = process.hrtime.bigint();
-    for (let time = 0; time < TIMES; time++) for (const input of inputs) call(input);
-    return Number(process.hrtime.bigint() - start) / TIMES / inputs.length;
+    for (const input of inputs) call(input);
+    return Number(process.hrtime.bigint() - start) / inputs.length;
 }
 
 const least = calls.map(() => Infinity);

@@ -1,5 +1,8 @@
-# The header as the description of a manual page: each comment as paragraphs, and below it what it describes.
+# The header as the description of a manual page: each comment as paragraphs, and below it what it describes; a call has a
+# heading, its declaration and then the comment. With the variable `synopsis` the calls' declarations alone.
 BEGIN { RS = "" }
+
+function literal(text) { return ".Bd -literal\n" text "\n.Ed" }
 
 # Prints words in lines of up to 50 bytes, each sentence on a line of its own, as manual pages want it.
 function fill(text, word, count, line, at) {
@@ -19,7 +22,16 @@ function fill(text, word, count, line, at) {
     comment = substr($0, 4, end - 5)
     declaration = substr($0, end + 3)
     gsub(/DURATION_STR_(MUST_USE|NONNULL\([0-9, ]*\))[ \n]*|#(ifndef|define) DURATION_STR_H\n?/, "", declaration)
+    sub(/\n\{.*/, ";", declaration)
     gsub(/\\/, "\\e", declaration)
+    is_call = match(declaration, /duration_str_[a-z_]+\(/)
+    if (synopsis) {
+        if (is_call)
+            print literal(declaration)
+        next
+    }
+    if (is_call)
+        print ".Ss " substr(declaration, RSTART, RLENGTH - 1) "\n.nh\n" literal(declaration)
     count = split(comment, paragraph, /\n \*\n \* /)
     for (at = 1; at <= count; at++) {
         gsub(/\n \*/, "", paragraph[at])
@@ -27,6 +39,6 @@ function fill(text, word, count, line, at) {
             print ".Pp"
         fill(paragraph[at])
     }
-    if (declaration != "")
-        print ".Bd -literal\n" declaration "\n.Ed"
+    if (declaration != "" && !is_call)
+        print literal(declaration)
 }

@@ -19,6 +19,7 @@ export interface Options {
 }
 
 /** The units by their printed names, the longest first; `us` stands for `µs` too. */
+// Made by tests/repository --write.
 export type Unit = "y" | "q" | "mon" | "w" | "d" | "h" | "min" | "s" | "ms" | "µs" | "us" | "ns";
 
 /** How much of a duration is counted: a plain object's own properties. What is left out is as many parts as there are units. */
@@ -69,12 +70,6 @@ interface Refused {
     readonly text: string;
     /** What could stand at the place of a syntax fault; for other faults all are false. */
     readonly expected: Expected;
-    /** What is wrong, where, and often what to write, in one line of at most 365 bytes, which a terminal and a log can show. */
-    readonly oneLine: string;
-    /** What could stand there, or the sort of fault, without the place: `expected number`. It is made when it is read. */
-    readonly line: string;
-    /** The text, a caret under the place, and the line; made when it is read. The text stands there as it is. */
-    readonly report: string;
 }
 
 /** At a place, no expression continues as the text does. */
@@ -113,11 +108,24 @@ export interface OtherFault extends Refused {
 }
 
 /** Why a text is refused. Its code discriminates: only `SYNTAX` always has a place as a byte. */
-export type Fault = SyntaxFault | SizeFault | TextFault | OtherFault;
+export type Refusal = SyntaxFault | SizeFault | TextFault | OtherFault;
+
+interface Told {
+    /** What is wrong, where, and often what to write, in one line that a terminal and a log can show. */
+    readonly message: string;
+    /**
+     * For a terminal: the text, a caret under the place, and the message. It is the message alone for other faults than
+     * `SYNTAX`, for a text of more than 80 characters, and for one with something in it that the message would escape.
+     */
+    readonly report: string;
+}
+
+/** Why a text is refused, and the line that says so, which it is as a string. */
+export type Fault = Refusal & Told;
 
 /**
- * A refused text, whose message is the fault's one line. Its `cause` survives `structuredClone`, less the line and the
- * report, and `toJSON` gives all of the fault. It is one class for `import` and `require` in Node.
+ * A refused text, whose message is the fault's. A structured clone keeps the message and the `cause`, and `toJSON` gives
+ * both. It is one class for `import` and `require` in Node.
  *
  * ```js
  * try {
@@ -128,11 +136,14 @@ export type Fault = SyntaxFault | SizeFault | TextFault | OtherFault;
  * }
  * ```
  */
-export type DurationError = Error & Fault & { readonly cause: Fault; toJSON(): Fault & { name: string; message: string } };
+export type DurationError = Error & Refusal & Told & {
+    readonly cause: Refusal;
+    toJSON(): Refusal & { name: string; message: string };
+};
 export declare const DurationError: abstract new (...nobody: never) => DurationError;
 
 /** What a text is read as, or what is wrong with it. */
-export type Result<Value = bigint> =
+export type Result<Value = number> =
     | { readonly ok: true; readonly value: Value; readonly fault?: undefined }
     | { readonly ok: false; readonly value?: undefined; readonly fault: Fault };
 
@@ -140,15 +151,20 @@ export type Result<Value = bigint> =
 export declare const version: string;
 
 /**
- * The value of a text in nanoseconds, which is exact: `parse("3m + 13s + 29ms")` is `193029000000n`. To read an array write
- * `texts.map((text) => parse(text))`, since `map` hands in the index as well.
+ * The value of a text in milliseconds: `parse("1m 30s")` is `90000`, and `parse("1500us")` is `1.5`. From 2^53 nanoseconds
+ * (104 days) on it is the number nearest to it. To read an array write `texts.map((text) => parse(text))`, since `map` hands
+ * in the index as well.
+ *
+ * ```js
+ * setTimeout(retry, parse("1m 30s")); // which takes up to 24.8 days
+ * ```
  *
  * @throws DurationError where the text is refused
  * @throws TypeError where it is no string, or an option is unknown or no boolean
- * @throws Error, as each call does, where WebAssembly or a text encoder is missing or refused; its message says what to do,
- * and its cause is what the engine threw. The next call tries again.
+ * @throws Error, as each call does, where WebAssembly is missing or refused; its message says what to do, and its cause is
+ * what the engine threw. The next call tries again.
  */
-export function parse(text: string, options?: Options): bigint;
+export function parse(text: string, options?: Options): number;
 
 /**
  * What `parse` returns, or what is wrong with the text, without an error and its stack.
@@ -158,46 +174,49 @@ export function parse(text: string, options?: Options): bigint;
 export function tryParse(text: string, options?: Options): Result;
 
 /**
- * The value of a text in whole milliseconds, rounded down: `parseMs("1m 30s")` is `90000`. Each value that is read is below
- * 2^64 nanoseconds, so it is far below `Number.MAX_SAFE_INTEGER`.
+ * The value of a text in nanoseconds, which is exact: `parseNs("3m + 13s + 29ms")` is `193029000000n`.
  *
  * @throws DurationError, TypeError as `parse` does
  */
-export function parseMs(text: string, options?: Options): number;
+export function parseNs(text: string, options?: Options): bigint;
 
-/** What `parseMs` returns, or what is wrong with the text, in the same way as `tryParse`. */
-export function tryParseMs(text: string, options?: Options): Result<number>;
+/** What `parseNs` returns, or what is wrong with the text, in the same way as `tryParse`. */
+export function tryParseNs(text: string, options?: Options): Result<bigint>;
 
 /**
- * The text of a duration in nanoseconds: `format(5_400_000_000_000n)` is `1h 30min`, and with `{ parts: 1 }` it is `1h`.
+ * The text of a duration in milliseconds: `format(5_400_000)` is `1h 30min`, and with `{ parts: 1 }` it is `1h`. A fraction,
+ * such as a difference of `performance.now()`, is taken to the nearest nanosecond: `format(1.005)` is `1ms 5µs`.
  *
- * @throws RangeError where it is negative, or 2^64 or more; where there is no such unit, style or count of parts; and where
- * the largest unit is shorter than the smallest
- * @throws TypeError where it is no bigint, or an option is unknown or of another type
+ * @throws RangeError where it is negative, 2^64 nanoseconds or more, NaN or infinite; where there is no such unit, style or
+ * count of parts; and where the largest unit is shorter than the smallest
+ * @throws TypeError where it is no number, or an option is unknown or of another type
  */
-export function format(nanoseconds: bigint, options?: Limits): string;
+export function format(milliseconds: number, options?: Limits): string;
 
 /**
- * The text of a duration in milliseconds: `formatMs(90_000)` is `1min 30s`. A fraction, such as a difference of
- * `performance.now()`, is taken to the nearest nanosecond: `formatMs(1.005)` is `1ms 5µs`.
+ * The text of a duration in nanoseconds: `formatNs(5_400_000_000_000n)` is `1h 30min`.
  *
- * @throws RangeError where it is negative, 2^64 nanoseconds or more, NaN or infinite; and as `format` does for the options
- * @throws TypeError where it is no number; and as `format` does
+ * @throws RangeError where it is negative, or 2^64 or more; and as `format` does for the options
+ * @throws TypeError where it is no bigint; and as `format` does
  */
-export function formatMs(milliseconds: number, options?: Limits): string;
+export function formatNs(nanoseconds: bigint, options?: Limits): string;
 
 /**
- * The parts of a duration as numbers: `parts(5_400_000_000_000n)` is `{ hours: 1, minutes: 30 }`. Quarters are not counted,
- * and of nothing it is `{ seconds: 0 }`.
+ * The parts as numbers of a duration, which is a number of milliseconds or a bigint of nanoseconds: `parts(5_400_000)` is
+ * `{ hours: 1, minutes: 30 }`. Quarters are not counted, and of nothing it is `{ seconds: 0 }`.
+ *
+ * ```js
+ * new Intl.DurationFormat("en").format(parts(parse("1h 30m"))); // 1 hr, 30 min
+ * ```
  *
  * @throws RangeError where a number does not hold a count exactly; and as `format` does
- * @throws TypeError as `format` does
+ * @throws TypeError where it is neither; and as `format` does
  */
-export function parts(nanoseconds: bigint, limits?: PartLimits): Parts;
+export function parts(duration: number | bigint, limits?: PartLimits): Parts;
 
 /**
  * The date that is a text's duration after this one. A Date has whole milliseconds, so what the text has beyond them is
- * dropped, as `parseMs` does. A day is 24 hours, whatever the clocks do.
+ * dropped. A day is 24 hours, whatever the clocks do.
  *
  * ```js
  * after(new Date("2026-01-31T12:00:00Z"), "90d"); // 2026-05-01T12:00:00.000Z

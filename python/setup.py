@@ -95,6 +95,8 @@ install.install_layout = install.prefix_option = None
 # Earlier versions of setuptools have the command of another package.
 if {"bdist_wheel", "dist_info"} & set(sys.argv):
     demand(any(map(importlib.util.find_spec, ["wheel", "setuptools.command.bdist_wheel"])), "wheel, beside setuptools")
+# Interpreters without a lock have no limited API.
+limited = not sysconfig.get_config_var("Py_GIL_DISABLED")
 room = tempfile.mkdtemp()
 atexit.register(shutil.rmtree, room, True)
 setup(
@@ -104,9 +106,13 @@ setup(
             "duration_str._native",
             ["src/duration_str/_native.c"],
             include_dirs=[INCLUDE],
-            py_limited_api=True,
+            py_limited_api=limited,
         )
     ],
     license="Apache-2.0",
-    options={"bdist_wheel": {"py_limited_api": "cp311"}, "build": {"build_base": room}, "egg_info": {"egg_base": room}},
+    options={
+        "bdist_wheel": {"py_limited_api": "cp311" if limited else False},
+        "build": {"build_base": room},
+        "egg_info": {"egg_base": room},
+    },
 )

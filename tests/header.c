@@ -20,7 +20,7 @@ static struct duration_str_answer read_with(const char *text, uint32_t options)
 {
     struct duration_str_answer answer;
     memset(&answer, 0xff, sizeof answer);
-    bool read = duration_str_parse_with((const uint8_t *)text, strlen(text), options, &answer);
+    bool read = duration_str_parse_with(text, strlen(text), options, &answer);
     expect(read == (answer.cause == DURATION_STR_READ), "a text is read exactly if there is no cause");
     return answer;
 }
@@ -59,49 +59,37 @@ static void check_refusals(void)
     expect(read_with("", 0).cause == DURATION_STR_EMPTY, "the empty text");
     expect(read_with("1s 99999999999999999999", 0).cause == DURATION_STR_NUMBER_TOO_LARGE, "a number");
     expect(read_with("1\xff", 0).cause == DURATION_STR_NOT_TEXT, "bytes that are no UTF-8");
+    expect(strcmp(duration_str_cause_name(DURATION_STR_NOT_TEXT), "NOT_TEXT") == 0, "the name of a cause");
+    expect(strcmp(duration_str_cause_name(DURATION_STR_BAD_OFFSETS), "BAD_OFFSETS") == 0, "the last name of a cause");
+    expect(strcmp(duration_str_cause_name(9), "") == 0, "no name");
+}
+
+/* What is written is this text of so many bytes and a zero, and what follows is as before. */
+static bool is_written(const char *buffer, size_t length, const char *wanted)
+{
+    return length == strlen(wanted) && memcmp(buffer, wanted, length + 1) == 0 && buffer[length + 1] == '#';
 }
 
 static void check_messages(void)
 {
-    const uint8_t *text = (const uint8_t *)"3ms-2ms";
-    const char *wanted = "3ms-2ms\n   ^\nexpected ['+', '*']";
-    uint8_t message[32];
-    expect(duration_str_message(text, 7, 0, message, 32) == 32 && memcmp(message, wanted, 32) == 0, "a message");
+    const char *text = "3ms-2ms", *wanted = "3ms-2ms\n   ^\nexpected ['+', '*']";
+    char message[34];
     memset(message, '#', sizeof message);
-    expect(duration_str_message(text, 7, 0, message, 31) == 32 && message[0] == '#', "a message without room");
+    expect(duration_str_message(text, 7, 0, message, 32) == 32 && message[0] == '#', "a message without room for its zero");
+    expect(is_written(message, duration_str_message(text, 7, 0, message, 34), wanted), "a message");
     expect(duration_str_message(text, 7, 0, NULL, 0) == 32, "the length of a message");
-    expect(duration_str_line(text, 7, 0, message, 32) == 19 && memcmp(message, wanted + 13, 19) == 0, "a line");
-    expect(message[19] == '#', "what stands after the line");
-    expect(duration_str_line(text, 7, 0, NULL, 0) == 19, "the length of a line");
-    expect(duration_str_message(text, 3, 0, message, 32) == 0, "a message of a text that is read");
-    expect(duration_str_line((const uint8_t *)"1+2", 3, DURATION_STR_NO_CALC, NULL, 0) > 0, "a line under an option");
-    expect(duration_str_line((const uint8_t *)"1\xff", 2, 0, message, 32) == 9, "the length of a line without UTF-8");
-    expect(memcmp(message, "not UTF-8", 9) == 0, "a line without UTF-8");
-}
-
-/* What 3min 13s 29ms prints as within limits, and that wrong limits leave the buffer as it is. */
-static void check_limits(uint8_t *printed)
-{
-    const uint32_t day = DURATION_STR_DAY, second = DURATION_STR_SECOND, nanosecond = DURATION_STR_NANOSECOND;
-    expect(duration_str_format_within(193, 29000000, 0, nanosecond, 2, printed) == 8 && memcmp(printed, "3min 13s", 8) == 0,
-           "two parts");
-    expect(duration_str_format_within(90061, 5, second, second, 9, printed) == 6 && memcmp(printed, "90061s", 6) == 0,
-           "a largest unit");
-    expect(duration_str_format_within(193, 29000000, 0, day, 2, printed) == 2 && memcmp(printed, "0d", 2) == 0, "no days");
-    memset(printed, '#', 64);
-    expect(duration_str_format_within(193, 29000000, nanosecond + 1, nanosecond, 2, printed) == 0, "no largest unit");
-    expect(duration_str_format_within(193, 29000000, 0, nanosecond + 1, 2, printed) == 0, "no smallest unit");
-    expect(duration_str_format_within(193, 1000000000, 0, nanosecond, 2, printed) == 0, "a second within limits");
-    expect(printed[0] == '#', "a buffer that stays");
+    memset(message, '#', sizeof message);
+    expect(is_written(message, duration_str_message(text, 3, 0, message, 34), ""), "a message of a text that is read");
 }
 
 static void check_plain_calls(void)
 {
-    uint8_t printed[DURATION_STR_FORMAT_BUFFER_SIZE];
-    expect(duration_str_format(193, 29000000, printed) == 13 && memcmp(printed, "3min 13s 29ms", 13) == 0, "a duration");
-    expect(duration_str_format(0, 1000000000, printed) == 0, "nanoseconds that are a second");
-    check_limits(printed);
-    const uint8_t *text = (const uint8_t *)"3ms-2ms";
+    char printed[DURATION_STR_FORMAT_BUFFER_SIZE];
+    memset(printed, '#', sizeof printed);
+    expect(is_written(printed, duration_str_format(193029000000, printed), "3min 13s 29ms"), "a duration");
+    expect(duration_str_format(60000000000, printed) == 4 && strcmp(printed, "1min") == 0, "a short text over a long one");
+    expect(strcmp(printed + 5, "13s 29ms") == 0, "what is left of it");
+    const char *text = "3ms-2ms";
     uint64_t nanos = 7;
     expect(!duration_str_parse(text, 7, &nanos) && nanos == 7, "a refused text");
     expect(duration_str_parse(text, 3, &nanos) && nanos == 3000000, "a text that is read");
@@ -112,48 +100,54 @@ static void check_null_texts(void)
 {
     uint64_t nanos = 7;
     struct duration_str_answer answer;
-    struct duration_str_moment moment = {5, 6};
     expect(!duration_str_parse(NULL, 0, &nanos) && nanos == 7, "a null text");
     expect(!duration_str_parse_with(NULL, 0, 0, &answer) && answer.cause == DURATION_STR_EMPTY, "a null text with options");
     expect(duration_str_message(NULL, 0, 0, NULL, 0) == 11, "the message of a null text");
-    expect(!duration_str_after(NULL, 0, 0, &moment, &answer) && answer.cause == DURATION_STR_EMPTY, "after a null text");
-    expect(!duration_str_before(NULL, 0, 0, &moment, &answer) && answer.cause == DURATION_STR_EMPTY, "before a null text");
-    expect(moment.secs == 5 && moment.nanos == 6, "a moment that stays");
+}
+
+/* Prints within limits over a buffer of marks. */
+static bool is_printed(uint64_t secs, uint32_t nanos, const uint32_t *limits, uint32_t style, const char *wanted)
+{
+    char printed[DURATION_STR_STYLED_BUFFER_SIZE];
+    memset(printed, '#', sizeof printed);
+    return is_written(printed, duration_str_format_styled(secs, nanos, limits[0], limits[1], limits[2], style, printed), wanted);
 }
 
 static void check_styles(void)
 {
-    uint8_t printed[DURATION_STR_STYLED_BUFFER_SIZE];
-    memset(printed, '#', sizeof printed);
-    const uint32_t year = DURATION_STR_YEAR, nanosecond = DURATION_STR_NANOSECOND;
-    expect(duration_str_format_styled(5401, 0, year, nanosecond, 2, DURATION_STR_LONG, printed) == 17, "a long style");
-    expect(memcmp(printed, "1 hour 30 minutes#", 18) == 0, "what stands after a long text");
-    expect(duration_str_format_styled(5401, 0, year, nanosecond, 9, DURATION_STR_COMPACT, printed) == 9, "a compact style");
-    expect(memcmp(printed, "1h30min1s", 9) == 0, "a compact text");
-    expect(duration_str_format_styled(5401, 0, year, nanosecond, 9, DURATION_STR_SHORT, printed) == 11, "a short style");
-    expect(memcmp(printed, "1h 30min 1s", 11) == 0, "a short text");
-    expect(duration_str_format_styled(0, 0, year, nanosecond, 0, DURATION_STR_LONG, printed) == 9, "a long zero");
-    expect(duration_str_format_styled(5401, 0, year, nanosecond, 2, 3, printed) == 0, "a style above 2");
-    expect(memcmp(printed, "0 seconds", 9) == 0, "a buffer that stays");
+    const uint32_t year = DURATION_STR_YEAR, day = DURATION_STR_DAY, second = DURATION_STR_SECOND;
+    const uint32_t nanosecond = DURATION_STR_NANOSECOND, after = nanosecond + 1;
+    const uint32_t two[] = {year, nanosecond, 2}, all[] = {year, nanosecond, 256}, seconds[] = {second, second, 9};
+    const uint32_t days[] = {year, day, 2}, no_largest[] = {after, nanosecond, 2}, no_smallest[] = {year, after, 2};
+    expect(is_printed(5401, 0, two, DURATION_STR_LONG, "1 hour 30 minutes"), "a long style");
+    expect(is_printed(5401, 0, all, DURATION_STR_COMPACT, "1h30min1s"), "a compact style");
+    expect(is_printed(193, 29000000, all, DURATION_STR_SHORT, "3min 13s 29ms"), "more parts than units");
+    expect(is_printed(90061, 5, seconds, DURATION_STR_SHORT, "90061s"), "seconds");
+    expect(is_printed(193, 29000000, days, DURATION_STR_SHORT, "0d"), "no days");
+    expect(is_printed(193, 29000000, no_largest, DURATION_STR_SHORT, ""), "no largest unit");
+    expect(is_printed(193, 29000000, no_smallest, DURATION_STR_SHORT, ""), "no smallest unit");
+    expect(is_printed(193, 1000000000, two, DURATION_STR_SHORT, ""), "nanoseconds that are a second");
+    expect(is_printed(5401, 0, two, 3, ""), "a style above 2");
 }
 
 static void check_one_line(void)
 {
-    const char *text = "3h 2 hurs", *wanted = "unknown unit \"hurs\" at column 6#";
-    uint8_t line[DURATION_STR_ONE_LINE_BUFFER_SIZE];
+    const char *text = "3h 2 mins";
+    char line[DURATION_STR_ONE_LINE_BUFFER_SIZE];
     struct duration_str_answer answer;
     memset(line, '#', sizeof line);
-    expect(duration_str_one_line((const uint8_t *)text, 9, 0, &answer, line) == 31, "the length of one line");
-    expect(memcmp(line, wanted, 32) == 0 && answer.cause == DURATION_STR_SYNTAX && answer.place == 5, "one line");
-    expect(duration_str_one_line((const uint8_t *)text, 2, 0, &answer, line) == 0, "no line of a text that is read");
-    expect(answer.nanos == 10800000000000 && memcmp(line, wanted, 32) == 0, "the answer that is read");
-    expect(duration_str_one_line((const uint8_t *)"1\xff", 2, 0, &answer, line) == 9, "one line without UTF-8");
-    expect(memcmp(line, "not UTF-8", 9) == 0 && answer.cause == DURATION_STR_NOT_TEXT, "what it says");
+    expect(is_written(line, duration_str_one_line(text, 9, 0, &answer, line),
+                      "unknown unit \"mins\" at column 6 (did you mean \"min\"?)"), "one line");
+    expect(answer.cause == DURATION_STR_SYNTAX && answer.place == 5, "the answer beside the line");
+    expect(duration_str_one_line(text, 2, 0, &answer, line) == 0 && line[0] == 0, "no line of a text that is read");
+    expect(answer.nanos == 10800000000000 && line[1] == 'n', "the answer that is read");
+    expect(duration_str_one_line("1\xff", 2, 0, &answer, line) == 9 && strcmp(line, "not UTF-8") == 0, "what is no UTF-8");
+    expect(answer.cause == DURATION_STR_NOT_TEXT, "its answer");
 }
 
 static void check_columns(void)
 {
-    const uint8_t *bytes = (const uint8_t *)"#1m1m-";
+    const char *bytes = "#1m1m-";
     const size_t offsets[] = {1, 3, 6, 7, 3};
     uint64_t nanos[] = {7, 7, 7, 7, 7};
     uint32_t causes[] = {9, 9, 9, 9, 9};
@@ -168,21 +162,6 @@ static void check_columns(void)
     expect(nanos[4] == 7 && causes[0] == DURATION_STR_READ, "arrays that stay");
 }
 
-static void check_moments(void)
-{
-    const uint8_t *text = (const uint8_t *)"1ns-";
-    struct duration_str_answer answer;
-    struct duration_str_moment moment = {0, 0};
-    expect(duration_str_before(text, 3, 0, &moment, &answer) && answer.nanos == 1, "before");
-    expect(moment.secs == -1 && moment.nanos == 999999999, "the moment before");
-    expect(duration_str_after(text, 3, 0, &moment, &answer) && answer.cause == DURATION_STR_READ, "after");
-    expect(moment.secs == 0 && moment.nanos == 0, "the moment after");
-    expect(!duration_str_after(text, 4, 0, &moment, &answer) && answer.place == 3, "the place of a fault");
-    struct duration_str_moment last = {253402207200, 999999999};
-    expect(!duration_str_after(text, 3, 0, &last, &answer) && answer.cause == DURATION_STR_OUT_OF_RANGE, "after the last");
-    expect(last.secs == 253402207200 && last.nanos == 999999999, "the last moment stays");
-}
-
 int main(void)
 {
     expect(duration_str_version() == DURATION_STR_VERSION_NUMBER, "the version of the library");
@@ -194,6 +173,5 @@ int main(void)
     check_one_line();
     check_null_texts();
     check_columns();
-    check_moments();
     return wrong;
 }

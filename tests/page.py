@@ -2,7 +2,7 @@
 
 page-texts.json has texts and what is shown of them, worked out by hand from docs/GRAMMAR.md: "values",
 printed and in nanoseconds, milliseconds, seconds and ISO 8601; the rows of their "terms"; "notes" on them; the mark and the
-sentence of "faults"; and what is offered where an option is "switched". "meant" has the values in seconds that people mean
+sentence of "faults"; the answers to "lines"; and what is offered where an option is "switched". "meant" has the values in seconds that people mean
 by texts: several where people use a text with several meanings, null where nothing may be offered. "typed" texts are typed
 character by character; "hostile" ones must be shown, and do nothing else, and "hostile links" must choose nothing. page.js
 runs in the page.
@@ -83,7 +83,7 @@ class Page:
     def find(self, name):
         return self.driver.find_element(By.ID, name)
 
-    def shown(self, name):
+    def text_of(self, name):
         """The text of an element, or None where it is not to be seen."""
         element = self.find(name)
         return element.get_property("textContent") if element.is_displayed() else None
@@ -105,18 +105,18 @@ class Page:
     def click(self, selector):
         self.driver.find_element(By.CSS_SELECTOR, selector).click()
 
-    def told(self, expression):
+    def answer_line(self, expression):
         """What the expression is, by JSON, which also carries lone surrogates."""
         return json.loads(self.run(f"return JSON.stringify({expression})"))
 
     def words(self, selector):
         """The text of each element."""
-        return self.told(f"asked.words({json.dumps(selector)})")
+        return self.answer_line(f"asked.words({json.dumps(selector)})")
 
     def text(self):
-        return self.told("document.getElementById('text').value")
+        return self.answer_line("document.getElementById('text').value")
 
-    def marked(self):
+    def marked_part(self):
         return next(iter(self.words("mark")), None)
 
     def key(self, *keys):
@@ -130,9 +130,9 @@ def try_values(page):
     for text, options, *expected in TEXTS["values"]:
         page.choose(*options)
         page.type(text)
-        got = [page.shown(name) for name in ("printed", "nanoseconds", "milliseconds", "seconds", "iso")]
+        got = [page.text_of(name) for name in ("printed", "nanoseconds", "milliseconds", "seconds", "iso")]
         page.same(f"{text} under {options}", expected, got)
-        page.same(f"the fault of {text}", None, page.shown("sentence"))
+        page.same(f"the fault of {text}", None, page.text_of("sentence"))
     for text, options, expected in TEXTS["terms"]:
         page.choose(*options)
         page.put(text)
@@ -140,7 +140,7 @@ def try_values(page):
     page.choose()
     for text, notes in TEXTS["notes"]:
         page.put(text)
-        page.same(f"the notes on {text}", notes, page.words("#about:not(:empty), #notes p"))
+        page.same(f"the notes on {text}", notes, page.words("#notes p"))
 
 
 def try_faults(page):
@@ -148,16 +148,30 @@ def try_faults(page):
     for text, options, *expected in TEXTS["faults"]:
         page.choose(*options)
         page.put(text)
-        page.same(f"{text!r} under {options}", expected, [page.marked(), page.shown("sentence")])
-        page.same(f"the value of {text!r}", None, page.shown("printed"))
+        page.same(f"{text!r} under {options}", expected, [page.marked_part(), page.text_of("sentence")])
+        page.same(f"the value of {text!r}", None, page.text_of("printed"))
     page.choose()
     page.put("1.5h")
-    page.same("the library's line, folded away", None, page.shown("line"))
+    page.same("the library's line, folded away", None, page.text_of("line"))
     page.click("summary")
-    line = "Expected a unit, '+', '*' or the end at column 2, found .: a number has digits alone, no point or comma."
-    page.same("the library's line, unfolded", line, page.shown("line"))
+    line = "Expected a unit, '+', '*' or the end at column 2, found . (numbers have digits only: write 1h 30m for 1.5h)."
+    page.same("the library's line, unfolded", line, page.text_of("line"))
     page.put("5 mins")
-    page.same("no second line", None, page.shown("line"))
+    page.same("no second line", None, page.text_of("line"))
+
+
+def try_lines(page):
+    """Of several lines each has its value or its fault, and is mended alone."""
+    page.open()
+    for text, marks, expected in TEXTS["lines"]:
+        page.put(text)
+        page.same(f"the lines {text!r}", [marks, expected], [page.words("mark"), page.words("#lines :is(th, td > *)")])
+        page.same(f"of {text!r} as a whole", [None] * 4, [page.text_of(name) for name in ("printed", "sentence", "iso", "rust")])
+    page.put("30s\n 5 mins\n1h")
+    page.click("#lines button")
+    page.same("a line that is mended", "30s\n5 min\n1h", page.text())
+    page.put("1h 30m\n")
+    page.same("one line", [None, "1h 30min"], [page.text_of("lines"), page.text_of("printed")])
 
 
 def nanoseconds_of(words):
@@ -172,7 +186,7 @@ def try_texts(page):
     page.open()
     rows = [row for rows in TEXTS["meant"].values() for row in rows]
     page.same("texts", True, len(rows) >= 150)
-    answers = page.told(f"asked.offered({json.dumps([text for text, *_ in rows])})")
+    answers = page.answer_line(f"asked.offered({json.dumps([text for text, *_ in rows])})")
     for (text, *meant), (sentence, is_own, buttons) in zip(rows, answers):
         values = [f"{int(decimal.Decimal(seconds) * 10**9):,}" for seconds in meant if seconds]
         page.same(f"what is offered for {text!r}", values, [value for *_, value in buttons])
@@ -198,7 +212,7 @@ def try_switching(page):
     page.key(Keys.CONTROL, "z")
     page.same("undone", "1h, 30m", page.text())
     page.key(Keys.CONTROL, Keys.SHIFT, "z")
-    page.same("done again", ["1h 30m", "1h 30min"], [page.text(), page.shown("printed")])
+    page.same("done again", ["1h 30m", "1h 30min"], [page.text(), page.text_of("printed")])
     page.click("#examples button")
     page.key(Keys.CONTROL, "z")
     page.same("an example undone", "1h 30m", page.text())
@@ -212,7 +226,7 @@ def try_examples(page):
     for button in examples:
         page.run("arguments[0].click()", button)
         page.same(f"the text of the example {button.text}", button.text, page.text())
-        found.append((page.shown("printed") is not None, len(page.words("#offered button")) > 0))
+        found.append((page.text_of("printed") is not None, len(page.words("#offered button")) > 0))
     page.same("what is said of examples", {(True, False), (True, True), (False, True), (False, False)}, set(found))
     page.same("one row", 1, len({button.rect["y"] for button in examples}))
 
@@ -221,7 +235,7 @@ def try_units(page):
     page.open()
     units = [(name, unit.length) for unit in reference_parser.UNITS for name in f"{unit.names} {unit.chinese}".split()]
     pressed = [[name, f"1{name}", f"{length:,}"] for name, length in units]
-    page.same("the units", pressed, page.told("asked.pressedUnits()"))
+    page.same("the units", pressed, page.answer_line("asked.pressedUnits()"))
     page.same("the option of the Chinese names", True, page.find("cn_unit").is_selected())
     page.run("document.querySelector('#units button').focus()")
     keys = (Keys.ARROW_RIGHT, Keys.ARROW_LEFT, Keys.ARROW_UP, Keys.ARROW_DOWN, Keys.END)
@@ -235,30 +249,30 @@ def try_units(page):
 
 def try_code(page):
     """The code has the options, and its literals are the text."""
-    page.open("#text=1m%20%22%0A%C2%B5&no_calc&cn_unit")
+    page.open("#text=1m%092%C2%B5s%0A&no_calc&cn_unit")
     taken = {
-        "rust": r'parse_with("1m \"\u{a}µ", Options { no_calc: true, cn_unit: true, ..Options::off() })?;',
-        "python": r'duration_str.parse("1m \"\U0000000aµ", no_calc=True, cn_unit=True)',
-        "javascript": r'parse("1m \"\u{a}µ", { noCalc: true, cnUnit: true });',
+        "rust": r'parse_with("1m\t2µs\n", Options { no_calc: true, cn_unit: true, ..Options::off() })?;',
+        "python": r'duration_str.parse("1m\t2µs\n", no_calc=True, cn_unit=True)',
+        "javascript": r'parse("1m\t2µs\n", { noCalc: true, cnUnit: true });',
         "c": "sizeof text - 1, DURATION_STR_NO_CALC | DURATION_STR_CN_UNIT, &answer);",
     }
     for name, end in taken.items():
-        page.same(f"the code in {name}", True, any(line.endswith(end) for line in page.shown(name).splitlines()))
-    page.same("no shell's line of two lines", None, page.shown("shell"))
+        page.same(f"the code in {name}", True, any(line.endswith(end) for line in page.text_of(name).splitlines()))
+    page.same("no shell's line of two lines", None, page.text_of("shell"))
     page.choose()
-    for text in ("1h", '"\\n ${x}', "\t\n\0009", "??/µ 分秒é\u202e\U0001f600"):
+    for text in ("1h", "\t1m\n", "2 * 5 µs"):
         page.put(text)
-        call = ast.parse(page.shown("python")).body[1].value
+        call = ast.parse(page.text_of("python")).body[1].value
         page.same(f"Python's literal of {text!r}", [[text], []], [[each.value for each in call.args], call.keywords])
-        literal = page.shown("javascript").split("= parse(")[1].split(");\nconst text")[0]
+        literal = page.text_of("javascript").split("= parse(")[1].split(");\nconst text")[0]
         page.same(f"JavaScript's literal of {text!r}", text, page.run(f"return {literal}"))
-        page.same(f"Rust's options of {text!r}", True, ", Options::off())?;\n" in page.shown("rust"))
-        page.same(f"C's literal of {text!r}", text.encode(), literal_of_c(page.shown("c")))
-    page.put("it's 1h")
-    line = page.shown("shell").replace("durstr", "cat")
-    page.same("the shell's line", "it's 1h\n", subprocess.run(["sh", "-c", line], stdout=subprocess.PIPE, text=True).stdout)
-    page.put("1m \ud800")
-    page.same("no code of a lone surrogate", [None, True], [page.shown("rust"), page.shown("no-code") is not None])
+        page.same(f"Rust's options of {text!r}", True, ", Options::off())?;\n" in page.text_of("rust"))
+        page.same(f"C's literal of {text!r}", text.encode(), literal_of_c(page.text_of("c")))
+    page.put("2 * 1h")
+    line = page.text_of("shell").replace("durstr", "cat")
+    page.same("the shell's line", "2 * 1h\n", subprocess.run(["sh", "-c", line], stdout=subprocess.PIPE, text=True).stdout)
+    page.put("1m x")
+    page.same("no code of what is refused", [None, True], [page.text_of("rust"), page.text_of("no-code") is not None])
 
 
 def try_printing(page):
@@ -277,21 +291,21 @@ def try_printing(page):
     for chosen, printed, code in rows:
         limits = "".join(f"&{name}={urllib.parse.quote(value)}" for name, value in chosen.items())
         page.open("#text=90061s%201ns" + limits)
-        page.same(f"printed by {chosen}", printed, page.shown("printed"))
-        page.same(f"the shell's line for {chosen}", not chosen, page.shown("shell") is not None)
+        page.same(f"printed by {chosen}", printed, page.text_of("printed"))
+        page.same(f"the shell's line for {chosen}", not chosen, page.text_of("shell") is not None)
         for name, part in code.items():
-            page.same(f"{part} in {name}", True, part in page.shown(name))
+            page.same(f"{part} in {name}", True, part in page.text_of(name))
         page.type("90061s 1ns")
         time.sleep(PAUSE)
         page.same(f"the link of {chosen}", "#text=90061s%201ns" + limits, page.run("return location.hash"))
     page.open("#text=1h&largest=s&smallest=d")
-    page.same("limits that contradict each other", "3600s", page.shown("printed"))
+    page.same("limits that contradict each other", "3600s", page.text_of("printed"))
     page.find("largest").send_keys("days")
-    page.same("days as the largest unit", "1h", page.shown("printed"))
+    page.same("days as the largest unit", "1h", page.text_of("printed"))
     page.find("smallest").send_keys("weeks")
-    page.same("weeks as the smallest unit, and so as the largest", "0w", page.shown("printed"))
+    page.same("weeks as the smallest unit, and so as the largest", "0w", page.text_of("printed"))
     page.open("#text=1h&style=wide")
-    page.same("what is told of a style that isn't", "Not understood in the link: style=wide", page.shown("link-note"))
+    page.same("what is told of a style that isn't", "Not understood in the link: style=wide", page.text_of("link-note"))
 
 
 def literal_of_c(code):
@@ -309,18 +323,19 @@ def try_copying(page):
     page.driver.execute_cdp_cmd("Browser.grantPermissions", {"permissions": permissions})
     page.open("#text=1h%2030m%201ms")
     copied = {"printed": "1h 30min 1ms", "nanoseconds": "5400001000000", "milliseconds": "5400001",
-              "seconds": "5400.001", "iso": "PT1H30M0.001S", "python": page.shown("python")}
-    page.same("copy buttons", 10, len(page.driver.find_elements(By.CSS_SELECTOR, "[data-copies]")))
+              "seconds": "5400.001", "iso": "PT1H30M0.001S", "python": page.text_of("python"),
+              "link-note": page.address + "#text=1h%2030m%201ms"}
+    page.same("copy buttons", 11, len(page.driver.find_elements(By.CSS_SELECTOR, "[data-copies]")))
     for name, expected in copied.items():
         page.click(f"[data-copies={name}]")
         time.sleep(0.1)
         got = page.driver.execute_async_script("navigator.clipboard.readText().then(arguments[0])")
-        page.same(f"copied: {name}", [expected, f"Copied: {expected.splitlines()[0]}"], [got, page.shown("copied")])
+        page.same(f"copied: {name}", [expected, f"Copied: {expected.splitlines()[0]}"], [got, page.text_of("copied")])
     page.run("Object.defineProperty(navigator, 'clipboard', { value: undefined })")
     for name, expected in copied.items():
         page.click(f"[data-copies={name}]")
         page.same(f"selected: {name}", [expected, "Selected, not copied: press Ctrl+C, or ⌘C."],
-                  [page.run("return String(getSelection())"), page.shown("copied")])
+                  [page.run("return String(getSelection())"), page.text_of("copied")])
 
 
 def try_link(page):
@@ -336,11 +351,11 @@ def try_link(page):
     for fragment, text in [("#text=1m+2", "1m+2"), ("#text=%E0%A4%A", ""), ("#", "3m + 13s + 29ms"), ("#other=1", "")]:
         page.open(fragment)
         page.same(f"the text of {fragment}", text, page.text())
-    page.same("what is told of #other=1", "Not understood in the link: other=1", page.shown("link-note"))
+    page.same("what is told of #other=1", "Not understood in the link: other=1", page.text_of("link-note"))
     page.put("1m \ud800")
     time.sleep(PAUSE)
     said = "This text is not UTF-8, so the address can't hold it."
-    page.same("what is told of a lone surrogate", said, page.shown("link-note"))
+    page.same("what is told of a lone surrogate", said, page.text_of("link-note"))
 
 
 def try_hostile(page):
@@ -349,7 +364,7 @@ def try_hostile(page):
     before = page.run(count)
     for text in TEXTS["hostile"]:
         page.put(text)
-        page.same(f"refused: {text!r}", True, page.shown("sentence") is not None)
+        page.same(f"refused: {text!r}", True, page.text_of("sentence") is not None)
         page.same(f"the elements under {text!r}", before, page.run(count))
         if "\ud83d" not in text:
             page.open("#text=" + urllib.parse.quote(text, safe=""))
@@ -360,24 +375,24 @@ def try_hostile(page):
         page.open(link)
         page.same(f"the elements after {link}", before, page.run(count))
         page.same(f"what {link} chooses to print", ["short", "y", "ns", str(len(reference_parser.UNITS))],
-                  page.told("['style', 'largest', 'smallest', 'parts'].map((id) => document.getElementById(id).value)"))
-        told = page.told("document.getElementById('link-note').textContent")
+                  page.answer_line("['style', 'largest', 'smallest', 'parts'].map((id) => document.getElementById(id).value)"))
+        told = page.answer_line("document.getElementById('link-note').textContent")
         page.same(f"{link} is not understood", True, told.startswith("Not understood in the link: "))
     page.same("what markup has set", None, page.run("return window.hacked ?? null"))
     for text, printed in LONG:
         took = page.put(text, pasted=True)
-        page.same(f"{text[:9]}.., long", printed, page.shown("printed"))
+        page.same(f"{text[:9]}.., long", printed, page.text_of("printed"))
         page.same(f"{text[:9]}.. is answered within 5 s and not in {took:.0f} ms", True, took < 5_000)
         shown = page.run("return document.body.innerText.length")
         page.same(f"what is shown of {text[:9]}.. is short and not {shown}", True, shown < 5_000)
-        page.same(f"whether {text[:9]}.. has a mark", printed is None, page.marked() is not None)
+        page.same(f"whether {text[:9]}.. has a mark", printed is None, page.marked_part() is not None)
 
 
 def try_keyboard(page):
     page.open()
-    page.key(Keys.CONTROL, "a")
     page.same("the first focus", "text", page.key("1:30"))
-    wanted = page.told(
+    page.same("what is typed first stands alone", "1:30", page.text())
+    wanted = page.answer_line(
         "[...document.querySelectorAll('button, input, select, textarea, summary, [tabindex]')]"
         ".filter((e) => e.checkVisibility() && e.tabIndex === 0).map((e) => e.id || e.textContent || e.className)"
     )
@@ -406,20 +421,21 @@ def try_readers(page):
     for text in ("1", "1h", "1h ", "1h 3", "1h 30", "1h 30m"):
         page.put(text)
     time.sleep(PAUSE)
-    page.same("told", ["1h 30min."], page.told("told"))
+    page.same("told", ["1h 30min."], page.answer_line("told"))
     told = {
+        "1h\n5 mins\n2h": "2 of 3 lines are read.",
         "1h 30": "1h 30s. 30 has no unit: seconds. Try instead 1h 30m: 1 hour 30 minutes.",
-        "5 mins": "Unknown unit mins at column 3: write min. Try instead 5 min: 5 minutes.",
+        "5 mins": "Unknown unit mins at column 3 (did you mean min?). Try instead 5 min: 5 minutes.",
         "1m+": "Expected a number at column 4, found the end.",
     }
     for text, expected in told.items():
         page.put(text)
         time.sleep(PAUSE)
-        page.same(f"told of {text}", expected, page.told("told.at(-1)"))
+        page.same(f"told of {text}", expected, page.answer_line("told.at(-1)"))
     described = "['aria-invalid', 'aria-describedby'].map((name) => document.getElementById('text').getAttribute(name))"
-    page.same("the input with a fault", ["true", "sentence"], page.told(described))
+    page.same("the input with a fault", ["true", "sentence"], page.answer_line(described))
     page.put("1m+1")
-    page.same("the input without a fault", ["false", None], page.told(described))
+    page.same("the input without a fault", ["false", None], page.answer_line(described))
     page.same("what remains of the fault", [""], page.words("#sentence"))
 
 
@@ -433,9 +449,9 @@ def emulate(page, scheme, width, height=1100, forced=False):
 
 def try_rules(page):
     """Rules of accessibility, in a page with all that it can show."""
-    for text in ("1:30", "3m + 13s + 29ms"):
+    for text in ("1:30", "1h\n1h 30\n5 mins", "3m + 13s + 29ms"):
         page.open("#cn_unit&text=" + urllib.parse.quote(text))
-        for what, broken in page.told("asked.brokenRules()").items():
+        for what, broken in page.answer_line("asked.brokenRules()").items():
             page.same(f"{what} under {text}", [], broken)
     for button in page.driver.find_elements(By.CSS_SELECTOR, "#units button"):
         language = "" if button.text.isascii() or "µ" in button.text else "zh"
@@ -445,7 +461,7 @@ def try_rules(page):
     page.same("the language of a sentence", ["分"], page.words("#sentence code[lang=zh]"))
     page.same("one first heading", 1, len(page.driver.find_elements(By.TAG_NAME, "h1")))
     version = subprocess.run([ROOT / "tools/version"], stdout=subprocess.PIPE, check=True, text=True).stdout.strip()
-    page.same("the library's version", version, page.shown("version"))
+    page.same("the library's version", version, page.text_of("version"))
     page.same("an icon", True, page.run("return document.querySelector('link[rel=icon]').href.length > 100"))
 
 
@@ -454,7 +470,7 @@ def try_place(page):
     for width in (320, 900):
         emulate(page, "light", width)
         page.open()
-        places = page.told(f"asked.places({json.dumps(TEXTS['typed'])})")
+        places = page.answer_line(f"asked.places({json.dumps(TEXTS['typed'])})")
         page.same(f"the places of the answer on {width} pixels", 1, len(set(places)))
 
 
@@ -463,7 +479,7 @@ def try_phone(page):
     emulate(page, "light", 375, 667)
     for text in ("3m + 13s + 29ms", "1h 30", "1:30", "5 mins", "5m, 10m"):
         page.open("#text=" + urllib.parse.quote(text))
-        lowest = page.told("asked.lowest()")
+        lowest = page.answer_line("asked.lowest()")
         page.same(f"the answer to {text} at {lowest} pixels", True, lowest <= FREE)
 
 
@@ -472,19 +488,19 @@ def try_looks(page):
     # 320 pixels are also what 640 leave at 200 %.
     for scheme in SCHEMES:
         for width in (320, 900):
-            for text in ("3m + 13s + 29ms", "1:30", "1m " + "9" * 200, "x" * 5_000):
+            for text in ("3m + 13s + 29ms", "1:30", "1h\n1h 30\n5 mins", "1m " + "9" * 200, "x" * 5_000):
                 emulate(page, scheme, width)
                 page.open("#cn_unit&text=" + text)
                 page.put(text)
                 what = f"{text[:9]} in {scheme} on {width} pixels"
                 page.same(f"width of {what}", width, page.run("return document.documentElement.scrollWidth"))
-                page.same(f"pale parts of {what}", [], page.told("asked.pale()"))
+                page.same(f"pale parts of {what}", [], page.answer_line("asked.pale()"))
         papers[scheme] = page.run("return getComputedStyle(document.body).backgroundColor")
     page.same("two papers", 2, len(set(papers.values())))
     emulate(page, "dark", 900, forced=True)
     page.open("#text=1%3A30")
     lined = "['mark', '.marked'].map((e) => getComputedStyle(document.querySelector(e)).outlineStyle)"
-    page.same("a mark and a focus in forced colours", ["solid", "solid"], page.told(lined))
+    page.same("a mark and a focus in forced colours", ["solid", "solid"], page.answer_line(lined))
     page.same("the diagram is drawn", True, page.run("return document.querySelector('img').naturalWidth > 300"))
 
 

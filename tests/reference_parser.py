@@ -10,7 +10,6 @@ import functools
 import itertools
 import re
 import typing
-import unicodedata
 
 SECOND = 10**9
 DAY = 86_400 * SECOND
@@ -482,43 +481,67 @@ def message(text, answer):
 
 # ---- A fault in one line
 
-# What people write for a unit, and the name to write: in capitals too, but for the first row.
+# What people write for a unit, and the name to write: in capitals too, but for the first row. The last row is for those
+# without the micro sign: some write the Greek mu in its place.
 SMALL_WORDS = {"mon": "mo mos"}
 NEAR_WORDS = {
     "y": "yr yrs",
     "q": "qtr qtrs",
-    "mon": "mth mths",
+    "mon": "mons mth mths",
     "w": "wk wks",
     "h": "hrs",
     "min": "mins",
     "s": "secs",
     "ms": "msecs millis",
-    "µs": "usecs micros µsecs",
+    "µs": "µsecs µseconds",
     "ns": "nsecs nanos",
+    "us": "usecs useconds micros μs μsec μsecs μsecond μseconds",
 }
-GREEK_MU = "\u03bc"
+ALL_UNITS = "write y, q, mon, w, d, h, min, s, ms, us or ns"
 QUOTED = 40
 
+# Control characters, blanks but the space, and what Unicode lets a reader ignore.
+HIDDEN = re.compile(
+    "[\0-\x1f\x7f-\xa0\xad\u034f\u061c\u115f\u1160\u1680\u17b4\u17b5\u180b-\u180f\u2000-\u200f\u2028-\u202f\u205f-\u206f"
+    "\u2800\u3000\u3164\ufe00-\ufe0f\ufeff\uffa0\ufff0-\ufffb\U0001bca0-\U0001bca3\U0001d173-\U0001d17a\U000e0000-\U000e0fff]"
+)
+# No letters, though beyond ASCII: signs of Latin 1 but the micro sign, punctuation, arrows, mathematical signs and the like.
+SIGNS = re.compile("[\xa1-\xb4\xb6-\xbf\xd7\xf7\u2010-\u2bff\u3001-\u303f\uff00-\uff20]")
+ESCAPES = {'"': '\\"', "\\": "\\\\", "\t": "\\t", "\n": "\\n", "\r": "\\r"}
 
-def is_plain(character):
-    """Whether a character is safe and seen within a line."""
-    return unicodedata.category(character) != "Cc" and not (
-        character in "\xa0\u061c\ufeff" or "\u2000" <= character <= "\u206f" or "\ufff9" <= character <= "\ufffb"
-    )
+# The help for a text that goes on so at the place.
+LETTER = r"A-Za-z\x80-\U0010ffff"
+HELP = {
+    rf"(?<=[{LETTER}])\.": "units have no point",
+    r"\.(?=[0-9])": "numbers have digits only: write 1h 30m for 1.5h",
+    r"(?<=[0-9])[,_'](?=[0-9])": "numbers have digits only",
+    r"(?<=[0-9]):(?=[0-9])": "clock times are not read: write 1h 30m or 1m 30s",
+}
+# The same where only blanks stand before the place.
+FIRST_HELP = {
+    "-(?=[0-9])": "negative durations are not read",
+    "[Pp][Tt]?(?=[0-9])": "ISO 8601 is not read: write 1mon 30m for P1MT30M",
+}
+
+
+def shown(character):
+    """How a character is shown in a quote."""
+    return ESCAPES.get(character) or (f"\\u{{{ord(character):x}}}" if HIDDEN.match(character) else character)
 
 
 def quoted(text):
-    """At most so many characters in quotes, escaped where they aren't safe, with dots if there are more."""
-    shown = ("\\" + each if each in '"\\' else each if is_plain(each) else f"\\u{{{ord(each):04x}}}" for each in text[:QUOTED])
-    return f'"{"".join(shown)}"' + ("..." if len(text) > QUOTED else "")
+    """A text in quotes, with dots in place of what would need more characters than so many."""
+    parts = [shown(each) for each in text]
+    lengths = itertools.accumulate(map(len, parts))
+    fits = sum(length <= QUOTED for length in lengths)
+    return f'"{"".join(parts[:fits])}"' + ("..." if fits < len(parts) else "")
 
 
 def kind_in_line(character):
-    """Digits and letters stand together in a piece; a letter is one of ASCII or any plain character beyond it."""
-    if character in DIGITS:
-        return "digit"
-    ascii_letter = character.isascii() and character.isalpha()
-    return "letter" if ascii_letter or not character.isascii() and is_plain(character) else None
+    """Digits and letters stand together in a piece; a letter is one of ASCII, or beyond it what is neither hidden nor a sign."""
+    if character.isascii():
+        return "letter" if character.isalpha() else "digit" if character in DIGITS else None
+    return None if HIDDEN.match(character) or SIGNS.match(character) else "letter"
 
 
 def piece_at(text, place):
@@ -533,29 +556,16 @@ def piece_at(text, place):
 def near_name(word):
     """The name to write for a word that people write for a unit, if it is one."""
     small = word.translate(FOLDED)
-    with_sign = small.replace(GREEK_MU, "µ")
-    micros = f"{UNITS[-2].names} {NEAR_WORDS['µs']}".split()
-    if small != with_sign and with_sign in micros:
-        return "us"
     found = [name for name, words in NEAR_WORDS.items() if small in words.split()]
     return next(iter(found + [name for name, words in SMALL_WORDS.items() if word in words.split()]), None)
 
 
-def notation_help(text, place):
-    """The word of help where a notation begins or goes on that the grammar doesn't have: each is a sign before a digit."""
-    before, rest = text[:place], text[place:]
-    first = not before.strip(BLANKS)
-    if re.match(r"\.[0-9]", rest) and not (before and kind_in_line(before[-1]) == "letter"):
-        return "a number has digits alone, no point or comma"
-    if re.match(r",[0-9]", rest) and re.search(r"[0-9]\Z", before):
-        return "a number has digits alone, no point or comma"
-    if re.match(r":[0-9]", rest) and re.search(r"[0-9]\Z", before):
-        return "clock times are not read: give each number its unit"
-    if first and re.match(r"-[0-9]", rest):
-        return "negative durations are not read"
-    if first and re.match(r"[Pp][Tt]?[0-9]", rest):
-        return "ISO 8601 is not read: write each number before its unit"
-    return None
+def help_at(text, place, piece, expected):
+    """The words of help: for what people put between durations, or for a notation that the grammar doesn't have."""
+    if {"number", "end"} <= set(expected) and piece.translate(FOLDED) in {",", "&", "and"}:
+        return 'one duration is read, without "," or "and"'
+    rows = HELP if text[:place].strip(BLANKS) else HELP | FIRST_HELP
+    return next((told for pattern, told in rows.items() if re.compile(pattern).match(text, place)), None)
 
 
 def expected_in_line(expected):
@@ -567,34 +577,39 @@ def expected_in_line(expected):
 
 def one_line(text, answer):
     """What is told of a refused text in one line."""
-    column = f" at column {answer.place + 1}" if answer.place is not None else ""
-    piece = piece_at(text, answer.place) if answer.place is not None else ""
-    found = f", found {quoted(piece) if piece else 'the end'}"
     match answer.cause:
         case "empty":
             return "empty text"
         case "mixed":
-            return f"'{answer.operators[1]}' after '{answer.operators[0]}' in {quoted(text)}"
+            return f"sum and product mixed in {quoted(text)}"
+        case "overflow" if "*" in text:
+            return f"step of over 584 years in {quoted(text)}"
         case "overflow":
-            return f"duration of 2^64 nanoseconds or more in {quoted(text)}"
+            seconds = " (a number without a unit is in seconds)" if text.strip(BLANKS + DIGITS) == "" else ""
+            return f"duration of over 584 years in {quoted(text)}{seconds}"
         case "number too large":
-            return "number of 2^64 or more" + (column + found if column else f" in {quoted(text)}")
+            return f"number of 2^64 or more in {quoted(text)}"
+    piece = piece_at(text, answer.place)
+    column = f" at column {answer.place + 1}"
     if "unit" in answer.expected and piece and kind_in_line(piece[0]) == "letter":
         name = near_name(piece)
-        return f"unknown unit {quoted(piece)}{column}" + (f': write "{name}"' if name else "")
-    help_words = notation_help(text, answer.place)
-    return expected_in_line(answer.expected) + column + found + (f": {help_words}" if help_words else "")
+        told = f'did you mean "{name}"?' if name else ALL_UNITS
+        return f"unknown unit {quoted(piece)}{column} ({told})"
+    told = help_at(text, answer.place, piece, answer.expected)
+    found = f", found {quoted(piece) if piece else 'the end'}"
+    return expected_in_line(answer.expected) + column + found + (f" ({told})" if told else "")
 
 
-def output_of(line, options):
-    """What the program writes for a line of bytes, without the line feed at its end, and whether the line is accepted."""
+def output_of(line, options, told=message):
+    """What the program writes for a line of bytes, without the line feed at its end, and whether the line is accepted.
+    Of a refusal it writes what is told."""
     try:
         text = line.decode()
     except UnicodeDecodeError:
         return b"not UTF-8", False
     answer = answer_of(text, options)
     if answer.cause != "read":
-        return message(text, answer).encode(), False
+        return told(text, answer).encode(), False
     human = printed(answer.value)
     assert len(human.encode()) <= LONGEST_PRINTED
     return f"{answer.value} {human}".encode(), True

@@ -23,13 +23,11 @@ static atomic_ulong readings;
 static void tell(const char *text, uint32_t options, char *told)
 {
     struct duration_str_answer answer;
-    uint8_t message[256], printed[DURATION_STR_FORMAT_BUFFER_SIZE];
-    const uint8_t *bytes = (const uint8_t *)text;
-    bool read = duration_str_parse_with(bytes, strlen(text), options, &answer);
-    int length = (int)duration_str_message(bytes, strlen(text), options, message, sizeof message);
-    int end = (int)duration_str_format(answer.nanos / 1000000000, answer.nanos % 1000000000, printed);
-    snprintf(told, sizeof first[0][0], "%d, cause %u at %zu: %.*s%.*s", read, answer.cause, answer.place, length, (char *)message,
-             end, (char *)printed);
+    char message[256], printed[DURATION_STR_FORMAT_BUFFER_SIZE];
+    bool read = duration_str_parse_with(text, strlen(text), options, &answer);
+    duration_str_message(text, strlen(text), options, message, sizeof message);
+    duration_str_format(answer.nanos, printed);
+    snprintf(told, sizeof first[0][0], "%d, cause %u at %zu: %s%s", read, answer.cause, answer.place, message, printed);
 }
 
 static void *read_again(void *nothing)

@@ -1,11 +1,13 @@
-// The answer below the text: its value in all notations, or its fault, and what is offered beside it.
-import { format, tryParse } from "../js/dist/duration-str.js";
+// The answer below the text: its value in all notations, or its fault, and what is offered beside it; of several lines each
+// line's value or fault.
+import { formatNs, tryParseNs } from "../js/dist/duration-str.js";
+import { notesOn, offersFor, sentence } from "./advice.js";
+import { choose, chosenLimits, chosenOptions, switches } from "./choices.js";
 import { LANGUAGES } from "./code.js";
-import { AROUND, button, choose, chosenLimits, chosenOptions, element, LONG, made, quotation } from "./elements.js";
-import { switches, text, write } from "./elements.js";
-import { lineOf, notesOn, offersFor, sentence } from "./offers.js";
+import { AROUND, button, element, LONG, made, text, write } from "./elements.js";
+import { lineOf, parts } from "./sentences.js";
 import { terms } from "./units.js";
-import { decimal, grouped, iso, seconds, termRows } from "./words.js";
+import { decimal, grouped, iso, seconds, termRows } from "./values.js";
 
 /** What a copy button copies, by the name of the element that shows it. */
 export const copied = {};
@@ -17,24 +19,30 @@ function show(id, words, shown = words) {
 
 // ---- Marks
 
-/** The part of the text that a fault is about, from and to as UTF-16 units; nothing where the fault has no place. */
-function markedPart({ code, index, found }) {
-    if (index === null) return null;
-    if (code === "NOT_TEXT") return { from: index, to: index + 1 };
+/** The part of the text that the fault of a line is about, from and to as UTF-16 units; none where it has no place. */
+function markedParts({ words, start, fault }) {
+    if (!fault || words === "" || fault.index === null) return [];
+    const { code, index, found } = fault;
+    const part = (from, length) => [{ from: start + from, to: start + from + length }];
+    if (code === "NOT_TEXT") return part(index, 1);
     // A word of letters that no unit has is marked whole.
-    const word = /^\p{L}*/u.exec(text.value.slice(index))[0];
-    if (code === "SYNTAX") return { from: index, to: index + Math.max(word.length, (found ?? "").length) };
-    const [{ words }] = terms(text.value, chosenOptions());
-    const from = text.value.indexOf(words);
-    return { from, to: from + words.length };
+    const word = /^\p{L}*/u.exec(words.slice(index))[0];
+    if (code === "SYNTAX") return part(index, Math.max(word.length, (found ?? "").length));
+    const [term] = terms(words, chosenOptions());
+    return part(words.indexOf(term.words), term.words.length);
 }
 
-/** Shows a text in the element, with a mark from and to there. */
-function putMarked(target, shown, from, to) {
-    // At the end of the text a blank is marked.
-    const mark = made("mark", from === to ? "\u00a0" : shown.slice(from, to));
-    mark.classList.toggle("thin", /^\p{Cf}$/u.test(mark.textContent));
-    target.replaceChildren(shown.slice(0, from), mark, shown.slice(to));
+/** Shows a text in the element, with a mark at each of these parts of it. */
+function putMarked(target, shown, marked) {
+    let end = 0;
+    target.replaceChildren(...marked.flatMap(({ from, to }) => {
+        // At the end of the text a blank is marked.
+        const mark = made("mark", from === to ? "\u00a0" : shown.slice(from, to));
+        mark.classList.toggle("thin", /^\p{Cf}$/u.test(mark.textContent));
+        const before = shown.slice(end, from);
+        end = to;
+        return [before, mark];
+    }), shown.slice(end));
 }
 
 /** The pair of a surrogate is never cut: the nearest place from there on that is in no pair. */
@@ -42,19 +50,18 @@ function whole(shown, place) {
     return /[\udc00-\udfff]/.test(shown.charAt(place)) ? place + 1 : place;
 }
 
-function showMarks(part) {
+function showMarks(marked) {
     const long = text.value.length > LONG;
     text.parentElement.classList.toggle("long", long);
     const excerpt = element("excerpt");
-    excerpt.hidden = !long || !part;
-    if (long) element("mirror").replaceChildren();
-    else if (part) putMarked(element("mirror"), text.value, part.from, part.to);
-    else element("mirror").textContent = text.value;
+    excerpt.hidden = !long || marked.length === 0;
+    putMarked(element("mirror"), long ? "" : text.value, long ? [] : marked);
     if (excerpt.hidden) return;
+    const [part] = marked;
     const start = whole(text.value, Math.max(0, part.from - AROUND));
     const stop = whole(text.value, Math.min(part.to, part.from + AROUND));
     const shown = text.value.slice(start, whole(text.value, stop + AROUND));
-    putMarked(excerpt, shown, part.from - start, stop - start);
+    putMarked(excerpt, shown, [{ from: part.from - start, to: stop - start }]);
 }
 
 // ---- What is offered
@@ -65,76 +72,96 @@ function switched(options) {
     return changed.map(([, box]) => `${box.dataset.switched}, `).join("");
 }
 
-function showOffers(offers) {
-    element("suggestions").hidden = offers.length === 0;
-    element("offered").replaceChildren(...offers.map(({ text: words, options, meaning }) => {
-        const press = () => {
-            choose(options);
-            write(words);
-        };
-        const one = button(press, made("code", made("bdi", words)), made("span", switched(options) + meaning));
-        one.ariaLabel = `${words}: ${switched(options)}${meaning}`;
-        return one;
-    }));
+/** A button that puts what is offered in place of the text, or of the part that starts and ends there. */
+function offerButton({ text: words, options, meaning }, ...part) {
+    const press = () => {
+        choose(options);
+        write(words, ...part);
+    };
+    const one = button(press, made("code", made("bdi", words)), made("span", switched(options) + meaning));
+    one.ariaLabel = `${words}: ${switched(options)}${meaning}`;
+    return one;
 }
 
-const parts = (sentences) => sentences.map((part) => typeof part === "string" ? part : quotation(part.quoted));
+function showOffers(offers) {
+    element("suggestions").hidden = offers.length === 0;
+    element("offered").replaceChildren(...offers.map((offer) => offerButton(offer)));
+}
+
+/** The sentences on a line, and what is offered beside it. */
+function remarksOn({ words, value, fault }) {
+    if (!fault) return words.length > LONG ? { sentences: [], offers: [] } : notesOn(words, value, chosenOptions());
+    const said = sentence(words, fault.code, chosenOptions()) ?? lineOf(fault);
+    return { sentences: [said], offers: words.length > LONG ? [] : offersFor(words, chosenOptions()) };
+}
 
 // ---- A fault
 
-/** The line and column of a fault, where the text has lines. */
-function placeOf(part) {
-    if (!part || !text.value.includes("\n")) return "";
-    const lines = text.value.slice(0, part.from).split("\n");
-    return ` Line ${lines.length}, column ${Array.from(lines.at(-1)).length + 1}.`;
-}
-
-function showFault(fault, part) {
-    const said = sentence(text.value, fault.code, chosenOptions());
-    element("sentence").replaceChildren(...parts(said ?? lineOf(fault)), placeOf(part));
+function showFault(line) {
+    const { sentences: [said], offers } = remarksOn(line);
+    element("sentence").replaceChildren(...parts(said));
     element("sentence").classList.toggle("hint", text.value === "");
-    element("line").replaceChildren(...parts(lineOf(fault)));
-    element("library").hidden = !said || text.value.trim() === "";
-    showOffers(text.value.length > LONG ? [] : offersFor(text.value, chosenOptions()));
+    element("line").replaceChildren(...parts(lineOf(line.fault)));
+    const isOwn = element("sentence").textContent !== element("line").textContent;
+    element("library").hidden = !isOwn || text.value.trim() === "";
+    showOffers(offers);
 }
 
 // ---- A value
 
-function showTerms(rows) {
-    element("terms").hidden = rows.length === 0;
-    const cells = ([words, value]) => {
+/** Rows of words and of what stands beside them */
+function fill(table, rows) {
+    table.querySelector("tbody").replaceChildren(...rows.map(([words, ...content]) => {
         const heading = made("th", words);
         heading.scope = "row";
-        return made("tr", heading, made("td", value));
-    };
-    element("terms").querySelector("tbody").replaceChildren(...rows.map(cells));
+        return made("tr", heading, made("td", ...content));
+    }));
 }
 
-function showValue(value) {
-    show("printed", format(value, chosenLimits()));
-    const about = format(value, { parts: 2 });
-    const isWhole = copied.printed === format(value);
-    element("about").replaceChildren(...(isWhole && about !== copied.printed ? ["about ", quotation(about)] : []));
+function showValue(line) {
+    const { value } = line;
+    show("printed", formatNs(value, chosenLimits()));
     for (const [id, length] of [["nanoseconds", 1n], ["milliseconds", 1_000_000n]]) {
         show(id, decimal(value, length), grouped(decimal(value, length)));
     }
     show("seconds", seconds(value), grouped(seconds(value)));
     show("iso", iso(value));
-    showTerms(termRows(text.value, chosenOptions()));
-    const notes = text.value.length > LONG ? { sentences: [], offers: [] } : notesOn(text.value, value, chosenOptions());
-    element("notes").replaceChildren(...notes.sentences.map((each) => made("p", ...parts(each))));
-    showOffers(notes.offers);
+    const rows = termRows(text.value, chosenOptions());
+    element("terms").hidden = rows.length === 0;
+    fill(element("terms"), rows);
+    const { sentences, offers } = remarksOn(line);
+    element("notes").replaceChildren(...sentences.map((each) => made("p", ...parts(each))));
+    showOffers(offers);
 }
 
-function showCode(fault) {
-    const unfit = text.value.length > LONG || fault?.code === "NOT_TEXT";
-    element("no-code").hidden = !unfit;
-    element("codes").hidden = unfit;
-    if (unfit) return;
+function showCode(isShown) {
+    element("no-code").hidden = isShown;
     for (const [id, [, , written]] of Object.entries(LANGUAGES)) {
-        show(id, written(text.value, chosenOptions(), chosenLimits()));
-        element(`${id}-code`).hidden = copied[id] === "";
+        show(id, isShown ? written(text.value, chosenOptions(), chosenLimits()) : "");
+        element(id).parentElement.hidden = !isShown;
+        element(`${id}-code`).hidden = isShown && copied[id] === "";
     }
+}
+
+// ---- Several lines
+
+/** The lines with something in them, each with where it starts, where there are several; otherwise all as one. */
+function linesOf(whole) {
+    const lines = Array.from(whole.matchAll(/[^\n]*\S[^\n]*/g), ({ 0: words, index }) => ({ words, start: index }));
+    return whole.length <= LONG && lines.length > 1 ? lines : [{ words: whole, start: 0 }];
+}
+
+function showLines(lines) {
+    fill(element("lines"), lines.map((line) => {
+        const { words, start, ok, value } = line;
+        const { sentences, offers } = remarksOn(line);
+        return [
+            words.trim(), ...(ok ? [made("code", formatNs(value, chosenLimits()))] : []),
+            ...sentences.map((each) => made("p", ...parts(each))),
+            ...offers.map((offer) => offerButton(offer, start, start + words.length)),
+        ];
+    }));
+    showOffers([]);
 }
 
 /** The sentences and what is offered, as screen readers are told them. */
@@ -143,23 +170,29 @@ function told(sentences) {
     return [...sentences, ...(offers.length > 0 ? [`Try instead ${offers.join("; ")}.`] : [])].join(" ");
 }
 
-/** Reads the text, shows its value or its fault, and returns what a screen reader is told of it. */
+/** Reads the text, shows its value or its fault, or those of its lines, and returns what a screen reader is told of it. */
 export function showAnswer() {
-    const { ok, value, fault } = tryParse(text.value, chosenOptions());
-    element("value").hidden = !ok;
-    element("notations").hidden = !ok;
-    element("fault").hidden = ok;
-    text.setAttribute("aria-invalid", String(!ok && text.value !== ""));
-    const part = ok || text.value === "" ? null : markedPart(fault);
-    showMarks(part);
-    showCode(fault);
-    if (ok) {
-        text.removeAttribute("aria-describedby");
-        for (const id of ["sentence", "line"]) element(id).replaceChildren();
-        showValue(value);
+    const lines = linesOf(text.value).map((line) => ({ ...line, ...tryParseNs(line.words, chosenOptions()) }));
+    const [line] = lines;
+    const isOne = lines.length === 1;
+    const isRead = lines.every(({ ok }) => ok);
+    for (const id of ["value", "notations"]) element(id).hidden = !isOne || !isRead;
+    element("fault").hidden = !isOne || isRead;
+    element("lines").hidden = isOne;
+    text.setAttribute("aria-invalid", String(!isRead && text.value !== ""));
+    showMarks(lines.flatMap(markedParts));
+    showCode(isOne && isRead && text.value.length <= LONG);
+    for (const id of ["sentence", "line"]) element(id).replaceChildren();
+    if (!isOne || isRead) text.removeAttribute("aria-describedby");
+    else text.setAttribute("aria-describedby", "sentence");
+    if (!isOne) {
+        showLines(lines);
+        return `${lines.filter(({ ok }) => ok).length} of ${lines.length} lines are read.`;
+    }
+    if (isRead) {
+        showValue(line);
         return told([`${copied.printed}.`, ...Array.from(element("notes").children, (note) => note.textContent)]);
     }
-    showFault(fault, part);
-    text.setAttribute("aria-describedby", "sentence");
+    showFault(line);
     return told([element("sentence").textContent]);
 }

@@ -1,19 +1,13 @@
-// The same text in programs of each language, and printed in the same way.
+// A text that is read, in programs of each language, and printed in the same way. Such a text has no character that JSON
+// and a language escape differently.
 import { UNITS } from "./units.js";
 
-const OUTSIDE = /[^\x20-\x7eµ\p{Script=Han}]/gu;
 const NAMES = { noCalc: "no_calc", lowercase: "lowercase", cnUnit: "cn_unit" };
 
 const chosen = (options) => Object.keys(NAMES).filter((name) => options[name]);
-const hex = (character) => character.codePointAt(0).toString(16);
 const capital = (word) => word.replace(/^./, (letter) => letter.toUpperCase());
 /** The name of a unit in words, by its printed name. */
 const wordOf = (unit) => UNITS.find(({ printed }) => printed === unit).names.at(-2);
-
-/** A literal in double quotes, with characters outside of ASCII as the language writes them. */
-function literal(text, escaped) {
-    return `"${text.replace(/["\\]/g, "\\$&").replace(OUTSIDE, escaped)}"`;
-}
 
 /** Rust's call for a limit. */
 function rustLimit([name, value]) {
@@ -23,60 +17,57 @@ function rustLimit([name, value]) {
 }
 
 function rust(text, options, limits) {
-    const words = literal(text, (character) => `\\u{${hex(character)}}`);
     const fields = chosen(options).map((name) => `${NAMES[name]}: true, `).join("");
     const taken = fields ? `Options { ${fields}..Options::off() }` : "Options::off()";
     const calls = Object.entries(limits).map(rustLimit).join("");
     const types = ["Style", "TimeUnit"].filter((name) => calls.includes(name)).map((name) => `, ${name}`).join("");
     return `use duration_str::{format_duration, parse_with, Options${types}};\n\n`
-        + `let duration = parse_with(${words}, ${taken})?;\nlet text = format_duration(duration)${calls}.to_string();`;
+        + `let duration = parse_with(${JSON.stringify(text)}, ${taken})?;\n`
+        + `let text = format_duration(duration)${calls}.to_string();`;
 }
 
 function python(text, options, limits) {
-    const words = literal(text, (character) => `\\U${hex(character).padStart(8, "0")}`);
     const taken = chosen(options).map((name) => `, ${NAMES[name]}=True`).join("");
     const printed = Object.entries(limits).map(([name, value]) => `, ${name}=${JSON.stringify(value)}`).join("");
-    return `import duration_str\n\nduration = duration_str.parse(${words}${taken})\n`
+    return `import duration_str\n\nduration = duration_str.parse(${JSON.stringify(text)}${taken})\n`
         + `text = duration_str.format(duration${printed})`;
 }
 
 function javascript(text, options, limits) {
-    const words = literal(text, (character) => `\\u{${hex(character)}}`);
     const field = ([name, value]) => `${name}: ${JSON.stringify(value)}`;
     const object = (pairs) => pairs.length > 0 ? `, { ${pairs.map(field).join(", ")} }` : "";
     return `import { format, parse } from "duration-str";\n\n`
-        + `const nanoseconds = parse(${words}${object(chosen(options).map((name) => [name, true]))});\n`
-        + `const text = format(nanoseconds${object(Object.entries(limits))});`;
+        + `const milliseconds = parse(${JSON.stringify(text)}${object(chosen(options).map((name) => [name, true]))});\n`
+        + `const text = format(milliseconds${object(Object.entries(limits))});`;
 }
 
 /** C's call that prints the answer. */
 function cPrinted(limits) {
-    const value = "answer.nanos / 1000000000, answer.nanos % 1000000000";
     if (Object.keys(limits).length === 0) {
-        return `uint8_t buffer[DURATION_STR_FORMAT_BUFFER_SIZE];\nsize_t length = duration_str_format(${value}, buffer);`;
+        return "char buffer[DURATION_STR_FORMAT_BUFFER_SIZE];\nduration_str_format(answer.nanos, buffer);";
     }
+    const value = "answer.nanos / 1000000000, answer.nanos % 1000000000";
     const { largest = "y", smallest = "ns", parts = UNITS.length, style = "short" } = limits;
     const words = [wordOf(largest), wordOf(smallest), style].map((word) => `DURATION_STR_${word.toUpperCase()}`);
-    return `uint8_t buffer[DURATION_STR_STYLED_BUFFER_SIZE];\nsize_t length = duration_str_format_styled(\n    ${value},\n`
+    return `char buffer[DURATION_STR_STYLED_BUFFER_SIZE];\nduration_str_format_styled(\n    ${value},\n`
         + `    ${words[0]}, ${words[1]}, ${parts}, ${words[2]}, buffer);`;
 }
 
 function c(text, options, limits) {
     const bytes = new TextEncoder().encode(text);
     const escaped = (byte) => `\\${byte.toString(8).padStart(3, "0")}`;
-    const isPlain = (byte) => byte >= 0x20 && byte < 0x7f && !/["\\?]/.test(String.fromCharCode(byte));
+    const isPlain = (byte) => byte >= 0x20 && byte < 0x7f;
     const words = Array.from(bytes, (byte) => isPlain(byte) ? String.fromCharCode(byte) : escaped(byte));
     const taken = chosen(options).map((name) => `DURATION_STR_${NAMES[name].toUpperCase()}`).join(" | ") || "0";
     return `#include <duration_str.h>\n\nconst char text[] = "${words.join("")}";\nstruct duration_str_answer answer;\n`
-        + `bool is_read = duration_str_parse_with(\n    (const uint8_t *)text, sizeof text - 1, ${taken}, &answer);\n`
+        + `bool is_read = duration_str_parse_with(\n    text, sizeof text - 1, ${taken}, &answer);\n`
         + cPrinted(limits);
 }
 
 /** The program reads lines, and prints all of a duration. */
 function shell(text, options, limits) {
     if (/\p{C}/u.test(text) || Object.keys(limits).length > 0) return "";
-    const words = text.replaceAll("'", String.raw`'\''`);
-    return ["printf '%s\\n'", `'${words}'`, "| durstr", ...chosen(options).map((name) => NAMES[name])].join(" ");
+    return ["printf '%s\\n'", `'${text}'`, "| durstr", ...chosen(options).map((name) => NAMES[name])].join(" ");
 }
 
 /** What reads and prints the text, by the language's name in the page, with its title and how it is got in a clone of the

@@ -1,8 +1,8 @@
 // Texts in other notations, each recognised as a whole, with their exact values. What people use with two meanings has
 // two readings, and what has no meaning, or none that is a duration, has a sentence alone.
-import { tryParse } from "../js/dist/duration-str.js";
+import { tryParseNs } from "../js/dist/duration-str.js";
 import { terms, UNITS, unitOf } from "./units.js";
-import { say } from "./words.js";
+import { say } from "./sentences.js";
 
 /** Durations are below this many nanoseconds. */
 const LIMIT = 1n << 64n;
@@ -11,10 +11,12 @@ const [WEEK, DAY, HOUR, MINUTE, SECOND] = ["w", "d", "h", "m", "s"].map(unitOf);
 
 // ---- Characters and names
 
-/** The text with the digits of other scripts as ASCII's, `µ` for the other mu, and without zero-width characters. */
+/** The text with the digits of other scripts as ASCII's, `µ` for the other mu, `microseconds` for `micro seconds`, and
+ * without zero-width characters. */
 function plain(text) {
     const seen = text.trim().replace(/[\u00ad\u200b-\u200f\u2060\ufeff]/g, "");
-    return seen.replace(/\u03bc/g, "µ").replace(/\p{Nd}/gu, (digit) => {
+    const joined = seen.replace(/\b(milli|micro|nano)[ -](?=sec)/gi, "$1");
+    return joined.replace(/\u03bc/g, "µ").replace(/\p{Nd}/gu, (digit) => {
         // The ten digits of a script follow one another.
         let zero = digit.codePointAt(0);
         while (/\p{Nd}/u.test(String.fromCodePoint(zero - 1))) zero--;
@@ -29,8 +31,8 @@ function byWord(rows) {
 
 /** Names that people use and the library doesn't have. */
 const COMMON = byWord({
-    y: "yr yrs", mon: "mo mos", w: "wk wks", h: "hrs", min: "mins", sec: "secs", ms: "millis msecs millisec millisecs",
-    µs: "micros usecs microsec microsecs", ns: "nanos nsecs nanosec nanosecs",
+    y: "yr yrs", q: "qtr qtrs", mon: "mo mos mons mth mths", w: "wk wks", h: "hrs", min: "mins", s: "secs", ms: "millis msecs millisec millisecs",
+    µs: "micros µsecs µseconds usecs microsec microsecs", ns: "nanos nsecs nanosec nanosecs",
 });
 /** Whole words for lengths in other languages; not those that are abbreviated, or name a date or an hour of the day too. */
 const FOREIGN = byWord({
@@ -66,9 +68,13 @@ function unitName(word) {
     return COMMON.get(small) ?? FOREIGN.get(small) ?? misspelt(small);
 }
 
+/** `3 x 5min` and `5min x 3`, in which one is a duration */
+const TIMES = /^([1-9][0-9]*)\s*x\s*(?=[0-9]+\s*\p{L}+$)|(?<=^[0-9]+\s*\p{L}+)\s+x\s*(?=[0-9]+$)/iu;
+
 /** The same text with characters and names that the library has. */
 export function cleaned(text) {
     return plain(text).replace(/[\u00a0\u2000-\u200a\u202f\u205f\u3000]/g, " ").replace(/×/g, "*")
+        .replace(TIMES, (_, count = "") => `${count} * `)
         .replace(/\p{L}+/gu, (word) => unitName(word) ?? word);
 }
 
@@ -114,7 +120,7 @@ const ENCLOSED = /^(?:"(.+)"|'(.+)'|`(.+)`|“(.+)”|‘(.+)’|«(.+)»|\((.+)
 /** What a part of a text means, as it stands or converted. */
 function inside(text, options) {
     for (const each of [text, cleaned(text)]) {
-        const { ok, value } = tryParse(each, options);
+        const { ok, value } = tryParseNs(each, options);
         if (ok) return found(text, [{ nanos: value, text: each.trim() }], null);
     }
     return converted(text, options);
@@ -129,7 +135,9 @@ function led(text, options) {
     if (!meant || meant.readings.length === 0) return meant;
     if (meant.readings.every(hasUnits) && !words.includes(":")) return found(text, meant.readings, without(key ?? word));
     const unit = /(?:[_-]|[a-z](?=[A-Z]))([A-Za-z]+)$/.exec(key ?? word)?.[1];
-    return found(text, [], unit && unitName(unit) ? say`Write the unit after the number.` : say`${words} has no unit.`);
+    if (unit && unitName(unit)) return found(text, [], say`Write the unit after the number.`);
+    const isNumber = /^[0-9]+$/.test(words);
+    return found(text, [], isNumber ? say`Write ${words} alone: without a unit it is seconds.` : say`${words} has no unit.`);
 }
 
 /** `"30m"` and `(30m)` */
@@ -197,13 +205,15 @@ const ONES = "one two three four five six seven eight nine ten eleven twelve thi
 const WORDS = ["", ...ONES.split(" ")];
 const TENS = ["", "", ..."twenty thirty forty fifty sixty seventy eighty ninety".split(" ")];
 const oneOf = (words) => words.filter(Boolean).join("|");
-const WORD = `(?:${oneOf(TENS)})(?:[-\\s](?:${oneOf(WORDS.slice(0, 10))}))?|${oneOf(WORDS)}|an?|half(?: an?)?`;
+const DIGIT = oneOf(WORDS.slice(0, 10));
+const BELOW_HUNDRED = `(?:${oneOf(TENS)})(?:[-\\s](?:${DIGIT}))?|${oneOf(WORDS)}`;
+const WORD = `(?:${DIGIT}) hundred(?: (?:and )?(?:${BELOW_HUNDRED}))?|${BELOW_HUNDRED}|an?|half(?: an?)?`;
 const VULGAR = "¼½¾⅐⅑⅒⅓⅔⅕⅖⅗⅘⅙⅚⅛⅜⅝⅞";
 const FRACTION = String.raw`(?:[0-9]+\s*)?[${VULGAR}]|(?:[0-9]+\s+)?[0-9]+\/[0-9]+`;
 // A point right after a letter abbreviates.
 const NUMBER = String.raw`(?:(?<!\p{L})\.)?[0-9](?:[.,_'’\u00a0\u202f]?[0-9])*(?:e[+\-]?[0-9]+)?`;
 const TERM = new RegExp(String.raw`(?:(${FRACTION})\s*|(${NUMBER})\s*|(${WORD})\s+)(\p{L}+)(?:\.(?=\s|$))?`, "iuy");
-const JOINED = /\s*,\s*(?:and\s+)?|\s+and\s+|\s*[+&]\s*|\s*/iy;
+const JOINED = /\s*,\s*(?:and\s+)?|\s+and\s+|\s*[+&:]\s*|\s*/iy;
 const GROUPED = /^([1-9][0-9]{0,2}(?:([.,_'’\u00a0\u202f])[0-9]{3})(?:\2[0-9]{3})*)(?:(?!\2)[.,]([0-9]+))?$/;
 const EXPONENT = /^([0-9]+(?:\.[0-9]+)?)e([+-]?[0-9]{1,2})$/i;
 
@@ -234,12 +244,13 @@ const isPlural = (name) => /\p{L}{2}s$/iu.test(name);
 
 /** What a number word means in the same way, before a unit whose number fits it: `twenty second` may be an ordinal. */
 function wordOf(words, name) {
-    const [first, second = ""] = words.toLowerCase().split(/[-\s]+/);
-    const isOne = /^(?:one|an?|half)$/.test(first);
+    const [, hundreds = "", rest] = /^(?:(\w+) hundred(?: and)? ?)?(.*)/.exec(words.toLowerCase());
+    const [first, second = ""] = rest.split(/[-\s]+/);
+    const isOne = !hundreds && /^(?:one|an?|half)$/.test(first);
     if (isOne ? isPlural(name) : unitOf(name)?.names.at(-2) === name.toLowerCase()) return null;
     const [ten, one] = [TENS.indexOf(first), WORDS.indexOf(TENS.includes(first) ? second : first)];
-    const count = first === "half" ? [5n, -1] : [BigInt(10 * Math.max(ten, 0) + Math.max(one, ten < 0 ? 1 : 0)), 0];
-    return { counts: [count], sentence: say`Write numbers in digits.` };
+    const number = 100 * WORDS.indexOf(hundreds) + 10 * Math.max(ten, 0) + Math.max(one, ten < 0 ? 1 : 0);
+    return { counts: [first === "half" ? [5n, -1] : [BigInt(number), 0]], sentence: say`Write numbers in digits.` };
 }
 
 /** What a fraction below one means, in lowest terms and after a whole number or none; nothing for what can be two numbers,
@@ -271,11 +282,11 @@ function termOf(fraction, numeral, words, name) {
     return { ...number, unit, isForeign: !unitOf(name) };
 }
 
-const OF_TERM = new RegExp(`^(?:(?:a|one) quarter|(three) quarters) of an? (\\p{L}+)$`, "iu");
+const OF_TERM = /^(?:(?:(?:a|one) )?quarter(?: of an?)?|(three) quarters of an?)[ -](\p{L}+)$/iu;
 const COUNTED = `(${WORD}|[0-9]+)`;
 const AND_HALF = new RegExp(`^(?:${COUNTED} (\\p{L}{3,}) and a half|${COUNTED} and a half (\\p{L}{3,}))$`, "iu");
 
-/** `an hour and a half`, `one and a half hours` and `three quarters of an hour` */
+/** `an hour and a half`, `one and a half hours`, `quarter hour` and `three quarters of an hour` */
 function halves(text) {
     const [, three, name] = OF_TERM.exec(text) ?? [];
     const ofUnit = unitOf(name ?? "");
@@ -307,7 +318,7 @@ function termsOfSum(text) {
         JOINED.lastIndex = TERM.lastIndex;
         const [joined] = JOINED.exec(text);
         if (JOINED.lastIndex === text.length && joined !== "") return null;
-        isList ||= /,|and|&/i.test(joined);
+        isList ||= /,|and|[&:]/i.test(joined);
         sum.push({ ...term, joined });
     }
     return { sum, isList };
@@ -340,11 +351,7 @@ const LIST = new RegExp(String.raw`^(?!${NUMBER}\s*\p{L}+\.?$)${NUMBER}\s*\p{L}*
 /** Notations without a reading, and what is said of them. */
 const REFUSED = [
     [/^[-−–]\s*[0-9P.]|^PT?-/i, say`A duration can't be negative.`],
-    [/^(?:R[0-9]*|P[0-9T][^/]*)\/P/i, say`Write one duration.`],
-    [/^P[0-9]{4}-?[0-9]/i, say`A calendar year varies: ${"1y"} is 365 days.`],
-    [/^24\/7$/, (words) => say`${words} has no fixed length.`],
     [/^[0-9]{4}-[0-9]{2}-[0-9]{2}/, say`A date is not a duration.`],
-    [/^(?:[*0-9][-*0-9,/]*\s+){4}[*0-9]\S*$|^@\w+$/, say`A schedule is not a duration.`],
     [/[()[\]{}]/, say`Brackets can't be read.`],
     [/[0-9]\s*[ap]\.?m\b|o'clock|\bpast\b/i, say`A time of day is not a duration.`],
     [/[0-9]:[0-9]/, say`Write units in place of colons, as in ${"1h 30m"}.`],
@@ -357,9 +364,12 @@ const REFUSED = [
     [/[/÷]/, say`Durations can't be divided.`],
     [/(?<![a-zµ])([a-zµ]+)\s*-\s*[0-9]+\s*\1\b/i, say`Ranges and subtraction can't be read.`],
     [/(?<=[0-9]\s*\p{L}+\s+)(?:to|in|as)\s+\p{L}+$/iu, without],
-    [/\.\.|…|[0-9]\s*-|[–—]|\d\s*\p{L}*\s+to\s/u, say`A range can't be read.`],
+    [/\.\.|…|[0-9]\s*-\s*[0-9]|[–—]|\d\s*\p{L}*\s+to\s/u, say`A range can't be read.`],
     [/[0-9a-zµ]\s*[-−]\s*[0-9]/i, say`Durations can't be subtracted.`],
-    [/\b(?:decades?|century|centuries|forever|never|infinit\w*)\b/i, (words) => say`${words} has no fixed length.`],
+    [/\bdecades?\b/i, say`A decade is ${"10y"}.`],
+    [/\bcentur(?:y|ies)\b/i, say`A century is ${"100y"}.`],
+    [/\b(?:forever|never|infinit\w*)\b/i, (words) => say`${words} has no fixed length.`],
+    [/[0-9](?:\s*\p{L}+\s)?\s*[x×]\s*[0-9]/iu, say`Multiply with ${"*"}.`],
     [new RegExp(String.raw`^${NUMBER}$`, "iu"), (words) => say`${words} has no unit.`],
     [LIST, say`Write one duration, not a list.`],
     [/[0-9]e[+-]?[0-9]+\s*[a-z]/i, say`Exponents can't be read.`],

@@ -1,10 +1,12 @@
 // The link: it holds the text, the options and how it is printed, as `#text=1h%2030m&no_calc&style=long`.
-import { agree, chosenLimits, element, LONG, printing, shortened, switches, text, WHOLE } from "./elements.js";
+import { agree, chosenLimits, printing, switches, WHOLE } from "./choices.js";
+import { element, LONG, shortened, text } from "./elements.js";
 
 const boxes = Object.values(switches);
 
+/** Writes the text and what is chosen into the address, and returns that. */
 export function writeLink() {
-    let note = "Copy the address to share this.";
+    let note = "";
     try {
         const chosen = boxes.filter((box) => box.checked).map((box) => box.id);
         const limits = Object.entries(chosenLimits()).map(([name, value]) => `${name}=${encodeURIComponent(value)}`);
@@ -16,6 +18,8 @@ export function writeLink() {
         note = "This text is not UTF-8, so the address can't hold it.";
     }
     element("link-note").textContent = note;
+    element("share").hidden = note !== "";
+    return location.href;
 }
 
 /** Whether there is this choice of how a duration is printed. */

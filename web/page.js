@@ -1,8 +1,9 @@
 // The page's behaviour: what is typed, pressed and chosen.
-import { tryParse } from "../js/dist/duration-str.js";
+import { tryParseNs } from "../js/dist/duration-str.js";
 import { copied, showAnswer } from "./answer.js";
+import { agree, choose, chosenOptions, printing, switches, WHOLE } from "./choices.js";
 import { LANGUAGES } from "./code.js";
-import { agree, button, choose, chosenOptions, element, made, printing, switches, text, WHOLE, write } from "./elements.js";
+import { button, element, made, text, write } from "./elements.js";
 import { readLink, showUnknown, writeLink } from "./link.js";
 import { UNITS } from "./units.js";
 
@@ -10,9 +11,7 @@ import { UNITS } from "./units.js";
 const PAUSE = 500;
 /** How long is shown what was copied, in milliseconds. */
 const SHOWN = 4_000;
-const EXAMPLES = [
-    "3m + 13s + 29ms", "1:30", "1.5h", "6mon", "5 mins", "1m*10ms", "PT5M", "1h 30", "half an hour", "3m - 1s",
-];
+const EXAMPLES = ["3m + 13s + 29ms", "1h 30", "1:30", "1.5h", "5 mins", "PT5M", "3m - 1s"];
 
 let pause;
 let shownCopy;
@@ -31,7 +30,7 @@ function read() {
 function addUnit(name) {
     if (UNITS.some(({ chinese }) => chinese.includes(name))) choose({ ...chosenOptions(), cnUnit: true });
     const texts = [`${text.value}${name}`, `${text.value.trimEnd()} 1${name}`, `1${name}`];
-    write(texts.find((each) => tryParse(each, chosenOptions()).ok).trimStart());
+    write(texts.find((each) => tryParseNs(each, chosenOptions()).ok).trimStart());
 }
 
 /** Makes the buttons in the element one stop of the tab key; the arrow keys lead from one to another. */
@@ -67,10 +66,10 @@ function showExamples() {
 /** The choices of how a duration is printed. */
 function showPrinting() {
     for (const one of [printing.largest, printing.smallest]) {
-        one.replaceChildren(...UNITS.map(({ printed, names }) => new Option(names.at(-1), printed)));
+        one.replaceChildren(...UNITS.map(({ printed }) => new Option(printed)));
     }
-    const counts = UNITS.map((_, place) => new Option(place === 0 ? "1 part" : `${place + 1} parts`, place + 1));
-    counts.at(-1).text = "all parts";
+    const counts = UNITS.map((_, place) => new Option(place + 1, place + 1));
+    counts.at(-1).text = "all";
     printing.parts.replaceChildren(...counts);
     for (const [name, box] of Object.entries(printing)) {
         box.value = WHOLE[name];
@@ -95,6 +94,7 @@ function showLanguages() {
 
 /** Copies what the element shows; where that can't be done, selects it. */
 async function copy(id) {
+    if (id === "link-note") copied[id] = writeLink();
     let said = `Copied: ${copied[id].split("\n", 1)}`;
     try {
         await navigator.clipboard.writeText(copied[id]);
@@ -138,3 +138,5 @@ if (location.hash) {
 element("needs").remove();
 document.querySelector("main").hidden = false;
 text.focus();
+// What is typed or pasted first stands in place of the example, not after it.
+if (!location.hash) text.select();

@@ -1,6 +1,7 @@
 // The units, and the terms of a text that the library has read. What a text means, the library alone says.
-import { format, parse } from "../js/dist/duration-str.js";
+import { formatNs, parseNs } from "../js/dist/duration-str.js";
 
+// The list is made by tests/repository --write.
 /** All units, the longest first: their lengths in nanoseconds and in words, their printed names, their names, of which the
  * last two are the singular and the plural, and the names that `cn_unit` adds. */
 export const UNITS = [
@@ -17,8 +18,8 @@ export const UNITS = [
     ["ns nsec nanosecond nanoseconds", "纳秒"],
 ].map((rows) => {
     const [names, chinese] = rows.map((row) => row.split(" ").filter(Boolean));
-    const nanos = parse(`1${names[0]}`);
-    return { names, chinese, nanos, printed: format(nanos).slice(1), length: format(nanos, { largest: "d", style: "long" }) };
+    const nanos = parseNs(`1${names[0]}`);
+    return { names, chinese, nanos, printed: formatNs(nanos).slice(1), length: formatNs(nanos, { largest: "d", style: "long" }) };
 });
 
 const CHINESE_LETTERS = UNITS.flatMap(({ chinese }) => chinese).join("");

@@ -11,8 +11,9 @@
 //! - `calls SIDE text BYTES COUNT`: reads a text of so many bytes.
 //! - `calls SIDE read-expressions COUNT`, `calls SIDE print-expressions COUNT`: reads the 1,000 expressions of `texts.rs`,
 //!   and prints their values into a buffer.
-//! - `calls SIDE refuse NAME COUNT`: a refused text, and its message written into a buffer. `texts.rs` has the names.
-//! - `calls crate error NAME COUNT`: a text refused by `parse_duration`, and the error printed into a `String`.
+//! - `calls SIDE refuse NAME COUNT`: a refused text, and its line written into a buffer. `texts.rs` has the names.
+//! - `calls SIDE error NAME COUNT`, `calls SIDE printed-error NAME COUNT`: a text refused by `parse_duration`, and the error
+//!   printed into a `String`.
 #[allow(dead_code)] // for the other program
 mod ours;
 mod texts;

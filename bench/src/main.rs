@@ -4,11 +4,13 @@
 //! - `bench expressions`: the 1,000 expressions of `texts.rs`, a line each.
 //! - `bench times`: nanoseconds a call over them, a line with WHAT, OURS and THEIRS for reading and for printing. In all
 //!   these lines a tab stands between the words.
+//! - `bench peer human_format` or `to_string`: what `bench/peers` asks, of the texts of the standard input.
 //! - `bench calls WORDS COUNT`: humantime's calls, by the words of `calls.rs` after SIDE.
 mod ours;
 mod texts;
 
 use ours::{Crate, Library, ROOM, calls};
+use duration_str::{HumanFormat, format_duration, parse, parse_duration};
 use std::hint::black_box;
 use std::io::Write;
 use std::time::{Duration, Instant};
@@ -46,23 +48,23 @@ impl Library for Humantime {
         ROOM - room.len()
     }
 
-    fn error(text: &str) -> String {
-        humantime::parse_duration(text).expect_err("a text that humantime refuses").to_string()
+    type Error = humantime::DurationError;
+
+    fn error(text: &str) -> humantime::DurationError {
+        humantime::parse_duration(text).expect_err("a text that humantime refuses")
     }
 }
 
-/// Nanoseconds a call: of each side the least of the rounds, which take turns, since the machine's speed may change.
+/// Nanoseconds a call: of each side the least of many rounds, which take turns, since the machine's speed may change, and
+/// are short, so that some run undisturbed.
 fn nanos_a_call<const SIDES: usize>(calls: usize, sides: [&dyn Fn(); SIDES]) -> [f64; SIDES] {
-    const ROUNDS: usize = 25;
-    const REPEATS: usize = 100;
+    const ROUNDS: usize = 2_500;
     let mut least = [f64::INFINITY; SIDES];
     for _ in 0..ROUNDS {
         for (least, side) in least.iter_mut().zip(sides) {
             let start = Instant::now();
-            for _ in 0..REPEATS {
-                side();
-            }
-            *least = least.min(start.elapsed().as_nanos() as f64 / (REPEATS * calls) as f64);
+            side();
+            *least = least.min(start.elapsed().as_nanos() as f64 / calls as f64);
         }
     }
     least
@@ -92,12 +94,27 @@ fn times() {
     }
 }
 
+/// What `bench/peers` asks of each program, by the calls for a text and a string of this name.
+fn peer(printing: &str) {
+    let texts: Vec<String> = std::io::stdin().lines().map(|line| line.expect("a line").split('\t').next().unwrap().to_string()).collect();
+    let values: Vec<Duration> = texts.iter().map(|text| parse(text).expect("a text that is read")).collect();
+    let texts: Vec<&str> = texts.iter().map(String::as_str).collect();
+    let sides: [&dyn Fn(); 2] = match printing {
+        "human_format" => [&|| all(&texts, parse), &|| all(&values, |value| value.human_format())],
+        "to_string" => [&|| all(&texts, parse_duration), &|| all(&values, |value| format_duration(value).to_string())],
+        _ => panic!("no call: {printing}"),
+    };
+    let [read, print] = nanos_a_call(texts.len(), sides);
+    println!("{} {read} {print}", values.iter().sum::<Duration>().as_nanos());
+}
+
 fn main() {
     let words: Vec<String> = std::env::args().skip(1).collect();
     let words: Vec<&str> = words.iter().map(String::as_str).collect();
     match words.as_slice() {
         ["expressions"] => println!("{}", texts::expressions().join("\n")),
         ["times"] => times(),
+        ["peer", printing] => peer(printing),
         ["calls", words @ .., count] => calls::<Humantime>(words, count.parse().expect("a count")),
         _ => panic!("see the first lines of src/main.rs"),
     }

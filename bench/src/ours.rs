@@ -1,11 +1,12 @@
 //! The calls that are measured: those of the Rust crate, and those of the archive through C.
 use crate::texts::{EXPRESSION, expressions, long_text, refused, repeat};
-use duration_str::{Format, HumanFormat, Options, parse, parse_duration, parse_with, write_human, write_within};
+use duration_str::{DurationError, FORMAT_BUFFER_SIZE, Fault, Format, HumanFormat, Options, STYLED_BUFFER_SIZE};
+use duration_str::{parse, parse_duration, parse_with, write_human, write_within};
 use std::hint::black_box;
 use std::time::Duration;
 
-/// More bytes than the message of any measured text has.
-pub const ROOM: usize = 512;
+/// The bytes of a buffer for a line.
+pub const ROOM: usize = Fault::BUFFER_LEN;
 
 /// One way to a library.
 pub trait Library {
@@ -25,12 +26,12 @@ pub trait Library {
     fn printing_string(_: Duration) -> String {
         unimplemented!()
     }
-    /// Writes the message of a refused text into the buffer, and returns its length.
+    /// Writes the error of a refused text into the buffer, and returns its length.
     fn refusing(text: &str, buffer: &mut [u8; ROOM]) -> usize;
-    /// The printed error of a refused text, as a service gets it, where the library does so.
-    fn error(_: &str) -> String {
-        unimplemented!()
-    }
+    /// What a refused text's error is.
+    type Error: ToString;
+    /// The error of a refused text, as a service gets it.
+    fn error(text: &str) -> Self::Error;
 }
 
 /// The Rust crate.
@@ -50,12 +51,12 @@ impl Library for Crate {
     }
 
     fn printing(length: Duration) -> usize {
-        black_box(write_human(&length, &mut [0; 64])).len()
+        black_box(write_human(&length, &mut [0; FORMAT_BUFFER_SIZE])).len()
     }
 
     fn printing_parts(length: Duration, parts: u32) -> usize {
         let format = Format::whole().parts(parts as usize);
-        black_box(write_within(&length, format, &mut [0; 144])).len()
+        black_box(write_within(&length, format, &mut [0; STYLED_BUFFER_SIZE])).len()
     }
 
     fn printing_string(length: Duration) -> String {
@@ -64,12 +65,14 @@ impl Library for Crate {
 
     fn refusing(text: &str, buffer: &mut [u8; ROOM]) -> usize {
         let fault = parse_with(text, Options::off()).expect_err("a text that is refused");
-        fault.write_message(buffer).expect("a message that fits")
+        fault.write_one_line(buffer).len()
     }
 
+    type Error = DurationError;
+
     #[inline(always)]
-    fn error(text: &str) -> String {
-        parse_duration(text).expect_err("a text that is refused").to_string()
+    fn error(text: &str) -> DurationError {
+        parse_duration(text).expect_err("a text that is refused")
     }
 }
 
@@ -77,10 +80,10 @@ impl Library for Crate {
 pub struct Archive;
 
 impl Archive {
-    /// Has a call print a duration, by its seconds and nanoseconds, into a buffer.
-    fn printed(length: Duration, call: impl Fn(u64, u32, *mut u8) -> usize) -> usize {
-        let mut buffer = [0; 64];
-        let end = call(length.as_secs(), length.subsec_nanos(), buffer.as_mut_ptr());
+    /// Has a call print into a buffer.
+    fn printed<const ROOM: usize>(call: impl Fn(*mut u8) -> usize) -> usize {
+        let mut buffer = [0; ROOM];
+        let end = call(buffer.as_mut_ptr());
         black_box(&buffer);
         end
     }
@@ -111,10 +114,12 @@ struct Answer {
 #[link(name = "duration_str", kind = "static")]
 unsafe extern "C" {
     fn duration_str_parse(text: *const u8, length: usize, nanos: *mut u64) -> bool;
-    fn duration_str_format(secs: u64, nanos: u32, buffer: *mut u8) -> usize;
-    fn duration_str_format_within(secs: u64, nanos: u32, largest: u32, smallest: u32, parts: u32, buffer: *mut u8) -> usize;
+    fn duration_str_format(nanos: u64, buffer: *mut u8) -> usize;
+    fn duration_str_format_styled(
+        secs: u64, nanos: u32, largest: u32, smallest: u32, parts: u32, style: u32, buffer: *mut u8,
+    ) -> usize;
     fn duration_str_parse_with(text: *const u8, length: usize, options: u32, answer: *mut Answer) -> bool;
-    fn duration_str_message(text: *const u8, length: usize, options: u32, buffer: *mut u8, room: usize) -> usize;
+    fn duration_str_one_line(text: *const u8, length: usize, options: u32, answer: *mut Answer, buffer: *mut u8) -> usize;
 }
 
 impl Library for Archive {
@@ -136,21 +141,30 @@ impl Library for Archive {
     }
 
     fn printing(length: Duration) -> usize {
+        let nanos = length.as_secs() * 1_000_000_000 + u64::from(length.subsec_nanos());
         // SAFETY: the buffer has the 64 bytes that may be written.
-        Archive::printed(length, |secs, nanos, buffer| unsafe { duration_str_format(secs, nanos, buffer) })
+        Archive::printed::<64>(|buffer| unsafe { duration_str_format(nanos, buffer) })
     }
 
     fn printing_parts(length: Duration, parts: u32) -> usize {
-        // SAFETY: as above.
-        Archive::printed(length, |secs, nanos, buffer| unsafe { duration_str_format_within(secs, nanos, 0, 10, parts, buffer) })
+        let (secs, nanos) = (length.as_secs(), length.subsec_nanos());
+        // SAFETY: as above, with 144 bytes.
+        Archive::printed::<144>(|buffer| unsafe { duration_str_format_styled(secs, nanos, 0, 10, parts, 0, buffer) })
     }
 
     fn refusing(text: &str, buffer: &mut [u8; ROOM]) -> usize {
-        assert!(!Archive::answer(text, 0).1, "read");
-        // SAFETY: the pointers and lengths are those of slices that lie apart.
-        let length = unsafe { duration_str_message(text.as_ptr(), text.len(), 0, buffer.as_mut_ptr(), ROOM) };
-        assert!(0 < length && length <= ROOM);
+        let (mut answer, buffer) = (Answer::default(), buffer.as_mut_ptr());
+        // SAFETY: the pointer and length are a slice's, `answer` is laid out as the header's, and the buffer is as long as there.
+        let length = unsafe { duration_str_one_line(text.as_ptr(), text.len(), 0, &mut answer, buffer) };
+        assert!(length > 0, "read: {text}");
         length
+    }
+
+    /// C has no error but the answer.
+    type Error = u32;
+
+    fn error(text: &str) -> u32 {
+        Archive::answer(text, 0).0.cause
     }
 }
 
@@ -196,6 +210,10 @@ pub fn calls<L: Library>(words: &[&str], count: u64) {
         ["error", name] => {
             let text = refused(name);
             repeat(count, || { black_box(&L::error(black_box(&text))); });
+        }
+        ["printed-error", name] => {
+            let text = refused(name);
+            repeat(count, || { black_box(&L::error(black_box(&text)).to_string()); });
         }
         _ => panic!("see the first lines of src/calls.rs"),
     }

@@ -49,7 +49,7 @@ pub fn long_text(bytes: usize) -> String {
     text
 }
 
-/// The text that is refused for the cause of this name, or for the syntax at the end of 100 bytes.
+/// The text that is refused for the cause of this name, or for a `-` at the end of 100 bytes, or in 1,000.
 pub fn refused(name: &str) -> String {
     let text = match name {
         "empty" => "",
@@ -58,10 +58,23 @@ pub fn refused(name: &str) -> String {
         "first-term" => "600000000000y",
         "later-sum" => "580y 580y",
         "mixed" => "1m + 2s * 3",
-        "end" => return format!("{}-", &long_text(100)[..99]),
+        "fraction" => "1.5h",
+        "minus" => "-5s",
+        "letter" => "m5",
+        "end" => return with_minus(100, 99),
+        "front" => return with_minus(1000, 0),
+        "middle" => return with_minus(1000, 500),
+        "last" => return with_minus(1000, 999),
         _ => panic!("no refused text: {name}"),
     };
     text.to_string()
+}
+
+/// A text of so many bytes with a `-` at this byte.
+fn with_minus(bytes: usize, at: usize) -> String {
+    let mut text = long_text(bytes);
+    text.replace_range(at..=at, "-");
+    text
 }
 
 /// Calls so many times. The function is inlined, so that one more call takes the same around it in every program.

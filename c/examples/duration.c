@@ -7,17 +7,16 @@
 #include "duration_str.h"
 
 /* Prints the message of a refused text, in memory of its own, since a text can have any length. */
-static void print_message(const uint8_t *text, size_t length)
+static void print_message(const char *text, size_t length)
 {
-    size_t room = duration_str_message(text, length, 0, NULL, 0);
-    uint8_t *message = malloc(room);
+    size_t room = duration_str_message(text, length, 0, NULL, 0) + 1;
+    char *message = malloc(room);
     if (message == NULL) {
         fprintf(stderr, "out of memory\n");
         return;
     }
     duration_str_message(text, length, 0, message, room);
-    fwrite(message, 1, room, stdout);
-    putchar('\n');
+    puts(message);
     free(message);
 }
 
@@ -27,20 +26,15 @@ int main(int count, char **words)
         fprintf(stderr, "usage: %s EXPRESSION\n", words[0]);
         return 2;
     }
-    const uint8_t *text = (const uint8_t *)words[1];
     size_t length = strlen(words[1]);
-    struct duration_str_moment moment = {946684800, 0};
     struct duration_str_answer answer;
-    if (!duration_str_after(text, length, 0, &moment, &answer)) {
-        if (answer.cause == DURATION_STR_OUT_OF_RANGE)
-            puts("date out of range");
-        else
-            print_message(text, length);
+    if (!duration_str_parse_with(words[1], length, 0, &answer)) {
+        print_message(words[1], length);
         return 1;
     }
-    uint8_t printed[DURATION_STR_FORMAT_BUFFER_SIZE];
-    size_t end = duration_str_format(answer.nanos / 1000000000, (uint32_t)(answer.nanos % 1000000000), printed);
-    printf("%llu %.*s %lld.%09u\n", (unsigned long long)answer.nanos, (int)end, (const char *)printed,
-           (long long)moment.secs, (unsigned)moment.nanos);
+    char printed[DURATION_STR_FORMAT_BUFFER_SIZE];
+    duration_str_format(answer.nanos, printed);
+    unsigned long long nanos = answer.nanos, secs = 946684800 + nanos / 1000000000;
+    printf("%llu %s %llu.%09llu\n", nanos, printed, secs, nanos % 1000000000);
     return 0;
 }

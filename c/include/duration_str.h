@@ -4,12 +4,13 @@
  * No function allocates memory or keeps state, and all may be called from
  * several threads at once. A text is passed as a pointer and a length in
  * bytes; it need not end with a zero byte, and must not overlap what a
- * function writes. Its bytes must not change during a call, by another thread
- * or, in a mapped file, by another process: copy such a text first. A pointer
- * may be null only if its length is 0: as the empty text, a buffer into which
- * nothing fits, or an array of no numbers. Texts are UTF-8; other bytes are
- * refused. No zero byte is written at the end of a text. No function calls
- * back or throws. The header is for C99 and C++11 and later.
+ * function writes. It must not change during a call, by another thread or, in
+ * a mapped file, by another process: copy such a text first. What is written
+ * ends with a zero byte, which the returned length doesn't count, and the rest
+ * of a buffer is unchanged. A pointer may be null only if its length is 0: as
+ * the empty text, a buffer into which nothing fits, or an array of no numbers.
+ * Texts are UTF-8; other bytes are refused. No function calls back or throws.
+ * The header is for C99 and C++11 and later.
  *
  * The grammar: terms, each a number and a unit such as `3m` or `29 ms`, joined
  * by `+` or by `*`, or following one another, which adds them. After a number
@@ -48,7 +49,7 @@
 #define DURATION_STR_FORMAT_BUFFER_SIZE 64
 #define DURATION_STR_MAX_STYLED_LEN 134
 #define DURATION_STR_STYLED_BUFFER_SIZE 144
-#define DURATION_STR_MAX_ONE_LINE_LEN 365
+#define DURATION_STR_MAX_ONE_LINE_LEN 294
 #define DURATION_STR_ONE_LINE_BUFFER_SIZE 384
 
 /* What GCC and Clang are told: which pointers may not be null, and which
@@ -91,15 +92,22 @@ enum duration_str_cause {
     DURATION_STR_OVERFLOW = 4,
     /* `+` and `*` are mixed */
     DURATION_STR_MIXED = 5,
-    /* duration_str_after and duration_str_before only: a moment is out of
-     * range */
-    DURATION_STR_OUT_OF_RANGE = 6,
     /* the bytes are not UTF-8 */
     DURATION_STR_NOT_TEXT = 7,
     /* duration_str_parse_column only: offsets decrease or lie beyond the
      * bytes */
     DURATION_STR_BAD_OFFSETS = 8
 };
+
+/* The name of a cause, such as `NUMBER_TOO_LARGE`; empty for another number. */
+static inline const char *duration_str_cause_name(uint32_t cause)
+{
+    static const char *const names[] = {
+        "READ",     "EMPTY", "SYNTAX", "NUMBER_TOO_LARGE",
+        "OVERFLOW", "MIXED", "",       "NOT_TEXT",
+        "BAD_OFFSETS"};
+    return cause < sizeof names / sizeof *names ? names[cause] : "";
+}
 
 /* What could stand at the place of a syntax fault, as the bits of a
  * `uint32_t`. */
@@ -111,6 +119,7 @@ enum duration_str_kind {
 };
 
 /* The units, the longest first. */
+/* The enumeration is made by tests/repository --write. */
 enum duration_str_unit {
     DURATION_STR_YEAR = 0,
     DURATION_STR_QUARTER = 1,
@@ -157,61 +166,41 @@ struct duration_str_answer {
     char later_operator;
 };
 
-/* A moment in UTC: `secs` whole seconds since 1970-01-01T00:00:00Z,
- * negative before it, plus `nanos` nanoseconds, which are below
- * 1,000,000,000. The first moment is -9999-01-02T01:59:59Z (`secs` is
- * -377,705,023,201), the last is 9999-12-30T22:00:00.999999999Z (`secs` is
- * 253,402,207,200). */
-struct duration_str_moment {
-    int64_t secs;
-    uint32_t nanos;
-};
-
 /* Reads a text with all options off. Returns true if it is read: then
  * `*nanos` is its value in nanoseconds. Returns false if it is refused,
  * also for bytes that are not UTF-8: then `*nanos` is unchanged. */
 DURATION_STR_MUST_USE DURATION_STR_NONNULL(3)
-bool duration_str_parse(const uint8_t *text, size_t length, uint64_t *nanos);
+bool duration_str_parse(const char *text, size_t length, uint64_t *nanos);
 
-/* Prints a duration of `secs` seconds and `nanos` nanoseconds, which are
- * below 1,000,000,000, to the start of `buffer`, such as `3min 13s 29ms`,
- * and returns its length, at most DURATION_STR_MAX_PRINTED_LEN. `buffer`
- * has DURATION_STR_FORMAT_BUFFER_SIZE bytes, and those after the text are
- * unchanged: it is not ended by a zero. Returns 0 if `nanos` is
- * 1,000,000,000 or more; then the whole buffer is unchanged. */
-DURATION_STR_MUST_USE DURATION_STR_NONNULL(3)
-size_t duration_str_format(uint64_t secs, uint32_t nanos, uint8_t *buffer);
+/* Prints a duration of so many nanoseconds to the start of `buffer`, such as
+ * `3min 13s 29ms`, and returns its length, at most
+ * DURATION_STR_MAX_PRINTED_LEN. `buffer` has DURATION_STR_FORMAT_BUFFER_SIZE
+ * bytes. */
+DURATION_STR_NONNULL(2)
+size_t duration_str_format(uint64_t nanos, char *buffer);
 
-/* Prints a duration in the same way, but only in the units from `largest`
- * to `smallest`, each a number of `enum duration_str_unit`, and in at most
- * `parts` parts: the lexicographically greatest breakdown with only these
- * units and so few parts that is not above the duration. In two parts from
- * days to seconds, 90,061 seconds are `1d 1h`. If all counts are 0, the
- * text is `0` and the name of the smallest unit, or `0s` where that is
- * shorter than a second; so it is for every duration if `largest` is
- * shorter than `smallest` or `parts` is 0. Returns 0 if `nanos` is
- * 1,000,000,000 or more or a unit's number is above 10; then the whole
- * buffer is unchanged. */
-DURATION_STR_MUST_USE DURATION_STR_NONNULL(6)
-size_t duration_str_format_within(uint64_t secs, uint32_t nanos,
-                                  uint32_t largest, uint32_t smallest,
-                                  uint32_t parts, uint8_t *buffer);
-
-/* Prints a duration as duration_str_format_within does, in a style of `enum
- * duration_str_style`; a long zero is `0 seconds`. Returns its length, at
- * most DURATION_STR_MAX_STYLED_LEN; `buffer` has
- * DURATION_STR_STYLED_BUFFER_SIZE bytes. Returns 0, with the buffer
- * unchanged, if `style` is above 2 too. */
-DURATION_STR_MUST_USE DURATION_STR_NONNULL(7)
+/* Prints a duration of `secs` seconds and `nanos` nanoseconds in a style of
+ * `enum duration_str_style`, only in the units from `largest` to `smallest`,
+ * each a number of `enum duration_str_unit`, and in at most `parts` parts:
+ * the lexicographically greatest breakdown with only these units and so few
+ * parts that is not above the duration. In two parts from days to seconds,
+ * 90,061 seconds are `1d 1h`. If all counts are 0, the text is `0` and the
+ * name of the smallest unit, or of the second where that is shorter: `0h`,
+ * `0s`, `0 seconds`. So it is for every duration if `largest` is shorter than
+ * `smallest` or `parts` is 0. `buffer` has DURATION_STR_STYLED_BUFFER_SIZE
+ * bytes. Returns the length, at most DURATION_STR_MAX_STYLED_LEN. Returns 0,
+ * and the text is empty, if `nanos` is 1,000,000,000 or more, `style` is above
+ * 2, or a unit's number is above 10. */
+DURATION_STR_NONNULL(7)
 size_t duration_str_format_styled(uint64_t secs, uint32_t nanos,
                                   uint32_t largest, uint32_t smallest,
                                   uint32_t parts, uint32_t style,
-                                  uint8_t *buffer);
+                                  char *buffer);
 
 /* Reads a text under these options, and writes its value to `*answer`, or
  * why and where it is refused. Returns true if it is read. */
 DURATION_STR_NONNULL(4)
-bool duration_str_parse_with(const uint8_t *text, size_t length,
+bool duration_str_parse_with(const char *text, size_t length,
                              uint32_t options,
                              struct duration_str_answer *answer);
 
@@ -230,63 +219,40 @@ bool duration_str_parse_with(const uint8_t *text, size_t length,
  * `nanos` has room for `nanos_room` numbers and `causes` for `causes_room`.
  * Only as many texts are handled as there are, and as there is room for in
  * both; what follows in the arrays is unchanged. */
-size_t duration_str_parse_column(const uint8_t *bytes, size_t length,
+size_t duration_str_parse_column(const char *bytes, size_t length,
                                  const size_t *offsets, size_t count,
                                  uint32_t options, uint64_t *nanos,
                                  size_t nanos_room, uint32_t *causes,
                                  size_t causes_room);
 
-/* Moves `*moment` forward by the value of a text, which is read under these
- * options, and writes the value or the refusal to `*answer`. Returns true
- * if it is moved. Otherwise `*moment` is unchanged, and the cause is:
- * DURATION_STR_OUT_OF_RANGE if `*moment` is not one of the moments above,
- * whatever the text is; otherwise why the text is refused; otherwise
- * DURATION_STR_OUT_OF_RANGE, since the moment that is reached is not one of
- * those above. */
-DURATION_STR_MUST_USE DURATION_STR_NONNULL(4, 5)
-bool duration_str_after(const uint8_t *text, size_t length, uint32_t options,
-                        struct duration_str_moment *moment,
-                        struct duration_str_answer *answer);
-
-/* Moves `*moment` back, in the same way as duration_str_after moves it
- * forward. */
-DURATION_STR_MUST_USE DURATION_STR_NONNULL(4, 5)
-bool duration_str_before(const uint8_t *text, size_t length, uint32_t options,
-                         struct duration_str_moment *moment,
-                         struct duration_str_answer *answer);
-
 /* Reads a text under these options as duration_str_parse_with does, and
  * writes what is wrong with a refused one to the start of `buffer`, in one
- * line for people: `unknown unit "hurs" at column 6`. Returns the length of
- * the line, at most DURATION_STR_MAX_ONE_LINE_LEN; 0 if the text is read.
- * `buffer` has DURATION_STR_ONE_LINE_BUFFER_SIZE bytes, and what stands in
- * it after the line is unchanged. At most 40 characters of the text are
- * quoted, and each that could do harm in a terminal or a log is escaped. */
+ * line for people: `unknown unit "mins" at column 3 (did you mean "min"?)`.
+ * Returns the length of the line, at most DURATION_STR_MAX_ONE_LINE_LEN; 0,
+ * and the line is empty, if the text is read. `buffer` has
+ * DURATION_STR_ONE_LINE_BUFFER_SIZE bytes. At most 40 characters show the
+ * text, and what can't be seen or could do harm in a terminal or a log is
+ * escaped. Of bytes that are not UTF-8 it is `not UTF-8`. */
 DURATION_STR_NONNULL(4, 5)
-size_t duration_str_one_line(const uint8_t *text, size_t length,
+size_t duration_str_one_line(const char *text, size_t length,
                              uint32_t options,
                              struct duration_str_answer *answer,
-                             uint8_t *buffer);
+                             char *buffer);
 
 /* Reads a text under these options, and writes the message about its refusal
  * to the start of `buffer`, which has room for `room` bytes. Returns the
- * length of the message in bytes; 0 if the text is read. If the length is more
- * than `room`, nothing is written: with room 0 a caller asks for the length. A
- * length of 2^64 bytes or more, which no memory has, is returned as SIZE_MAX.
+ * length of the message in bytes; 0, and the message is empty, if the text is
+ * read. The message and its zero need one byte more than the length: if
+ * `room` is less, nothing is written, so with room 0 a caller asks for the
+ * length. A length of 2^64 bytes or more, which no memory has, is returned as
+ * SIZE_MAX.
  *
  * If the fault has a place, the message is the text, below it a caret under
  * the place, and a line that says what is wrong; or, if the text has a line
  * feed, `byte N: ` and the line. Without a place it is only the line. For
- * DURATION_STR_NOT_TEXT it is `not UTF-8`. DURATION_STR_OUT_OF_RANGE has no
- * message here, since its text is read: its line is `date out of range`. */
-size_t duration_str_message(const uint8_t *text, size_t length,
-                            uint32_t options, uint8_t *buffer, size_t room);
-
-/* Writes only the last line of the message, such as `expected number`, in
- * the same way as duration_str_message: without the place or the text,
- * which duration_str_one_line has. */
-size_t duration_str_line(const uint8_t *text, size_t length, uint32_t options,
-                         uint8_t *buffer, size_t room);
+ * DURATION_STR_NOT_TEXT it is `not UTF-8`. */
+size_t duration_str_message(const char *text, size_t length,
+                            uint32_t options, char *buffer, size_t room);
 
 /* The version of the library, in the form of DURATION_STR_VERSION_NUMBER. */
 uint32_t duration_str_version(void);

@@ -1,6 +1,9 @@
 //! The functions of `duration_str.h`: each makes slices of C's pointers and calls the proved function of its name.
-use crate::{answer::Answer, column, limits, message, moment, moment::Moment};
-use core::{mem::MaybeUninit, mem::zeroed, slice::from_raw_parts, slice::from_raw_parts_mut};
+use crate::{answer::Answer, column, limits, message};
+use core::{mem::MaybeUninit, mem::offset_of, mem::zeroed, slice::from_raw_parts, slice::from_raw_parts_mut};
+
+// The fields lie where C looks for them.
+const _: () = assert!(offset_of!(Answer, has_place) == 16 + 2 * size_of::<usize>());
 
 /// A caller's array, which may be null if it has nothing.
 unsafe fn array<'a, T>(start: *const T, len: usize) -> &'a [T] {
@@ -19,15 +22,8 @@ unsafe extern "C" fn duration_str_parse(text: *const u8, len: usize, nanos: &mut
 }
 
 #[unsafe(no_mangle)]
-extern "C" fn duration_str_format(secs: u64, nanos: u32, buffer: &mut [u8; 64]) -> usize {
-    crate::duration_str_format(secs, nanos, buffer)
-}
-
-#[unsafe(no_mangle)]
-extern "C" fn duration_str_format_within(
-    secs: u64, nanos: u32, largest: u32, smallest: u32, parts: u32, buffer: &mut [u8; 64],
-) -> usize {
-    limits::duration_str_format_within(secs, nanos, largest, smallest, parts, buffer)
+extern "C" fn duration_str_format(nanos: u64, buffer: &mut [u8; 64]) -> usize {
+    crate::duration_str_format(nanos, buffer)
 }
 
 #[unsafe(no_mangle)]
@@ -54,20 +50,6 @@ unsafe extern "C" fn duration_str_parse_column(
 }
 
 #[unsafe(no_mangle)]
-unsafe extern "C" fn duration_str_after(
-    text: *const u8, len: usize, bits: u32, moment: &mut Moment, answer: &mut MaybeUninit<Answer>,
-) -> bool {
-    unsafe { moment::duration_str_after(array(text, len), bits, moment, answer.write(zeroed())) }
-}
-
-#[unsafe(no_mangle)]
-unsafe extern "C" fn duration_str_before(
-    text: *const u8, len: usize, bits: u32, moment: &mut Moment, answer: &mut MaybeUninit<Answer>,
-) -> bool {
-    unsafe { moment::duration_str_before(array(text, len), bits, moment, answer.write(zeroed())) }
-}
-
-#[unsafe(no_mangle)]
 unsafe extern "C" fn duration_str_one_line(
     text: *const u8, len: usize, bits: u32, answer: &mut MaybeUninit<Answer>, out: &mut [u8; 384],
 ) -> usize {
@@ -77,11 +59,6 @@ unsafe extern "C" fn duration_str_one_line(
 #[unsafe(no_mangle)]
 unsafe extern "C" fn duration_str_message(text: *const u8, len: usize, bits: u32, out: *mut u8, size: usize) -> usize {
     unsafe { message::duration_str_message(array(text, len), bits, room(out, size)) }
-}
-
-#[unsafe(no_mangle)]
-unsafe extern "C" fn duration_str_line(text: *const u8, len: usize, bits: u32, out: *mut u8, size: usize) -> usize {
-    unsafe { message::duration_str_line(array(text, len), bits, room(out, size)) }
 }
 
 #[unsafe(no_mangle)]

@@ -4,9 +4,8 @@
 //! Nothing is allocated. Bytes that are not UTF-8 are refused.
 #![no_std]
 
-mod abi; // Written by hand, as the next two.
+mod abi; // Written by hand, as the next.
 mod bare;
-mod jiff;
 
 #[forbid(unsafe_code)]
 pub mod answer;
@@ -16,11 +15,9 @@ pub mod column;
 pub mod limits;
 #[forbid(unsafe_code)]
 pub mod message;
-#[forbid(unsafe_code)]
-pub mod moment;
 
 use crate::answer::{Answer, refused};
-use duration_str_core::{Cause, Fault, Options, parse_nanos};
+use duration_str_core::{Cause, FORMAT_BUFFER_SIZE, Fault, Options, parse_nanos, write_human};
 use core::time::Duration;
 
 const NO_CALC: u32 = 1;
@@ -52,16 +49,22 @@ pub fn duration_str_parse(text: &[u8], nanos: &mut u64) -> bool {
     }
 }
 
-/// Prints a duration to the start of the buffer, and returns the length of the text. The rest of the buffer is
-/// unchanged; so is all of it if `nanos` is a second or more, and then it returns 0.
-pub fn duration_str_format(secs: u64, nanos: u32, buffer: &mut [u8; 64]) -> usize {
-    if nanos >= 1_000_000_000 {
-        return 0;
-    }
-    let mut printed = [0; 64];
-    let text = duration_str_core::write_human(&Duration::new(secs, nanos), &mut printed);
+/// Prints a duration of so many nanoseconds and a zero byte to the start of the buffer, and returns the length of the
+/// text, without the zero. The rest of the buffer is unchanged.
+pub fn duration_str_format(nanos: u64, buffer: &mut [u8; FORMAT_BUFFER_SIZE]) -> usize {
+    let mut printed = [0; FORMAT_BUFFER_SIZE];
+    put(
+        write_human(&Duration::from_nanos(nanos), &mut printed),
+        buffer,
+    )
+}
+
+/// Writes a text and a zero byte to the start of the buffer, and returns the length of the text.
+#[inline(always)]
+pub(crate) fn put(text: &str, buffer: &mut [u8]) -> usize {
     let end = text.len();
     buffer[..end].copy_from_slice(text.as_bytes());
+    buffer[end] = 0;
     end
 }
 
@@ -83,12 +86,18 @@ fn answer_to(bytes: &[u8], options: u32) -> Answer {
     }
 }
 
-/// What `parse_nanos` returns, out of line.
+/// What `parse_nanos` returns, out of line. A copy of the reader that knows that all options are off is faster.
 #[inline(never)]
 pub(crate) fn read(text: &str, options: Options) -> Result<u64, Fault<'_>> {
     if options.are_off() {
         return parse_nanos(text, Options::off());
     }
+    read_chosen(text, options)
+}
+
+/// The same where an option is on.
+#[inline(never)]
+fn read_chosen(text: &str, options: Options) -> Result<u64, Fault<'_>> {
     parse_nanos(text, options)
 }
 
@@ -101,6 +110,7 @@ pub fn duration_str_version() -> u32 {
 #[inline(always)]
 pub(crate) fn text_of(bytes: &[u8]) -> Option<&str> {
     if bytes.is_ascii() || is_utf8(bytes) {
+        // SAFETY: the bytes are UTF-8, by the tests above.
         Some(unsafe { core::str::from_utf8_unchecked(bytes) })
     } else {
         None

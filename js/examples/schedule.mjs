@@ -1,9 +1,9 @@
 // A job that runs every so often, until a deadline; both come from a configuration.
-import { after, DurationError, parseMs } from "duration-str";
+import { after, DurationError, parse } from "duration-str";
 
 /** Runs the job every `every` until `until` has passed. A refused text is an error that names its setting. */
 export function schedule({ every, until }, job, now = new Date()) {
-    const period = setting("every", () => parseMs(every));
+    const period = setting("every", () => parse(every));
     const end = setting("until", () => after(now, until));
     if (period === 0) throw new RangeError("every: must not be 0");
     const timer = setInterval(() => (new Date() < end ? job() : clearInterval(timer)), period);

@@ -1,6 +1,7 @@
-// Durations as people write them, read and printed by a proved library, which is a WebAssembly module.
+// Durations as people write them, read and printed by a proved library, which is a WebAssembly module, or JavaScript that is
+// made of one: `instance` is compiled.js or plain.js.
 // index.d.ts documents what is exported.
-import source from "duration_str.wasm";
+import { instance } from "instance";
 
 const PAGE = 65_536;
 const SECOND = 1_000_000_000n;
@@ -15,6 +16,7 @@ const LONE_SURROGATE = /\p{Surrogate}/u;
 const CODES = ["READ", "EMPTY", "SYNTAX", "NUMBER_TOO_LARGE", "OVERFLOW", "MIXED", "OUT_OF_RANGE", "NOT_TEXT"];
 
 /** The printed names of the units, in the order of `enum duration_str_unit`, and their names in `parts`. */
+// Made by tests/repository --write.
 const UNITS = ["y", "q", "mon", "w", "d", "h", "min", "s", "ms", "µs", "ns"];
 const PARTS = [
     "years", null, "months", "weeks", "days", "hours", "minutes", "seconds", "milliseconds", "microseconds", "nanoseconds",
@@ -43,26 +45,9 @@ let texts;
 let encoder;
 let decoder;
 
-/** What is made where the engine has it and allows it; otherwise an error that says what to do. */
-function needed(what, advice, make) {
-    try {
-        return make();
-    } catch (cause) {
-        throw new Error(`duration-str cannot use ${what} here (${cause.message}): ${advice}`, { cause });
-    }
-}
-
-const ALLOW_WEBASSEMBLY = "allow 'wasm-unsafe-eval' in the content security policy, lift --jitless or the limit of the "
-    + "address space, or resolve the package under the condition workerd or edge-light";
-const HAVE_CODERS = "set globalThis.TextEncoder and globalThis.TextDecoder, in Node to those of node:util";
-
-/** Compiles the module at the first call, so that importing takes no time and, where that is refused, does no harm. */
+/** Has the module made at the first call, so that importing takes no time and, where that is refused, does no harm. */
 function start() {
-    const { memory: all, __heap_base: heap, ...others } = needed("WebAssembly", ALLOW_WEBASSEMBLY, () => {
-        // Edge runtimes compile it when they are deployed.
-        const module = ArrayBuffer.isView(source) ? new WebAssembly.Module(source) : source;
-        return new WebAssembly.Instance(module).exports;
-    });
+    const { memory: all, __heap_base: heap, ...others } = instance();
     ANSWER = Math.ceil(heap.value / 8) * 8;
     PLACE = ANSWER + 8;
     FOUND_LENGTH = PLACE + 4;
@@ -91,8 +76,12 @@ function see() {
     texts = new Uint8Array(memory.buffer, TEXT);
 }
 
+const escaped = (byte) => `%${byte.toString(16).padStart(2, "0")}`;
+
+/** What these bytes of UTF-8 say; also where, as in jsdom, nothing but the URI functions knows it. */
 function decoded(bytes) {
-    decoder ??= needed("TextDecoder", HAVE_CODERS, () => new TextDecoder("utf-8", { ignoreBOM: true }));
+    if (typeof TextDecoder === "undefined") return decodeURIComponent(Array.from(bytes, escaped).join(""));
+    decoder ??= new TextDecoder("utf-8", { ignoreBOM: true });
     return decoder.decode(bytes);
 }
 
@@ -109,58 +98,53 @@ function written(length) {
     return text;
 }
 
-/** What is written about a refused text by a call that is given a buffer and its size, and asked for the length first. */
-function about({ code, text }, bits, call) {
-    if (code === "NOT_TEXT") return "not UTF-8";
-    const { length } = write(text);
-    const size = call(TEXT, length, bits, 0, 0);
-    reserve(length + size);
-    call(TEXT, length, bits, TEXT + length, size);
-    return decoded(texts.subarray(length, length + size));
+/** Whether a line would escape nothing of a text. A line quotes 40 characters of one that is too large. */
+function isClear(text) {
+    const parts = text.match(/.{1,35}/gsu);
+    return parts.every((part) => tryParseNs(`585y ${part}`).fault.message.endsWith(` of over 584 years in "585y ${part}"`));
 }
 
-/** What is wrong with a text. The line and the report are made when they are asked for. */
+/** The text, a caret below the place and the line, where the text is short and can't do harm in a terminal. */
+function reportOf({ code, text, index }, line) {
+    const isShort = code === "SYNTAX" && text.length <= 160 && Array.from(text).length <= 80;
+    return isShort && isClear(text) ? `${text}\n${" ".repeat(index)}^\n${line}` : line;
+}
+
+/** What is wrong with a text, and the line that says so. */
 class Fault {
-    #bits;
-
-    constructor({ code, text, index, byte, found, expected, oneLine }, bits) {
-        this.code = code;
-        this.text = text;
-        this.index = index;
-        this.byte = byte;
-        this.found = found;
-        this.expected = expected;
-        this.oneLine = oneLine;
-        this.#bits = bits;
-    }
-
-    get line() {
-        return about(this, this.#bits, calls.duration_str_line);
+    constructor(cause, message) {
+        Object.assign(this, cause, { message });
     }
 
     get report() {
-        return about(this, this.#bits, calls.duration_str_message);
+        return reportOf(this, this.message);
     }
 
-    toJSON() {
-        return { ...this, line: this.line, report: this.report };
+    toString() {
+        return this.message;
     }
 }
 
-/** A refused text. What is wrong is the error's cause, since a structured clone of an error keeps no other field. */
+/** A refused text. What is wrong but for the line is the error's cause, since a structured clone of an error keeps no other
+ * field. */
 export class DurationError extends Error {
     constructor(fault) {
         if (!(fault instanceof Fault)) throw new TypeError("a DurationError is made of a fault, as tryParse returns it");
-        super(fault.oneLine, { cause: fault });
+        const { message, ...cause } = fault;
+        super(message, { cause });
+    }
+
+    get report() {
+        return reportOf(this.cause, this.message);
     }
 
     toJSON() {
-        return { name: this.name, message: this.message, ...this.cause.toJSON() };
+        return { name: this.name, message: this.message, ...this.cause };
     }
 }
 
 Object.defineProperty(DurationError.prototype, "name", { value: "DurationError", writable: true, configurable: true });
-for (const field of ["code", "text", "index", "byte", "found", "expected", "oneLine", "line", "report"]) {
+for (const field of ["code", "text", "index", "byte", "found", "expected"]) {
     Object.defineProperty(DurationError.prototype, field, { get() { return this.cause[field]; }, configurable: true });
 }
 
@@ -170,7 +154,7 @@ function expectedOf(kinds) {
 }
 
 /** Why the text at TEXT is refused, after the call that refused it and wrote a line of `lineLength` bytes. */
-function faultOf(text, length, bits, lineLength) {
+function faultOf(text, length, lineLength) {
     const byte = fields.getUint8(HAS_PLACE) ? fields.getUint32(PLACE, true) : null;
     const foundLength = fields.getUint32(FOUND_LENGTH, true);
     // Of ASCII alone, bytes and UTF-16 units are the same.
@@ -180,13 +164,13 @@ function faultOf(text, length, bits, lineLength) {
     const code = CODES[fields.getUint32(CAUSE, true)];
     const found = foundLength ? token() : null;
     const expected = expectedOf(fields.getUint32(EXPECTED, true));
-    return new Fault({ code, text, index, byte, found, expected, oneLine: written(lineLength) }, bits);
+    return new Fault({ code, text, index, byte, found, expected }, written(lineLength));
 }
 
 /** Why a text is refused whose character at this index is half of a surrogate pair. */
 function noText(text, index) {
-    const oneLine = `not UTF-8: a lone surrogate at index ${index}`;
-    return new Fault({ code: "NOT_TEXT", text, index, byte: null, found: null, expected: expectedOf(0), oneLine }, 0);
+    const cause = { code: "NOT_TEXT", text, index, byte: null, found: null, expected: expectedOf(0) };
+    return new Fault(cause, `not UTF-8: a lone surrogate at index ${index}`);
 }
 
 /** Writes a short text of ASCII at TEXT, and returns its length; -1 for another. */
@@ -200,12 +184,21 @@ function asciiLength(text) {
     return text.length;
 }
 
+/** What `write` does, where there is no encoder. */
+function writeEscaped(text) {
+    const lone = text.search(LONE_SURROGATE);
+    const bytes = lone >= 0 ? "" : unescape(encodeURIComponent(text));
+    for (let index = 0; index < bytes.length; index++) texts[index] = bytes.charCodeAt(index);
+    return { length: bytes.length, lone };
+}
+
 /** Writes the text at TEXT, and returns its length in bytes, and the index of a lone surrogate, -1 without one. */
 function write(text) {
     reserve(3 * text.length);
     const short = asciiLength(text);
     if (short >= 0) return { length: short, lone: -1 };
-    encoder ??= needed("TextEncoder", HAVE_CODERS, () => new TextEncoder());
+    if (typeof TextEncoder === "undefined") return writeEscaped(text);
+    encoder ??= new TextEncoder();
     const { written: length } = encoder.encodeInto(text, texts);
     // What is longer in UTF-8 has characters beyond ASCII, and only there a surrogate can be.
     const lone = length > text.length ? text.search(LONE_SURROGATE) : -1;
@@ -226,66 +219,68 @@ function isPlain(options) {
         || (Object.getPrototypeOf(prototype) === null && isOwn.call(prototype, "isPrototypeOf"));
 }
 
-/** The bit of `enum duration_str_option`, or 0 for another name. */
-function bitOf(name) {
-    switch (name) {
-        case "noCalc": return 1;
-        case "lowercase": return 2;
-        case "cnUnit": return 4;
-        default: return 0;
+/** The options that are chosen, and the others as in `defaults`, which has all that are known. Only own names are read. */
+function chosen(options, defaults, hint = "") {
+    if (!isPlain(options)) {
+        const type = typeOf(options);
+        throw new TypeError(`the options must be a plain object, not ${type === "object" ? "one that inherits" : type}${hint}`);
     }
+    const all = { ...defaults };
+    for (const name of Object.keys(options)) {
+        if (!isOwn.call(all, name)) throw new TypeError(`unknown option: ${name}`);
+        if (options[name] !== undefined) all[name] = options[name];
+    }
+    return all;
 }
 
-function checkPlain(options) {
-    if (isPlain(options)) return;
-    const type = typeOf(options);
-    throw new TypeError(`the options must be a plain object, not ${type === "object" ? "one that inherits" : type}`);
-}
+/** The options of reading, each with its bit of `enum duration_str_option`. */
+const BITS = { noCalc: 1, lowercase: 2, cnUnit: 4 };
+const OFF = { noCalc: false, lowercase: false, cnUnit: false };
 
-/** The bits of the options that are on. Only an object's own names are read. */
+/** The bits of the options that are on. */
 function bitsOf(options) {
     if (options === undefined) return 0;
-    checkPlain(options);
     let bits = 0;
-    for (const name in options) {
-        const bit = bitOf(name);
-        if (!isOwn.call(options, name)) continue;
-        if (bit === 0) throw new TypeError(`unknown option: ${name}`);
-        const value = options[name];
-        if (value === true) bits |= bit;
-        else if (value !== false && value !== undefined) {
-            throw new TypeError(`the option ${name} must be a boolean, not ${typeOf(value)}`);
-        }
+    // Whoever hands a call over, as to `map`, hands in other arguments, too.
+    for (const [name, value] of Object.entries(chosen(options, OFF, ": write (text) => parse(text)"))) {
+        if (typeof value !== "boolean") throw new TypeError(`the option ${name} must be a boolean, not ${typeOf(value)}`);
+        if (value) bits |= BITS[name];
     }
     return bits;
 }
 
-export function tryParse(text, options) {
+export function tryParseNs(text, options) {
     if (typeof text !== "string") throw new TypeError(`a duration's text must be a string, not ${typeOf(text)}`);
     const bits = bitsOf(options);
     if (!calls) start();
     const { length, lone } = write(text);
     if (lone >= 0) return { ok: false, fault: noText(text, lone) };
     const lineLength = calls.duration_str_one_line(TEXT, length, bits, ANSWER, WRITTEN);
-    if (lineLength > 0) return { ok: false, fault: faultOf(text, length, bits, lineLength) };
+    if (lineLength > 0) return { ok: false, fault: faultOf(text, length, lineLength) };
     return { ok: true, value: fields.getBigUint64(ANSWER, true) };
 }
 
-export function parse(text, options) {
-    const { ok, value, fault } = tryParse(text, options);
+function valueOf({ ok, value, fault }) {
     if (!ok) throw new DurationError(fault);
     return value;
 }
 
-const inMilliseconds = (nanoseconds) => Number(nanoseconds / MILLISECOND);
+export function parseNs(text, options) {
+    return valueOf(tryParseNs(text, options));
+}
 
-export function tryParseMs(text, options) {
-    const result = tryParse(text, options);
+/** The nearest number of milliseconds. Up to 2^53 nanoseconds are a number themselves, and so the quotient is the nearest. */
+function inMilliseconds(nanoseconds) {
+    return nanoseconds <= Number.MAX_SAFE_INTEGER ? Number(nanoseconds) / 1_000_000 : Number(`${nanoseconds}e-6`);
+}
+
+export function tryParse(text, options) {
+    const result = tryParseNs(text, options);
     return result.ok ? { ok: true, value: inMilliseconds(result.value) } : result;
 }
 
-export function parseMs(text, options) {
-    return inMilliseconds(parse(text, options));
+export function parse(text, options) {
+    return valueOf(tryParse(text, options));
 }
 
 /** The number that a name has among these, of which the option of this name must be one. */
@@ -307,12 +302,7 @@ function countOf(parts) {
 
 /** The limits that are chosen, with numbers for names, and the others as in `defaults`, which has all that are known. */
 function limitsOf(options, defaults) {
-    checkPlain(options);
-    const limits = { ...defaults };
-    for (const name of Object.keys(options)) {
-        if (!isOwn.call(limits, name)) throw new TypeError(`unknown option: ${name}`);
-        if (options[name] !== undefined) limits[name] = options[name];
-    }
+    const limits = chosen(options, defaults);
     const largest = numberOf("largest", limits.largest, UNITS);
     const smallest = numberOf("smallest", limits.smallest, UNITS);
     if (largest > smallest) {
@@ -328,40 +318,41 @@ function checkRange(nanoseconds, value) {
     if (nanoseconds >= LIMIT) throw new RangeError("a duration is below 2^64 nanoseconds");
 }
 
-/** Writes the text of a duration into the buffer, and returns its length. */
-function print(nanoseconds, options) {
-    const [secs, nanos] = [nanoseconds / SECOND, Number(nanoseconds % SECOND)];
-    if (options === undefined) return calls.duration_str_format(secs, nanos, WRITTEN);
-    const { largest, smallest, parts, style } = limitsOf(options, ALL);
-    const number = numberOf("style", style, STYLES);
-    return calls.duration_str_format_styled(secs, nanos, largest, smallest, parts, number, WRITTEN);
-}
-
-/** The text of so many nanoseconds, which were handed in as this value. */
-function printed(nanoseconds, value, options) {
-    checkRange(nanoseconds, value);
-    if (!calls) start();
-    return written(print(nanoseconds, options));
-}
-
-function checkBigint(nanoseconds, other) {
-    if (typeof nanoseconds === "bigint") return;
-    throw new TypeError(`nanoseconds must be a bigint, not ${typeOf(nanoseconds)}${other}`);
-}
-
-export function format(nanoseconds, options) {
-    checkBigint(nanoseconds, "; formatMs takes milliseconds");
-    return printed(nanoseconds, nanoseconds, options);
-}
-
-export function formatMs(milliseconds, options) {
-    if (typeof milliseconds !== "number") {
-        throw new TypeError(`milliseconds must be a number, not ${typeOf(milliseconds)}; format takes nanoseconds`);
+/** The nanoseconds of a bigint, which is them, or of a number of milliseconds, to the nearest one. */
+function nanosecondsOf(value) {
+    if (typeof value === "bigint") {
+        checkRange(value, value);
+        return value;
     }
-    if (!Number.isFinite(milliseconds)) throw new RangeError(`milliseconds must be finite, not ${milliseconds}`);
-    const whole = Math.trunc(milliseconds);
-    const rest = Math.round((milliseconds - whole) * Number(MILLISECOND));
-    return printed(BigInt(whole) * MILLISECOND + BigInt(rest), milliseconds, options);
+    if (!Number.isFinite(value)) throw new RangeError(`milliseconds must be finite, not ${value}`);
+    const whole = Math.trunc(value);
+    const nanoseconds = BigInt(whole) * MILLISECOND + BigInt(Math.round((value - whole) * 1_000_000));
+    checkRange(nanoseconds, value);
+    return nanoseconds;
+}
+
+/** The text of so many nanoseconds. */
+function print(nanoseconds, options) {
+    if (!calls) start();
+    if (options === undefined) return written(calls.duration_str_format(nanoseconds, WRITTEN));
+    const { largest, smallest, parts, style } = limitsOf(options, ALL);
+    const [secs, nanos] = [nanoseconds / SECOND, Number(nanoseconds % SECOND)];
+    const number = numberOf("style", style, STYLES);
+    return written(calls.duration_str_format_styled(secs, nanos, largest, smallest, parts, number, WRITTEN));
+}
+
+export function formatNs(nanoseconds, options) {
+    if (typeof nanoseconds !== "bigint") {
+        throw new TypeError(`nanoseconds must be a bigint, not ${typeOf(nanoseconds)}; format takes milliseconds`);
+    }
+    return print(nanosecondsOf(nanoseconds), options);
+}
+
+export function format(milliseconds, options) {
+    if (typeof milliseconds !== "number") {
+        throw new TypeError(`milliseconds must be a number, not ${typeOf(milliseconds)}; formatNs takes nanoseconds`);
+    }
+    return print(nanosecondsOf(milliseconds), options);
 }
 
 /** The length of each unit, which the library is asked for. */
@@ -374,14 +365,15 @@ function exact(count) {
     throw new RangeError(`no number holds ${count} exactly: choose a larger unit`);
 }
 
-export function parts(nanoseconds, options = {}) {
-    checkBigint(nanoseconds, "");
-    checkRange(nanoseconds, nanoseconds);
+export function parts(value, options = {}) {
+    if (typeof value !== "number" && typeof value !== "bigint") {
+        throw new TypeError(`a duration is a number of milliseconds or a bigint of nanoseconds, not ${typeOf(value)}`);
+    }
+    let rest = nanosecondsOf(value);
     const { largest, smallest, parts: most } = limitsOf(options, { largest: "d", smallest: "ns", parts: UNITS.length });
     if (!PARTS[largest] || !PARTS[smallest]) throw new RangeError("parts has no quarters");
-    lengths ??= UNITS.map((name) => parse(`1${name}`));
+    lengths ??= UNITS.map((name) => parseNs(`1${name}`));
     const found = {};
-    let rest = nanoseconds;
     for (let unit = largest; unit <= smallest && Object.keys(found).length < most; unit++) {
         if (!PARTS[unit] || rest < lengths[unit]) continue;
         found[PARTS[unit]] = exact(rest / lengths[unit]);
@@ -391,7 +383,7 @@ export function parts(nanoseconds, options = {}) {
 }
 
 /** The date that is a text's whole milliseconds away, in the direction of the sign. */
-function moved(date, sign, text, options) {
+function add(date, sign, text, options) {
     let start;
     try {
         start = Date.prototype.getTime.call(date);
@@ -400,15 +392,15 @@ function moved(date, sign, text, options) {
     }
     if (Number.isNaN(start)) throw new RangeError("the date is invalid");
     // Both are so far below 2^53 that the sum is exact.
-    const end = start + sign * parseMs(text, options);
+    const end = start + sign * Math.trunc(parse(text, options));
     if (Math.abs(end) > LAST_DATE) throw new RangeError("the date that is reached is out of the range of a Date");
     return new Date(end);
 }
 
 export function after(date, text, options) {
-    return moved(date, 1, text, options);
+    return add(date, 1, text, options);
 }
 
 export function before(date, text, options) {
-    return moved(date, -1, text, options);
+    return add(date, -1, text, options);
 }

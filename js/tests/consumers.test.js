@@ -8,12 +8,13 @@ import { tmpdir } from "node:os";
 import { join } from "node:path";
 import test, { after, before } from "node:test";
 import { fileURLToPath } from "node:url";
+import { OPTIONS, VECTORS } from "./vectors.js";
 
 const PACKAGE = fileURLToPath(new URL("..", import.meta.url));
 const SAID = "5400000000000 SYNTAX 4";
-const USE = `let said = String(parse("1h 30m"));
-try { parse("1m 3-5"); } catch (error) { said += \` \${error.code} \${error.index}\`; }`;
-const MODULE = `import { parse } from "duration-str";\n${USE}`;
+const USE = `let said = String(parseNs("1h 30m"));
+try { parseNs("1m 3-5"); } catch (error) { said += \` \${error.code} \${error.index}\`; }`;
+const MODULE = `import { parseNs } from "duration-str";\n${USE}`;
 
 let room;
 before(() => {
@@ -21,7 +22,7 @@ before(() => {
     mkdirSync(join(room, "node_modules"));
     symlinkSync(PACKAGE, join(room, "node_modules/duration-str"));
     writeFileSync(join(room, "module.mjs"), `${MODULE}\nconsole.log(said);`);
-    writeFileSync(join(room, "required.cjs"), `const { parse } = require("duration-str");\n${USE}\nconsole.log(said);`);
+    writeFileSync(join(room, "required.cjs"), `const { parseNs } = require("duration-str");\n${USE}\nconsole.log(said);`);
 });
 after(() => rmSync(room, { recursive: true, maxRetries: 20, retryDelay: 100 }));
 
@@ -48,8 +49,9 @@ test("is imported and required", () => {
 
 test("is packed with its licence, types and module", () => {
     const { exports, files } = JSON.parse(readFileSync(join(PACKAGE, "package.json"), "utf8"));
-    const { node, import: imported, require: required, workerd, "edge-light": edge } = exports["."];
-    const named = [node.import, node.require, imported, required, workerd, edge].flatMap(Object.values);
+    const { node, import: imported, require: required, workerd, "edge-light": edge, "react-native": native } = exports["."];
+    for (const plain of [workerd, edge, native]) assert.deepEqual(plain, exports["./plain"]);
+    const named = [node, { import: imported, require: required }, exports["./plain"]].flatMap(Object.values).flatMap(Object.values);
     assert.deepEqual(files, ["dist", "index.d.ts", "LICENSE", "NOTICE"]);
     for (const file of [...named, "LICENSE", "NOTICE"]) assert.ok(readFileSync(join(PACKAGE, file)).length > 0, file);
 });
@@ -59,7 +61,7 @@ test("is one package for import and require", () => {
 import * as imported from "duration-str";
 const required = createRequire(import.meta.url)("duration-str");
 let said = imported.DurationError === required.DurationError;
-try { required.parse("1x"); } catch (error) { said &&= error instanceof imported.DurationError; }
+try { required.parseNs("1x"); } catch (error) { said &&= error instanceof imported.DurationError; }
 console.log(said);`);
     assert.equal(runs("node", "both.mjs"), "true");
 });
@@ -70,9 +72,9 @@ function started(words, before, lines) {
     return runs("node", "--no-warnings", ...words, "--input-type=module", "--eval", code);
 }
 
-const TRY = "try { console.log(all.parse('1h 30m')); } catch (error) { console.log(error.message, error.cause.name); }";
+const TRY = "try { console.log(all.parseNs('1h 30m')); } catch (error) { console.log(error.message, error.cause.name); }";
 const ADVICE = "allow 'wasm-unsafe-eval' in the content security policy, lift --jitless or the limit of the address space, "
-    + "or resolve the package under the condition workerd or edge-light";
+    + "or import duration-str/plain";
 
 test("is imported where WebAssembly is missing or refused, and says at a call what to do", () => {
     const missing = "delete globalThis.WebAssembly;";
@@ -85,51 +87,49 @@ test("is imported where WebAssembly is missing or refused, and says at a call wh
         `duration-str cannot use WebAssembly here (refused): ${ADVICE} CompileError\n5400000000000n`);
 });
 
-test("reads and prints without TextEncoder and TextDecoder, and says where it needs them", () => {
+test("reads, refuses and prints without TextEncoder and TextDecoder", () => {
     const missing = "delete globalThis.TextEncoder; delete globalThis.TextDecoder;";
-    const lines = `console.log(all.parse("1h 30m"), all.format(1500n));
-        try { all.parse("1分", { cnUnit: true }); } catch (error) { console.log(error.message); }
-        try { all.parse("1x"); } catch (error) { console.log(error.message); }`;
-    const said = (coder) => `\nduration-str cannot use ${coder} here (${coder} is not defined): `
-        + "set globalThis.TextEncoder and globalThis.TextDecoder, in Node to those of node:util";
-    assert.equal(started([], missing, lines), `5400000000000n 1µs 500ns${said("TextEncoder")}${said("TextDecoder")}`);
+    const lines = `const long = "1 hour ".repeat(9) + "1微秒";
+        console.log(all.parseNs(long, { cnUnit: true }), all.formatNs(all.parseNs("1h 30m 1us"), { style: "long" }));
+        for (const text of ["5 mins", "1µs 😀x", "1s \\ud800"]) console.log(all.tryParseNs(text).fault.message, all.tryParseNs(text).fault.index);`;
+    assert.equal(started([], missing, lines), `32400000001000n 1 hour 30 minutes 1 microsecond
+unknown unit "mins" at column 3 (did you mean "min"?) 2
+expected a number, '+', '*' or the end at column 5, found "😀x" 4
+not UTF-8: a lone surrogate at index 3 3`);
 });
 
 test("works where what is built in is frozen", () => {
     const frozen = `for (const one of [Object, Array, String, Number, BigInt, Error, Function, RegExp]) {
         Object.freeze(one); Object.freeze(one.prototype);
     }`;
-    assert.equal(started(["--disable-proto=throw"], frozen, `${TRY} console.log(all.tryParse("x").fault.code, all.format(1n));`),
+    assert.equal(started(["--disable-proto=throw"], frozen, `${TRY} console.log(all.tryParseNs("x").fault.code, all.formatNs(1n));`),
         "5400000000000n\nSYNTAX 1ns");
 });
 
-// Edge runtimes hand over a module that is compiled already, as this hook does.
-const HOOK = `import { readFileSync } from "node:fs";
-export const load = (url, context, next) => url.endsWith(".wasm?module")
-    ? { format: "module", shortCircuit: true, source: "import { readFileSync } from 'node:fs';"
-        + "export default new WebAssembly.Module(readFileSync(new URL(import.meta.url)));" }
-    : next(url, context);`;
-
-for (const condition of ["workerd", "edge-light"]) {
-    test(`takes a compiled module under the condition ${condition}`, () => {
-        writeFileSync(join(room, "hook.mjs"), HOOK);
-        assert.equal(runs("node", "--no-warnings", "--loader=./hook.mjs", `--conditions=${condition}`, "module.mjs"), SAID);
+for (const condition of ["workerd", "edge-light", "react-native"]) {
+    test(`takes no WebAssembly under the condition ${condition}`, () => {
+        for (const file of ["module.mjs", "required.cjs"]) assert.equal(runs("node", "--jitless", `--conditions=${condition}`, file), SAID);
     });
 }
 
-test("runs on the edge where no code may be generated", () => {
-    writeFileSync(join(room, "edge.mjs"), `import { readFileSync } from "node:fs";
-import { createContext, SourceTextModule, SyntheticModule } from "node:vm";
-const context = createContext({}, { codeGeneration: { strings: false, wasm: false } });
-const compiled = new WebAssembly.Module(readFileSync("node_modules/duration-str/dist/duration_str.wasm"));
-const said = async (name) => {
-    const module = new SourceTextModule(readFileSync(\`node_modules/duration-str/dist/\${name}\`, "utf8"), { context });
-    await module.link(() => new SyntheticModule(["default"], function () { this.setExport("default", compiled); }, { context }));
-    await module.evaluate();
-    try { return module.namespace.parse("1h 30m"); } catch (error) { return error.cause.name; }
-};
-console.log(await said("edge.js"), await said("duration-str.js"));`);
-    assert.equal(runs("node", "--no-warnings", "--experimental-vm-modules", "edge.mjs"), "5400000000000n CompileError");
+test("answers in plain JavaScript as in WebAssembly", async () => {
+    const [compiled, plain] = await Promise.all([import("duration-str"), import("duration-str/plain")]);
+    const told = ({ parseNs, tryParseNs, formatNs }, text, options) => {
+        const { ok, value, fault } = tryParseNs(text, options);
+        if (!ok) return [{ ...fault }, fault.report];
+        return [value, formatNs(value), formatNs(value, { style: "long", largest: "d", parts: 2 })];
+    };
+    for (const options of OPTIONS) {
+        for (const text of JSON.stringify([VECTORS.values, VECTORS.faults]).match(/"(?:[^"\\]|\\.)*"/g).map(JSON.parse)) {
+            assert.deepEqual(told(plain, text, options), told(compiled, text, options), text);
+        }
+    }
+    for (let bits = 0n; bits <= 64n; bits++) {
+        for (const value of [(1n << bits) - 1n, (0xfedcba9876543210n >> (64n - bits))]) {
+            assert.equal(plain.formatNs(value), compiled.formatNs(value));
+            assert.equal(plain.formatNs(value, { style: "compact" }), compiled.formatNs(value, { style: "compact" }));
+        }
+    }
 });
 
 const BABEL = "/usr/share/nodejs/@babel/standalone/babel.js";
@@ -138,7 +138,7 @@ test("works as Babel compiles it for older browsers", existsSync(BABEL) ? {} : {
     const source = readFileSync(join(PACKAGE, "dist/duration-str.js"), "utf8");
     const { code } = transform(source, { presets: [["env", { targets: "> 0.25%, not dead", modules: "commonjs" }]] });
     writeFileSync(join(room, "compiled.cjs"), code);
-    assert.equal(runs("node", "-p", "require('./compiled.cjs').parse('1h 30m')"), "5400000000000n");
+    assert.equal(runs("node", "-p", "require('./compiled.cjs').parseNs('1h 30m')"), "5400000000000n");
 });
 
 for (const format of ["esm", "cjs", "iife"]) {
@@ -152,7 +152,7 @@ for (const format of ["esm", "cjs", "iife"]) {
 for (const format of ["esm", "cjs"]) {
     test(`is bundled by rollup as ${format}`, skippedWithout("rollup"), () => {
         runs("rollup", join(PACKAGE, "dist/duration-str.js"), "--silent", `--format=${format}`, "--file=rolled.cjs");
-        if (format === "cjs") assert.equal(runs("node", "-p", "require('./rolled.cjs').parse('1h 30m')"), "5400000000000n");
+        if (format === "cjs") assert.equal(runs("node", "-p", "require('./rolled.cjs').parseNs('1h 30m')"), "5400000000000n");
     });
 }
 
@@ -209,10 +209,14 @@ self.onmessage = (event) => event.source.postMessage(said);`);
 
 test("lets a page start whose policy refuses it, and says what to allow", skippedWithout("chromium"), async () => {
     const script = bundled(`import * as all from "duration-str";
-const said = () => { try { return all.parse("1h"); } catch (error) { return \`\${error.cause.name}: \${error.message}\`; } };
+const said = () => { try { return all.parseNs("1h"); } catch (error) { return \`\${error.cause.name}: \${error.message}\`; } };
 fetch("/said", { method: "POST", body: \`started \${said()}\` });`);
     const files = { "page.html": '<script src="script.js"></script>', "script.js": script };
     const said = await posted(files, { "content-security-policy": "script-src 'self'" });
     assert.match(said, /^started CompileError: duration-str cannot use WebAssembly here .* allow 'wasm-unsafe-eval' /);
     assert.equal(await posted(files, { "content-security-policy": "script-src 'self' 'wasm-unsafe-eval'" }), "started 3600000000000");
+    const plain = bundled(`import { parseNs } from "duration-str/plain";
+fetch("/said", { method: "POST", body: parseNs("1h") });`);
+    const policy = { "content-security-policy": "script-src 'self'" };
+    assert.equal(await posted({ ...files, "script.js": plain }, policy), "3600000000000");
 });

@@ -1,8 +1,8 @@
-// node durstr.js [no_calc] [lowercase] [cn_unit]: does over the package what the program durstr does. The status is 0 if all
-// lines are read, and 1 if some are refused.
+// node durstr.js [no_calc] [lowercase] [cn_unit]: does over the package what the program durstr does, but for a refused line,
+// of which it writes the package's message. The status is 0 if all lines are read, and 1 if some are refused.
 import { readFileSync, writeFileSync } from "node:fs";
 
-import { format, tryParse } from "duration-str";
+import { formatNs, tryParseNs } from "duration-str";
 
 const NAMES = { no_calc: "noCalc", lowercase: "lowercase", cn_unit: "cnUnit" };
 
@@ -17,8 +17,8 @@ function answered(line) {
     } catch {
         return ["not UTF-8", false];
     }
-    const { ok, value, fault } = tryParse(text, options);
-    return ok ? [`${value} ${format(value)}`, true] : [fault.report, false];
+    const { ok, value, fault } = tryParseNs(text, options);
+    return ok ? [`${value} ${formatNs(value)}`, true] : [String(fault), false];
 }
 
 /** The lines of the input: a line feed ends each, and may be missing after the last. */

@@ -2,14 +2,14 @@ import assert from "node:assert/strict";
 import test from "node:test";
 import { runInNewContext } from "node:vm";
 
-import { DurationError, parse, parseMs } from "duration-str";
+import { DurationError, parseNs, parse } from "duration-str";
 import { IS_UNDER, OPTIONS, VECTORS } from "./vectors.js";
 
 const LARGEST = 2n ** 64n - 1n;
 
 test("makes room for what is longer in UTF-8", () => {
     const count = 1_000_000;
-    assert.equal(parse("1分".repeat(count), { cnUnit: true }), BigInt(count) * 60_000_000_000n);
+    assert.equal(parseNs("1分".repeat(count), { cnUnit: true }), BigInt(count) * 60_000_000_000n);
 });
 
 test("reads the vectors, and refuses them under the other options", () => {
@@ -18,8 +18,8 @@ test("reads the vectors, and refuses them under the other options", () => {
             for (const [secs, nanos, texts] of rows) {
                 const value = BigInt(secs) * 1_000_000_000n + BigInt(nanos);
                 for (const text of texts) {
-                    if (IS_UNDER[name](options)) assert.equal(parse(text, options), value, text);
-                    else assert.throws(() => parse(text, options), DurationError, text);
+                    if (IS_UNDER[name](options)) assert.equal(parseNs(text, options), value, text);
+                    else assert.throws(() => parseNs(text, options), DurationError, text);
                 }
             }
         }
@@ -28,18 +28,18 @@ test("reads the vectors, and refuses them under the other options", () => {
 
 test("reads as without options where they are left out or undefined", () => {
     for (const options of [undefined, {}, { noCalc: undefined }, { noCalc: false, lowercase: false, cnUnit: false }]) {
-        assert.equal(parse("1M*2", options), 120_000_000_000n);
-        assert.throws(() => parse("1分", options), DurationError);
+        assert.equal(parseNs("1M*2", options), 120_000_000_000n);
+        assert.throws(() => parseNs("1分", options), DurationError);
     }
 });
 
 test("takes a plain object's own options, of any realm", () => {
     const other = runInNewContext("({ cnUnit: true })");
     for (const options of [other, Object.assign(Object.create(null), { cnUnit: true })]) {
-        assert.equal(parse("1分", options), 60_000_000_000n);
+        assert.equal(parseNs("1分", options), 60_000_000_000n);
     }
     for (const options of [Object.create({ cnUnit: true }), Object.create(Object.create(null)), new (class { cnUnit = true; })(), [], () => {}]) {
-        assert.throws(() => parse("1分", options), { name: "TypeError", message: /^the options must be a plain object, not / });
+        assert.throws(() => parseNs("1分", options), { name: "TypeError", message: /^the options must be a plain object, not / });
     }
 });
 
@@ -47,8 +47,8 @@ test("takes no option from Object.prototype, and minds none there", () => {
     Object.prototype.cnUnit = true;
     Object.prototype.other = true;
     try {
-        assert.throws(() => parse("1分", {}), DurationError);
-        assert.equal(parse("1分", { cnUnit: true }), 60_000_000_000n);
+        assert.throws(() => parseNs("1分", {}), DurationError);
+        assert.equal(parseNs("1分", { cnUnit: true }), 60_000_000_000n);
     } finally {
         delete Object.prototype.cnUnit;
         delete Object.prototype.other;
@@ -62,14 +62,14 @@ test("refuses what is no option", () => {
         [{ noCalc: 1 }, "the option noCalc must be a boolean, not number"],
         [{ lowercase: "no" }, "the option lowercase must be a boolean, not string"],
         [{ cnUnit: null }, "the option cnUnit must be a boolean, not null"],
-        [null, "the options must be a plain object, not null"],
-        [[], "the options must be a plain object, not array"],
-        [new Map(), "the options must be a plain object, not one that inherits"],
-        [0, "the options must be a plain object, not number"],
-        ["noCalc", "the options must be a plain object, not string"],
+        [null, "the options must be a plain object, not null: write (text) => parse(text)"],
+        [[], "the options must be a plain object, not array: write (text) => parse(text)"],
+        [new Map(), "the options must be a plain object, not one that inherits: write (text) => parse(text)"],
+        [0, "the options must be a plain object, not number: write (text) => parse(text)"],
+        ["noCalc", "the options must be a plain object, not string: write (text) => parse(text)"],
     ];
     for (const [options, message] of rows) {
-        for (const call of [parse, parseMs]) assert.throws(() => call("1s", options), new TypeError(message));
+        for (const call of [parseNs, parse]) assert.throws(() => call("1s", options), new TypeError(message));
     }
 });
 
@@ -87,35 +87,37 @@ test("refuses what is no string", () => {
     ];
     for (const [value, type] of rows) {
         const error = new TypeError(`a duration's text must be a string, not ${type}`);
-        for (const call of [parse, parseMs]) assert.throws(() => call(value), error);
+        for (const call of [parseNs, parse]) assert.throws(() => call(value), error);
     }
 });
 
-test("rounds down to whole milliseconds", () => {
+test("reads the nearest number of milliseconds", () => {
     const rows = [
         ["1m 30s", 90_000],
         ["0", 0],
-        ["999999ns", 0],
-        ["1999999ns", 1],
-        [`${LARGEST}ns`, 18_446_744_073_709],
+        ["1500us", 1.5],
+        ["999999ns", 0.999999],
+        ["9007199254740991ns", 9_007_199_254.740991],
+        ["9007199254740993ns", 9_007_199_254.740993],
+        [`${LARGEST}ns`, 18_446_744_073_709.551615],
     ];
-    for (const [text, value] of rows) assert.equal(parseMs(text), value, text);
-    assert.equal(parseMs("1分", { cnUnit: true }), 60_000);
+    for (const [text, value] of rows) assert.equal(parse(text), value, text);
+    assert.equal(parse("1分", { cnUnit: true }), 60_000);
 });
 
 test("reads up to the largest value", () => {
-    assert.equal(parse(`${LARGEST}ns`), LARGEST);
-    assert.throws(() => parse(`${LARGEST}ns 1ns`), { code: "OVERFLOW" });
+    assert.equal(parseNs(`${LARGEST}ns`), LARGEST);
+    assert.throws(() => parseNs(`${LARGEST}ns 1ns`), { code: "OVERFLOW" });
 });
 
 test("reads 10 MB, and keeps the memory for later texts", (context) => {
     const grow = context.mock.method(WebAssembly.Memory.prototype, "grow");
     const count = 3_400_000;
-    assert.equal(parse("1s ".repeat(count)), BigInt(count) * 1_000_000_000n);
+    assert.equal(parseNs("1s ".repeat(count)), BigInt(count) * 1_000_000_000n);
     assert.equal(grow.mock.callCount(), 1);
     for (let round = 0; round < 5; round++) {
-        assert.equal(parse(`1µs${" ".repeat(10_000_000)}1µs`), 2000n);
-        assert.equal(parse("2s"), 2_000_000_000n);
+        assert.equal(parseNs(`1µs${" ".repeat(10_000_000)}1µs`), 2000n);
+        assert.equal(parseNs("2s"), 2_000_000_000n);
     }
     assert.equal(grow.mock.callCount(), 1);
 });
@@ -123,9 +125,9 @@ test("reads 10 MB, and keeps the memory for later texts", (context) => {
 test("is not confused by an option that reads another text", () => {
     const options = {
         get noCalc() {
-            assert.throws(() => parse("x".repeat(100_000)), DurationError);
+            assert.throws(() => parseNs("x".repeat(100_000)), DurationError);
             return false;
         },
     };
-    assert.equal(parse("1m+2", options), 62_000_000_000n);
+    assert.equal(parseNs("1m+2", options), 62_000_000_000n);
 });

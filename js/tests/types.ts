@@ -1,22 +1,22 @@
 // The types of the package, by the compiler alone: what has to be wrong stands below a line that expects an error.
 import {
-    after, before, DurationError, type Expected, type Fault, format, formatMs, type Options, parse, parseMs, type Parts, parts,
-    tryParse, tryParseMs, version,
+    after, before, DurationError, type Expected, type Fault, formatNs, format, type Options, parseNs, parse, type Parts, parts,
+    type Refusal, tryParseNs, tryParse, version,
 } from "duration-str";
 
 const options: Options = { noCalc: true, lowercase: false, cnUnit: undefined };
-const nanoseconds: bigint = parse("2h 37m", options);
-const milliseconds: number = parseMs("1m 30s", {});
-const texts: string[] = [format(nanoseconds), formatMs(milliseconds), format(1n, { parts: 2, largest: "d", smallest: "us", style: "long" })];
+const nanoseconds: bigint = parseNs("2h 37m", options);
+const milliseconds: number = parse("1m 30s", {});
+const texts: string[] = [formatNs(nanoseconds), format(milliseconds), formatNs(1n, { parts: 2, largest: "d", smallest: "us", style: "long" })];
 const counted: Parts = parts(nanoseconds, { largest: "y" });
 const hours: number = counted.hours ?? 0;
 const dates: Date[] = [after(new Date(), "90d"), before(new Date(), "1w", options)];
 
 try {
-    parse(texts.join(" "));
+    parseNs(texts.join(" "));
 } catch (error) {
     if (!(error instanceof DurationError)) throw error;
-    const cause: Fault = error.cause;
+    const cause: Refusal = error.cause;
     if (error.code === "SYNTAX") {
         const place: number = error.index;
         void place;
@@ -24,34 +24,34 @@ try {
     const places: (number | null)[] = [error.index, error.byte];
     const expected: Expected = error.expected;
     const any: boolean = expected.number || expected.unit || expected.operator || expected.end;
-    const told: (string | null)[] = [error.found, error.line, error.report, error.text, error.message, cause.oneLine];
+    const told: (string | null)[] = [error.found, error.report, error.text, error.message, cause.text];
     // @ts-expect-error: without a place it is null
     const index: number = error.index;
     // @ts-expect-error: there is no such code
     if (error.code === "READ") throw error;
     // @ts-expect-error: it is told once
-    error.line = "";
+    error.report = "";
     void [places, any, told, index];
 }
 
 // @ts-expect-error: no string
-parse(1);
+parseNs(1);
 // @ts-expect-error: no option
-parse("1s", { no_calc: true });
+parseNs("1s", { no_calc: true });
 // @ts-expect-error: no boolean
-parse("1s", { noCalc: 1 });
+parseNs("1s", { noCalc: 1 });
 // @ts-expect-error: an index is no options
-["1s"].map(parse);
+["1s"].map(parseNs);
 // @ts-expect-error: no bigint
-format(milliseconds);
+formatNs(milliseconds);
 // @ts-expect-error: no number
-formatMs(nanoseconds);
+format(nanoseconds);
 // @ts-expect-error: no unit
-format(1n, { largest: "days" });
+formatNs(1n, { largest: "days" });
 // @ts-expect-error: no option
-formatMs(1, { units: 2 });
+format(1, { units: 2 });
 // @ts-expect-error: no style
-format(1n, { style: "wide" });
+formatNs(1n, { style: "wide" });
 // @ts-expect-error: quarters are not counted
 parts(1n, { largest: "q" });
 // @ts-expect-error: no date
@@ -59,12 +59,12 @@ after(0, "1s");
 // @ts-expect-error: nobody else makes one
 new DurationError("1x");
 // @ts-expect-error: a bigint is no number
-const wrong: number = parse("1s");
+const wrong: number = parseNs("1s");
 
-const result = tryParse("1s");
-const read: bigint | string = result.ok ? result.value : result.fault.line;
+const result = tryParseNs("1s");
+const read: bigint | string = result.ok ? result.value : result.fault.report;
 const fault: Fault | undefined = result.fault;
-const lines: string[] = [result.fault?.oneLine ?? "", version];
-const inMs: number | undefined = tryParseMs("1s").value;
+const lines: string[] = [result.fault?.message ?? "", version];
+const inMs: number | undefined = tryParse("1s").value;
 
 void [dates, hours, wrong, read, fault, lines, inMs];

@@ -3,7 +3,7 @@
 
 use crate::fault::RunFault;
 use crate::lines::first_line;
-use duration_str_core::{Options, parse_with, write_human};
+use duration_str_core::{FORMAT_BUFFER_SIZE, Options, parse_with, write_human};
 use crate::outside::{AllocError, Allocator, String};
 use std::io::Write;
 use std::time::Duration;
@@ -11,6 +11,7 @@ use std::time::Duration;
 /// The bytes as a text, if they are UTF-8. Most are ASCII, which can be tested faster.
 fn text_of(bytes: &[u8]) -> Option<&str> {
     if bytes.is_ascii() {
+        // SAFETY: ASCII is UTF-8.
         return Some(unsafe { core::str::from_utf8_unchecked(bytes) });
     }
     core::str::from_utf8(bytes).ok()
@@ -19,7 +20,7 @@ fn text_of(bytes: &[u8]) -> Option<&str> {
 /// Adds the nanoseconds, a space, the printed duration and a line feed.
 fn push_value<A: Allocator>(out: &mut String<A>, duration: Duration) -> Result<(), AllocError> {
     let nanos = duration.as_nanos() as u64;
-    let mut buffer = [0; 64];
+    let mut buffer = [0; FORMAT_BUFFER_SIZE];
     let human = write_human(&duration, &mut buffer);
     writeln!(out, "{nanos} {human}")?;
     Ok(())

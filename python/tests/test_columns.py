@@ -68,7 +68,8 @@ class Columns(unittest.TestCase):
                 ]:
                     with self.subTest(text=text, call=call, **options):
                         error = error_of(call, *arguments, **options)
-                        self.assertEqual((str(error), error.report), (f"{alone}, at index 3", alone.report))
+                        line = f"at index 3: {alone}"
+                        self.assertEqual((str(error), error.report), (line, alone.report.replace(str(alone), line)))
                         self.assertEqual({**vars(error), "index": None}, vars(alone))
                         self.assertEqual(error.index, 3)
                         again = pickle.loads(pickle.dumps(error))
@@ -102,7 +103,7 @@ class Columns(unittest.TestCase):
         for given in [data, bytearray(data)]:
             self.assertEqual(list(parse_buffers(given, offsets)), [SECOND, 3_500_000 * SECOND, 2 * SECOND])
         error = error_of(parse_many, ["1s", f"{long}µ", "2s"])
-        self.assertEqual((error.index, error.column, error.found), (1, len(long), "µ"))
+        self.assertEqual((error.index, error.pos, error.found), (1, len(long), "µ"))
 
     def test_takes_any_sequence(self):
         for texts in [("1s", "2s"), {"1s": 0, "2s": 0}, (text for text in ("1s", "2s")), map(str, ["1s", "2s"])]:
@@ -134,7 +135,7 @@ class Columns(unittest.TestCase):
 
         for value in [None, float("nan"), b"1s", 1, ["1s"], Pretender()]:
             with self.subTest(value=value):
-                with self.assertRaisesRegex(TypeError, f"must be a str, not {type(value).__name__}, at index 2$"):
+                with self.assertRaisesRegex(TypeError, f"^at index 2: .* must be a str, not {type(value).__name__}$"):
                     parse_many(["1s", "x", value])
                 answer = parse_many(["1s", value, "2s"], errors="coerce")
                 self.assertEqual(answer, (array("Q", [SECOND, 0, 2 * SECOND]), array("Q", [1])))
@@ -179,7 +180,7 @@ class Buffers(unittest.TestCase):
                 with self.subTest(code=code, offsets=offsets):
                     numbers = array(code, offsets)
                     for data in [b"1s2s", bytearray(b"1s2s")]:
-                        with self.assertRaisesRegex(ValueError, "^the offsets .* lie beyond 4 bytes, at index 1$") as told:
+                        with self.assertRaisesRegex(ValueError, "^at index 1: the offsets .* lie beyond 4 bytes$") as told:
                             parse_buffers(data, numbers)
                         self.assertNotIsInstance(told.exception, DurationError)
                         answer = parse_buffers(data, numbers, errors="coerce")
@@ -200,7 +201,7 @@ class Buffers(unittest.TestCase):
                 self.assertEqual(parse_buffers(mapped, offsets, errors="coerce"), (array("Q", [SECOND]), array("Q")))
                 narrow = array("i", [-6, -4])
                 self.assertEqual(parse_buffers(mapped, narrow, errors="coerce"), (array("Q", [0]), array("Q", [0])))
-                with self.assertRaisesRegex(ValueError, "^the offsets -6 and -4 decrease or lie beyond .*, at index 0$"):
+                with self.assertRaisesRegex(ValueError, "^at index 0: the offsets -6 and -4 decrease or lie beyond .* bytes$"):
                     parse_buffers(mapped, narrow)
 
     def test_refuses_what_is_no_text(self):
@@ -208,7 +209,7 @@ class Buffers(unittest.TestCase):
             error = error_of(parse_buffers, *buffers_of([b"1s", encoded]))
             self.assertEqual((error.index, error.cause, error.place), (1, Cause.NOT_TEXT, None))
             self.assertEqual(error.text.encode("utf-8", "surrogateescape"), encoded)
-            self.assertEqual((str(error), error.report, error.line), ("not UTF-8, at index 1", "not UTF-8", "not UTF-8"))
+            self.assertEqual((str(error), error.report), ("at index 1: not UTF-8", "at index 1: not UTF-8"))
         # Two texts that are cut within a character
         self.assertEqual(list(parse_buffers("1µs".encode(), array("q", [0, 2, 4]), errors="coerce")[1]), [0, 1])
 

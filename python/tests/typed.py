@@ -48,7 +48,6 @@ timeout: duration_str.Duration = datetime.timedelta(1)
 try:
     duration_str.parse("1x")
 except duration_str.DurationError as error:
-    assert_type(error.line, str)
-    assert_type(error.one_line + error.report, str)
+    assert_type(str(error) + error.report, str)
     assert_type(error.cause, duration_str.Cause)
-    assert_type(error.column, "int | None")
+    assert_type(error.pos, "int | None")

@@ -7,7 +7,6 @@ import pathlib
 FOLDERS = pathlib.Path(__file__).parents[1:3]
 FILE = next(file for folder in FOLDERS if (file := folder / "rust/vectors.json").exists())
 VECTORS = json.loads(FILE.read_text(encoding="utf-8"))
-LINES = VECTORS["lines"]
 OPTIONS = [
     {"no_calc": bool(bits & 1), "lowercase": bool(bits & 2), "cn_unit": bool(bits & 4)} for bits in range(8)
 ]

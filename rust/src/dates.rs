@@ -1,28 +1,30 @@
 //! Moments after and before another, by chrono's own checked arithmetic.
+//!
+//! All calls are also at the root of the crate, where `duration-str` 0.19.0 has those from now. They need the feature
+//! `chrono`.
 use crate::fault::Fault;
 use crate::parser::{FEATURES, chrono_of, parse_with};
-use alloc::string::{String, ToString};
+use alloc::string::String;
 use chrono::{NaiveDate, NaiveDateTime, Utc};
 use duration_str_core::{Cause, Options};
 
 /// The moment that comes after this one by the value of a text. Both are in the same zone, such as UTC.
 ///
-/// Needs the feature `chrono`.
-///
-/// The text is read first, and its fault comes first. The cause is [`Cause::OutOfRange`](crate::Cause::OutOfRange) where
+/// The text is read first, and its fault comes first. The cause is [`Cause::OutOfRange`] where
 /// chrono has no such moment.
 ///
 /// # Errors
 ///
-/// The fault of the text, or [`Cause::OutOfRange`](crate::Cause::OutOfRange).
+/// The fault of the text, or [`Cause::OutOfRange`].
 ///
 /// ```
 /// use chrono::NaiveDate;
 /// use duration_str::{Options, moment_after};
 ///
-/// let moment = NaiveDate::from_ymd_opt(2000, 2, 28).unwrap().and_hms_opt(12, 0, 0).unwrap();
-/// let due = moment_after(moment, "1d 1h", Options::off()).unwrap();
+/// let noon = NaiveDate::from_ymd_opt(2000, 2, 28).unwrap().and_hms_opt(12, 0, 0).unwrap();
+/// let due = moment_after(noon, "1d 1h", Options::off())?;
 /// assert_eq!(due.to_string(), "2000-02-29 13:00:00");
+/// # Ok::<(), duration_str::Fault<'_>>(())
 /// ```
 pub fn moment_after(
     moment: NaiveDateTime,
@@ -37,19 +39,18 @@ pub fn moment_after(
 
 /// The moment that comes before this one by the value of a text. All else is as with [`moment_after`].
 ///
-/// Needs the feature `chrono`.
-///
 /// # Errors
 ///
-/// The fault of the text, or [`Cause::OutOfRange`](crate::Cause::OutOfRange).
+/// The fault of the text, or [`Cause::OutOfRange`].
 ///
 /// ```
 /// use chrono::NaiveDate;
 /// use duration_str::{Options, moment_before};
 ///
-/// let moment = NaiveDate::from_ymd_opt(2000, 3, 1).unwrap().and_hms_opt(0, 0, 0).unwrap();
-/// let past = moment_before(moment, "1d", Options::off()).unwrap();
+/// let midnight = NaiveDate::from_ymd_opt(2000, 3, 1).unwrap().and_hms_opt(0, 0, 0).unwrap();
+/// let past = moment_before(midnight, "1d", Options::off())?;
 /// assert_eq!(past.to_string(), "2000-02-29 00:00:00");
+/// # Ok::<(), duration_str::Fault<'_>>(())
 /// ```
 pub fn moment_before(
     moment: NaiveDateTime,
@@ -64,8 +65,6 @@ pub fn moment_before(
 
 /// The moment, in UTC, that comes after now by the value of a text, which is read as [`parse`](crate::parse) reads it.
 ///
-/// Needs the feature `chrono`.
-///
 /// # Errors
 ///
 /// The message of the fault of the text, or of a date out of range.
@@ -73,18 +72,17 @@ pub fn moment_before(
 /// ```
 /// use chrono::{Duration, Utc};
 ///
-/// let due = duration_str::after_naive_date_time("180d").unwrap();
+/// let due = duration_str::after_naive_date_time("180d")?;
 /// let left = due - Utc::now().naive_utc();
 /// assert!(Duration::days(179) < left && left <= Duration::days(180));
+/// # Ok::<(), String>(())
 /// ```
 pub fn after_naive_date_time(input: impl AsRef<str>) -> Result<NaiveDateTime, String> {
-    moment_after(now(), input.as_ref(), FEATURES).map_err(|fault| fault.to_string())
+    moment_after(now(), input.as_ref(), FEATURES).map_err(|fault| fault.message())
 }
 
 /// The moment, in UTC, that comes before now by the value of a text, which is read as [`parse`](crate::parse) reads it.
 ///
-/// Needs the feature `chrono`.
-///
 /// # Errors
 ///
 /// The message of the fault of the text, or of a date out of range.
@@ -92,24 +90,24 @@ pub fn after_naive_date_time(input: impl AsRef<str>) -> Result<NaiveDateTime, St
 /// ```
 /// use chrono::{Duration, Utc};
 ///
-/// let past = duration_str::before_naive_date_time("180d").unwrap();
+/// let past = duration_str::before_naive_date_time("180d")?;
 /// let gone = Utc::now().naive_utc() - past;
 /// assert!(Duration::days(180) <= gone && gone < Duration::days(181));
+/// # Ok::<(), String>(())
 /// ```
 pub fn before_naive_date_time(input: impl AsRef<str>) -> Result<NaiveDateTime, String> {
-    moment_before(now(), input.as_ref(), FEATURES).map_err(|fault| fault.to_string())
+    moment_before(now(), input.as_ref(), FEATURES).map_err(|fault| fault.message())
 }
 
 /// The date of [`after_naive_date_time`].
-///
-/// Needs the feature `chrono`.
 ///
 /// # Errors
 ///
 /// The message of the fault of the text, or of a date out of range.
 ///
 /// ```
-/// assert!(duration_str::after_naive_date("180d").unwrap() > chrono::Utc::now().date_naive());
+/// assert!(duration_str::after_naive_date("180d")? > chrono::Utc::now().date_naive());
+/// # Ok::<(), String>(())
 /// ```
 pub fn after_naive_date(input: impl AsRef<str>) -> Result<NaiveDate, String> {
     after_naive_date_time(input).map(|moment| moment.date())
@@ -117,14 +115,13 @@ pub fn after_naive_date(input: impl AsRef<str>) -> Result<NaiveDate, String> {
 
 /// The date of [`before_naive_date_time`].
 ///
-/// Needs the feature `chrono`.
-///
 /// # Errors
 ///
 /// The message of the fault of the text, or of a date out of range.
 ///
 /// ```
-/// assert!(duration_str::before_naive_date("180d").unwrap() < chrono::Utc::now().date_naive());
+/// assert!(duration_str::before_naive_date("180d")? < chrono::Utc::now().date_naive());
+/// # Ok::<(), String>(())
 /// ```
 pub fn before_naive_date(input: impl AsRef<str>) -> Result<NaiveDate, String> {
     before_naive_date_time(input).map(|moment| moment.date())

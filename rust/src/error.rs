@@ -1,9 +1,9 @@
 //! The error type of `duration-str` 0.19.0.
-use crate::fault::{Fault, OwnedFault};
+use crate::fault::{DurationError, Fault};
 use alloc::string::String;
 use core::fmt;
 
-/// An error that outlives the text it was found in.
+/// The error type of `duration-str` 0.19.0: a cause in words, without the text.
 ///
 /// ```
 /// use duration_str::{parse_with, DError, DResult, Options};
@@ -44,8 +44,8 @@ impl From<Fault<'_>> for DError {
     }
 }
 
-impl From<OwnedFault> for DError {
-    fn from(fault: OwnedFault) -> DError {
+impl From<DurationError> for DError {
+    fn from(fault: DurationError) -> DError {
         fault.as_fault().to_derror()
     }
 }

@@ -4,19 +4,23 @@ use alloc::string::{String, ToString};
 use core::fmt;
 use duration_str_core::{self as proved, Cause, Expected, Options};
 
-/// A refused text: why and where. Its `Display` is the message for a person, with the text and a caret below the place.
+/// A refused text: why and where.
+///
+/// It displays as one line, for what stands around it in a terminal or a log: what is wrong, at which column, counted in
+/// characters from 1, and at most 40 characters of the text, escaped where they are not safe within a line.
+/// [`Fault::report`] is for a person who sees nothing else: the text, a caret, and the line.
 ///
 /// ```
 /// use duration_str::{Cause, Options, parse_with};
 ///
-/// let fault = parse_with("3h 2 hurs", Options::off()).unwrap_err();
-/// assert_eq!(fault.place(), Some(5));
-/// assert_eq!(fault.found(), Some("hurs"));
+/// let fault = parse_with("1m 3-5", Options::off()).unwrap_err();
+/// assert_eq!(fault.place(), Some(4));
+/// assert_eq!(fault.found(), Some("-"));
 /// assert!(matches!(fault.cause(), Cause::Syntax { expected, .. } if expected.unit_word));
-/// assert!(fault.to_string().starts_with("3h 2 hurs\n     ^\nexpected "));
+/// assert_eq!(fault.to_string(), r#"expected a unit, '+', '*' or the end at column 5, found "-""#);
 /// ```
 ///
-/// It borrows the text; [`Fault::into_owned`] gives a fault that outlives it.
+/// It borrows the text; [`Fault::into_owned`] gives an error that outlives it.
 #[derive(Clone, Copy, PartialEq, Eq, Hash)]
 pub struct Fault<'a> {
     fault: proved::Fault<'a>,
@@ -76,7 +80,8 @@ impl<'a> Fault<'a> {
     /// ```
     /// use duration_str::{Options, parse_with};
     ///
-    /// assert!(parse_with("1m+", Options::off()).unwrap_err().expected().unwrap().number);
+    /// let expected = parse_with("1m+", Options::off()).unwrap_err().expected();
+    /// assert!(expected.is_some_and(|expected| expected.number && !expected.text_end));
     /// ```
     #[must_use]
     pub const fn expected(&self) -> Option<Expected> {
@@ -98,31 +103,43 @@ impl<'a> Fault<'a> {
         self.fault.found(self.options)
     }
 
-    /// The length of the message in bytes.
+    /// The length of the buffer that [`Fault::write_one_line`] writes to.
+    pub const BUFFER_LEN: usize = duration_str_core::ONE_LINE_BUFFER_SIZE;
+
+    /// Writes the line to the start of a buffer. Allocates nothing.
     ///
     /// ```
-    /// use duration_str::{Options, parse_with};
+    /// use duration_str::{Fault, Options, parse_with};
     ///
-    /// assert_eq!(parse_with("3ms-2ms", Options::off()).unwrap_err().message_len(), 32);
+    /// let mut buffer = [0; Fault::BUFFER_LEN];
+    /// let fault = parse_with("", Options::off()).unwrap_err();
+    /// assert_eq!(fault.write_one_line(&mut buffer), "empty text");
     /// ```
     #[must_use]
-    pub fn message_len(&self) -> usize {
-        self.fault.message_len()
+    pub fn write_one_line<'b>(&self, buffer: &'b mut [u8; Fault::BUFFER_LEN]) -> &'b str {
+        self.fault.write_one_line(buffer)
     }
 
-    /// Writes the message to the start of a buffer, and returns its length in bytes. `None` where the buffer is shorter;
-    /// it is unchanged then. Allocates nothing, and takes less time than `Display`.
+    /// The text, below it a caret at the place of a syntax fault, and below that the line. It is the line alone for
+    /// another cause, for a text of more than 80 characters, and for one with something in it that the line would escape.
     ///
     /// ```
     /// use duration_str::{Options, parse_with};
     ///
-    /// let mut buffer = [0; 64];
-    /// let length = parse_with("", Options::off()).unwrap_err().write_message(&mut buffer);
-    /// assert_eq!(length, Some(11));
-    /// assert_eq!(&buffer[..11], b"Empty input");
+    /// let fault = parse_with("1m 3-5", Options::off()).unwrap_err();
+    /// assert_eq!(fault.report(), format!("1m 3-5\n    ^\n{fault}"));
     /// ```
-    pub fn write_message(&self, buffer: &mut [u8]) -> Option<usize> {
-        self.fault.write_message(buffer)
+    #[must_use]
+    pub fn report(&self) -> String {
+        let place = self.expected().and(self.place());
+        report(self.text(), place, self.to_string())
+    }
+
+    /// The message that the calls of `duration-str` 0.19.0 refuse by.
+    #[cold]
+    #[inline(never)]
+    pub(crate) fn message(&self) -> String {
+        self.fault.to_string()
     }
 
     /// The error of `duration-str` 0.19.0 for this fault.
@@ -140,20 +157,23 @@ impl<'a> Fault<'a> {
         }
     }
 
-    /// The same fault with a text of its own.
+    /// The same as an error with a text of its own.
     ///
     /// ```
-    /// use duration_str::{Options, OwnedFault, parse_with};
+    /// use duration_str::{DurationError, Fault, Options, parse_with};
+    /// use std::time::Duration;
     ///
-    /// fn read(text: String) -> Result<(), OwnedFault> {
-    ///     parse_with(&text, Options::off()).map(|_| ()).map_err(|fault| fault.into_owned())
+    /// fn read(text: String) -> Result<Duration, DurationError> {
+    ///     parse_with(&text, Options::off()).map_err(Fault::into_owned)
     /// }
     ///
     /// assert_eq!(read("1m 3-5".to_string()).unwrap_err().text(), "1m 3-5");
     /// ```
+    #[cold]
+    #[inline(never)]
     #[must_use]
-    pub fn into_owned(self) -> OwnedFault {
-        OwnedFault {
+    pub fn into_owned(self) -> DurationError {
+        DurationError {
             text: self.text().to_string(),
             cause: self.cause(),
             options: self.options,
@@ -161,42 +181,48 @@ impl<'a> Fault<'a> {
     }
 }
 
+/// One line.
 impl fmt::Display for Fault<'_> {
     fn fmt(&self, f: &mut fmt::Formatter<'_>) -> fmt::Result {
-        self.fault.fmt(f)
+        let mut buffer = [0; Fault::BUFFER_LEN];
+        let line = self.write_one_line(&mut buffer);
+        // Without a width this takes fewer instructions.
+        match f.width() {
+            None => f.write_str(line),
+            Some(_) => f.pad(line),
+        }
     }
 }
 
+/// The same line, since `unwrap` prints it.
 impl fmt::Debug for Fault<'_> {
     fn fmt(&self, f: &mut fmt::Formatter<'_>) -> fmt::Result {
-        self.fault.fmt(f)
+        write!(f, "Fault({self})")
     }
 }
 
 impl core::error::Error for Fault<'_> {}
 
-/// A refused text of its own: the error of [`parse_duration`](crate::parse_duration) and of `str::parse`.
+/// The error of [`parse_duration`](crate::parse_duration) and of `str::parse`: a [`Fault`] with a text of its own.
 ///
-/// It prints in one line, for what stands around it in a terminal or a log: what is wrong, at which column, counted in
-/// characters from 1, and at most 40 characters of the text, escaped where they are not safe within a line. The message
-/// with the caret is that of [`as_fault`](OwnedFault::as_fault).
+/// It displays as one line, as that does.
 ///
 /// ```
 /// use duration_str::parse_duration;
 ///
-/// let fault = parse_duration("3h 2 hurs").unwrap_err();
-/// assert_eq!(fault.to_string(), r#"unknown unit "hurs" at column 6"#);
-/// assert_eq!(format!("{fault:?}"), r#"OwnedFault(unknown unit "hurs" at column 6)"#);
-/// assert!(fault.as_fault().to_string().starts_with("3h 2 hurs\n     ^\nexpected "));
+/// let error = parse_duration("1m 3-5").unwrap_err();
+/// assert_eq!(error.to_string(), r#"expected a unit, '+', '*' or the end at column 5, found "-""#);
+/// assert_eq!(error.report(), format!("1m 3-5\n    ^\n{error}"));
+/// assert_eq!(format!("{error:?}"), format!("DurationError({error})"));
 /// ```
 #[derive(Clone, PartialEq, Eq, Hash)]
-pub struct OwnedFault {
+pub struct DurationError {
     text: String,
     cause: Cause,
     options: Options,
 }
 
-impl OwnedFault {
+impl DurationError {
     /// The fault, which borrows the text.
     ///
     /// ```
@@ -241,26 +267,67 @@ impl OwnedFault {
     pub const fn place(&self) -> Option<usize> {
         self.cause.place()
     }
+
+    /// The text with a caret and the line, as [`Fault::report`] says it.
+    ///
+    /// ```
+    /// let error = "600y".parse::<duration_str::HumanDuration>().unwrap_err();
+    /// assert_eq!(error.report(), error.to_string());
+    /// ```
+    #[must_use]
+    pub fn report(&self) -> String {
+        self.as_fault().report()
+    }
 }
 
 /// One line.
-impl fmt::Display for OwnedFault {
+impl fmt::Display for DurationError {
     fn fmt(&self, f: &mut fmt::Formatter<'_>) -> fmt::Result {
-        f.write_str(self.as_fault().fault.write_one_line(&mut [0; 384]))
+        self.as_fault().fmt(f)
     }
 }
 
 /// The same line, since `main` and `unwrap` print it.
-impl fmt::Debug for OwnedFault {
+impl fmt::Debug for DurationError {
     fn fmt(&self, f: &mut fmt::Formatter<'_>) -> fmt::Result {
-        write!(f, "OwnedFault({self})")
+        write!(f, "DurationError({self})")
     }
 }
 
-impl core::error::Error for OwnedFault {}
+impl core::error::Error for DurationError {}
 
-impl From<Fault<'_>> for OwnedFault {
-    fn from(fault: Fault<'_>) -> OwnedFault {
+impl From<Fault<'_>> for DurationError {
+    fn from(fault: Fault<'_>) -> DurationError {
         fault.into_owned()
     }
+}
+
+/// The text, below it a caret at the place, and below that the line; or the line alone.
+pub(crate) fn report(text: &str, place: Option<usize>, line: String) -> String {
+    match place {
+        Some(place) if is_clear(text) => {
+            let spaces = " ".repeat(text[..place].chars().count());
+            [text, "\n", &spaces, "^\n", &line].concat()
+        }
+        _ => line,
+    }
+}
+
+/// Whether a text has at most 80 characters, of which a line would escape none. A line quotes 40 of them, so each half is
+/// quoted in one of its own.
+fn is_clear(text: &str) -> bool {
+    let half = text.char_indices().nth(40);
+    let (first, second) = text.split_at(half.map_or(text.len(), |(start, _)| start));
+    is_quoted_as_it_is(first) && is_quoted_as_it_is(second)
+}
+
+/// Whether a line that ends with this text in quotes has it as it is: nothing escaped, and all of it.
+fn is_quoted_as_it_is(text: &str) -> bool {
+    let fault = proved::Fault::new(text, Cause::NumberTooLarge { place: None });
+    let mut buffer = [0; Fault::BUFFER_LEN];
+    let line = fault.map_or("", |fault| fault.write_one_line(&mut buffer));
+    let before = line
+        .strip_suffix('"')
+        .and_then(|line| line.strip_suffix(text));
+    before.is_some_and(|line| line.ends_with('"'))
 }

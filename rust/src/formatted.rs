@@ -2,7 +2,7 @@
 use crate::human_duration::HumanDuration;
 use core::fmt::{self, Write};
 use core::time::Duration;
-use duration_str_core::{Format, Style, TimeUnit, write_human, write_within};
+use duration_str_core::{Format, STYLED_BUFFER_SIZE, Style, TimeUnit, write_within};
 
 /// A duration that is printed for people by its `Display`, which allocates nothing: whole, or in some units, in so many
 /// parts and in a style. [`format_duration`] makes it, and for durations of `chrono` and `time`
@@ -24,14 +24,13 @@ use duration_str_core::{Format, Style, TimeUnit, write_human, write_within};
 /// assert_eq!(uptime.parts(2).style(Style::Long).to_string(), "1 week 4 days");
 /// ```
 ///
-/// Width and fill pad the text, and a precision is ignored. A duration of 2^64 nanoseconds or more, some 584 years, and a
-/// negative one print as texts that no call reads.
+/// Width and fill pad the text, and a precision is ignored. A negative duration has a minus before the text, unless that is a
+/// zero. A duration of 2^64 nanoseconds or more, some 584 years, and one with a minus print as texts that no call reads.
 #[derive(Clone, Copy, Debug, PartialEq, Eq, Hash)]
 pub struct FormattedDuration {
     is_negative: bool,
     magnitude: Duration,
-    /// `None` prints all of it: most are printed so, and a branch of its own is faster.
-    chosen: Option<Format>,
+    format: Format,
 }
 
 /// The duration as what prints it. It has the name of humantime's function.
@@ -53,7 +52,7 @@ impl FormattedDuration {
         FormattedDuration {
             is_negative,
             magnitude,
-            chosen: None,
+            format: Format::whole(),
         }
     }
 
@@ -78,12 +77,8 @@ macro_rules! chooses {
             $(#[$doc])*
             #[must_use]
             pub const fn $name(self, $name: $Value) -> FormattedDuration {
-                let format = match self.chosen {
-                    Some(format) => format,
-                    None => Format::whole(),
-                };
                 FormattedDuration {
-                    chosen: Some(format.$name($name)),
+                    format: self.format.$name($name),
                     ..self
                 }
             }
@@ -147,26 +142,17 @@ chooses! {
     style: Style,
 }
 
-/// A minus where the duration is negative, and the text of its magnitude.
+/// A minus where the duration is negative and the text no zero, and the text of its magnitude.
 impl fmt::Display for FormattedDuration {
     fn fmt(&self, f: &mut fmt::Formatter<'_>) -> fmt::Result {
-        if let Some(format) = self.chosen {
-            return self.write_within(f, format);
-        }
-        if self.magnitude.is_zero() {
-            return self.pad(f, "0s");
-        }
-        self.pad(f, write_human(&self.magnitude, &mut [0; 64]))
+        self.pad(
+            f,
+            write_within(&self.magnitude, self.format, &mut [0; STYLED_BUFFER_SIZE]),
+        )
     }
 }
 
 impl FormattedDuration {
-    /// Writes it in the units, parts and style that were chosen.
-    #[inline(never)]
-    fn write_within(&self, f: &mut fmt::Formatter<'_>, format: Format) -> fmt::Result {
-        self.pad(f, write_within(&self.magnitude, format, &mut [0; 144]))
-    }
-
     /// Writes the sign and the magnitude with the width and the fill that are asked for. A precision, which
     /// `Formatter::pad` cuts at, is ignored.
     #[inline]
@@ -181,7 +167,7 @@ impl FormattedDuration {
     #[cold]
     #[inline(never)]
     fn pad_to(&self, width: usize, f: &mut fmt::Formatter<'_>, magnitude: &str) -> fmt::Result {
-        let count = usize::from(self.is_negative) + magnitude.chars().count();
+        let count = usize::from(self.has_minus(magnitude)) + magnitude.chars().count();
         let missing = width.saturating_sub(count);
         let before = match f.align() {
             Some(fmt::Alignment::Right) => missing,
@@ -194,9 +180,14 @@ impl FormattedDuration {
         (before..missing).try_for_each(|_| f.write_char(fill))
     }
 
+    /// Whether a minus stands before the text: only a zero begins with `0`.
+    fn has_minus(&self, magnitude: &str) -> bool {
+        self.is_negative && !magnitude.starts_with('0')
+    }
+
     /// Writes the sign and the magnitude.
     fn write(&self, f: &mut fmt::Formatter<'_>, magnitude: &str) -> fmt::Result {
-        if self.is_negative {
+        if self.has_minus(magnitude) {
             f.write_char('-')?;
         }
         f.write_str(magnitude)

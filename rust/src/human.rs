@@ -1,13 +1,14 @@
 //! For `#[serde(with = "duration_str::human")]`: durations as text, printed as
-//! [`format_duration`](crate::format_duration) prints and read as [`parse_duration`] reads.
+//! [`format_duration`](crate::format_duration) prints and read as [`parse_duration`](crate::parse_duration) reads.
 //!
 //! The field is a duration of `std`, `chrono` or `time`, or an `Option` or a `Vec` of what can be such a field; in other
 //! collections, such as a map, [`HumanDuration`] needs no `with`. One rule holds for all of them: the format is asked for a
 //! text, and the empty one is refused. So YAML's `90` is 90 seconds, and formats that don't tell their values' types, such
 //! as bincode, are read too; [`human_or_seconds`](crate::human_or_seconds) reads numbers as well. `None` is null, and with
-//! `#[serde(default)]` a missing field. A refusal is the fault in one line.
+//! `#[serde(default)]` a missing field. A refusal is `invalid duration: ` and the line of its fault.
 //!
-//! What is written can be read: a negative duration, and one of 2^64 nanoseconds or more, is an error of the format.
+//! What is written can be read: a negative duration, and one of 2^64 nanoseconds or more, some 584 years, is an error of the
+//! format.
 //!
 //! Needs the feature `serde`.
 //!
@@ -25,38 +26,41 @@
 //!     pauses: Vec<Duration>,
 //! }
 //!
-//! let settings: Settings = serde_json::from_str(r#"{ "timeout": "90s", "pauses": ["1s", "5s"] }"#).unwrap();
+//! let settings: Settings = serde_json::from_str(r#"{ "timeout": "90s", "pauses": ["1s", "5s"] }"#)?;
 //! assert_eq!((settings.timeout, settings.keep_alive), (Duration::from_secs(90), None));
-//! let text = serde_json::to_string(&settings).unwrap();
+//! let text = serde_json::to_string(&settings)?;
 //! assert_eq!(text, r#"{"timeout":"1min 30s","keep_alive":null,"pauses":["1s","5s"]}"#);
+//! # Ok::<(), serde_json::Error>(())
 //! ```
 //!
-//! Other options take a function of two lines, for `deserialize_with`:
+//! Other calls and options take a function of two lines, for `deserialize_with`:
 //!
 //! ```
-//! use duration_str::{Options, parse_with};
+//! use duration_str::parse_with_units;
 //! use serde::{Deserialize, Deserializer, de::Error};
 //! use std::time::Duration;
 //!
-//! fn no_operators<'de, D: Deserializer<'de>>(deserializer: D) -> Result<Duration, D::Error> {
+//! fn with_units<'de, D: Deserializer<'de>>(deserializer: D) -> Result<Duration, D::Error> {
 //!     let text = String::deserialize(deserializer)?;
-//!     parse_with(&text, Options::off().with_no_calc()).map_err(|fault| D::Error::custom(fault.into_owned()))
+//!     parse_with_units(&text).map_err(|error| D::Error::custom(format_args!("invalid duration: {error}")))
 //! }
 //!
 //! #[derive(Deserialize)]
 //! struct Settings {
-//!     #[serde(deserialize_with = "no_operators")]
+//!     #[serde(deserialize_with = "with_units")]
 //!     timeout: Duration,
 //! }
 //!
-//! let settings: Settings = serde_json::from_str(r#"{ "timeout": "1m 30s" }"#).unwrap();
+//! let settings: Settings = serde_json::from_str(r#"{ "timeout": "1m 30s" }"#)?;
 //! assert_eq!(settings.timeout, Duration::from_secs(90));
-//! assert!(serde_json::from_str::<Settings>(r#"{ "timeout": "1m + 30s" }"#).is_err());
+//! assert!(serde_json::from_str::<Settings>(r#"{ "timeout": "90" }"#).is_err());
+//! # Ok::<(), serde_json::Error>(())
 //! ```
 use crate::human_duration::HumanDuration;
+use crate::parser::{ADDITIONS, CASE_SENSITIVE, parse_with};
 use crate::sealed::Sealed;
 use crate::serde_texts::Length;
-use crate::{parse_duration, write_human};
+use crate::{FORMAT_BUFFER_SIZE, write_human};
 use alloc::vec::Vec;
 use core::fmt;
 use core::marker::PhantomData;
@@ -73,8 +77,9 @@ use serde::ser::{self, Serialize, Serializer};
 /// use duration_str::HumanDuration;
 /// use std::collections::HashMap;
 ///
-/// let pauses: HashMap<String, HumanDuration> = serde_json::from_str(r#"{ "first": "5s" }"#).unwrap();
+/// let pauses: HashMap<String, HumanDuration> = serde_json::from_str(r#"{ "first": "5s" }"#)?;
 /// assert_eq!(pauses["first"].as_secs(), 5);
+/// # Ok::<(), serde_json::Error>(())
 /// ```
 #[diagnostic::on_unimplemented(
     message = "`duration_str::human` has no fields of the type `{Self}`",
@@ -85,9 +90,9 @@ pub trait HumanText: Sealed + Sized {
     #[doc(hidden)]
     fn serialize_human<S: Serializer>(&self, serializer: S) -> Result<S::Ok, S::Error>;
 
-    /// Reads a text, and where `SECONDS` says so also whole seconds.
+    /// Reads a text, also whole seconds, or with capitals and small letters that differ, as `HOW` says.
     #[doc(hidden)]
-    fn deserialize_human<'de, D: Deserializer<'de>, const SECONDS: bool>(
+    fn deserialize_human<'de, D: Deserializer<'de>, const HOW: u8>(
         deserializer: D,
     ) -> Result<Self, D::Error>;
 }
@@ -102,9 +107,10 @@ pub trait HumanText: Sealed + Sized {
 /// use serde_json::value::Serializer;
 /// use std::time::Duration;
 ///
-/// assert_eq!(duration_str::human::serialize(&Duration::ZERO, Serializer).unwrap(), "0s");
+/// assert_eq!(duration_str::human::serialize(&Duration::ZERO, Serializer)?, "0s");
 /// let refusal = duration_str::human::serialize(&Duration::MAX, Serializer).unwrap_err();
-/// assert_eq!(refusal.to_string(), "a duration of 2^64 nanoseconds or more can't be read back");
+/// assert_eq!(refusal.to_string(), "a duration of over 584 years can't be read back");
+/// # Ok::<(), serde_json::Error>(())
 /// ```
 pub fn serialize<T: HumanText, S: Serializer>(value: &T, serializer: S) -> Result<S::Ok, S::Error> {
     value.serialize_human(serializer)
@@ -119,69 +125,25 @@ pub fn serialize<T: HumanText, S: Serializer>(value: &T, serializer: S) -> Resul
 /// ```
 /// use std::time::Duration;
 ///
-/// let duration: Duration = duration_str::human::deserialize(serde_json::json!("1m")).unwrap();
+/// let duration: Duration = duration_str::human::deserialize(serde_json::json!("1m"))?;
 /// assert_eq!(duration, Duration::from_secs(60));
+/// # Ok::<(), serde_json::Error>(())
 /// ```
 pub fn deserialize<'de, T: HumanText, D: Deserializer<'de>>(
     deserializer: D,
 ) -> Result<T, D::Error> {
-    T::deserialize_human::<D, false>(deserializer)
+    T::deserialize_human::<D, TEXT>(deserializer)
 }
 
-/// The same for an `Option` alone, for those who come from `humantime_serde::option`.
-///
-/// ```
-/// use duration_str::human::option;
-/// use serde_json::{json, value::Serializer};
-/// use std::time::Duration;
-///
-/// assert_eq!(option::deserialize(json!("1m")).unwrap(), Some(Duration::from_secs(60)));
-/// assert_eq!(option::serialize(&None::<Duration>, Serializer).unwrap(), json!(null));
-/// ```
-pub mod option {
-    use super::{Deserializer, HumanText, Serializer};
-
-    /// Prints the duration as text, or null.
-    ///
-    /// # Errors
-    ///
-    /// That of the format, also where the value can't be read back.
-    ///
-    /// ```
-    /// let minute = Some(std::time::Duration::from_secs(60));
-    /// let text = duration_str::human::option::serialize(&minute, serde_json::value::Serializer);
-    /// assert_eq!(text.unwrap(), "1min");
-    /// ```
-    pub fn serialize<T: HumanText, S: Serializer>(
-        value: &Option<T>,
-        serializer: S,
-    ) -> Result<S::Ok, S::Error> {
-        value.serialize_human(serializer)
-    }
-
-    /// Reads a text as a duration, and null as `None`.
-    ///
-    /// # Errors
-    ///
-    /// That of the format, also for a text that is refused.
-    ///
-    /// ```
-    /// use std::time::Duration;
-    ///
-    /// let read: Result<Option<Duration>, _> = duration_str::human::option::deserialize(serde_json::json!(""));
-    /// assert_eq!(read.unwrap_err().to_string(), "empty text");
-    /// ```
-    pub fn deserialize<'de, T: HumanText, D: Deserializer<'de>>(
-        deserializer: D,
-    ) -> Result<Option<T>, D::Error> {
-        super::deserialize(deserializer)
-    }
-}
+/// How fields are read: as texts, also as whole seconds, or with capitals and small letters that differ.
+pub(crate) const TEXT: u8 = 0;
+pub(crate) const SECONDS: u8 = 1;
+pub(crate) const CASE: u8 = 2;
 
 /// A text, or its bytes, is read as a duration.
-struct Text<T>(PhantomData<T>);
+struct Text<T, const HOW: u8>(PhantomData<T>);
 
-impl<T: Length> Visitor<'_> for Text<T> {
+impl<T: Length, const HOW: u8> Visitor<'_> for Text<T, HOW> {
     type Value = T;
 
     fn expecting(&self, f: &mut fmt::Formatter<'_>) -> fmt::Result {
@@ -189,7 +151,15 @@ impl<T: Length> Visitor<'_> for Text<T> {
     }
 
     fn visit_str<E: de::Error>(self, text: &str) -> Result<T, E> {
-        parse_duration(text).map(T::of_std).map_err(E::custom)
+        let options = if HOW == CASE {
+            CASE_SENSITIVE
+        } else {
+            ADDITIONS
+        };
+        // Before the line stands what it is about, since the format adds its own line and column to it.
+        parse_with(text, options)
+            .map(T::of_std)
+            .map_err(|fault| E::custom(format_args!("invalid duration: {fault}")))
     }
 
     fn visit_bytes<E: de::Error>(self, bytes: &[u8]) -> Result<T, E> {
@@ -207,7 +177,7 @@ impl<T: Length> Visitor<'_> for TextOrSeconds<T> {
     type Value = T;
 
     fn expecting(&self, f: &mut fmt::Formatter<'_>) -> fmt::Result {
-        f.write_str("a duration such as '1min 30s', or whole seconds below 2^64 nanoseconds")
+        f.write_str("a duration such as '1min 30s', or whole seconds of at most 584 years")
     }
 
     fn visit_u64<E: de::Error>(self, secs: u64) -> Result<T, E> {
@@ -225,11 +195,11 @@ impl<T: Length> Visitor<'_> for TextOrSeconds<T> {
     }
 
     fn visit_str<E: de::Error>(self, text: &str) -> Result<T, E> {
-        Text(PhantomData).visit_str(text)
+        Text::<T, SECONDS>(PhantomData).visit_str(text)
     }
 
     fn visit_bytes<E: de::Error>(self, bytes: &[u8]) -> Result<T, E> {
-        Text(PhantomData).visit_bytes(bytes)
+        Text::<T, SECONDS>(PhantomData).visit_bytes(bytes)
     }
 }
 
@@ -240,35 +210,35 @@ impl<T: Length> HumanText for T {
             return Err(refused("a negative duration can't be read back"));
         };
         if duration > Duration::from_nanos(u64::MAX) {
-            let text = "a duration of 2^64 nanoseconds or more can't be read back";
+            let text = "a duration of over 584 years can't be read back";
             return Err(refused(text));
         }
-        serializer.serialize_str(write_human(&duration, &mut [0; 64]))
+        serializer.serialize_str(write_human(&duration, &mut [0; FORMAT_BUFFER_SIZE]))
     }
 
-    fn deserialize_human<'de, D: Deserializer<'de>, const SECONDS: bool>(
+    fn deserialize_human<'de, D: Deserializer<'de>, const HOW: u8>(
         deserializer: D,
     ) -> Result<T, D::Error> {
-        if SECONDS {
+        if HOW == SECONDS {
             deserializer.deserialize_any(TextOrSeconds(PhantomData))
         } else {
-            deserializer.deserialize_str(Text(PhantomData))
+            deserializer.deserialize_str(Text::<T, HOW>(PhantomData))
         }
     }
 }
 
 /// A part of a field, by serde's own traits.
-struct Part<T, const SECONDS: bool>(T);
+struct Part<T, const HOW: u8>(T);
 
-impl<T: HumanText> Serialize for Part<&T, false> {
+impl<T: HumanText> Serialize for Part<&T, TEXT> {
     fn serialize<S: Serializer>(&self, serializer: S) -> Result<S::Ok, S::Error> {
         self.0.serialize_human(serializer)
     }
 }
 
-impl<'de, T: HumanText, const SECONDS: bool> Deserialize<'de> for Part<T, SECONDS> {
+impl<'de, T: HumanText, const HOW: u8> Deserialize<'de> for Part<T, HOW> {
     fn deserialize<D: Deserializer<'de>>(deserializer: D) -> Result<Self, D::Error> {
-        T::deserialize_human::<D, SECONDS>(deserializer).map(Part)
+        T::deserialize_human::<D, HOW>(deserializer).map(Part)
     }
 }
 
@@ -277,10 +247,10 @@ impl<T: HumanText> HumanText for Option<T> {
         self.as_ref().map(Part).serialize(serializer)
     }
 
-    fn deserialize_human<'de, D: Deserializer<'de>, const SECONDS: bool>(
+    fn deserialize_human<'de, D: Deserializer<'de>, const HOW: u8>(
         deserializer: D,
     ) -> Result<Self, D::Error> {
-        let value = Option::<Part<T, SECONDS>>::deserialize(deserializer)?;
+        let value = Option::<Part<T, HOW>>::deserialize(deserializer)?;
         Ok(value.map(|Part(value)| value))
     }
 }
@@ -290,10 +260,10 @@ impl<T: HumanText> HumanText for Vec<T> {
         serializer.collect_seq(self.iter().map(Part))
     }
 
-    fn deserialize_human<'de, D: Deserializer<'de>, const SECONDS: bool>(
+    fn deserialize_human<'de, D: Deserializer<'de>, const HOW: u8>(
         deserializer: D,
     ) -> Result<Self, D::Error> {
-        let values = Vec::<Part<T, SECONDS>>::deserialize(deserializer)?;
+        let values = Vec::<Part<T, HOW>>::deserialize(deserializer)?;
         Ok(values.into_iter().map(|Part(value)| value).collect())
     }
 }

@@ -1,16 +1,11 @@
 //! A duration that is written as text.
-use crate::fault::OwnedFault;
-use crate::{format_duration, parse_duration};
-use core::fmt;
-use core::ops::Deref;
-use core::str::FromStr;
 use core::time::Duration;
 
 /// A [`Duration`] that is read from text and printed as text: by `FromStr` and `Display`, so that it can be the value of
 /// a command line's option (`value_parser` of clap takes it as it is), and by serde.
 ///
-/// It is read as [`parse_duration`] reads, and printed as [`format_duration`] prints; other units, parts and styles are
-/// chosen as there.
+/// It is read as [`parse_duration`](crate::parse_duration) reads, and printed as
+/// [`format_duration`](crate::format_duration) prints; other units, parts and styles are chosen as there.
 ///
 /// ```
 /// use duration_str::{HumanDuration, Style};
@@ -20,47 +15,55 @@ use core::time::Duration;
 /// assert_eq!(timeout.0, Duration::from_secs(90));
 /// assert_eq!(timeout.to_string(), "1min 30s");
 /// assert_eq!(timeout.parts(1).style(Style::Long).to_string(), "1 minute");
-/// # Ok::<(), duration_str::OwnedFault>(())
+/// # Ok::<(), duration_str::DurationError>(())
 /// ```
 #[derive(Clone, Copy, Debug, Default, PartialEq, Eq, PartialOrd, Ord, Hash)]
 pub struct HumanDuration(pub Duration);
 
-impl FromStr for HumanDuration {
-    type Err = OwnedFault;
+/// What a duration that is written as text has.
+macro_rules! written_as_text {
+    ($Name:ident, $read:path) => {
+        impl core::str::FromStr for $Name {
+            type Err = $crate::DurationError;
 
-    fn from_str(text: &str) -> Result<HumanDuration, OwnedFault> {
-        parse_duration(text).map(HumanDuration)
-    }
+            fn from_str(text: &str) -> Result<$Name, $crate::DurationError> {
+                $read(text).map($Name)
+            }
+        }
+
+        impl core::fmt::Display for $Name {
+            fn fmt(&self, f: &mut core::fmt::Formatter<'_>) -> core::fmt::Result {
+                core::fmt::Display::fmt(&$crate::format_duration(self.0), f)
+            }
+        }
+
+        impl From<core::time::Duration> for $Name {
+            fn from(duration: core::time::Duration) -> $Name {
+                $Name(duration)
+            }
+        }
+
+        impl From<$Name> for core::time::Duration {
+            fn from(human: $Name) -> core::time::Duration {
+                human.0
+            }
+        }
+
+        impl AsRef<core::time::Duration> for $Name {
+            fn as_ref(&self) -> &core::time::Duration {
+                &self.0
+            }
+        }
+
+        impl core::ops::Deref for $Name {
+            type Target = core::time::Duration;
+
+            fn deref(&self) -> &core::time::Duration {
+                &self.0
+            }
+        }
+    };
 }
+pub(crate) use written_as_text;
 
-impl fmt::Display for HumanDuration {
-    fn fmt(&self, f: &mut fmt::Formatter<'_>) -> fmt::Result {
-        format_duration(self.0).fmt(f)
-    }
-}
-
-impl From<Duration> for HumanDuration {
-    fn from(duration: Duration) -> HumanDuration {
-        HumanDuration(duration)
-    }
-}
-
-impl From<HumanDuration> for Duration {
-    fn from(human: HumanDuration) -> Duration {
-        human.0
-    }
-}
-
-impl AsRef<Duration> for HumanDuration {
-    fn as_ref(&self) -> &Duration {
-        &self.0
-    }
-}
-
-impl Deref for HumanDuration {
-    type Target = Duration;
-
-    fn deref(&self) -> &Duration {
-        &self.0
-    }
-}
+written_as_text!(HumanDuration, crate::parse_duration);

@@ -3,7 +3,7 @@ use crate::formatted::{FormattedDuration, format_duration};
 use crate::sealed::Sealed;
 use alloc::string::{String, ToString};
 use core::time::Duration;
-use duration_str_core::write_human;
+use duration_str_core::{FORMAT_BUFFER_SIZE, write_human};
 
 /// Durations that can be printed for people: those of `std`, `chrono` and `time`.
 ///
@@ -18,13 +18,15 @@ use duration_str_core::write_human;
 /// A duration of 2^64 nanoseconds or more, some 584 years, prints as a text that no call reads.
 ///
 /// A duration of `chrono` or `time` may be negative. Then it is printed as a minus and the text of its magnitude, which no
-/// call reads back, since texts have no minus:
+/// call reads back, since texts have no minus. A zero, which can be printed in larger units, has none:
 ///
 #[cfg_attr(feature = "chrono", doc = "```")]
 #[cfg_attr(not(feature = "chrono"), doc = "```ignore")]
 /// # use duration_str::HumanFormat;
 /// assert_eq!(chrono::Duration::minutes(-90).human_format(), "-1h 30min");
-/// assert_eq!(chrono::Duration::minutes(-90).formatted().parts(1).to_string(), "-1h");
+/// let build = chrono::Duration::milliseconds(-500).formatted();
+/// assert_eq!(build.to_string(), "-500ms");
+/// assert_eq!(build.smallest(duration_str::TimeUnit::Second).to_string(), "0s");
 /// ```
 pub trait HumanFormat: Sealed {
     /// The duration as what prints it, in units, in so many parts and in a style that are chosen.
@@ -52,7 +54,7 @@ impl HumanFormat for Duration {
     }
 
     fn human_format(&self) -> String {
-        String::from(write_human(self, &mut [0; 64]))
+        String::from(write_human(self, &mut [0; FORMAT_BUFFER_SIZE]))
     }
 }
 

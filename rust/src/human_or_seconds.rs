@@ -19,10 +19,11 @@
 //!     keep_alive: Option<Duration>,
 //! }
 //!
-//! let settings: Settings = serde_json::from_str(r#"{ "timeout": 90, "keep_alive": "1h" }"#).unwrap();
+//! let settings: Settings = serde_json::from_str(r#"{ "timeout": 90, "keep_alive": "1h" }"#)?;
 //! assert_eq!(settings.timeout, Duration::from_secs(90));
-//! let text = serde_json::to_string(&settings).unwrap();
+//! let text = serde_json::to_string(&settings)?;
 //! assert_eq!(text, r#"{"timeout":"1min 30s","keep_alive":"1h"}"#);
+//! # Ok::<(), serde_json::Error>(())
 //! ```
 use crate::human::{self, HumanText};
 use serde::de::Deserializer;
@@ -41,14 +42,15 @@ pub use human::serialize;
 /// use serde_json::json;
 /// use std::time::Duration;
 ///
-/// let minute: Duration = human_or_seconds::deserialize(json!(60)).unwrap();
+/// let minute: Duration = human_or_seconds::deserialize(json!(60))?;
 /// assert_eq!(minute, Duration::from_secs(60));
 /// let fraction: Result<Duration, _> = human_or_seconds::deserialize(json!(1.5));
-/// let expected = "a duration such as '1min 30s', or whole seconds below 2^64 nanoseconds";
+/// let expected = "a duration such as '1min 30s', or whole seconds of at most 584 years";
 /// assert_eq!(fraction.unwrap_err().to_string(), format!("invalid type: floating point `1.5`, expected {expected}"));
+/// # Ok::<(), serde_json::Error>(())
 /// ```
 pub fn deserialize<'de, T: HumanText, D: Deserializer<'de>>(
     deserializer: D,
 ) -> Result<T, D::Error> {
-    T::deserialize_human::<D, true>(deserializer)
+    T::deserialize_human::<D, { human::SECONDS }>(deserializer)
 }

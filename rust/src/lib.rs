@@ -3,17 +3,35 @@
 //!
 //! ```
 //! use duration_str::{format_duration, parse_duration};
-//! use std::error::Error;
-//! use std::time::Duration;
 //!
-//! fn timeout(text: &str) -> Result<Duration, Box<dyn Error + Send + Sync>> {
-//!     Ok(parse_duration(text)?)
-//! }
+//! let timeout = parse_duration("90m")?; // a std::time::Duration
+//! assert_eq!(format_duration(timeout).to_string(), "1h 30min");
+//! let refusal = parse_duration("5 mins").unwrap_err();
+//! assert!(refusal.to_string().starts_with(r#"unknown unit "mins" at column 3"#));
+//! # Ok::<(), duration_str::DurationError>(())
+//! ```
 //!
-//! assert_eq!(format_duration(timeout("90m")?).to_string(), "1h 30min");
-//! let refusal = timeout("3h 2 hurs").unwrap_err();
-//! assert_eq!(refusal.to_string(), r#"unknown unit "hurs" at column 6"#);
-//! # Ok::<(), Box<dyn Error + Send + Sync>>(())
+//! # Which call to take
+//!
+//! - [`parse_duration`] for a text of which you know nothing else. Its [`DurationError`] owns the text, so it goes through
+//!   `?`, threads and chains of errors.
+//! - [`parse_with_units`] to refuse `90` and `1h 30`, which the others read as seconds.
+//! - [`parse_with`] for other options, and where nothing may be allocated: its [`Fault`] borrows the text.
+//! - [`parse`], [`parse_std`], which is the same, and the calls for `chrono` and `time` are those of `duration-str` 0.19.0.
+//!   They refuse by a `String` of three lines, and read as the features of the whole program say.
+#![cfg_attr(
+    feature = "macros",
+    doc = "- [`duration!`] for a text in the source, which is read at compile time:"
+)]
+#![cfg_attr(
+    not(feature = "macros"),
+    doc = "- `duration!` for a text in the source, which is read at compile time, by the feature `macros`:"
+)]
+//!
+#![cfg_attr(feature = "macros", doc = "```")]
+#![cfg_attr(not(feature = "macros"), doc = "```ignore")]
+//! const TIMEOUT: std::time::Duration = duration_str::duration!("1h 30m");
+//! assert_eq!(TIMEOUT.as_secs(), 5_400);
 //! ```
 //!
 //! # Configuration files
@@ -35,20 +53,24 @@
 //! # Ok::<(), serde_json::Error>(())
 //! ```
 //!
+//! `"timeout": "5 mins"` is refused by
+//! `invalid duration: unknown unit "mins" at column 3 (did you mean "min"?) at line 4 column 17`.
+//!
 //! # Command lines
 //!
-//! clap takes a [`HumanDuration`], and [`parse_duration`] for a `Duration`:
+//! clap takes a [`HumanDuration`], and [`parse_duration`] for a `Duration`. With `allow_hyphen_values` also `-5m` gets to it,
+//! and is refused as a negative duration; clap would take it for an option.
 //!
 //! ```text
 //! /// How long a request may take
-//! #[arg(long, value_parser = duration_str::parse_duration)]
+//! #[arg(long, allow_hyphen_values = true, value_parser = duration_str::parse_duration)]
 //! timeout: Option<Duration>,
 //! /// The time between two attempts
-//! #[arg(long, default_value = "1s 500ms")]
+//! #[arg(long, allow_hyphen_values = true, default_value = "1s 500ms")]
 //! pause: duration_str::HumanDuration,
 //!
 //! $ service --timeout '5 mins'
-//! error: Invalid value '5 mins' for '--timeout <TIMEOUT>': unknown unit "mins" at column 3: write "min"
+//! error: Invalid value '5 mins' for '--timeout <TIMEOUT>': unknown unit "mins" at column 3 (did you mean "min"?)
 //! ```
 //!
 //! # Printing
@@ -67,28 +89,17 @@
 //!
 //! # Why and where a text is refused
 //!
-//! [`parse_with`] chooses options at each call, and allocates nothing. Its [`Fault`] says why and where, and displays the
-//! text with a caret below the place; an [`OwnedFault`], which is what the other calls here refuse by, lends it.
+//! A [`Fault`] and a [`DurationError`] display as one line. Their `report` is for a person who sees nothing else: the text
+//! with a caret below the place, and the line.
 //!
 //! ```
 //! use duration_str::{Options, parse_with};
 //!
 //! let fault = parse_with("1m 3-5", Options::off()).unwrap_err();
 //! assert_eq!((fault.place(), fault.found()), (Some(4), Some("-")));
-//! ```
-//!
-//! # From `duration-str` 0.19.0 and humantime
-//!
-//! This crate has the public interface of `duration-str` 0.19.0 from crates.io: [`parse`], whose error is a `String`,
-//! [`HumanFormat`], `deserialize_duration`, the calls for dates and the others. Those who come from humantime change one
-//! import to `use` the module [`humantime`] of this crate.
-//!
-//! ```
-//! use duration_str::{parse, HumanFormat};
-//!
-//! let duration = parse("3m 13s 29ms")?;
-//! assert_eq!(duration.human_format(), "3min 13s 29ms");
-//! # Ok::<(), String>(())
+//! let line = r#"expected a unit, '+', '*' or the end at column 5, found "-""#;
+//! assert_eq!(fault.to_string(), line);
+//! assert_eq!(fault.report(), format!("1m 3-5\n    ^\n{line}"));
 //! ```
 //!
 //! # What a text means
@@ -97,6 +108,7 @@
 //! or products, not both. A product multiplies its terms in seconds. After a number the unit may be left out before an
 //! operator and at the end, and is seconds. Blanks may stand anywhere but inside a number or a unit.
 //!
+//! <!-- The table is made by tests/repository --write. -->
 //! | unit | names | with `cn_unit` also |
 //! |---|---|---|
 //! | 365 days | y, year, years | 年 |
@@ -111,11 +123,12 @@
 //! | microsecond | µs, µsec, µsecond, us, usec, usecond, microsecond, microseconds | 微秒 |
 //! | nanosecond | ns, nsec, nanosecond, nanoseconds | 纳秒 |
 //!
-//! Each number stays below 2^64, and each term, each step and the value below 2^64 nanoseconds.
+//! Each number stays below 2^64, and each term, each step and the value below 2^64 nanoseconds, some 584 years.
 //!
 //! # Features
 //!
-//! `serde`, `chrono` and `time`, which are on by default, have the calls for these crates, and `macros` has `duration!`. For
+//! The crate is `no_std`, and needs `alloc`. `serde`, `chrono` and `time`, which are on by default, have the calls for these
+//! crates; only those of `duration-str` 0.19.0 and fields in configuration files need them. `macros` has `duration!`. For
 //! the calls of `duration-str` 0.19.0 `no_calc` (no operators), `lowercase` (capitals are not folded) and `cn_unit` (Chinese
 //! names) turn the option of their name on. Cargo joins the features that all crates of a program ask for, so for the
 //! other calls `cn_unit` alone counts, which takes nothing away; they have options by [`parse_with`].
@@ -124,6 +137,21 @@
 //!
 //! What reads and prints is proved: it is the source of a proved library with its contracts taken out. There are three
 //! `unsafe` blocks, proved with the rest of it, where a printed duration, a message and a line are known to be UTF-8.
+//!
+//! # From humantime and `duration-str` 0.19.0
+//!
+//! Those who come from humantime change one import to `use` the module [`humantime`] of this crate.
+//!
+//! This crate has the public interface of `duration-str` 0.19.0 from crates.io: [`parse`], whose error is a `String`,
+//! [`HumanFormat`], `deserialize_duration` and the others, also the calls of the module `dates`, for a moment so long from now.
+//!
+//! ```
+//! use duration_str::{parse, HumanFormat};
+//!
+//! let duration = parse("3m 13s 29ms")?;
+//! assert_eq!(duration.human_format(), "3min 13s 29ms");
+//! # Ok::<(), String>(())
+//! ```
 #![no_std]
 #![cfg_attr(docsrs, feature(doc_cfg))]
 #![forbid(unsafe_code)]
@@ -131,7 +159,7 @@
 extern crate alloc;
 
 #[cfg(feature = "chrono")]
-mod dates;
+pub mod dates;
 mod error;
 mod fault;
 mod formatted;
@@ -142,25 +170,33 @@ mod human_format;
 #[cfg(feature = "serde")]
 pub mod human_or_seconds;
 pub mod humantime;
+#[cfg(feature = "serde")]
+pub mod humantime_serde;
 mod parser;
 mod sealed;
 #[cfg(feature = "serde")]
 mod serde_texts;
+mod with_units;
 
+// The list of this crate's functions would begin with these, so the documentation has them in their module alone.
 #[cfg(feature = "chrono")]
+#[doc(hidden)]
 pub use dates::{
     after_naive_date, after_naive_date_time, before_naive_date, before_naive_date_time,
     moment_after, moment_before,
 };
 #[doc(inline)]
 pub use duration_str_core::{
-    Cause, CondUnit, Expected, Format, MAX_LONG_LEN, MAX_PRINTED_LEN, Options, Style, TimeUnit,
-    UnknownUnit, write_human, write_within,
+    Cause, CondUnit, Expected, FORMAT_BUFFER_SIZE, Format, Options, STYLED_BUFFER_SIZE, Style,
+    TimeUnit, UnknownStyle, UnknownUnit, write_human, write_within,
 };
+// For the core's examples; here the buffers' sizes and `TimeUnit::ALL` say as much.
+#[doc(hidden)]
+pub use duration_str_core::{MAX_LONG_LEN, MAX_PRINTED_LEN, UNITS};
 #[cfg(feature = "macros")]
 pub use duration_str_macros::duration;
 pub use error::{DError, DResult};
-pub use fault::{Fault, OwnedFault};
+pub use fault::{DurationError, Fault};
 pub use formatted::{FormattedDuration, format_duration};
 pub use human_duration::HumanDuration;
 pub use human_format::HumanFormat;
@@ -178,3 +214,4 @@ pub use serde_texts::{deserialize_duration_chrono, deserialize_option_duration_c
 #[cfg(all(feature = "serde", feature = "time"))]
 #[allow(deprecated)]
 pub use serde_texts::{deserialize_duration_time, deserialize_option_duration_time};
+pub use with_units::{UnitError, parse_with_units};

@@ -1,6 +1,6 @@
 //! Reading.
-use crate::fault::{Fault, OwnedFault};
-use alloc::string::{String, ToString};
+use crate::fault::{DurationError, Fault};
+use alloc::string::String;
 use core::time::Duration;
 use duration_str_core::{self as proved, Options};
 
@@ -35,25 +35,21 @@ pub(crate) const FEATURES: Options = Options {
 
 /// Those under which all other calls read that take none. The feature that adds names counts; those that take something
 /// away may be asked for by any crate of a program, and would break what the others read.
-const ADDITIONS: Options = Options {
+pub(crate) const ADDITIONS: Options = Options {
     cn_unit: FEATURES.cn_unit,
     ..Options::off()
 };
 
+/// Those of the module `humantime`.
+pub(crate) const CASE_SENSITIVE: Options = ADDITIONS.with_lowercase();
+
 /// Reads a text, as [`parse`] does.
 #[inline]
 fn read(text: &str) -> Result<Duration, String> {
-    match proved::parse_with(text, FEATURES) {
+    match parse_with(text, FEATURES) {
         Ok(duration) => Ok(duration),
-        Err(fault) => Err(message(fault)),
+        Err(fault) => Err(fault.message()),
     }
-}
-
-/// A fault's message.
-#[cold]
-#[inline(never)]
-fn message(fault: proved::Fault<'_>) -> String {
-    fault.to_string()
 }
 
 /// Reads a text under the options that the features turn on.
@@ -87,14 +83,14 @@ pub fn parse(input: impl AsRef<str>) -> Result<Duration, String> {
     read(input.as_ref())
 }
 
-/// Reads a text, with a fault that owns it. It has the name of humantime's function, and can be handed on as it is, such as
-/// to `value_parser` of clap.
+/// Reads a text such as `1h 30m`. It can be handed on as it is, such as to `value_parser` of clap, and has the name of
+/// humantime's function.
 ///
 /// All options are off, whatever features are on, but that `cn_unit` adds its names. [`parse_with`] has the others.
 ///
 /// # Errors
 ///
-/// The fault, with a copy of the text.
+/// Why the text is refused, with a copy of it.
 ///
 /// ```
 /// use duration_str::parse_duration;
@@ -105,10 +101,11 @@ pub fn parse(input: impl AsRef<str>) -> Result<Duration, String> {
 ///     Ok(parse_duration(text)?)
 /// }
 ///
-/// assert_eq!(timeout("1m 30s").unwrap(), Duration::from_secs(90));
+/// assert_eq!(timeout("1m 30s")?, Duration::from_secs(90));
 /// assert_eq!(timeout("").unwrap_err().to_string(), "empty text");
+/// # Ok::<(), Box<dyn Error + Send + Sync>>(())
 /// ```
-pub fn parse_duration(input: &str) -> Result<Duration, OwnedFault> {
+pub fn parse_duration(input: &str) -> Result<Duration, DurationError> {
     parse_with(input, ADDITIONS).map_err(Fault::into_owned)
 }
 

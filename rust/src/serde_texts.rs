@@ -107,9 +107,10 @@ impl<'de, T: Length> Visitor<'de> for Optional<T> {
 ///     keep_alive: Option<Duration>,
 /// }
 ///
-/// let settings: Settings = serde_json::from_str(r#"{ "timeout": "1m 30s" }"#).unwrap();
+/// let settings: Settings = serde_json::from_str(r#"{ "timeout": "1m 30s" }"#)?;
 /// assert_eq!(settings.timeout, Duration::from_secs(90));
 /// assert_eq!(settings.keep_alive, None);
+/// # Ok::<(), serde_json::Error>(())
 /// ```
 pub fn deserialize_duration<'de, D, T>(deserializer: D) -> Result<T, D::Error>
 where

@@ -93,17 +93,17 @@ pub use Rattle.duration_str.specs.Tokens.{AreTokens, EndsRun, IsLexeme, Token, a
 pub use Rattle.duration_str.specs.Tokens.{with_first_character, lexemes_of, tokens_from, tokens_of}
 pub use Rattle.duration_str.specs.Units.{UnitRow, comparison_form, is_named, nanos_of, off, row_of, unit_lengths}
 pub use Rattle.duration_str.specs.Units.{unit_of_word, units}
-pub use Rattle.duration_str.specs.Internal.Positions.{Between, Passes, StandsAt, Stops, TakesDigits, TakesLetters}
+pub use Rattle.duration_str.specs.Internal.Positions.{Between, Passes, Stands, StandsAt, Stops, TakesDigits, TakesLetters}
 pub use Rattle.duration_str.specs.Internal.Positions.{letter_number, number_in, packed_number, packed_number_after}
 pub use Rattle.duration_str.specs.Internal.Positions.{wide_number}
 pub use Rattle.duration_str.specs.Internal.Numbers.{checked_term, u64_from}
 pub use Rattle.duration_str.specs.Internal.Packed.{all_names, packs_to, unit_of_packed}
 pub use Rattle.duration_str.specs.Internal.PrintedBytes.{long_part, name_part, part_bytes, with_counts}
 pub use Rattle.duration_str.specs.Internal.PrintedBytes.{with_gap, with_part}
-pub use Rattle.duration_str.specs.Internal.Rest.{ReadItem, Rest, answer_left, checked_combination}
-pub use Rattle.duration_str.specs.Internal.Rest.{end_at, fault_at, fault_in_order, fault_left, number_fault}
+pub use Rattle.duration_str.specs.Internal.Rest.{IsPlaceless, ReadItem, Rest, answer_left, checked_combination}
+pub use Rattle.duration_str.specs.Internal.Rest.{by_operator, end_at, number_fault}
 pub use Rattle.duration_str.specs.Internal.Rest.{leaving, operator_read, rest_from, rest_of, start_left}
-pub use Rattle.duration_str.specs.Internal.Rest.{terminal_at, terminals_in, unit_read, with_term}
+pub use Rattle.duration_str.specs.Internal.Rest.{terminal_at, terminals_in, total_with, unit_read, with_term}
 pub use Rattle.duration_str.specs.Internal.Steps.{sign_sort, sort_at, sort_of, IsAhead, IsSign, LooksAhead, TakesNumber}
 pub use Rattle.duration_str.specs.Internal.Steps.{TakesSign, TakesToken, TakesTokenWith, is_number}
 pub use Rattle.duration_str.specs.Internal.UnitTable.{AreEncoded}

@@ -1,10 +1,15 @@
 -- Worked examples, computed: what texts are read as, why others are refused, and what durations print as.
 use Rattle.duration_str.proofs.Common.{◌≡◌, ℕ, Bool, true, false, List, [], ◌∷◌, ◌++◌, Some, None, Ok, Err, refl}
-use Rattle.duration_str.proofs.Common.{length, flat_map, map, encode_utf8_all, codes, Options, TimeUnit, Quarter, Plus}
+use Rattle.duration_str.proofs.Common.{length, flat_map, map, replicate, encode_utf8_all, codes, Options, TimeUnit, Quarter, Plus}
 use Rattle.duration_str.proofs.Common.{Star, Empty, Syntax, NumberTooLarge, Overflow, Mixed, Expected, off, row_of}
 use Rattle.duration_str.proofs.Common.{units, unit_of_word, unit_lengths, older_units, older_unit_of_word}
 use Rattle.duration_str.proofs.Common.{Style, Compact, Long, Short, MAX_LONG_LEN, printed_counts}
 use Rattle.duration_str.proofs.Common.{counts_of, MAX_PRINTED_LEN, answer, message_of}
+use Rattle.duration_str.specs.declared.format.Format.{Format}
+use Rattle.duration_str.specs.declared.unit.TimeUnit.TheVariants.{Day, Hour, Minute}
+use Rattle.duration_str.specs.declared.cause.Cause.TheVariants.{OutOfRange}
+use Rattle.duration_str.specs.Limits.{whole_format, lengths_within, counts_within, text_within}
+use Rattle.duration_str.specs.OneLine.{one_line_of}
 use Rattle.duration_str.proofs.Characters.EachUnit.{Each}
 use Rattle.std.specs.Fmt.{digits}
 use Rattle.std.specs.Str.{chars}
@@ -197,6 +202,109 @@ pub record PrintedTexts : Type 0 where
 pub printed_texts : PrintedTexts
 unfolding chars digits encode
 printed_texts = assumption
+
+-- ---- Within limits
+
+-- the text of so many nanoseconds in a format
+abbrev limited : Format → ℕ → List ℕ
+limited format nanos = text_within format (counts_within (lengths_within format) format.parts nanos)
+
+pub record LimitedTexts : Type 0 where
+  pub two_parts : limited (record whole_format { parts = 2 }) 193_029_000_000 ≡ codes "3min 13s"
+  pub one_part-119_days : limited (record whole_format { parts = 1 }) 10_281_600_000_000_000 ≡ codes "1q"
+  pub from_days : limited (record whole_format { largest = Day }) 10_368_000_000_000_005 ≡ codes "120d 5ns"
+  pub down_to_hours : limited (record whole_format { smallest = Hour }) 193_029_000_000 ≡ codes "0h"
+  pub no_units : limited (record whole_format { largest = Minute; smallest = Hour }) 7_200_000_000_000 ≡ codes "0h"
+  pub no_parts : limited (record whole_format { parts = 0; style = Long }) 7_200_000_000_000 ≡ codes "0 seconds"
+
+pub limited_texts : LimitedTexts
+unfolding chars digits encode
+limited_texts = assumption
+
+-- ---- Faults in one line
+
+-- a word of 41 letters, each of four bytes
+abbrev long_word : List ℕ
+long_word = replicate 41 0x1F600
+
+pub record Lines : Type 0 where
+  -- ---- What is wrong with the text
+  pub line-empty : one_line_of [] Empty ≡ codes "empty text"
+  pub line-too_large : one_line_of (codes "  18446744073709551616s") (NumberTooLarge (Some 0))
+      ≡ codes "number of 2^64 or more in \"  18446744073709551616s\""
+  pub line-overflow : one_line_of (codes "600y") (Overflow (Some 0)) ≡ codes "duration of over 584 years in \"600y\""
+  pub line-seconds : one_line_of (codes " 1700000000000000000") (Overflow (Some 0))
+      ≡ codes "duration of over 584 years in \" 1700000000000000000\" (a number without a unit is in seconds)"
+  pub line-step : one_line_of (codes "1ns*20000000000") (Overflow None)
+      ≡ codes "step of over 584 years in \"1ns*20000000000\""
+  pub line-mixed : one_line_of (codes "2*1h 30m") (Mixed Star Plus) ≡ codes "sum and product mixed in \"2*1h 30m\""
+  pub line-date : one_line_of [] OutOfRange ≡ codes "date out of range"
+  -- ---- What was expected, and what stands there
+  pub line-sign_between : one_line_of (codes "3ms-2ms") (Syntax 3 after_unit)
+      ≡ codes "expected a number, '+', '*' or the end at column 4, found \"-\""
+  pub line-end : one_line_of (codes "3+") (Syntax 2 number_alone) ≡ codes "expected a number at column 3, found the end"
+  pub line-digits : one_line_of (encode_utf8_all (codes "1µs 2 345")) (Syntax 7 after_number-no_calc)
+      ≡ codes "expected a unit or the end at column 7, found \"345\""
+  pub line-letters : one_line_of (encode_utf8_all (codes "1h 时x2")) (Syntax 3 after_unit-no_calc)
+      ≡ encode_utf8_all (codes "expected a number or the end at column 4, found \"时x\"")
+  pub line-sign_beyond_ascii : one_line_of (encode_utf8_all (codes "1：30")) (Syntax 1 after_number)
+      ≡ encode_utf8_all (codes "expected a unit, '+', '*' or the end at column 2, found \"：\"")
+  -- ---- Escapes, and what is cut off
+  pub line-escape : one_line_of (49 ∷ 27 ∷ []) (Syntax 1 after_number)
+      ≡ codes "expected a unit, '+', '*' or the end at column 2, found \"\\u{1b}\""
+  pub line-quote : one_line_of (codes "1m\"") (Syntax 2 after_unit)
+      ≡ codes "expected a number, '+', '*' or the end at column 3, found \"\\\"\""
+  pub line-hidden : one_line_of (encode_utf8_all (49 ∷ 0xAD ∷ [])) (Syntax 1 after_number)
+      ≡ codes "expected a unit, '+', '*' or the end at column 2, found \"\\u{ad}\""
+  pub line-wide_blank : one_line_of (encode_utf8_all (49 ∷ 0x3000 ∷ codes "m")) (Syntax 1 after_number)
+      ≡ codes "expected a unit, '+', '*' or the end at column 2, found \"\\u{3000}\""
+  pub line-blanks : one_line_of (9 ∷ 13 ∷ 10 ∷ codes "600y") (Overflow (Some 0))
+      ≡ codes "duration of over 584 years in \"\\t\\r\\n600y\""
+  pub line-tags : one_line_of (encode_utf8_all (codes "585y" ++ replicate 5 0xE0041)) (Overflow (Some 0))
+      ≡ codes "duration of over 584 years in \"585y\\u{e0041}\\u{e0041}\\u{e0041}\\u{e0041}\"..."
+  pub line-forty : one_line_of (replicate 40 57) (NumberTooLarge (Some 0))
+      ≡ codes "number of 2^64 or more in \"9999999999999999999999999999999999999999\""
+  pub line-longest : one_line_of (encode_utf8_all (49 ∷ long_word)) (Syntax 1 after_number)
+      ≡ encode_utf8_all (codes "unknown unit \"" ++ replicate 40 0x1F600
+      ++ codes "\"... at column 2 (write y, q, mon, w, d, h, min, s, ms, us or ns)")
+  -- ---- Help with a unit
+  pub line-near : one_line_of (codes "1h 5 mins") (Syntax 5 after_number)
+      ≡ codes "unknown unit \"mins\" at column 6 (did you mean \"min\"?)"
+  pub line-capitals : one_line_of (codes "2 MONS") (Syntax 2 after_number)
+      ≡ codes "unknown unit \"MONS\" at column 3 (did you mean \"mon\"?)"
+  pub line-small_mo : one_line_of (codes "3mo") (Syntax 1 after_number)
+      ≡ codes "unknown unit \"mo\" at column 2 (did you mean \"mon\"?)"
+  pub line-capital_mo : one_line_of (codes "3Mo") (Syntax 1 after_number)
+      ≡ codes "unknown unit \"Mo\" at column 2 (write y, q, mon, w, d, h, min, s, ms, us or ns)"
+  pub line-ascii : one_line_of (codes "5 micros") (Syntax 2 after_number)
+      ≡ codes "unknown unit \"micros\" at column 3 (did you mean \"us\"?)"
+  pub line-micro_sign : one_line_of (encode_utf8_all (codes "5 µsecs")) (Syntax 2 after_number)
+      ≡ encode_utf8_all (codes "unknown unit \"µsecs\" at column 3 (did you mean \"µs\"?)")
+  pub line-greek_mu : one_line_of (encode_utf8_all (codes "5 μS")) (Syntax 2 after_number)
+      ≡ encode_utf8_all (codes "unknown unit \"μS\" at column 3 (did you mean \"us\"?)")
+  -- ---- Help with a notation
+  pub line-point : one_line_of (codes "1.5h") (Syntax 1 after_number)
+      ≡ codes "expected a unit, '+', '*' or the end at column 2, found \".\" (numbers have digits only: write 1h 30m for 1.5h)"
+  pub line-point_after_unit : one_line_of (codes "5 min.") (Syntax 5 after_unit)
+      ≡ codes "expected a number, '+', '*' or the end at column 6, found \".\" (units have no point)"
+  pub line-comma : one_line_of (codes "1,000ms") (Syntax 1 after_number)
+      ≡ codes "expected a unit, '+', '*' or the end at column 2, found \",\" (numbers have digits only)"
+  pub line-clock : one_line_of (codes "1:30") (Syntax 1 after_number)
+      ≡ codes "expected a unit, '+', '*' or the end at column 2, found \":\" (clock times are not read: write 1h 30m or 1m 30s)"
+  pub line-minus : one_line_of (codes " -5m") (Syntax 1 number_alone)
+      ≡ codes "expected a number at column 2, found \"-\" (negative durations are not read)"
+  pub line-iso : one_line_of (codes "Pt5M") (Syntax 0 number_alone)
+      ≡ codes "expected a number at column 1, found \"Pt\" (ISO 8601 is not read: write 1mon 30m for P1MT30M)"
+  pub line-comma_between : one_line_of (codes "1h, 30m") (Syntax 2 after_unit)
+      ≡ codes "expected a number, '+', '*' or the end at column 3, found \",\" (one duration is read, without \",\" or \"and\")"
+  pub line-and : one_line_of (codes "1h And 30m") (Syntax 3 after_unit-no_calc)
+      ≡ codes "expected a number or the end at column 4, found \"And\" (one duration is read, without \",\" or \"and\")"
+  pub line-and_a_unit : one_line_of (codes "5 & 3") (Syntax 2 after_number)
+      ≡ codes "expected a unit, '+', '*' or the end at column 3, found \"&\""
+
+pub lines : Lines
+unfolding chars digits encode
+lines = assumption
 
 -- ---- The names of the units
 

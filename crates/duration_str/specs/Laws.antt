@@ -2,7 +2,7 @@
 use Rattle.std.specs.Prelude.{◌≡◌, ℕ, ◌+◌, ◌*◌, ◌/◌, ◌^◌, ◌<◌, ◌≤◌, Bool, true, false, if◌then◌else◌}
 use Rattle.std.specs.Prelude.{List, [], ◌∷◌, ◌++◌, Some, None, is_some, map, ◌↔◌, ◌≢◌, take, drop, codes}
 use Rattle.std.specs.Prelude.{encode_utf8_all, Ok, Err, ◌⊎◌, IsTrue, not, ◌==◌, length}
-use Rattle.std.specs.Char.{is_ascii_uppercase}
+use Rattle.std.specs.Char.{is_ascii_uppercase, to_ascii_lowercase}
 use Rattle.std.specs.List.{list_all}
 use Rattle.std.specs.Duration.{FitsDuration}
 use Rattle.duration_str.specs.declared.options.Options.{Options}
@@ -15,7 +15,7 @@ use Rattle.duration_str.specs.declared.cause.Cause.TheVariants.{Overflow}
 use Rattle.duration_str.specs.declared.cause.Expected.{Expected}
 use Rattle.duration_str.specs.Text.{operator_of, is_chinese}
 use Rattle.duration_str.specs.Units.{UnitRow, row_of, unit_lengths, nanos_of, units, unit_of_word}
-use Rattle.duration_str.specs.OneLine.{near_advice}
+use Rattle.duration_str.specs.OneLine.{is_among, near_name, near_words}
 use Rattle.duration_str.specs.Grammar.{Terminal, operator, IsSentence, IsSentenceOf, Spells, terminal_of}
 use Rattle.duration_str.specs.Tokens.{Token, tokens_of, lexemes_of, AreTokens}
 use Rattle.duration_str.specs.Place.{BeginsSentence, CanFollow, IsFront}
@@ -212,6 +212,13 @@ abbrev pub NeverMore : Type 0
 NeverMore = (format : Format) (nanos : ℕ) (text : List ℕ) → IsPrintedWithin format nanos text
     → (most : ℕ) × IsMostWithin format nanos text most
 
--- A word for which the line advises a unit's name names no unit, under any options.
+-- The word is near the unit's names and is none of them, and the advised name is one, under these options.
+pub record IsAdvised (o : Options) (word name : List ℕ) : Type 0 where
+  pub unit : TimeUnit
+  pub near : is_among (near_words unit) (map to_ascii_lowercase (encode_utf8_all word)) ≡ true
+  pub unread : unit_of_word o word ≡ None
+  pub read : unit_of_word o name ≡ Some unit
+
+-- What is advised for a word is a name of the unit that people mean by it, and the word names no unit, under any options.
 abbrev pub NearWords : Type 0
-NearWords = (o : Options) (word : List ℕ) → near_advice (encode_utf8_all word) ≢ [] → unit_of_word o word ≡ None
+NearWords = (o : Options) (word name : List ℕ) → near_name (encode_utf8_all word) ≡ Some name → IsAdvised o word name

@@ -1,20 +1,18 @@
 -- A fault in one line: what is wrong, at which column, and what stands there.
-use Rattle.std.specs.Prelude.{ℕ, ◌+◌, ◌-◌, ◌/◌, ◌%◌, Bool, false, not, ◌&&◌, ◌||◌, List, [], ◌∷◌, ◌++◌, Some, None}
-use Rattle.std.specs.Prelude.{if◌then◌else◌, ◌==◌, nat_le, decimal, encode_utf8, encode_utf8_all, zero, suc, map}
+use Rattle.std.specs.Prelude.{ℕ, ◌+◌, ◌-◌, Bool, false, not, ◌&&◌, ◌||◌, List, [], ◌∷◌, ◌++◌, Option, Some, None}
+use Rattle.std.specs.Prelude.{if◌then◌else◌, ◌==◌, nat_le, decimal, encode_utf8_all, map}
 use Rattle.std.specs.Prelude.{take, length, slice_index}
-use Rattle.std.specs.Option.{option_map_or}
-use Rattle.std.specs.Char.{is_ascii_alphabetic, is_control, digit_char, to_ascii_lowercase}
+use Rattle.std.specs.Option.{option_map}
+use Rattle.std.specs.Char.{is_ascii_alphabetic, is_control, to_ascii_lowercase}
+use Rattle.std.specs.Char.Escape.{escape_default}
 use Rattle.std.specs.Int.{is_in_range}
 use Rattle.std.specs.Str.{chars, bytes_eq}
 use Rattle.std.specs.List.{list_any, list_all, find, take_while}
 use lib.Chars.{codes}
-use Rattle.duration_str.specs.declared.operator.CondUnit.TheVariants.{Plus, Star}
 use Rattle.duration_str.specs.declared.cause.Expected.{Expected}
 use Rattle.duration_str.specs.declared.cause.Cause.{Cause}
 use Rattle.duration_str.specs.declared.cause.Cause.TheVariants.{Empty, Syntax, NumberTooLarge, Overflow}
 use Rattle.duration_str.specs.declared.cause.Cause.TheVariants.{Mixed, OutOfRange, NotText}
-use Rattle.duration_str.specs.declared.one_line.Kind.{Kind}
-use Rattle.duration_str.specs.declared.one_line.Kind.TheVariants.{Digit, Letter, Clear}
 use Rattle.duration_str.specs.declared.unit.TimeUnit.{TimeUnit}
 use Rattle.duration_str.specs.declared.unit.TimeUnit.TheVariants.{Year, Quarter, Month, Week, Day, Hour, Minute, Second}
 use Rattle.duration_str.specs.declared.unit.TimeUnit.TheVariants.{MilliSecond, MicroSecond, NanoSecond}
@@ -24,129 +22,129 @@ use Rattle.duration_str.specs.Messages.{line_of, chars_before}
 
 -- ---- What is quoted
 
--- whether a character is safe and seen within a line: no control character, no-break space, mark of direction, byte
--- order mark or mark of a note, and nothing of Unicode's General Punctuation, where the ends of lines are
+-- whether a character is safe and seen within a line: no control character, no blank but the space, and none that
+-- Unicode lets a reader ignore, such as marks of direction, tags and the soft hyphen
 abbrev pub is_plain : ℕ → Bool
 is_plain c =
-    not (is_control c || c == 0xA0 || c == 0x61C || is_in_range 0x2000 0x206F c || c == 0xFEFF
-    || is_in_range 0xFFF9 0xFFFB c)
+    not (is_control c || c == 0xA0 || c == 0xAD || c == 0x34F || c == 0x61C || is_in_range 0x115F 0x1160 c
+    || c == 0x1680 || is_in_range 0x17B4 0x17B5 c || is_in_range 0x180B 0x180F c || is_in_range 0x2000 0x200F c
+    || is_in_range 0x2028 0x202F c || is_in_range 0x205F 0x206F c || c == 0x2800 || c == 0x3000 || c == 0x3164
+    || is_in_range 0xFE00 0xFE0F c || c == 0xFEFF || c == 0xFFA0 || is_in_range 0xFFF0 0xFFFB c
+    || is_in_range 0x1BCA0 0x1BCA3 c || is_in_range 0x1D173 0x1D17A c || is_in_range 0xE0000 0xE0FFF c)
 
--- the bytes of `\u{..}` with four hexadecimal digits
-abbrev pub code_of : ℕ → List ℕ
-code_of c =
-    codes "\\u{" ++ (digit_char (c / 0x1000 % 16) ∷ digit_char (c / 0x100 % 16) ∷ digit_char (c / 0x10 % 16)
-    ∷ digit_char (c % 16) ∷ codes "}")
+-- whether a character is quoted as it is
+abbrev pub is_clear : ℕ → Bool
+is_clear c = is_plain c && not (c == 34 || c == 92)
 
--- the bytes of a character: after a backslash if it is `"` or a backslash, and as its code if it isn't plain
-abbrev pub escaped : ℕ → List ℕ
-escaped c = if c == 34 || c == 92 then 92 ∷ c ∷ [] else if is_plain c then encode_utf8 c else code_of c
+-- the characters that show a character in a quote; escaped as Rust does it: `\"`, `\\`, `\t`, `\r`, `\n`, `\u{1b}`
+abbrev pub shown : ℕ → List ℕ
+shown c = if is_clear c then c ∷ [] else escape_default c
 
--- so many characters at most, the closing quote, and three dots if characters are left out
+-- what fits into so much room, the closing quote, and three dots if something is left out
 abbrev pub quoted_end : ℕ → List ℕ → List ℕ
-quoted_end most [] = codes "\""
-quoted_end zero (c ∷ text) = codes "\"..."
-quoted_end (suc most) (c ∷ text) = escaped c ++ quoted_end most text
+quoted_end room [] = codes "\""
+quoted_end room (c ∷ text) =
+    if nat_le (length (shown c)) room then encode_utf8_all (shown c) ++ quoted_end (room - length (shown c)) text
+    else codes "\"..."
 
--- the first 40 characters in quotes
+-- a text in quotes, between which at most 40 characters are shown
 abbrev pub quoted : List ℕ → List ℕ
 quoted text = codes "\"" ++ quoted_end 40 text
 
 -- ---- What stands at a place
 
--- an ASCII letter, or any plain character beyond ASCII
+-- an ASCII letter, or a plain character beyond ASCII that is no sign, such as `½`, `×`, `€` and the full-width colon
 abbrev pub is_letter : ℕ → Bool
-is_letter c = is_ascii_alphabetic c || (nat_le 0x80 c && is_plain c)
+is_letter c =
+    is_ascii_alphabetic c || (nat_le 0x80 c && is_plain c && not (is_in_range 0xA1 0xB4 c || is_in_range 0xB6 0xBF c
+    || c == 0xD7 || c == 0xF7 || is_in_range 0x2010 0x2BFF c || is_in_range 0x3001 0x303F c || is_in_range 0xFF00 0xFF20 c))
 
--- whether a character is of a kind; a clear one is quoted as it is
-abbrev pub is_of : Kind → ℕ → Bool
-is_of Digit c = is_digit c
-is_of Letter c = is_letter c
-is_of Clear c = is_plain c && not (c == 34 || c == 92)
+-- whether a text begins with a letter
+abbrev pub begins_with_letter : List ℕ → Bool
+begins_with_letter [] = false
+begins_with_letter (c ∷ text) = is_letter c
 
--- the digits or the letters that a text begins with, or its first character; of 41 characters 40 are quoted
+-- whether both are digits, or both are letters
+abbrev pub is_like : ℕ → ℕ → Bool
+is_like c d = (is_digit d && is_digit c) || (is_letter d && is_letter c)
+
+-- the digits or the letters that a text begins with, or its first character; of 41 characters 40 are shown
 abbrev pub first_piece : List ℕ → List ℕ
 first_piece [] = []
-first_piece (c ∷ text) =
-    if is_digit c then take 41 (take_while is_digit (c ∷ text))
-    else if is_letter c then take 41 (take_while is_letter (c ∷ text))
-    else c ∷ []
+first_piece (c ∷ text) = c ∷ take 40 (take_while (is_like c) text)
 
--- ---- A word of help
+-- ---- Help
+
+-- those of the month that mean it in small letters alone: `Mo` is a megabyte too
+abbrev pub small_words : List (List ℕ)
+small_words = codes "mo" ∷ codes "mos" ∷ []
+
+-- those of the microsecond without the micro sign; the last five have the Greek letter mu (U+03BC), which looks like it
+abbrev pub us_words : List (List ℕ)
+us_words =
+    codes "usecs" ∷ codes "useconds" ∷ codes "micros" ∷ codes "μs" ∷ codes "μsec" ∷ codes "μsecs" ∷ codes "μsecond"
+    ∷ codes "μseconds" ∷ []
 
 -- the words that people write for a unit and that aren't read, in small letters
 abbrev pub near_words : TimeUnit → List (List ℕ)
 near_words Year = codes "yr" ∷ codes "yrs" ∷ []
 near_words Quarter = codes "qtr" ∷ codes "qtrs" ∷ []
-near_words Month = codes "mth" ∷ codes "mths" ∷ []
+near_words Month = codes "mons" ∷ codes "mth" ∷ codes "mths" ∷ small_words
 near_words Week = codes "wk" ∷ codes "wks" ∷ []
 near_words Day = []
 near_words Hour = codes "hrs" ∷ []
 near_words Minute = codes "mins" ∷ []
 near_words Second = codes "secs" ∷ []
 near_words MilliSecond = codes "msecs" ∷ codes "millis" ∷ []
-near_words MicroSecond = codes "usecs" ∷ codes "micros" ∷ codes "µsecs" ∷ []
+near_words MicroSecond = codes "µsecs" ∷ codes "µseconds" ∷ us_words
 near_words NanoSecond = codes "nsecs" ∷ codes "nanos" ∷ []
-
--- those for the month that are near in small letters alone: `Mo` is a megabyte too
-abbrev pub small_words : List (List ℕ)
-small_words = codes "mo" ∷ codes "mos" ∷ []
-
--- those with the Greek letter mu (U+03BC), which looks like the micro sign
-abbrev pub greek_words : List (List ℕ)
-greek_words = codes "μs" ∷ codes "μsec" ∷ codes "μsecs" ∷ codes "μsecond" ∷ []
 
 -- whether bytes are one of these words
 abbrev pub is_among : List (List ℕ) → List ℕ → Bool
 is_among words bytes = list_any (bytes_eq bytes) (map encode_utf8_all words)
 
--- what to write: this name
-abbrev pub advice_of : List ℕ → List ℕ
-advice_of name = codes ": write \"" ++ (encode_utf8_all name ++ codes "\"")
-
--- what to write for a word that is near a unit's name, given its bytes
-abbrev pub near_advice : List ℕ → List ℕ
-near_advice word =
+-- the name to write for a word that is near it, given the word's bytes: the unit's, or `us` without the micro sign
+abbrev pub near_name : List ℕ → Option (List ℕ)
+near_name word =
     let small = map to_ascii_lowercase word in
-    if is_among small_words word then advice_of (row_of Month).printed
-    else if is_among greek_words small then advice_of (codes "us")
-    else option_map_or (λ u. advice_of (row_of u).printed) (find (λ u. is_among (near_words u) small) units) []
+    if is_among small_words small then (if is_among small_words word then Some (codes "mon") else None)
+    else if is_among us_words small then Some (codes "us")
+    else option_map (λ u. (row_of u).printed) (find (λ u. is_among (near_words u) small) units)
 
--- the last of these bytes, 0 if there are none
-abbrev pub last_byte : List ℕ → ℕ
-last_byte bytes = slice_index bytes (length bytes - 1)
+-- the name that is near, or all units
+abbrev pub unit_help : Option (List ℕ) → List ℕ
+unit_help (Some name) = codes " (did you mean \"" ++ (encode_utf8_all name ++ codes "\"?)")
+unit_help None = codes " (write y, q, mon, w, d, h, min, s, ms, us or ns)"
 
--- an ASCII letter, or a byte of a character beyond ASCII
-abbrev pub is_letter_byte : ℕ → Bool
-is_letter_byte b = is_ascii_alphabetic b || nat_le 0x80 b
-
--- words if they apply
-abbrev pub words_if : Bool → List ℕ → List ℕ
-words_if apply words = if apply then words else []
-
--- the help for a number with a point or a comma
-abbrev pub digits_alone : List ℕ
-digits_alone = codes ": a number has digits alone, no point or comma"
-
--- the help for a piece before a digit, given its bytes and those before it: a point after no letter, a comma or a colon
--- after a digit, and a sign, `P` or `PT` after blanks alone
-abbrev pub notation_help : List ℕ → List ℕ → List ℕ
-notation_help before piece =
-    let last = last_byte before in
+-- the help for a piece before a digit, given the bytes before it, the last of these, and its own: a point; a comma, `_`,
+-- `'` or a colon after a digit; and a sign, `P` or `PT` after blanks alone
+abbrev pub notation_help : List ℕ → ℕ → List ℕ → List ℕ
+notation_help before last piece =
+    let is_between = is_digit last in
+    let is_first = list_all is_blank before in
     let small = map to_ascii_lowercase piece in
-    if bytes_eq piece (codes ".") then words_if (not (is_letter_byte last)) digits_alone
-    else if bytes_eq piece (codes ",") then words_if (is_digit last) digits_alone
-    else if bytes_eq piece (codes ":")
-    then words_if (is_digit last) (codes ": clock times are not read: give each number its unit")
-    else if bytes_eq piece (codes "-")
-    then words_if (list_all is_blank before) (codes ": negative durations are not read")
-    else if bytes_eq small (codes "p") || bytes_eq small (codes "pt")
-    then words_if (list_all is_blank before) (codes ": ISO 8601 is not read: write each number before its unit")
+    if bytes_eq piece (codes ".") then codes " (numbers have digits only: write 1h 30m for 1.5h)"
+    else if is_between && (bytes_eq piece (codes ",") || bytes_eq piece (codes "_") || bytes_eq piece (codes "'"))
+    then codes " (numbers have digits only)"
+    else if is_between && bytes_eq piece (codes ":") then codes " (clock times are not read: write 1h 30m or 1m 30s)"
+    else if is_first && bytes_eq piece (codes "-") then codes " (negative durations are not read)"
+    else if is_first && (bytes_eq small (codes "p") || bytes_eq small (codes "pt"))
+    then codes " (ISO 8601 is not read: write 1mon 30m for P1MT30M)"
     else []
 
--- the help for the piece at byte `place` if a digit follows it, given its bytes
-abbrev pub help_at : List ℕ → ℕ → List ℕ → List ℕ
-help_at text place piece =
-    if is_digit (slice_index text (place + length piece)) then notation_help (take place text) piece else []
+-- the help for the piece at byte `place`, given its bytes: for what people put between terms where a number and the end
+-- could stand, so after a unit; for a point after a letter or a byte beyond ASCII; and for a notation if a digit follows
+abbrev pub help_at : Expected → List ℕ → ℕ → List ℕ → List ℕ
+help_at expected text place piece =
+    let before = take place text in
+    let last = slice_index before (length before - 1) in
+    if expected.number && expected.text_end
+    && (bytes_eq piece (codes ",") || bytes_eq piece (codes "&") || bytes_eq (map to_ascii_lowercase piece) (codes "and"))
+    then codes " (one duration is read, without \",\" or \"and\")"
+    else if bytes_eq piece (codes ".") && (is_ascii_alphabetic last || nat_le 0x80 last)
+    then codes " (units have no point)"
+    else if is_digit (slice_index text (place + length piece)) then notation_help before last piece
+    else []
 
 -- ---- The line
 
@@ -159,49 +157,49 @@ expected_words expected =
     else if expected.text_end then codes "expected a number or the end"
     else codes "expected a number"
 
--- the column, counted in characters from 1, with the byte `place` of the text
-abbrev pub at_column : List ℕ → ℕ → List ℕ
-at_column text place = codes " at column " ++ decimal (chars_before text place + 1)
+-- the column
+abbrev pub at_column : ℕ → List ℕ
+at_column column = codes " at column " ++ decimal column
 
 -- what stands at a place
 abbrev pub found_words : List ℕ → List ℕ
 found_words [] = codes ", found the end"
 found_words (c ∷ piece) = codes ", found " ++ quoted (c ∷ piece)
 
--- what is wrong, the column, what stands there, and the help
-abbrev pub found_line : List ℕ → List ℕ → ℕ → List ℕ → List ℕ → List ℕ
-found_line problem text place piece help =
-    problem ++ (at_column text place ++ (found_words piece ++ help))
+-- what was expected, the column, what stands there, and the help
+abbrev pub found_line : List ℕ → ℕ → List ℕ → List ℕ → List ℕ
+found_line words column piece help = words ++ (at_column column ++ (found_words piece ++ help))
 
 -- the word that is no unit, its column, and the help
-abbrev pub unknown_line : List ℕ → ℕ → List ℕ → List ℕ → List ℕ
-unknown_line text place word help = codes "unknown unit " ++ (quoted word ++ (at_column text place ++ help))
+abbrev pub unknown_line : ℕ → List ℕ → List ℕ → List ℕ
+unknown_line column word help = codes "unknown unit " ++ (quoted word ++ (at_column column ++ help))
 
--- whether a text begins with a letter
-abbrev pub begins_with_letter : List ℕ → Bool
-begins_with_letter [] = false
-begins_with_letter (c ∷ text) = is_letter c
-
--- the line of a syntax fault
+-- the line of a syntax fault; columns are counted in characters from 1
 abbrev pub syntax_line : List ℕ → ℕ → Expected → List ℕ → List ℕ
 syntax_line text place expected piece =
+    let column = chars_before text place + 1 in
     let bytes = encode_utf8_all piece in
-    if expected.unit_word && begins_with_letter piece then unknown_line text place piece (near_advice bytes)
-    else found_line (expected_words expected) text place piece (help_at text place bytes)
+    if expected.unit_word && begins_with_letter piece then unknown_line column piece (unit_help (near_name bytes))
+    else found_line (expected_words expected) column piece (help_at expected text place bytes)
 
--- what is wrong, and the text
-abbrev pub text_line : List ℕ → List ℕ → List ℕ
-text_line problem text = problem ++ (codes " in " ++ quoted (chars text))
+-- what is wrong, the text, and the help
+abbrev pub text_line : List ℕ → List ℕ → List ℕ → List ℕ
+text_line problem text help = problem ++ (codes " in " ++ (quoted (chars text) ++ help))
+
+-- what is too large: of a text with a `*` it may be a step alone
+abbrev pub overflow_line : List ℕ → List ℕ
+overflow_line text =
+    if list_any (λ b. b == 42) text then text_line (codes "step of over 584 years") text []
+    else if list_all (λ b. is_digit b || is_blank b) text
+    then text_line (codes "duration of over 584 years") text (codes " (a number without a unit is in seconds)")
+    else text_line (codes "duration of over 584 years") text []
 
 -- the bytes of the line, given those of the text that was read
 abbrev pub one_line_of : List ℕ → Cause → List ℕ
 one_line_of text Empty = codes "empty text"
 one_line_of text (Syntax place expected) = syntax_line text place expected (first_piece (ahead text place))
-one_line_of text (NumberTooLarge (Some place)) =
-    found_line (codes "number of 2^64 or more") text place (first_piece (ahead text place)) []
-one_line_of text (NumberTooLarge None) = text_line (codes "number of 2^64 or more") text
-one_line_of text (Overflow place) = text_line (codes "duration of 2^64 nanoseconds or more") text
-one_line_of text (Mixed first Plus) = text_line (codes "'+' after '*'") text
-one_line_of text (Mixed first Star) = text_line (codes "'*' after '+'") text
+one_line_of text (NumberTooLarge place) = text_line (codes "number of 2^64 or more") text []
+one_line_of text (Overflow place) = overflow_line text
+one_line_of text (Mixed first later) = text_line (codes "sum and product mixed") text []
 one_line_of text OutOfRange = encode_utf8_all (line_of OutOfRange)
 one_line_of text (NotText optional) = encode_utf8_all (line_of (NotText optional))

@@ -2,11 +2,10 @@
 use Rattle.std.specs.Prelude.{◌≡◌, ℕ, Bool, ◌+◌, ◌*◌, ◌/◌, ◌%◌, ◌<◌, List, [], ◌∷◌, ◌++◌}
 use Rattle.std.specs.Prelude.{if◌then◌else◌, length, ◌⊎◌, ◌==◌, codes, decimal, flat_map}
 use Rattle.duration_str.specs.declared.unit.TimeUnit.{TimeUnit}
-use Rattle.duration_str.specs.declared.unit.TimeUnit.TheVariants.{Year, Quarter, Month, Week, Day, Hour, Minute, Second}
-use Rattle.duration_str.specs.declared.unit.TimeUnit.TheVariants.{MilliSecond, MicroSecond, NanoSecond}
+use Rattle.duration_str.specs.declared.unit.TimeUnit.TheVariants.{Second}
 use Rattle.duration_str.specs.declared.format.Style.{Style}
 use Rattle.duration_str.specs.declared.format.Style.TheVariants.{Short, Compact, Long}
-use Rattle.duration_str.specs.Units.{units, row_of, unit_lengths}
+use Rattle.duration_str.specs.Units.{UnitRow, units, row_of, unit_lengths}
 
 -- the sum of the counts, each times its length
 abbrev pub weighted_sum : List ℕ → List ℕ → ℕ
@@ -28,23 +27,19 @@ pub record IsGreatestBreakdown (lengths : List ℕ) (nanos : ℕ) (counts : List
   pub breakdown : IsBreakdown lengths nanos counts
   pub greatest : (others : List ℕ) → IsBreakdown lengths nanos others → (others ≡ counts) ⊎ IsBefore others counts
 
--- the long name of one of a unit
-abbrev pub long_name : TimeUnit → List ℕ
-long_name Year = codes "year"
-long_name Quarter = codes "quarter"
-long_name Month = codes "month"
-long_name Week = codes "week"
-long_name Day = codes "day"
-long_name Hour = codes "hour"
-long_name Minute = codes "minute"
-long_name Second = codes "second"
-long_name MilliSecond = codes "millisecond"
-long_name MicroSecond = codes "microsecond"
-long_name NanoSecond = codes "nanosecond"
+-- the last name but one
+abbrev pub last_but_one : List (List ℕ) → List ℕ
+last_but_one [] = []
+last_but_one (name ∷ last ∷ []) = name
+last_but_one (_ ∷ names) = last_but_one names
+
+-- the long name of one of a unit; the last name is that of several
+abbrev pub long_name : UnitRow → List ℕ
+long_name row = last_but_one row.names
 
 -- a unit's name after a count: in the long style with an `s` unless it is one
 abbrev pub name_in : Style → Bool → TimeUnit → List ℕ
-name_in Long one u = long_name u ++ (if one then [] else codes "s")
+name_in Long one u = long_name (row_of u) ++ (if one then [] else codes "s")
 name_in style one u = (row_of u).printed
 
 -- what stands between a count and its unit's name
@@ -67,7 +62,7 @@ printed_parts style (u ∷ us) (n ∷ counts) =
     if n == 0 then printed_parts style us counts else printed_part style n u ∷ printed_parts style us counts
 printed_parts style _ _ = []
 
--- the parts, one after another; no such unit if there are none
+-- the parts, one after another; `0` of this unit if there are none
 abbrev pub joined_parts : Style → TimeUnit → List (List ℕ) → List ℕ
 joined_parts style u [] = printed_part style 0 u
 joined_parts style u (part ∷ parts) = part ++ flat_map (λ p. between style ++ p) parts
@@ -76,11 +71,12 @@ joined_parts style u (part ∷ parts) = part ++ flat_map (λ p. between style ++
 abbrev pub printed_counts : Style → List ℕ → List ℕ
 printed_counts style counts = joined_parts style Second (printed_parts style units counts)
 
--- A duration of `nanos` nanoseconds prints as this text: in this style, or in the short one where none is named.
+-- A duration of `nanos` nanoseconds prints in this style as this text.
 abbrev pub IsPrintedIn : Style → ℕ → List ℕ → Type 0
 IsPrintedIn style nanos text =
     (counts : List ℕ) × IsGreatestBreakdown unit_lengths nanos counts × (text ≡ printed_counts style counts)
 
+-- The same in the short style.
 abbrev pub IsPrinted : ℕ → List ℕ → Type 0
 IsPrinted = IsPrintedIn Short
 

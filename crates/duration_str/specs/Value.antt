@@ -79,7 +79,8 @@ abbrev pub combination : CondUnit → ℕ → ℕ → ℕ
 combination Plus x rest = x + rest
 combination Star x rest = x * rest / second
 
--- the value of a sentence in nanoseconds, given its terms; `None` without terms, or if its operators are mixed
+-- the value of a sentence in nanoseconds, given its terms; `None` without terms, or if its operators are mixed. The
+-- first term is combined last: of `a*b*c`, with the product of `b` and `c`, which is rounded down
 abbrev pub value_of : List Term → Option ℕ
 value_of [] = None
 value_of (t ∷ []) = Some (value_of_term t)

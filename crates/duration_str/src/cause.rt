@@ -14,7 +14,7 @@ use crate::operator::CondUnit;
 /// let cause = parse_with("1m+", Options::off()).unwrap_err().cause();
 /// assert!(matches!(cause, Cause::Syntax { place: 3, expected } if expected.number && !expected.text_end));
 /// ```
-#[derive(Clone, Copy, Debug, PartialEq, Eq)]
+#[derive(Clone, Copy, Debug, PartialEq, Eq, Hash)]
 pub struct Expected {
     /// A number.
     pub number: bool,
@@ -74,7 +74,7 @@ impl Expected {
 ///
 /// assert_eq!(parse_with("", Options::off()).unwrap_err().cause(), Cause::Empty);
 /// ```
-#[derive(Clone, Copy, Debug, PartialEq, Eq)]
+#[derive(Clone, Copy, Debug, PartialEq, Eq, Hash)]
 pub enum Cause {
     /// The text is empty.
     Empty,

@@ -1,22 +1,19 @@
 //! The only access to the text while it is cut: one character after the other, and every look is counted.
-ghost use Rattle.std.specs.Prelude.{◌≡◌, ◌+◌, ◌<◌, ◌≤◌, ◌^◌, [], is_some, IsSome, IfSome, IfNone};
+ghost use Rattle.std.specs.Prelude.{◌≡◌, ◌+◌, ◌<◌, ◌≤◌, ◌^◌, [], is_some, IfSome, IfNone};
 ghost use Rattle.std.specs.Prelude.{if◌then◌else◌, slice_range, IsUtf8, length};
 ghost use Rattle.std.specs.Str.{IsCharBoundary};
-ghost use Rattle.duration_str.specs.Internal.Positions.{StandsAt};
-ghost use Rattle.duration_str.specs.Text.{ahead};
+ghost use Rattle.duration_str.specs.Internal.Positions.{Stands};
+ghost use Rattle.duration_str.specs.Text.{ahead, width};
 
 /// A text, and the place up to which it is cut.
 #[derive(Drop)]
 pub(crate) struct Eye<'a> {
     text: &'a str,
     place: usize,
-    next: usize,
     looks: u64,
     ghost utf8: { ∥ IsUtf8 text.now ∥₁ },
     ghost short: { length text.now < 2 ^ 63 },
     ghost at_place: { IsCharBoundary text.now place },
-    ghost at_next: { IsCharBoundary text.now next },
-    ghost order: { place ≤ next },
 }
 
 impl<'a> Eye<'a> {
@@ -30,7 +27,6 @@ impl<'a> Eye<'a> {
         Eye {
             text,
             place: 0,
-            next: 0,
             looks: 0,
         }
     }
@@ -55,29 +51,26 @@ impl<'a> Eye<'a> {
     #[inline(always)]
     pub(crate) fn look(&mut self) -> Option<char>
         requires { self.old.looks + 1 < 2 ^ 64 }
-        ensures some { IfSome result (StandsAt self.old.text.now self.old.place self.new.next) }
+        ensures some { IfSome result (Stands self.old.text.now self.old.place) }
         ensures none { IfNone result (ahead self.old.text.now self.old.place ≡ []) }
         ensures text { self.new.text ≡ self.old.text }
         ensures place { self.new.place ≡ self.old.place }
         ensures looks { self.new.looks ≡ self.old.looks + (if is_some result then 1 else 0) }
     {
-        let mut next = self.place;
-        let Some(c) = character_at(self.text, self.place, &mut next) else {
-            return None;
-        };
-        self.next = next;
+        let c = character_at(self.text, self.place)?;
         self.looks += 1;
         Some(c)
     }
 
     /// Moves past the character just looked at.
     #[inline(always)]
-    pub(crate) fn step(&mut self)
+    pub(crate) fn step(&mut self, looked_at: char)
+        requires { Stands self.old.text.now self.old.place looked_at }
         ensures text { self.new.text ≡ self.old.text }
-        ensures place { self.new.place ≡ self.old.next }
+        ensures place { self.new.place ≡ self.old.place + width looked_at }
         ensures looks { self.new.looks ≡ self.old.looks }
     {
-        self.place = self.next;
+        self.place += looked_at.len_utf8();
     }
 
     /// The text from an earlier place to the present one.
@@ -102,37 +95,32 @@ impl<'a> Eye<'a> {
     }
 }
 
-/// The character at a place, and `None` at the end of the text. `next` becomes the place after it: the compiler would
-/// keep a returned pair in memory, and this reference in a register.
+/// The character at a place, and `None` at the end of the text.
 #[inline]
-fn character_at(text: &str, place: usize, next: &mut usize) -> Option<char>
+fn character_at(text: &str, place: usize) -> Option<char>
     requires { IsCharBoundary text.now place }
-    ensures some { IfSome result (StandsAt text.now place next.new) }
+    ensures some { IfSome result (Stands text.now place) }
     ensures none { IfNone result (ahead text.now place ≡ []) }
-    ensures boundary { IsSome result → IsCharBoundary text.now next.new }
 {
     let byte = *text.as_bytes().get(place)?;
     if byte < 128 {
-        *next = place + 1;
         Some(char::from(byte))
     } else {
-        let (c, end) = decoded_at(text, place);
-        *next = end;
-        Some(c)
+        Some(decoded_at(text, place))
     }
 }
 
-/// The character at a place, of any width, and the place after it.
+/// The character at a place, of any width.
+#[tactic(auto, using(crate::proofs::Characters::TextLemmas::stands_char))]
 #[cold]
 #[inline(never)]
-fn decoded_at(text: &str, place: usize) -> (char, usize)
+fn decoded_at(text: &str, place: usize) -> char
     requires boundary { IsCharBoundary text.now place }
     requires inside { place < length text.now }
-    ensures stands { StandsAt text.now place result.1 result.0 }
-    ensures boundary { IsCharBoundary text.now result.1 }
+    ensures { Stands text.now place result }
 {
     match text[place..].chars().next() {
-        Some(c) => (c, place + c.len_utf8()),
+        Some(c) => c,
         None => unreachable!(),
     }
 }

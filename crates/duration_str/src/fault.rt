@@ -17,7 +17,7 @@ use crate::token::Tokens;
 /// let fault = parse_with("3ms-2ms", Options::off()).unwrap_err();
 /// assert_eq!(fault.to_string(), "3ms-2ms\n   ^\nexpected ['+', '*']");
 /// ```
-#[derive(Clone, Copy, Debug, PartialEq, Eq)]
+#[derive(Clone, Copy, Debug, PartialEq, Eq, Hash)]
 pub struct Fault<'a> {
     /// The whole text that was read; the empty text for `NotText`.
     pub text: &'a str,

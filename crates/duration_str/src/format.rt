@@ -1,18 +1,22 @@
 //! How a duration is printed: in the units from a largest to a smallest, in so many parts at most, and in a style.
-ghost use Rattle.std.specs.Prelude.{◌≡◌};
-ghost use Rattle.duration_str.specs.Limits.{units_within, whole_format};
+ghost use Rattle.std.specs.Prelude.{◌≡◌, ℕ, List, map};
+ghost use Rattle.duration_str.specs.Units.{nanos_of};
+ghost use Rattle.duration_str.specs.Limits.{counts_within, lengths_within, units_within, whole_format};
+ghost use Rattle.duration_str.specs.Internal.PrintedBytes.{with_counts};
+ghost use Rattle.duration_str.specs.Internal.UnitTable.{AreRight, units_in};
 
-use crate::unit::{TimeUnit, UNITS};
+use crate::unit::{PRINTED, Printed, TimeUnit, UNITS};
 
 /// How a duration is printed: in which units, in how many parts at most, and in which style. It begins with
 /// [`Format::whole`], since a later version may have more fields.
 ///
 /// ```
-/// use duration_str::{Format, TimeUnit, write_within};
+/// use duration_str::{Format, STYLED_BUFFER_SIZE, TimeUnit, write_within};
 /// use std::time::Duration;
 ///
 /// let days = Format::whole().largest(TimeUnit::Day);
-/// assert_eq!(write_within(&Duration::new(120 * 86_400, 5), days, &mut [0; 144]), "120d 5ns");
+/// let mut buffer = [0; STYLED_BUFFER_SIZE];
+/// assert_eq!(write_within(&Duration::new(120 * 86_400, 5), days, &mut buffer), "120d 5ns");
 /// ```
 #[derive(Clone, Copy, Debug, PartialEq, Eq, Hash)]
 pub struct Format {
@@ -60,11 +64,12 @@ impl Format {
     /// The same format with this largest unit.
     ///
     /// ```
-    /// use duration_str::{Format, TimeUnit, write_within};
+    /// use duration_str::{Format, STYLED_BUFFER_SIZE, TimeUnit, write_within};
     /// use std::time::Duration;
     ///
+    /// let mut buffer = [0; STYLED_BUFFER_SIZE];
     /// let minutes = Format::whole().largest(TimeUnit::Minute);
-    /// assert_eq!(write_within(&Duration::new(5_430, 0), minutes, &mut [0; 144]), "90min 30s");
+    /// assert_eq!(write_within(&Duration::new(5_430, 0), minutes, &mut buffer), "90min 30s");
     /// ```
     #[inline]
     #[must_use]
@@ -77,12 +82,13 @@ impl Format {
     /// The same format with this smallest unit.
     ///
     /// ```
-    /// use duration_str::{Format, TimeUnit, write_within};
+    /// use duration_str::{Format, STYLED_BUFFER_SIZE, TimeUnit, write_within};
     /// use std::time::Duration;
     ///
+    /// let mut buffer = [0; STYLED_BUFFER_SIZE];
     /// let minutes = Format::whole().smallest(TimeUnit::Minute);
-    /// assert_eq!(write_within(&Duration::new(5_430, 0), minutes, &mut [0; 144]), "1h 30min");
-    /// assert_eq!(write_within(&Duration::new(30, 0), minutes, &mut [0; 144]), "0min");
+    /// assert_eq!(write_within(&Duration::new(5_430, 0), minutes, &mut buffer), "1h 30min");
+    /// assert_eq!(write_within(&Duration::new(30, 0), minutes, &mut buffer), "0min");
     /// ```
     #[inline]
     #[must_use]
@@ -95,11 +101,12 @@ impl Format {
     /// The same format with so many parts at most.
     ///
     /// ```
-    /// use duration_str::{Format, write_within};
+    /// use duration_str::{Format, STYLED_BUFFER_SIZE, write_within};
     /// use std::time::Duration;
     ///
+    /// let mut buffer = [0; STYLED_BUFFER_SIZE];
     /// let one_part = Format::whole().parts(1);
-    /// assert_eq!(write_within(&Duration::new(5_430, 0), one_part, &mut [0; 144]), "1h");
+    /// assert_eq!(write_within(&Duration::new(5_430, 0), one_part, &mut buffer), "1h");
     /// ```
     #[inline]
     #[must_use]
@@ -112,11 +119,12 @@ impl Format {
     /// The same format in this style.
     ///
     /// ```
-    /// use duration_str::{Format, Style, write_within};
+    /// use duration_str::{Format, STYLED_BUFFER_SIZE, Style, write_within};
     /// use std::time::Duration;
     ///
+    /// let mut buffer = [0; STYLED_BUFFER_SIZE];
     /// let long = Format::whole().style(Style::Long);
-    /// assert_eq!(write_within(&Duration::new(5_430, 0), long, &mut [0; 144]), "1 hour 30 minutes 30 seconds");
+    /// assert_eq!(write_within(&Duration::new(5_430, 0), long, &mut buffer), "1 hour 30 minutes 30 seconds");
     /// ```
     #[inline]
     #[must_use]
@@ -127,14 +135,30 @@ impl Format {
     }
 
     /// The units from the largest to the smallest.
-    pub(crate) fn units(self) -> &'static [TimeUnit]
-        ensures { result.now ≡ units_within self }
+    pub(crate) fn units(self) -> &'static [Printed]
+        ensures units { units_in result.now ≡ units_within self }
+        ensures right { AreRight result.now }
     {
         let first = self.largest.rank();
         let last = self.smallest.rank();
         if last < first {
             return &[];
         }
-        &UNITS[first..last + 1]
+        &PRINTED[first..last + 1]
+    }
+    /// The units in which so many nanoseconds are printed as in all of these. Most durations are below a day, and have
+    /// no longer units to look for.
+    #[inline(always)]
+    pub(crate) fn units_for(self, nanos: u64) -> &'static [Printed]
+        ensures right { AreRight result.now }
+        ensures same { (bytes : List ℕ) → with_counts self.style bytes (units_in result.now)
+            (counts_within (map nanos_of (units_in result.now)) self.parts nanos)
+            ≡ with_counts self.style bytes (units_within self)
+            (counts_within (lengths_within self) self.parts nanos) }
+    {
+        if nanos < TimeUnit::Day.nanos() && self.largest.rank() < TimeUnit::Hour.rank() {
+            return self.largest(TimeUnit::Hour).units();
+        }
+        self.units()
     }
 }

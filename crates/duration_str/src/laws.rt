@@ -119,8 +119,8 @@ pub fn never_more()
     ensures { NeverMore }
 {}
 
-/// A word for which a fault's line advises a unit's name is no unit under any options. So whoever is told to write `min`
-/// for `mins` can't have it read by other options.
+/// The name that a fault's line advises for a word is read as the unit that people mean by the word, and the word as no
+/// unit, under any options. So whoever is told to write `min` for `mins` can't have `mins` read by other options.
 #[tactic(auto, using(crate::proofs::LawProofs::NearWords::near_words_hold))]
 pub fn near_words()
     ensures { NearWords }

@@ -26,9 +26,12 @@ pub mod unit;
 pub use error::{DError, DResult};
 pub use ext::HumanFormat;
 pub use format::{Format, Style};
-pub use one_line::MAX_ONE_LINE_LEN;
+pub use one_line::{MAX_ONE_LINE_LEN, ONE_LINE_BUFFER_SIZE};
 pub use parser::{Cause, Expected, Fault, parse, parse_looked, parse_nanos, parse_std, parse_with};
-pub use printing::{MAX_LONG_LEN, MAX_PRINTED_LEN, write_human, write_within};
+pub use printing::{
+    FORMAT_BUFFER_SIZE, MAX_LONG_LEN, MAX_PRINTED_LEN, STYLED_BUFFER_SIZE, write_human,
+    write_within,
+};
 pub use token::{Token, Tokens, What};
 pub use top::{
     DeserializeDuration, after_naive_date, after_naive_date_time, before_naive_date,
@@ -36,4 +39,4 @@ pub use top::{
     deserialize_duration_time, deserialize_option_duration, deserialize_option_duration_chrono,
     deserialize_option_duration_time, parse_chrono, parse_time,
 };
-pub use unit::{CondUnit, Options, TimeUnit};
+pub use unit::{CondUnit, Options, TimeUnit, UNITS};

@@ -9,43 +9,9 @@ ghost use Rattle.std.specs.Str.{IsCharBoundary};
 ghost use Rattle.duration_str.specs.Buffers.{IsInFront, IsWritten};
 ghost use Rattle.duration_str.specs.Messages.{byte_text, caret_text, chars_before, message_of, line_of, laid_out};
 
-use crate::cause::Cause;
 use crate::fault::Fault;
 use crate::printing::put_number;
 use std::fmt;
-
-impl Cause {
-    /// Writes the line that says why the text is refused to the start of a buffer, and returns its length in bytes.
-    ///
-    /// `None` if it is longer than the buffer, which is then unchanged. Allocates nothing.
-    ///
-    /// ```
-    /// use duration_str::{Options, parse_with};
-    ///
-    /// let mut buffer = [0; 64];
-    /// let cause = parse_with("3 + ", Options::off()).unwrap_err().cause();
-    /// assert_eq!(cause.write_line(&mut buffer), Some(15));
-    /// assert_eq!(&buffer[..15], b"expected number");
-    /// ```
-    pub fn write_line(self, buffer: &mut [u8]) -> Option<usize>
-        ensures bytes { IsWritten (encode_utf8_all (line_of self)) buffer.old result buffer.new }
-        ensures utf8 { IfSome result (λ end. IsUtf8 (take end buffer.new)) }
-    {
-        put(buffer, 0, self.line().as_bytes())
-    }
-
-    /// The length in bytes of the line that `write_line` writes.
-    ///
-    /// ```
-    /// assert_eq!(duration_str::Cause::Empty.line_len(), 11);
-    /// ```
-    #[must_use]
-    pub const fn line_len(self) -> usize
-        ensures { result ≡ length (encode_utf8_all (line_of self)) }
-    {
-        self.line().len()
-    }
-}
 
 impl Fault<'_> {
     /// The length in bytes of the message that `write_message` writes; `usize::MAX` if it is greater than that.
@@ -182,6 +148,7 @@ impl Layout {
             (length buffer.old < length (laid_out self text.now line.now)) }
     {
         match self.put(buffer, text, line) {
+            // SAFETY: `put` writes UTF-8 up to `end`, by its clause `utf8`.
             Some(end) => Some(unsafe { std::str::from_utf8_unchecked(&buffer[..end]) }),
             None => None,
         }
@@ -265,11 +232,14 @@ fn put_spaces(buffer: &mut [u8], at: usize, count: usize) -> Option<usize>
 }
 
 /// Writes a number in decimal as `put` does.
-#[tactic(auto, using(crate::proofs::Printer::DigitLemmas::short_decimal))]
+#[tactic(auto, using(crate::proofs::Printer::DigitLemmas::short_decimal, std::proofs::lemmas::Fmt::decimal_digit))]
 pub(crate) fn put_decimal(buffer: &mut [u8], at: usize, number: usize) -> Option<usize>
     requires { at ≤ length buffer.old }
     ensures { IsInFront (take at buffer.old ++ decimal number) result buffer.new }
 {
+    if number < 10 {
+        return put(buffer, at, &[b'0' + number as u8]);
+    }
     let mut digits = [0; 64];
     let end = put_number(&mut digits, 0, number as u64);
     put(buffer, at, &digits[..end])

@@ -15,47 +15,45 @@ ghost use Rattle.duration_str.specs.Limits.{IsPrintedWithin, counts_within, leng
 ghost use Rattle.duration_str.specs.Limits.{units_within, zero_unit};
 ghost use Rattle.duration_str.specs.Internal.PrintedBytes.{long_part, name_part, part_bytes, with_counts, with_gap};
 ghost use Rattle.duration_str.specs.Internal.PrintedBytes.{with_part};
+ghost use Rattle.duration_str.specs.Internal.UnitTable.{AreRight, printed_row, units_in};
 
 use crate::format::{Format, Style};
-use crate::unit::TimeUnit;
+use crate::unit::{Printed, TimeUnit};
 use std::time::Duration;
 
 /// The most bytes in a printed duration that is not in the long style:
 /// `100000000000y 3q 2mon 3w 6d 23h 59min 59s 999ms 999µs 999ns`.
 ///
 /// ```
-/// use duration_str::{MAX_PRINTED_LEN, write_human};
+/// use duration_str::{FORMAT_BUFFER_SIZE, MAX_PRINTED_LEN, write_human};
 /// use std::time::Duration;
 ///
 /// let longest = Duration::new(3_153_600_000_031_190_399, 999_999_999);
-/// assert_eq!(write_human(&longest, &mut [0; 64]).len(), MAX_PRINTED_LEN);
+/// assert_eq!(write_human(&longest, &mut [0; FORMAT_BUFFER_SIZE]).len(), MAX_PRINTED_LEN);
 /// ```
 pub const MAX_PRINTED_LEN: usize = 60;
+
+/// The bytes of the buffer for `write_human`: room for the longest text, and for four bytes of the last name's row.
+pub const FORMAT_BUFFER_SIZE: usize = 64;
 
 /// Prints a duration to the start of a buffer, whatever the buffer holds. The text has at most `MAX_PRINTED_LEN` bytes.
 /// Allocates nothing and cannot fail.
 ///
 /// ```
-/// use duration_str::write_human;
+/// use duration_str::{FORMAT_BUFFER_SIZE, write_human};
 /// use std::time::Duration;
 ///
-/// let mut buffer = [0; 64];
+/// let mut buffer = [0; FORMAT_BUFFER_SIZE];
 /// assert_eq!(write_human(&Duration::new(193, 29_000_000), &mut buffer), "3min 13s 29ms");
 /// assert_eq!(write_human(&Duration::ZERO, &mut buffer), "0s");
 /// ```
 #[tactic(auto, unfolding(crate::specs::Internal::PrintedBytes::digits))]
 #[must_use]
-pub fn write_human<'b>(d: &Duration, buffer: &'b mut [u8; 64]) -> &'b str
+pub fn write_human<'b>(d: &Duration, buffer: &'b mut [u8; FORMAT_BUFFER_SIZE]) -> &'b str
     ensures text { IsPrinted (as_nanos d.now) (chars result.now) }
     ensures short { length result.now ≤ MAX_PRINTED_LEN }
 {
-    // Most durations are below a day, and have no longer units to look for.
-    let largest = if d.as_secs() < 86_400 {
-        TimeUnit::Hour
-    } else {
-        TimeUnit::Year
-    };
-    let end = fill(*d, Format::whole().largest(largest), buffer);
+    let end = fill(*d, Format::whole(), buffer);
     printed(buffer, end)
 }
 
@@ -64,6 +62,9 @@ pub fn write_human<'b>(d: &Duration, buffer: &'b mut [u8; 64]) -> &'b str
 /// 999 microseconds 999 nanoseconds`.
 pub const MAX_LONG_LEN: usize = 134;
 
+/// The bytes of the buffer for `write_within`, with such room in every style.
+pub const STYLED_BUFFER_SIZE: usize = 144;
+
 /// Prints a duration within limits and in a style to the start of a buffer, whatever the buffer holds: the
 /// lexicographically greatest breakdown with only these units and so few parts that is not above the duration. If all
 /// its counts are 0, the text is the zero: `0` and the smallest unit's name, or that of the second where the unit is
@@ -71,11 +72,11 @@ pub const MAX_LONG_LEN: usize = 134;
 /// text has at most `MAX_PRINTED_LEN` bytes, in the long style `MAX_LONG_LEN`. Allocates nothing and cannot fail.
 ///
 /// ```
-/// use duration_str::{Format, Style, TimeUnit, write_within};
+/// use duration_str::{Format, STYLED_BUFFER_SIZE, Style, TimeUnit, write_within};
 /// use std::time::Duration;
 ///
 /// let build = Duration::new(193, 29_000_000);
-/// let mut buffer = [0; 144];
+/// let mut buffer = [0; STYLED_BUFFER_SIZE];
 /// let two_parts = Format::whole().parts(2);
 /// assert_eq!(write_within(&build, two_parts, &mut buffer), "3min 13s");
 /// let hours = Format::whole().smallest(TimeUnit::Hour);
@@ -84,9 +85,14 @@ pub const MAX_LONG_LEN: usize = 134;
 /// let long = two_parts.style(Style::Long);
 /// assert_eq!(write_within(&build, long, &mut buffer), "3 minutes 13 seconds");
 /// ```
+#[tactic(auto, using(crate::proofs::Printer::LimitsLemmas::printed_within))]
 #[inline(always)]
 #[must_use]
-pub fn write_within<'b>(d: &Duration, format: Format, buffer: &'b mut [u8; 144]) -> &'b str
+pub fn write_within<'b>(
+    d: &Duration,
+    format: Format,
+    buffer: &'b mut [u8; STYLED_BUFFER_SIZE],
+) -> &'b str
     ensures text { IsPrintedWithin format (as_nanos d.now) (chars result.now) }
     ensures short { length result.now ≤ most_len format.style }
 {
@@ -121,7 +127,23 @@ pub(crate) fn put_number(buffer: &mut [u8], at: usize, n: u64) -> usize
     put_digit(buffer, end, n % 10)
 }
 
-/// Writes a count as `put_number` does. Most counts have one or two digits, which need no call.
+/// Writes a number of one or two digits from `at` on, and returns where they end. Without a branch, since nobody can
+/// foresee which it is: of a single digit the place is written twice.
+#[inline(always)]
+#[tactic(auto, using(crate::proofs::Printer::DigitLemmas::put_steps))]
+fn put_tens(buffer: &mut [u8], at: usize, n: u64) -> usize
+    requires room { at + length (decimal n) ≤ length buffer.old }
+    requires short { n < 100 }
+    ensures text { take result buffer.new ≡ take at buffer.old ++ decimal n }
+    ensures end { result ≡ at + length (decimal n) }
+{
+    let tens = n / 10;
+    let end = put_digit(buffer, at, tens);
+    let last = if n < 10 { at } else { end };
+    put_digit(buffer, last, n - 10 * tens)
+}
+
+/// Writes a count as `put_number` does. Most counts have up to three digits, which need no call.
 #[inline(always)]
 #[tactic(auto, using(crate::proofs::Printer::DigitLemmas::put_steps))]
 fn put_count(buffer: &mut [u8], at: usize, n: u64) -> usize
@@ -129,12 +151,12 @@ fn put_count(buffer: &mut [u8], at: usize, n: u64) -> usize
     ensures text { take result buffer.new ≡ take at buffer.old ++ decimal n }
     ensures end { result ≡ at + length (decimal n) }
 {
-    if n < 10 {
-        return put_digit(buffer, at, n);
-    }
     if n < 100 {
+        return put_tens(buffer, at, n);
+    }
+    if n < 1_000 {
         let tens = n / 10;
-        let end = put_digit(buffer, at, tens);
+        let end = put_tens(buffer, at, tens);
         return put_digit(buffer, end, n - 10 * tens);
     }
     put_number(buffer, at, n)
@@ -142,7 +164,7 @@ fn put_count(buffer: &mut [u8], at: usize, n: u64) -> usize
 
 /// Writes a text from `at` on, and returns where it ends.
 #[inline(always)]
-fn put_text(buffer: &mut [u8], at: usize, text: &str) -> usize
+fn put_str(buffer: &mut [u8], at: usize, text: &str) -> usize
     requires room { at + length text.now ≤ length buffer.old }
     ensures text { take result buffer.new ≡ take at buffer.old ++ text.now }
     ensures end { result ≡ at + length text.now }
@@ -163,7 +185,7 @@ fn put_gap(buffer: &mut [u8], at: usize, style: Style) -> usize
     if at == 0 || style == Style::Compact {
         return at;
     }
-    put_text(buffer, at, " ")
+    put_str(buffer, at, " ")
 }
 
 /// Writes the digits of a number of up to 128 bits from `at` on, and returns where they end.
@@ -174,35 +196,25 @@ fn put_wide(buffer: &mut [u8], at: usize, n: u128) -> usize
     ensures end { result ≡ at + length (decimal n) }
 {
     if let Ok(small) = u64::try_from(n) {
-        return put_count(buffer, at, small);
+        return put_number(buffer, at, small);
     }
     let end = put_wide(buffer, at, n / 10);
     put_digit(buffer, end, (n % 10) as u64)
 }
 
-/// Writes a unit's name from `at` on, and returns where it ends. In each arm the name is known, so that no call copies
-/// it.
+/// Writes a unit's name from `at` on, and returns where it ends. All names are copied with what follows them in four
+/// bytes, so that no call and no branch copies them.
+#[tactic(auto, using(crate::proofs::Printer::RowLemmas::name_copied))]
 #[inline(always)]
-#[tactic(auto, using(crate::proofs::Characters::NameLemmas::length_name))]
-fn put_name(buffer: &mut [u8], at: usize, unit: TimeUnit) -> usize
-    requires room { at + length (encode_utf8_all (row_of unit).printed) ≤ length buffer.old }
+fn put_name(buffer: &mut [u8], at: usize, row: &Printed) -> usize
+    requires right { row.now ≡ printed_row row.now.unit }
+    requires room { at + 4 ≤ length buffer.old }
     ensures text { take result buffer.new
-        ≡ take at buffer.old ++ encode_utf8_all (row_of unit).printed }
-    ensures end { result ≡ at + length (encode_utf8_all (row_of unit).printed) }
+        ≡ take at buffer.old ++ encode_utf8_all (row_of row.now.unit).printed }
+    ensures end { result ≡ at + length (encode_utf8_all (row_of row.now.unit).printed) }
 {
-    match unit {
-        TimeUnit::Year => put_text(buffer, at, TimeUnit::Year.name()),
-        TimeUnit::Quarter => put_text(buffer, at, TimeUnit::Quarter.name()),
-        TimeUnit::Month => put_text(buffer, at, TimeUnit::Month.name()),
-        TimeUnit::Week => put_text(buffer, at, TimeUnit::Week.name()),
-        TimeUnit::Day => put_text(buffer, at, TimeUnit::Day.name()),
-        TimeUnit::Hour => put_text(buffer, at, TimeUnit::Hour.name()),
-        TimeUnit::Minute => put_text(buffer, at, TimeUnit::Minute.name()),
-        TimeUnit::Second => put_text(buffer, at, TimeUnit::Second.name()),
-        TimeUnit::MilliSecond => put_text(buffer, at, TimeUnit::MilliSecond.name()),
-        TimeUnit::MicroSecond => put_text(buffer, at, TimeUnit::MicroSecond.name()),
-        TimeUnit::NanoSecond => put_text(buffer, at, TimeUnit::NanoSecond.name()),
-    }
+    buffer[at..at + 4].copy_from_slice(&row.letters);
+    at + usize::from(row.width)
 }
 
 /// Writes a unit's long name after its count from `at` on, and returns where it ends.
@@ -213,73 +225,77 @@ fn put_long_name(buffer: &mut [u8], at: usize, unit: TimeUnit, one: bool) -> usi
         ≡ take at buffer.old ++ encode_utf8_all (long_part one unit) }
     ensures end { result ≡ at + length (encode_utf8_all (long_part one unit)) }
 {
-    let start = put_text(buffer, at, " ");
-    let end = put_text(buffer, start, unit.long_name());
+    let start = put_str(buffer, at, " ");
+    let end = put_str(buffer, start, unit.long_name());
     if one {
         return end;
     }
-    put_text(buffer, end, "s")
+    put_str(buffer, end, "s")
 }
 
 /// Writes what follows a count: its unit's name.
 #[inline(always)]
-fn put_name_in(buffer: &mut [u8], at: usize, unit: TimeUnit, one: bool, style: Style) -> usize
-    requires room { at + length (encode_utf8_all (name_part style one unit)) ≤ length buffer.old }
+fn put_name_in(buffer: &mut [u8], at: usize, row: &Printed, one: bool, style: Style) -> usize
+    requires right { row.now ≡ printed_row row.now.unit }
+    requires room { at + length (encode_utf8_all (name_part style one row.now.unit)) + 4
+        ≤ length buffer.old }
     ensures text { take result buffer.new
-        ≡ take at buffer.old ++ encode_utf8_all (name_part style one unit) }
-    ensures end { result ≡ at + length (encode_utf8_all (name_part style one unit)) }
+        ≡ take at buffer.old ++ encode_utf8_all (name_part style one row.now.unit) }
+    ensures end { result ≡ at + length (encode_utf8_all (name_part style one row.now.unit)) }
 {
     match style {
-        Style::Long => put_long_name(buffer, at, unit, one),
-        _ => put_name(buffer, at, unit),
+        Style::Long => put_long_name(buffer, at, row.unit, one),
+        _ => put_name(buffer, at, row),
     }
 }
 
 /// Writes a unit's part after the first `at` bytes, and returns where it ends.
 #[inline(always)]
-fn put_part(buffer: &mut [u8], at: usize, count: u128, unit: TimeUnit, style: Style) -> usize
+fn put_part(buffer: &mut [u8], at: usize, count: u64, row: &Printed, style: Style) -> usize
+    requires right { row.now ≡ printed_row row.now.unit }
     requires some { 0 < count }
     requires start { at ≤ length buffer.old }
-    requires room { length (with_part style (take at buffer.old) unit count) ≤ length buffer.old }
-    ensures text { take result buffer.new ≡ with_part style (take at buffer.old) unit count }
+    requires room { length (with_part style (take at buffer.old) row.now.unit count) + 4
+        ≤ length buffer.old }
+    ensures text { take result buffer.new
+        ≡ with_part style (take at buffer.old) row.now.unit count }
     ensures end { result ≤ length buffer.old }
 {
     let start = put_gap(buffer, at, style);
-    let end = match u64::try_from(count) {
-        Ok(small) => put_count(buffer, start, small),
-        Err(_) => put_wide(buffer, start, count),
-    };
-    put_name_in(buffer, end, unit, count == 1, style)
+    let end = put_count(buffer, start, count);
+    put_name_in(buffer, end, row, count == 1, style)
 }
 
 /// Writes at most `most` parts of so many nanoseconds in these units after the first `at` bytes, and returns where they
 /// end.
-#[inline(always)]
+#[inline(never)]
 fn put_parts(
     buffer: &mut [u8],
     at: usize,
-    units: &[TimeUnit],
+    rows: &[Printed],
     most: usize,
     nanos: u64,
     style: Style,
 ) -> usize
+    requires right { AreRight rows.now }
     requires start { at ≤ length buffer.old }
-    requires room { length (with_counts style (take at buffer.old) units.now
-        (counts_within (map nanos_of units.now) most nanos)) ≤ length buffer.old }
-    ensures text { take result buffer.new ≡ with_counts style (take at buffer.old) units.now
-        (counts_within (map nanos_of units.now) most nanos) }
+    requires room { length (with_counts style (take at buffer.old) (units_in rows.now)
+        (counts_within (map nanos_of (units_in rows.now)) most nanos)) + 4 ≤ length buffer.old }
+    ensures text { take result buffer.new
+        ≡ with_counts style (take at buffer.old) (units_in rows.now)
+        (counts_within (map nanos_of (units_in rows.now)) most nanos) }
     ensures end { result ≤ length buffer.old }
 {
     let mut end = at;
     let mut left = most;
     let mut rest = nanos;
-    for unit in units {
-        if unit.nanos() <= rest {
+    for row in rows {
+        if row.nanos <= rest {
             if left == 0 {
                 return end;
             }
-            let (count, after) = unit.division(rest);
-            end = put_part(buffer, end, u128::from(count), *unit, style);
+            let (count, after) = row.division(rest);
+            end = put_part(buffer, end, count, row, style);
             left -= 1;
             rest = after;
             if rest == 0 {
@@ -290,48 +306,38 @@ fn put_parts(
     end
 }
 
-/// The same in the short style, of which the compiler makes code of its own.
-#[inline(never)]
-fn put_short(buffer: &mut [u8], units: &[TimeUnit], most: usize, nanos: u64) -> usize
-    requires room { length (with_counts Short [] units.now
-        (counts_within (map nanos_of units.now) most nanos)) ≤ length buffer.old }
-    ensures text { take result buffer.new ≡ with_counts Short [] units.now
-        (counts_within (map nanos_of units.now) most nanos) }
+/// Writes the first part to the start of the buffer, whose count may be above 64 bits, and returns where it ends.
+#[inline(always)]
+fn put_first(buffer: &mut [u8], count: u128, row: &Printed, style: Style) -> usize
+    requires right { row.now ≡ printed_row row.now.unit }
+    requires some { 0 < count }
+    requires room { length (with_part style [] row.now.unit count) + 4 ≤ length buffer.old }
+    ensures text { take result buffer.new ≡ with_part style [] row.now.unit count }
     ensures end { result ≤ length buffer.old }
 {
-    put_parts(buffer, 0, units, most, nanos, Style::Short)
-}
-
-/// The same in any style.
-#[inline(never)]
-fn put_styled(buffer: &mut [u8], units: &[TimeUnit], most: usize, nanos: u64, style: Style) -> usize
-    requires room { length (with_counts style [] units.now
-        (counts_within (map nanos_of units.now) most nanos)) ≤ length buffer.old }
-    ensures text { take result buffer.new ≡ with_counts style [] units.now
-        (counts_within (map nanos_of units.now) most nanos) }
-    ensures end { result ≤ length buffer.old }
-{
-    put_parts(buffer, 0, units, most, nanos, style)
+    let end = put_wide(buffer, 0, count);
+    put_name_in(buffer, end, row, count == 1, style)
 }
 
 /// The same for a duration of 2^64 nanoseconds or more, into which each unit goes, and leaves less.
 #[inline(never)]
-fn put_long(buffer: &mut [u8], units: &[TimeUnit], most: usize, nanos: u128, style: Style) -> usize
+fn put_long(buffer: &mut [u8], rows: &[Printed], most: usize, nanos: u128, style: Style) -> usize
+    requires right { AreRight rows.now }
     requires long { 2 ^ 64 ≤ nanos }
-    requires room { length (with_counts style [] units.now
-        (counts_within (map nanos_of units.now) most nanos)) ≤ length buffer.old }
-    ensures text { take result buffer.new ≡ with_counts style [] units.now
-        (counts_within (map nanos_of units.now) most nanos) }
+    requires room { length (with_counts style [] (units_in rows.now)
+        (counts_within (map nanos_of (units_in rows.now)) most nanos)) + 4 ≤ length buffer.old }
+    ensures text { take result buffer.new ≡ with_counts style [] (units_in rows.now)
+        (counts_within (map nanos_of (units_in rows.now)) most nanos) }
     ensures end { result ≤ length buffer.old }
 {
-    let [unit, shorter @ ..] = units else {
+    let [row, shorter @ ..] = rows else {
         return 0;
     };
     if most == 0 {
         return 0;
     }
-    let length = u128::from(unit.nanos());
-    let end = put_part(buffer, 0, nanos / length, *unit, style);
+    let length = u128::from(row.nanos);
+    let end = put_first(buffer, nanos / length, row, style);
     put_parts(
         buffer,
         end,
@@ -343,27 +349,29 @@ fn put_long(buffer: &mut [u8], units: &[TimeUnit], most: usize, nanos: u128, sty
 }
 
 /// Writes the parts of so many nanoseconds to the start of the buffer, and returns where they end.
+#[tactic(auto, using(crate::proofs::Printer::LimitsLemmas::with_nothing))]
 #[inline(always)]
 fn put_within(buffer: &mut [u8], format: Format, nanos: u128) -> usize
     requires room { length (with_counts format.style [] (units_within format)
-        (counts_within (lengths_within format) format.parts nanos)) ≤ length buffer.old }
+        (counts_within (lengths_within format) format.parts nanos)) + 4 ≤ length buffer.old }
     ensures text { take result buffer.new ≡ with_counts format.style [] (units_within format)
         (counts_within (lengths_within format) format.parts nanos) }
     ensures end { result ≤ length buffer.old }
 {
-    let units = format.units();
     match u64::try_from(nanos) {
-        Ok(small) => match format.style {
-            Style::Short => put_short(buffer, units, format.parts, small),
-            style => put_styled(buffer, units, format.parts, small, style),
-        },
-        Err(_) => put_long(buffer, units, format.parts, nanos, format.style),
+        // The zero has no parts to look for.
+        Ok(0) => 0,
+        Ok(small) => {
+            let units = format.units_for(small);
+            put_parts(buffer, 0, units, format.parts, small, format.style)
+        }
+        Err(_) => put_long(buffer, format.units(), format.parts, nanos, format.style),
     }
 }
 
 /// Writes the zero that is printed if there are no parts, and returns where it ends.
 fn put_zero(buffer: &mut [u8], smallest: TimeUnit, style: Style) -> usize
-    requires room { length (part_bytes style 0 (zero_unit smallest)) ≤ length buffer.old }
+    requires room { length (part_bytes style 0 (zero_unit smallest)) + 4 ≤ length buffer.old }
     ensures text { take result buffer.new ≡ part_bytes style 0 (zero_unit smallest) }
     ensures end { result ≡ length (part_bytes style 0 (zero_unit smallest)) }
 {
@@ -373,14 +381,14 @@ fn put_zero(buffer: &mut [u8], smallest: TimeUnit, style: Style) -> usize
         smallest
     };
     let end = put_digit(buffer, 0, 0);
-    put_name_in(buffer, end, unit, false, style)
+    put_name_in(buffer, end, unit.printed(), false, style)
 }
 
 /// Writes the printed text to the start of the buffer, and returns its length.
 #[inline(always)]
 #[tactic(auto, unfolding(crate::specs::Internal::PrintedBytes::digits))]
 fn fill(d: Duration, format: Format, buffer: &mut [u8]) -> usize
-    requires room { most_len format.style ≤ length buffer.old }
+    requires room { most_len format.style + 4 ≤ length buffer.old }
     ensures text { take result buffer.new ≡ encode_utf8_all
         (text_within format (counts_within (lengths_within format) format.parts (as_nanos d))) }
     ensures short { result ≤ most_len format.style }
@@ -400,5 +408,6 @@ fn printed(buffer: &[u8], end: usize) -> &str
     requires utf8 { IsUtf8 (take end buffer.now) }
     ensures { result.now ≡ take end buffer.now }
 {
+    // SAFETY: the bytes up to `end` are UTF-8, by the clause `utf8`.
     unsafe { std::str::from_utf8_unchecked(&buffer[..end]) }
 }

@@ -7,7 +7,7 @@ ghost use Rattle.std.specs.Str.{chars};
 ghost use Rattle.std.specs.Iterator.{item_count};
 ghost use Rattle.duration_str.specs.Text.{ahead, is_blank, is_digit, is_unit_letter, is_chinese, IsNumber, number_of};
 ghost use Rattle.duration_str.specs.Tokens.{tokens_of};
-ghost use Rattle.duration_str.specs.Internal.Positions.{letter_number, StandsAt, Passes, Stops};
+ghost use Rattle.duration_str.specs.Internal.Positions.{letter_number, Stands, StandsAt, Passes, Stops};
 ghost use Rattle.duration_str.specs.Internal.Positions.{TakesDigits, TakesLetters, wide_number};
 ghost use Rattle.duration_str.specs.Value.{fits};
 ghost use Rattle.duration_str.specs.declared.token.TokenStart.{TokenStart};
@@ -109,7 +109,7 @@ pub struct Tokens<'a> {
     /// The character at the place, already looked at; `None` at the end.
     head: Option<char>,
     options: Options,
-    ghost some: { ForSome head (StandsAt eye.text.now eye.place eye.next) },
+    ghost some: { ForSome head (Stands eye.text.now eye.place) },
     ghost none: { ForNone head (ahead eye.text.now eye.place ≡ []) },
     ghost counted: { eye.looks + length (ahead eye.text.now eye.place)
         ≡ length (chars eye.text.now) + (if is_some head then 1 else 0) },
@@ -176,14 +176,15 @@ impl<'a> Tokens<'a> {
     /// digit nor a unit letter, is taken as a token.
     #[inline(always)]
     pub(crate) fn advance(&mut self)
-        requires { IsSome self.old.head }
         ensures kept { KeepsInput self.old self.new }
         ensures past { ForSome self.old.head
             (StandsAt (source self.old) (cut_place self.old) (cut_place self.new)) }
         ensures sign { TakesSign self.old self.new }
     {
-        self.eye.step();
-        self.head = self.eye.look();
+        if let Some(c) = self.head {
+            self.eye.step(c);
+            self.head = self.eye.look();
+        }
     }
 
     /// Moves past the blanks.
@@ -214,7 +215,8 @@ impl<'a> Tokens<'a> {
         let mut number = 0u64;
         while let Some(c) = self.head {
             if c.is_ascii_digit() {
-                number = ((number as u128 * 10 + (c as u32 - 48) as u128) % MODULUS) as u64;
+                let digit = c as u32 - b'0' as u32;
+                number = ((number as u128 * 10 + digit as u128) % MODULUS) as u64;
                 self.advance();
             } else {
                 break;
@@ -238,7 +240,7 @@ impl<'a> Tokens<'a> {
     }
 
     /// Moves past the letters of the word ahead, and returns them packed. Its first character is a unit letter, and
-    /// is handled before the loop, which takes fewer instructions.
+    /// is handled before the loop, which takes fewer instructions. Of unit letters the capitals alone are below `a`.
     #[inline(always)]
     fn take_letters(&mut self) -> Letters
         requires { IsAhead self.old (Some a_word) }
@@ -380,7 +382,8 @@ fn is_unit_letter(c: char, o: Options) -> bool
     letter_number(c, o).is_some()
 }
 
-/// The number of a unit letter under these options, ignoring case; `None` of any other character.
+/// The number of a unit letter under these options, ignoring case: 1 to 26 of an ASCII letter, which is its code modulo
+/// 32; `None` of any other character.
 #[inline(always)]
 fn letter_number(c: char, o: Options) -> Option<u64>
     ensures { result ≡ (if is_unit_letter o c then Some (letter_number c) else None) }

@@ -8,7 +8,7 @@ ghost use Rattle.duration_str.specs.declared.unit.TimeUnit.{TimeUnit};
 ghost use Rattle.duration_str.specs.declared.unit.TimeUnit.TheVariants.{Second};
 ghost use Rattle.duration_str.specs.Units.{nanos_of, row_of, comparison_form, is_named, unit_of_word};
 ghost use Rattle.duration_str.specs.Printing.{long_name};
-ghost use Rattle.duration_str.specs.Internal.UnitTable.{IsRow, rank_of};
+ghost use Rattle.duration_str.specs.Internal.UnitTable.{IsRow, printed_row, rank_of};
 ghost use Rattle.duration_str.specs.Internal.Numbers.{checked_term};
 ghost use Rattle.duration_str.specs.Value.{term_of, term_answer};
 
@@ -83,23 +83,10 @@ impl TimeUnit {
     }
 
     /// The long name of one of the unit.
-    #[tactic(auto, unfolding(std::specs::Prelude::encode_utf8))]
     pub(crate) const fn long_name(self) -> &'static str
-        ensures { result.now ≡ encode_utf8_all (long_name self) }
+        ensures { result.now ≡ encode_utf8_all (long_name (row_of self)) }
     {
-        match self {
-            TimeUnit::Year => "year",
-            TimeUnit::Quarter => "quarter",
-            TimeUnit::Month => "month",
-            TimeUnit::Week => "week",
-            TimeUnit::Day => "day",
-            TimeUnit::Hour => "hour",
-            TimeUnit::Minute => "minute",
-            TimeUnit::Second => "second",
-            TimeUnit::MilliSecond => "millisecond",
-            TimeUnit::MicroSecond => "microsecond",
-            TimeUnit::NanoSecond => "nanosecond",
-        }
+        self.row().long
     }
 
     /// How many units are longer.
@@ -118,72 +105,72 @@ impl TimeUnit {
     {
         match self {
             TimeUnit::Year => Row {
-                nanos: 31_536_000_000_000_000,
-                reciprocal: u64::MAX / 31_536_000_000_000_000,
+                nanos: YEAR,
                 printed: "y",
+                long: "year",
                 names: &["y", "year", "years"],
                 chinese: &["年"],
             },
             TimeUnit::Quarter => Row {
-                nanos: 7_862_400_000_000_000,
-                reciprocal: u64::MAX / 7_862_400_000_000_000,
+                nanos: QUARTER,
                 printed: "q",
+                long: "quarter",
                 names: &["q", "quarter", "quarters"],
                 chinese: &[],
             },
             TimeUnit::Month => Row {
-                nanos: 2_592_000_000_000_000,
-                reciprocal: u64::MAX / 2_592_000_000_000_000,
+                nanos: MONTH,
                 printed: "mon",
+                long: "month",
                 names: &["mon", "month", "months"],
                 chinese: &["月"],
             },
             TimeUnit::Week => Row {
-                nanos: 604_800_000_000_000,
-                reciprocal: u64::MAX / 604_800_000_000_000,
+                nanos: WEEK,
                 printed: "w",
+                long: "week",
                 names: &["w", "week", "weeks"],
                 chinese: &["周"],
             },
             TimeUnit::Day => Row {
-                nanos: 86_400_000_000_000,
-                reciprocal: u64::MAX / 86_400_000_000_000,
+                nanos: DAY,
                 printed: "d",
+                long: "day",
                 names: &["d", "day", "days"],
                 chinese: &["日", "天"],
             },
             TimeUnit::Hour => Row {
-                nanos: 3_600_000_000_000,
-                reciprocal: u64::MAX / 3_600_000_000_000,
+                nanos: HOUR,
                 printed: "h",
+                long: "hour",
                 names: &["h", "hr", "hour", "hours"],
                 chinese: &["时"],
             },
             TimeUnit::Minute => Row {
-                nanos: 60_000_000_000,
-                reciprocal: u64::MAX / 60_000_000_000,
+                nanos: MINUTE,
                 printed: "min",
+                long: "minute",
                 names: &["m", "min", "minute", "minutes"],
                 chinese: &["分"],
             },
             TimeUnit::Second => Row {
-                nanos: 1_000_000_000,
-                reciprocal: u64::MAX / 1_000_000_000,
+                nanos: SECOND,
                 printed: "s",
+                long: "second",
                 names: &["s", "sec", "second", "seconds"],
                 chinese: &["秒"],
             },
             TimeUnit::MilliSecond => Row {
-                nanos: 1_000_000,
-                reciprocal: u64::MAX / 1_000_000,
+                nanos: MILLISECOND,
                 printed: "ms",
+                long: "millisecond",
                 names: &["ms", "msec", "millisecond", "milliseconds"],
                 chinese: &["毫秒"],
             },
             TimeUnit::MicroSecond => Row {
-                nanos: 1_000,
-                reciprocal: u64::MAX / 1_000,
+                nanos: MICROSECOND,
                 printed: "µs",
+                long: "microsecond",
                 names: &[
                     "µs",
                     "µsec",
@@ -197,30 +184,21 @@ impl TimeUnit {
                 chinese: &["微秒"],
             },
             TimeUnit::NanoSecond => Row {
-                nanos: 1,
-                reciprocal: u64::MAX / 1,
+                nanos: NANOSECOND,
                 printed: "ns",
+                long: "nanosecond",
                 names: &["ns", "nsec", "nanosecond", "nanoseconds"],
                 chinese: &["纳秒"],
             },
         }
     }
 
-    /// How often the unit goes into so many nanoseconds, and what it leaves. The multiplication gives that number or one
-    /// less, and is faster than a division.
+    /// What is printed of the unit.
     #[inline(always)]
-    pub(crate) fn division(self, nanos: u64) -> (u64, u64)
-        ensures count { result.0 ≡ nanos / nanos_of self }
-        ensures rest { result.1 ≡ nanos % nanos_of self }
+    pub(crate) fn printed(self) -> &'static Printed
+        ensures { result.now ≡ printed_row self }
     {
-        let row = self.row();
-        let count = (nanos as u128 * row.reciprocal as u128 >> 64) as u64;
-        let rest = nanos - count * row.nanos;
-        if rest < row.nanos {
-            (count, rest)
-        } else {
-            (count + 1, rest - row.nanos)
-        }
+        &PRINTED[self.rank()]
     }
 
     /// The unit that a word names under these options, if any. No word names two units.
@@ -265,11 +243,7 @@ impl TimeUnit {
         let Some(n) = number else {
             return Err(Cause::NumberTooLarge { place });
         };
-        // Checked in 128 bits, which takes fewer instructions than `checked_mul`.
-        match u64::try_from(n as u128 * self.nanos() as u128) {
-            Ok(value) => Ok(value),
-            Err(_) => Err(Cause::Overflow { place }),
-        }
+        n.checked_mul(self.nanos()).ok_or(Cause::Overflow { place })
     }
 
     /// Whether a word is a name of the unit.
@@ -294,23 +268,168 @@ impl fmt::Display for TimeUnit {
     }
 }
 
+// The lengths of the units in nanoseconds.
+const NANOSECOND: u64 = 1;
+
+const MICROSECOND: u64 = 1_000;
+
+const MILLISECOND: u64 = 1_000 * MICROSECOND;
+
+const SECOND: u64 = 1_000 * MILLISECOND;
+
+const MINUTE: u64 = 60 * SECOND;
+
+const HOUR: u64 = 60 * MINUTE;
+
+const DAY: u64 = 24 * HOUR;
+
+const WEEK: u64 = 7 * DAY;
+
+const MONTH: u64 = 30 * DAY;
+
+const QUARTER: u64 = 91 * DAY;
+
+const YEAR: u64 = 365 * DAY;
+
 /// A row of the table of units.
 #[derive(Clone, Copy)]
 struct Row {
     /// The length in nanoseconds.
     nanos: u64,
-    /// The greatest `u64` divided by the length.
-    reciprocal: u64,
     /// The printed name.
     printed: &'static str,
+    /// The long name of one of the unit.
+    long: &'static str,
     /// The names that are read under all options.
     names: &'static [&'static str],
     /// The names that are also read with the option `cn_unit`.
     chinese: &'static [&'static str],
 }
 
+/// What is printed of a unit.
+#[derive(Clone, Copy)]
+pub(crate) struct Printed {
+    /// The unit.
+    pub(crate) unit: TimeUnit,
+    /// The length in nanoseconds.
+    pub(crate) nanos: u64,
+    /// The greatest `u64` divided by the length.
+    reciprocal: u64,
+    /// The printed name, and then spaces, so that names of all lengths are copied alike.
+    pub(crate) letters: [u8; 4],
+    /// How many bytes the name has.
+    pub(crate) width: u8,
+}
+
+impl Printed {
+    /// How often the unit goes into so many nanoseconds, and what it leaves. The multiplication gives that number or one
+    /// less, and is faster than a division.
+    #[inline(always)]
+    pub(crate) fn division(&self, nanos: u64) -> (u64, u64)
+        requires right { self.now ≡ printed_row self.now.unit }
+        ensures count { result.0 ≡ nanos / nanos_of self.now.unit }
+        ensures rest { result.1 ≡ nanos % nanos_of self.now.unit }
+    {
+        let count = (nanos as u128 * self.reciprocal as u128 >> 64) as u64;
+        let rest = nanos - count * self.nanos;
+        if rest < self.nanos {
+            (count, rest)
+        } else {
+            (count + 1, rest - self.nanos)
+        }
+    }
+}
+
+/// What is printed of the units, the longest first. A table beside `row`, and a short one: a program that prints has no
+/// names in it that are read, and a call of `nanos` looks up nothing else.
+pub(crate) static PRINTED: [Printed; 11] = [
+    Printed {
+        unit: TimeUnit::Year,
+        nanos: YEAR,
+        reciprocal: u64::MAX / YEAR,
+        letters: *b"y   ",
+        width: 1,
+    },
+    Printed {
+        unit: TimeUnit::Quarter,
+        nanos: QUARTER,
+        reciprocal: u64::MAX / QUARTER,
+        letters: *b"q   ",
+        width: 1,
+    },
+    Printed {
+        unit: TimeUnit::Month,
+        nanos: MONTH,
+        reciprocal: u64::MAX / MONTH,
+        letters: *b"mon ",
+        width: 3,
+    },
+    Printed {
+        unit: TimeUnit::Week,
+        nanos: WEEK,
+        reciprocal: u64::MAX / WEEK,
+        letters: *b"w   ",
+        width: 1,
+    },
+    Printed {
+        unit: TimeUnit::Day,
+        nanos: DAY,
+        reciprocal: u64::MAX / DAY,
+        letters: *b"d   ",
+        width: 1,
+    },
+    Printed {
+        unit: TimeUnit::Hour,
+        nanos: HOUR,
+        reciprocal: u64::MAX / HOUR,
+        letters: *b"h   ",
+        width: 1,
+    },
+    Printed {
+        unit: TimeUnit::Minute,
+        nanos: MINUTE,
+        reciprocal: u64::MAX / MINUTE,
+        letters: *b"min ",
+        width: 3,
+    },
+    Printed {
+        unit: TimeUnit::Second,
+        nanos: SECOND,
+        reciprocal: u64::MAX / SECOND,
+        letters: *b"s   ",
+        width: 1,
+    },
+    Printed {
+        unit: TimeUnit::MilliSecond,
+        nanos: MILLISECOND,
+        reciprocal: u64::MAX / MILLISECOND,
+        letters: *b"ms  ",
+        width: 2,
+    },
+    Printed {
+        unit: TimeUnit::MicroSecond,
+        nanos: MICROSECOND,
+        reciprocal: u64::MAX / MICROSECOND,
+        letters: *b"\xC2\xB5s ",
+        width: 3,
+    },
+    Printed {
+        unit: TimeUnit::NanoSecond,
+        nanos: NANOSECOND,
+        reciprocal: u64::MAX / NANOSECOND,
+        letters: *b"ns  ",
+        width: 2,
+    },
+];
+
 /// The units, the longest first.
-pub(crate) static UNITS: [TimeUnit; 11] = [
+///
+/// ```
+/// use duration_str::{TimeUnit, UNITS};
+///
+/// assert_eq!(UNITS.get(1), Some(&TimeUnit::Quarter));
+/// ```
+pub static UNITS: [TimeUnit; 11] = [
     TimeUnit::Year,
     TimeUnit::Quarter,
     TimeUnit::Month,

@@ -3,7 +3,7 @@
 //! Nothing is allocated. Bytes that are not UTF-8 are refused.
 #![tactic(auto)]
 
-ghost use Rattle.std.specs.Prelude.{◌≡◌, ℕ, ◌+◌, ◌*◌, ◌<◌, ◌≤◌, ◌==◌, false, IsTrue};
+ghost use Rattle.std.specs.Prelude.{◌≡◌, ℕ, ◌+◌, ◌<◌, ◌≤◌, ◌==◌, ◌∷◌, false, length, IsTrue};
 ghost use Rattle.std.specs.Prelude.{IsFalse, IfSome, IfNone, IsUtf8, take, drop};
 ghost use Rattle.std.specs.Bool.{MatchBool};
 ghost use Rattle.std.specs.Int.Bits.{bit_and};
@@ -20,10 +20,9 @@ pub mod answer;
 pub mod column;
 pub mod limits;
 pub mod message;
-pub mod moment;
 
 use crate::answer::{Answer, refused};
-use duration_str::{Cause, Fault, Options, parse_nanos};
+use duration_str::{Cause, FORMAT_BUFFER_SIZE, Fault, Options, parse_nanos, write_human};
 use std::time::Duration;
 
 const NO_CALC: u32 = 1;
@@ -64,23 +63,32 @@ pub fn duration_str_parse(text: &[u8], nanos: &mut u64) -> bool
     }
 }
 
-/// Prints a duration to the start of the buffer, and returns the length of the text. The rest of the buffer is
-/// unchanged; so is all of it if `nanos` is a second or more, and then it returns 0.
-pub fn duration_str_format(secs: u64, nanos: u32, buffer: &mut [u8; 64]) -> usize
-    ensures text { nanos < 1_000_000_000
-        → IsPrinted (secs * 1_000_000_000 + nanos) (chars (take result buffer.new)) }
+/// Prints a duration of so many nanoseconds and a zero byte to the start of the buffer, and returns the length of the
+/// text, without the zero. The rest of the buffer is unchanged.
+pub fn duration_str_format(nanos: u64, buffer: &mut [u8; FORMAT_BUFFER_SIZE]) -> usize
+    ensures text { IsPrinted nanos (chars (take result buffer.new)) }
     ensures utf8 { IsUtf8 (take result buffer.new) }
-    ensures rest { drop result buffer.new ≡ drop result buffer.old }
+    ensures rest { drop result buffer.new ≡ 0 ∷ drop (result + 1) buffer.old }
     ensures short { result ≤ MAX_PRINTED_LEN }
-    ensures refused { 1_000_000_000 ≤ nanos → (result ≡ 0) × (buffer.new ≡ buffer.old) }
 {
-    if nanos >= 1_000_000_000 {
-        return 0;
-    }
-    let mut printed = [0; 64];
-    let text = duration_str::write_human(&Duration::new(secs, nanos), &mut printed);
+    let mut printed = [0; FORMAT_BUFFER_SIZE];
+    put(
+        write_human(&Duration::from_nanos(nanos), &mut printed),
+        buffer,
+    )
+}
+
+/// Writes a text and a zero byte to the start of the buffer, and returns the length of the text.
+#[inline(always)]
+pub(crate) fn put(text: &str, buffer: &mut [u8]) -> usize
+    requires room { length text.now < length buffer.old }
+    ensures text { take result buffer.new ≡ text.now }
+    ensures rest { drop result buffer.new ≡ 0 ∷ drop (result + 1) buffer.old }
+    ensures end { result ≡ length text.now }
+{
     let end = text.len();
     buffer[..end].copy_from_slice(text.as_bytes());
+    buffer[end] = 0;
     end
 }
 
@@ -109,7 +117,7 @@ fn answer_to(bytes: &[u8], options: u32) -> Answer
     }
 }
 
-/// What `parse_nanos` returns, out of line.
+/// What `parse_nanos` returns, out of line. A copy of the reader that knows that all options are off is faster.
 #[inline(never)]
 pub(crate) fn read(text: &str, options: Options) -> Result<u64, Fault<'_>>
     ensures { ReadsText options text.now result }
@@ -117,6 +125,14 @@ pub(crate) fn read(text: &str, options: Options) -> Result<u64, Fault<'_>>
     if options.are_off() {
         return parse_nanos(text, Options::off());
     }
+    read_chosen(text, options)
+}
+
+/// The same where an option is on.
+#[inline(never)]
+fn read_chosen(text: &str, options: Options) -> Result<u64, Fault<'_>>
+    ensures { ReadsText options text.now result }
+{
     parse_nanos(text, options)
 }
 
@@ -134,6 +150,7 @@ pub(crate) fn text_of(bytes: &[u8]) -> Option<&str>
     ensures not_text { IfNone result (¬ (IsUtf8 bytes.now)) }
 {
     if bytes.is_ascii() || is_utf8(bytes) {
+        // SAFETY: the bytes are UTF-8, by the tests above.
         Some(unsafe { str::from_utf8_unchecked(bytes) })
     } else {
         None
@@ -148,6 +165,3 @@ fn is_utf8(bytes: &[u8]) -> bool
 {
     str::from_utf8(bytes).is_ok()
 }
-
-#[cfg(test)]
-mod tests;

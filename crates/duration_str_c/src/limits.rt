@@ -1,42 +1,17 @@
 //! Durations printed within limits and in a style.
-ghost use Rattle.std.specs.Prelude.{◌≡◌, ◌+◌, ◌*◌, ◌<◌, ◌≤◌, ◌⊎◌, IfSome, IfNone, IsUtf8, length, take, drop};
+ghost use Rattle.std.specs.Prelude.{◌≡◌, ◌+◌, ◌*◌, ◌<◌, ◌≤◌, ◌∷◌, ◌⊎◌, IfSome, IfNone, IsUtf8, take, drop};
 ghost use Rattle.std.specs.Str.{chars};
 ghost use Rattle.duration_str.specs.Limits.{IsPrintedWithin, most_len};
-ghost use Rattle.duration_str.specs.declared.printing.TheConstants.{MAX_PRINTED_LEN};
-ghost use Rattle.duration_str.specs.declared.format.Style.TheVariants.{Short};
 ghost use Rattle.duration_str_c.specs.Limits.{unit_numbered, style_numbered, format_numbered};
 
-use duration_str::{Format, Style, TimeUnit, write_within};
+use crate::put;
+use duration_str::{Format, STYLED_BUFFER_SIZE, Style, TimeUnit, UNITS, write_within};
 use std::time::Duration;
 
-/// Prints a duration within limits to the start of the buffer, and returns the length of the text. The units are given
-/// by number, from 0 for the year to 10 for the nanosecond. The rest of the buffer is unchanged; so is all of it if
-/// `nanos` is a second or more or a number is above 10, and then it returns 0.
-pub fn duration_str_format_within(
-    secs: u64,
-    nanos: u32,
-    largest: u32,
-    smallest: u32,
-    parts: u32,
-    buffer: &mut [u8; 64],
-) -> usize
-    ensures text { nanos < 1_000_000_000 → largest ≤ 10 → smallest ≤ 10
-        → IsPrintedWithin (format_numbered largest smallest parts Short)
-        (secs * 1_000_000_000 + nanos) (chars (take result buffer.new)) }
-    ensures utf8 { IsUtf8 (take result buffer.new) }
-    ensures rest { drop result buffer.new ≡ drop result buffer.old }
-    ensures short { result ≤ MAX_PRINTED_LEN }
-    ensures refused { (1_000_000_000 ≤ nanos) ⊎ ((10 < largest) ⊎ (10 < smallest))
-        → (result ≡ 0) × (buffer.new ≡ buffer.old) }
-{
-    match format_numbered(largest, smallest, parts, Style::Short) {
-        Some(format) => put_within(secs, nanos, format, buffer),
-        None => 0,
-    }
-}
-
-/// Prints a duration in the same way, in the style with this number: 0 short, 1 compact, 2 long. If `style` is above 2,
-/// the buffer is unchanged too, and it returns 0.
+/// Prints a duration within limits and in a style, and a zero byte, to the start of the buffer, and returns the length of
+/// the text, without the zero. The units are given by number, from 0 for the year to 10 for the nanosecond, and so are
+/// the styles: 0 short, 1 compact, 2 long. The rest of the buffer is unchanged. If `nanos` is a second or more, or there
+/// is no unit or style of a number, it returns 0, and the text is empty.
 pub fn duration_str_format_styled(
     secs: u64,
     nanos: u32,
@@ -44,45 +19,28 @@ pub fn duration_str_format_styled(
     smallest: u32,
     parts: u32,
     style: u32,
-    buffer: &mut [u8; 144],
+    buffer: &mut [u8; STYLED_BUFFER_SIZE],
 ) -> usize
     ensures text { nanos < 1_000_000_000 → largest ≤ 10 → smallest ≤ 10 → style ≤ 2
         → IsPrintedWithin (format_numbered largest smallest parts (style_numbered style))
         (secs * 1_000_000_000 + nanos) (chars (take result buffer.new)) }
     ensures utf8 { IsUtf8 (take result buffer.new) }
-    ensures rest { drop result buffer.new ≡ drop result buffer.old }
+    ensures rest { drop result buffer.new ≡ 0 ∷ drop (result + 1) buffer.old }
     ensures short { result ≤ most_len (style_numbered style) }
     ensures refused { (1_000_000_000 ≤ nanos) ⊎ ((10 < largest) ⊎ ((10 < smallest) ⊎ (2 < style)))
-        → (result ≡ 0) × (buffer.new ≡ buffer.old) }
+        → result ≡ 0 }
 {
     let Some(style) = style_numbered(style) else {
-        return 0;
+        return put("", buffer);
     };
     match format_numbered(largest, smallest, parts, style) {
-        Some(format) => put_within(secs, nanos, format, buffer),
-        None => 0,
+        Some(format) if nanos < 1_000_000_000 => {
+            let mut printed = [0; STYLED_BUFFER_SIZE];
+            let text = write_within(&Duration::new(secs, nanos), format, &mut printed);
+            put(text, buffer)
+        }
+        _ => put("", buffer),
     }
-}
-
-/// Prints a duration in a format to the start of the buffer, and returns the length of the text; 0 if `nanos` is a
-/// second or more.
-fn put_within(secs: u64, nanos: u32, format: Format, buffer: &mut [u8]) -> usize
-    requires room { most_len format.style ≤ length buffer.old }
-    ensures text { nanos < 1_000_000_000
-        → IsPrintedWithin format (secs * 1_000_000_000 + nanos) (chars (take result buffer.new)) }
-    ensures utf8 { IsUtf8 (take result buffer.new) }
-    ensures rest { drop result buffer.new ≡ drop result buffer.old }
-    ensures short { result ≤ most_len format.style }
-    ensures refused { 1_000_000_000 ≤ nanos → (result ≡ 0) × (buffer.new ≡ buffer.old) }
-{
-    if nanos >= 1_000_000_000 {
-        return 0;
-    }
-    let mut printed = [0; 144];
-    let text = write_within(&Duration::new(secs, nanos), format, &mut printed);
-    let end = text.len();
-    buffer[..end].copy_from_slice(text.as_bytes());
-    end
 }
 
 /// The format in this style whose units have these numbers; `None` if one is above 10.
@@ -115,18 +73,5 @@ fn unit_numbered(number: u32) -> Option<TimeUnit>
     ensures unit { IfSome result (λ unit. (number ≤ 10) × (unit ≡ unit_numbered number)) }
     ensures none { IfNone result (10 < number) }
 {
-    match number {
-        0 => Some(TimeUnit::Year),
-        1 => Some(TimeUnit::Quarter),
-        2 => Some(TimeUnit::Month),
-        3 => Some(TimeUnit::Week),
-        4 => Some(TimeUnit::Day),
-        5 => Some(TimeUnit::Hour),
-        6 => Some(TimeUnit::Minute),
-        7 => Some(TimeUnit::Second),
-        8 => Some(TimeUnit::MilliSecond),
-        9 => Some(TimeUnit::MicroSecond),
-        10 => Some(TimeUnit::NanoSecond),
-        _ => None,
-    }
+    UNITS.get(number as usize).copied()
 }

@@ -6,8 +6,6 @@ use std::alloc::{AllocError, Allocator, Global};
 use std::test::Fail;
 use std::time::Duration;
 
-const DAY: u64 = 86_400;
-
 const LONGEST_TEXT: &str = "100000000000y 3q 2mon 3w 6d 23h 59min 59s 999ms 999µs 999ns";
 
 /// The duration that prints the longest text.
@@ -35,17 +33,6 @@ fn prints(alloc: Global, d: Duration, text: &str) -> Result<bool, AllocError> {
     }
 }
 
-/// The first of these texts that its duration does not print as, or does not leave in the front of the buffer.
-fn first_misprinted<'a>(rows: &[(Duration, &'a str)]) -> Option<&'a str> {
-    let mut buffer = [0; 64];
-    for (d, text) in rows.iter().copied() {
-        if write_human(&d, &mut buffer) != text || !buffer.starts_with(text.as_bytes()) {
-            return Some(text);
-        }
-    }
-    None
-}
-
 /// The first of these texts that its duration does not print as, into a buffer and into a string.
 fn first_misformatted<'a>(
     alloc: Global,
@@ -60,23 +47,8 @@ fn first_misformatted<'a>(
 }
 
 #[test]
-fn prints_the_greatest_counts(rt: HostRuntime) -> Result<(), Fail> {
+fn prints_what_no_text_is_read_as(rt: HostRuntime) -> Result<(), Fail> {
     let rows = [
-        (Duration::new(193, 29_000_000), "3min 13s 29ms"),
-        (Duration::new(93_784, 0), "1d 2h 3min 4s"),
-        (Duration::new(807 * DAY, 2), "2y 2mon 2w 3d 2ns"),
-        (Duration::new(90 * DAY, 0), "3mon"),
-        (Duration::new(91 * DAY, 0), "1q"),
-        (Duration::new(364 * DAY, 0), "4q"),
-        (Duration::new(35 * DAY, 0), "1mon 5d"),
-        (Duration::new(377 * DAY + 3, 0), "1y 1w 5d 3s"),
-        (Duration::new(25_200, 0), "7h"),
-        (Duration::new(25_201, 0), "7h 1s"),
-        (Duration::ZERO, "0s"),
-        (
-            Duration::new(18_446_744_073, 709_551_615),
-            "584y 3q 2mon 1w 3d 23h 34min 33s 709ms 551µs 615ns",
-        ),
         (
             Duration::new(18_446_744_073, 709_551_616),
             "584y 3q 2mon 1w 3d 23h 34min 33s 709ms 551µs 616ns",
@@ -90,94 +62,6 @@ fn prints_the_greatest_counts(rt: HostRuntime) -> Result<(), Fail> {
     assert_eq!(rt; first_misformatted(rt.alloc(), &rows)?, None);
     assert!(rt; LONGEST_TEXT.len() == MAX_PRINTED_LEN);
     Ok(())
-}
-
-#[test]
-fn prints_each_unit_alone(rt: HostRuntime) -> Result<(), Fail> {
-    let rows = [
-        (Duration::from_secs(365 * DAY), "1y"),
-        (Duration::from_secs(91 * DAY), "1q"),
-        (Duration::from_secs(30 * DAY), "1mon"),
-        (Duration::from_secs(7 * DAY), "1w"),
-        (Duration::from_secs(DAY), "1d"),
-        (Duration::from_secs(3_600), "1h"),
-        (Duration::from_secs(60), "1min"),
-        (Duration::from_secs(1), "1s"),
-        (Duration::from_nanos(1_000_000), "1ms"),
-        (Duration::from_nanos(1_000), "1µs"),
-        (Duration::from_nanos(1), "1ns"),
-    ];
-    assert_eq!(rt; first_misformatted(rt.alloc(), &rows)?, None);
-    Ok(())
-}
-
-/// Years of every length, printed.
-const YEARS: [(u64, &str); 23] = [
-    (9, "9y"),
-    (10, "10y"),
-    (99, "99y"),
-    (100, "100y"),
-    (999, "999y"),
-    (1_000, "1000y"),
-    (9_999, "9999y"),
-    (10_000, "10000y"),
-    (99_999, "99999y"),
-    (100_000, "100000y"),
-    (999_999, "999999y"),
-    (1_000_000, "1000000y"),
-    (9_999_999, "9999999y"),
-    (10_000_000, "10000000y"),
-    (99_999_999, "99999999y"),
-    (100_000_000, "100000000y"),
-    (999_999_999, "999999999y"),
-    (1_000_000_000, "1000000000y"),
-    (9_999_999_999, "9999999999y"),
-    (10_000_000_000, "10000000000y"),
-    (99_999_999_999, "99999999999y"),
-    (100_000_000_000, "100000000000y"),
-    (584_942_417_355, "584942417355y"),
-];
-
-/// The first of these texts that does not print its years.
-fn first_misprinted_years<'a>(rows: &[(u64, &'a str)]) -> Option<&'a str> {
-    for (years, text) in rows.iter().copied() {
-        let Some(secs) = years.checked_mul(365 * DAY) else {
-            return Some(text);
-        };
-        if write_human(&Duration::from_secs(secs), &mut [0; 64]) != text {
-            return Some(text);
-        }
-    }
-    None
-}
-
-#[test]
-fn prints_counts_of_every_length(rt: HostRuntime) {
-    let nanos = [
-        (Duration::from_nanos(9), "9ns"),
-        (Duration::from_nanos(10), "10ns"),
-        (Duration::from_nanos(99), "99ns"),
-        (Duration::from_nanos(100), "100ns"),
-        (Duration::from_nanos(999), "999ns"),
-    ];
-    assert_eq!(rt;
-        first_misprinted(&nanos).or(first_misprinted_years(&YEARS)),
-        None
-    );
-}
-
-#[test]
-fn leaves_nothing_of_an_earlier_text(rt: HostRuntime) {
-    let rows = [
-        (Duration::ZERO, "0s"),
-        (
-            Duration::MAX,
-            "584942417355y 3w 5d 7h 15s 999ms 999µs 999ns",
-        ),
-        (longest(), LONGEST_TEXT),
-        (Duration::ZERO, "0s"),
-    ];
-    assert_eq!(rt; first_misprinted(&rows), None);
 }
 
 /// Whether so many nanoseconds print into strings, signed and not, as into a buffer.

@@ -10,19 +10,11 @@ mod error;
 #[cfg(test)]
 mod ext;
 #[cfg(test)]
-mod fault;
-#[cfg(test)]
-mod limits;
-#[cfg(test)]
-mod message;
-#[cfg(test)]
-mod parser;
+mod reading;
 #[cfg(test)]
 mod refusal;
 #[cfg(test)]
-mod styles;
-#[cfg(test)]
-mod token;
+mod refusals;
 #[cfg(test)]
 mod top;
 #[cfg(test)]

@@ -3,36 +3,19 @@ ghost use Rattle.std.specs.Option.{ForSome};
 ghost use Rattle.std.specs.Str.{IsCharBoundary};
 ghost use Rattle.duration_str.specs.Faults.{place_of};
 
-use crate::vectors::{AFTER_NUMBER, VALUES, syntax};
+use crate::vectors::{AFTER_NUMBER, syntax};
 use duration_str::{
     Cause, Fault, HumanFormat, after_naive_date, after_naive_date_time, before_naive_date,
-    before_naive_date_time, parse, parse_chrono, parse_time, write_human,
+    before_naive_date_time,
 };
 use jiff::civil::{Date, DateTime};
 use jiff::tz::Offset;
 use jiff::{SignedDuration, Timestamp};
-use std::alloc::{AllocError, Global};
 use std::test::Fail;
 use std::time::Duration;
 
 /// A year, a month and a day.
 type Day = (i16, i8, i8);
-
-/// Texts, and the printed texts of the durations that they are read as.
-const PRINTED: [(&str, &str); 12] = [
-    ("0s", "0s"),
-    ("3m + 13s + 29ms", "3min 13s 29ms"),
-    ("1d2h3min4s", "1d 2h 3min 4s"),
-    ("1y 12d 3s", "1y 1w 5d 3s"),
-    ("751d 1mon 3week 5d 2ns", "2y 2mon 2w 3d 2ns"),
-    ("364d", "4q"),
-    ("35d", "1mon 5d"),
-    ("377d 3s", "1y 1w 5d 3s"),
-    ("7h  0s", "7h"),
-    ("    7h    ", "7h"),
-    ("    7h  1s  ", "7h 1s"),
-    ("    7h  0s  ", "7h"),
-];
 
 /// The instant of midnight in UTC.
 fn midnight(day: Date) -> Result<Timestamp, jiff::Error> {
@@ -44,32 +27,6 @@ fn fault<'a>(text: &'a str, cause: Cause) -> Fault<'a>
     requires { ForSome (place_of cause) (IsCharBoundary text.now) }
 {
     Fault { text, cause }
-}
-
-/// The first of these texts that is not read as its nanoseconds.
-fn first_misread<'a>(rows: &[(&'a str, u64)]) -> Option<&'a str> {
-    for (text, nanos) in rows.iter().copied() {
-        let wanted = Ok(SignedDuration::from_nanos_i128(i128::from(nanos)));
-        if parse_chrono(text) != wanted || parse_time(text) != wanted {
-            return Some(text);
-        }
-    }
-    None
-}
-
-/// Whether the text is read as durations, signed and not, that print as `printed`.
-fn prints(alloc: Global, text: &str, printed: &str) -> Result<bool, AllocError> {
-    let (Ok(length), Ok(unsigned)) = (parse_chrono(text), parse(text)) else {
-        return Ok(false);
-    };
-    if !length.is_printable() || parse_time(text) != Ok(length) {
-        return Ok(false);
-    }
-    Ok(
-        length.human_format(alloc)?.as_str() == printed
-            && unsigned.human_format(alloc)?.as_str() == printed
-            && write_human(&unsigned, &mut [0; 64]) == printed,
-    )
 }
 
 /// Whether the moment and the value of the text after it make this date and time.
@@ -109,32 +66,7 @@ fn first_astray<'a>(rows: &[(Day, &'a str, Day)]) -> Result<Option<&'a str>, jif
 }
 
 #[test]
-fn reads_signed_durations(rt: HostRuntime) {
-    assert_eq!(rt; first_misread(&VALUES), None);
-    assert_eq!(rt;
-        first_misread(&[("18446744073709551615ns", u64::MAX)]),
-        None
-    );
-    let overflow = Err(fault("580y*2", Cause::Overflow { place: None }));
-    assert!(rt; parse_chrono("580y*2") == overflow && parse_time("580y*2") == overflow);
-}
-
-/// The first of these texts that is not read as a duration that prints as its second text.
-fn first_misprinted<'a>(
-    alloc: Global,
-    rows: &[(&'a str, &str)],
-) -> Result<Option<&'a str>, AllocError> {
-    for (text, printed) in rows.iter().copied() {
-        if !prints(alloc, text, printed)? {
-            return Ok(Some(text));
-        }
-    }
-    Ok(None)
-}
-
-#[test]
 fn prints_signed_durations(rt: HostRuntime) -> Result<(), Fail> {
-    assert_eq!(rt; first_misprinted(rt.alloc(), &PRINTED)?, None);
     let longest = SignedDuration::MAX.human_format(rt.alloc())?;
     assert!(rt; longest.as_str() == "292471208677y 2q 1w 6d 15h 30min 7s 999ms 999µs 999ns");
     let negative = SignedDuration::from_nanos(-1);

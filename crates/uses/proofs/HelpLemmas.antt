@@ -1,7 +1,7 @@
--- The computed answer to a text is its only one, and a word for which something is advised is no unit.
-use Rattle.std.proofs.Common.{◌≡◌, ℕ, List, Result, sym, ◌∙◌, suc, length, encode_utf8_all, ap, arith}
+-- The computed answer to a text is its only one, and a word that is near a name is no unit.
+use Rattle.std.proofs.Common.{◌≡◌, ℕ, List, Result, sym, ◌∙◌, Some, encode_utf8_all}
 use Rattle.duration_str.specs.Laws.{NearWords}
-use Rattle.duration_str.specs.OneLine.{near_advice}
+use Rattle.duration_str.specs.OneLine.{near_name}
 use Rattle.duration_str.proofs.Common.{answer, AnswerIsReading}
 use Rattle.uses.proofs.Common.{Duration, Options, Cause}
 use Rattle.uses.specs.Help.{in_nanos, IsNoUnit, IsOnlyAnswerTo}
@@ -13,6 +13,6 @@ computed_is_only law o text a e = record {
   refused = λ cause. (λ r. e ∙ (law.refused o text cause).1 r, λ is. (law.refused o text cause).0 (sym e ∙ is));
 }
 
--- A word for which the line advises something names no unit.
-pub no_unit : NearWords → (word : List ℕ) (n : ℕ) → length (near_advice (encode_utf8_all word)) ≡ suc n → IsNoUnit word
-no_unit law word n advises o = law o word (λ none. omega (arith, ap length none, advises))
+-- A word that is near a name names no unit.
+pub no_unit : NearWords → (word name : List ℕ) → near_name (encode_utf8_all word) ≡ Some name → IsNoUnit word
+no_unit law word name near o = (law o word name near).unread

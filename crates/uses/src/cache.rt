@@ -8,7 +8,7 @@ ghost use Rattle.uses.specs.Cache.{IsKey, IsCanonical, IsAnswerTo, Refuses};
 
 use crate::countdown::in_parts;
 use duration_str::laws::{equal_texts, greatest_breakdown, one_sentence, reads_back};
-use duration_str::{Cause, Fault, Style, TimeUnit, parse};
+use duration_str::{Cause, Fault, STYLED_BUFFER_SIZE, Style, TimeUnit, parse};
 use std::time::Duration;
 
 /// The first number of nanoseconds that is not read.
@@ -16,7 +16,7 @@ const LIMIT: u128 = 1 << 64;
 
 /// The key of a duration, in the caller's buffer: its printed text in a style. It is the only text of this duration in
 /// that style, and no other breakdown into units begins with larger counts of the longer ones.
-pub fn key<'b>(length: Duration, style: Style, buffer: &'b mut [u8; 144]) -> &'b str
+pub fn key<'b>(length: Duration, style: Style, buffer: &'b mut [u8; STYLED_BUFFER_SIZE]) -> &'b str
     ensures { IsKey style (as_nanos length) (chars result.now) }
 {
     equal_texts();
@@ -34,7 +34,7 @@ pub fn key<'b>(length: Duration, style: Style, buffer: &'b mut [u8; 144]) -> &'b
 pub fn canonical<'a, 'b>(
     text: &'a str,
     style: Style,
-    buffer: &'b mut [u8; 144],
+    buffer: &'b mut [u8; STYLED_BUFFER_SIZE],
 ) -> Result<&'b str, Fault<'a>>
     ensures key { IfOk result (λ key. IsCanonical style (chars text.now) (chars key.now)) }
     ensures fault { IfErr result (Refuses text.now) }
@@ -54,8 +54,8 @@ pub fn share_entry<'a>(text: &'a str, other: &'a str) -> Result<bool, Fault<'a>>
     let length = parse(text)?;
     let other_length = parse(other)?;
     Ok(
-        key(length, Style::Compact, &mut [0; 144])
-            == key(other_length, Style::Compact, &mut [0; 144]),
+        key(length, Style::Compact, &mut [0; STYLED_BUFFER_SIZE])
+            == key(other_length, Style::Compact, &mut [0; STYLED_BUFFER_SIZE]),
     )
 }
 

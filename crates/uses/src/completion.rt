@@ -2,12 +2,11 @@
 #![tactic(auto, using(crate::proofs::CompletionLemmas::refused_completion))]
 
 ghost use Rattle.std.specs.Prelude.{◌≡◌, ◌↔◌, ℕ, length, IsTrue, IfSome, IfNone, chars};
-ghost use Rattle.uses.specs.Common.{Syntax, Expected as Kinds, IsRefused, Terminal};
-ghost use Rattle.uses.specs.Common.{terminal_of, IsLexeme, what_of, allows};
+ghost use Rattle.uses.specs.Common.{Syntax, Expected as Kinds, IsRefused};
 ghost use Rattle.uses.specs.Completion.{IsCompletion};
 
 use duration_str::laws::{one_sentence, place_and_kinds};
-use duration_str::{Cause, Expected, Options, Tokens, What, parse_with};
+use duration_str::{Cause, Expected, Options, parse_with};
 
 /// Where a text stops being the beginning of an expression, and what may be typed there.
 #[derive(Clone, Copy, Debug, PartialEq, Eq)]
@@ -56,36 +55,5 @@ pub fn is_unfinished(text: &str, o: Options) -> bool
     match parse_with(text, o) {
         Ok(_) => false,
         Err(fault) => matches!(fault.cause(), Cause::Syntax { .. }) && fault.found(o).is_none(),
-    }
-}
-
-/// Whether a number, a word or a sign is of an expected kind, so that an editor may offer it. A word is
-/// only if it names a unit under these options.
-///
-/// ```text
-/// // after `1m 3`, in `1m 3-5`
-/// is_offered(expected, "min", Options::off()) // true
-/// is_offered(expected, "7", Options::off())   // false
-/// ```
-pub fn is_offered(expected: Expected, word: &str, o: Options) -> bool
-    ensures { IsLexeme o (chars word.now)
-        → (result ≡ allows expected (terminal_of o (chars word.now))) }
-{
-    one_sentence();
-    match Tokens::new(word, o).next() {
-        Some(token) => allows(expected, token.what),
-        None => false,
-    }
-}
-
-/// Whether a token of this sort is of an expected kind.
-fn allows(expected: Expected, what: What) -> bool
-    ensures { (terminal : Terminal) → what ≡ what_of terminal → result ≡ allows expected terminal }
-{
-    match what {
-        What::Number => expected.number,
-        What::Word(unit) => expected.unit_word && unit.is_some(),
-        What::Operator(_) => expected.operator,
-        What::Other => false,
     }
 }

@@ -6,7 +6,7 @@ ghost use Rattle.uses.specs.Common.{as_nanos, IsPrintedIn};
 ghost use Rattle.uses.specs.Countdown.{IsShown};
 
 use duration_str::laws::{all_parts, never_more};
-use duration_str::{Format, Style, TimeUnit, write_within};
+use duration_str::{Format, STYLED_BUFFER_SIZE, Style, TimeUnit, write_within};
 use std::time::Duration;
 
 /// The time that is left, in the caller's buffer: in two parts at most, and in no unit below the second; never more
@@ -16,7 +16,7 @@ use std::time::Duration;
 /// time_left(&Duration::new(5_400, 999_999_999), &mut buffer) // "1h 30min"
 /// time_left(&Duration::new(0, 999_999_999), &mut buffer)     // "0s"
 /// ```
-pub fn time_left<'b>(left: &Duration, buffer: &'b mut [u8; 144]) -> &'b str
+pub fn time_left<'b>(left: &Duration, buffer: &'b mut [u8; STYLED_BUFFER_SIZE]) -> &'b str
     ensures { (shown : ℕ) × IsShown (as_nanos left.now) (chars result.now) shown }
 {
     never_more();
@@ -33,7 +33,7 @@ pub fn in_parts<'b>(
     length: &Duration,
     parts: usize,
     style: Style,
-    buffer: &'b mut [u8; 144],
+    buffer: &'b mut [u8; STYLED_BUFFER_SIZE],
 ) -> &'b str
     ensures { 11 ≤ parts → IsPrintedIn style (as_nanos length.now) (chars result.now) }
 {

@@ -2,15 +2,13 @@
 #![tactic(auto, using(crate::proofs::DateLemmas::dated_is_moved))]
 
 ghost use Rattle.std.specs.Prelude.{pos, ◌+ℤ◌, ◌-ℤ◌};
-ghost use Rattle.uses.specs.Common.{IsCivil, IsCivilDay};
+ghost use Rattle.uses.specs.Common.{IsCivil};
 ghost use Rattle.uses.specs.Dates.{MovesTo};
 
 use duration_str::laws::one_sentence;
-use duration_str::{
-    Fault, after_naive_date, after_naive_date_time, before_naive_date, before_naive_date_time,
-};
+use duration_str::{Fault, after_naive_date_time, before_naive_date_time};
 use jiff::Timestamp;
-use jiff::civil::{Date, DateTime};
+use jiff::civil::DateTime;
 
 /// The date and time before which files are deleted, if they are kept this long.
 pub fn cut_off(now: Timestamp, kept: &str) -> Result<DateTime, Fault<'_>>
@@ -20,26 +18,10 @@ pub fn cut_off(now: Timestamp, kept: &str) -> Result<DateTime, Fault<'_>>
     before_naive_date_time(now, kept)
 }
 
-/// The day of `cut_off`.
-pub fn cut_off_day(now: Timestamp, kept: &str) -> Result<Date, Fault<'_>>
-    ensures { MovesTo IsCivilDay (λ nanos. now.nanosecond -ℤ pos nanos) kept.now result }
-{
-    one_sentence();
-    before_naive_date(now, kept)
-}
-
 /// The date and time at which a job is due, if it is delayed this long.
 pub fn due(now: Timestamp, delay: &str) -> Result<DateTime, Fault<'_>>
     ensures { MovesTo IsCivil (λ nanos. now.nanosecond +ℤ pos nanos) delay.now result }
 {
     one_sentence();
     after_naive_date_time(now, delay)
-}
-
-/// The day of `due`.
-pub fn due_day(now: Timestamp, delay: &str) -> Result<Date, Fault<'_>>
-    ensures { MovesTo IsCivilDay (λ nanos. now.nanosecond +ℤ pos nanos) delay.now result }
-{
-    one_sentence();
-    after_naive_date(now, delay)
 }

@@ -23,5 +23,6 @@ pub fn log_entry<'b>(fault: &Fault<'_>, buffer: &'b mut [u8]) -> Option<&'b str>
         return None;
     }
     buffer[end] = b'\n';
+    // SAFETY: a message is UTF-8, and a line feed follows it.
     Some(unsafe { str::from_utf8_unchecked(&buffer[..end + 1]) })
 }

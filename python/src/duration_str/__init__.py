@@ -1,5 +1,6 @@
-"""Durations as people write them: `3m + 13s + 29ms` is read, or refused with an error that points at its place, and a
-duration is printed as `3min 13s 29ms`. All answers are those of a library that is proved.
+"""Durations as people write them: `3m + 13s + 29ms` is read, or refused
+with an error that points at its place, and a duration is printed as
+`3min 13s 29ms`. All answers are those of a library that is proved.
 
 >>> import duration_str
 >>> duration_str.parse("3m + 13s + 29ms")
@@ -7,31 +8,46 @@ datetime.timedelta(seconds=193, microseconds=29000)
 >>> duration_str.format(193_029_000_000)
 '3min 13s 29ms'
 
-A text is terms, each a number and a unit, joined by `+` or by `*`, or following one another, which adds them. A product
-multiplies its terms in seconds. After a number the unit may be left out before an operator and at the end, and is seconds.
-Blanks may stand anywhere but inside a number or a unit. Numbers stay below 2**64, and values below 2**64 nanoseconds.
+A text is terms, each a number and a unit, joined by `+` or by `*`, or
+following one another, which adds them. A product multiplies its terms in
+seconds. After a number the unit may be left out before an operator and at
+the end, and is seconds. Blanks may stand anywhere but inside a number or a
+unit. Numbers stay below 2**64, and values below 2**64 nanoseconds.
 
-The units, and their Chinese names, which are read with `cn_unit`:
+The units:
 
-    365 days     y, year, years                                                    年
-    91 days      q, quarter, quarters
-    30 days      mon, month, months                                                月
-    7 days       w, week, weeks                                                    周
-    day          d, day, days                                                      日, 天
-    hour         h, hr, hour, hours                                                时
-    minute       m, min, minute, minutes                                           分
-    second       s, sec, second, seconds                                           秒
-    millisecond  ms, msec, millisecond, milliseconds                               毫秒
-    microsecond  µs, µsec, µsecond, us, usec, usecond, microsecond, microseconds   微秒
-    nanosecond   ns, nsec, nanosecond, nanoseconds                                 纳秒
+  365 days     y, year, years
+  91 days      q, quarter, quarters
+  30 days      mon, month, months
+  7 days       w, week, weeks
+  day          d, day, days
+  hour         h, hr, hour, hours
+  minute       m, min, minute, minutes
+  second       s, sec, second, seconds
+  millisecond  ms, msec, millisecond, milliseconds
+  microsecond  µs, µsec, µsecond, us, usec, usecond, microsecond, microseconds
+  nanosecond   ns, nsec, nanosecond, nanoseconds
 
-`parse` reads a text as a timedelta, `parse_ns` as a number of nanoseconds, and `parse_seconds` as a float of seconds.
-`format(value, /, *, parts=11, largest="y", smallest="ns", style="short") -> str` prints an int of nanoseconds or a timedelta;
-it is not in `__all__`, so that `from duration_str import *` leaves the builtin function. `parse_many` reads a column of texts
-by few calls, `parse_buffers` one that stands in buffers, `to_timedelta` one for NumPy or pandas, and `format_many` prints a
-column. `Duration` is a field of pydantic's models; `duration_str.click.DURATION` is a type of Click's options, and
-`duration_str.argparse.DURATION` one of argparse's. `Unit` and `Style` are the types of what `format` takes by name.
+With `cn_unit` these are read, too:
+年 year, 月 month, 周 week, 日 天 day, 时 hour, 分 minute, 秒
+second, 毫秒 millisecond, 微秒 microsecond, 纳秒 nanosecond.
+
+`parse` reads a text as a timedelta, `parse_ns` as a number of nanoseconds,
+and `parse_seconds` as a float of seconds, as `time.sleep` and
+`asyncio.wait_for` take it. `format` prints an int of nanoseconds or a
+timedelta; it is not in `__all__`, so that `from duration_str import *`
+leaves the builtin function:
+
+format(value, /, *, parts=11, largest="y", smallest="ns", style="short")
+
+`parse_many` reads a column of texts by few calls, `parse_buffers` one that
+stands in buffers, `to_timedelta` one for NumPy or pandas, and `format_many`
+prints a column. `Duration` is a field of pydantic's models;
+`duration_str.click.DURATION` is a type of Click's options, and
+`duration_str.argparse.DURATION` one of argparse's. `Unit` and `Style` are
+the types of what `format` takes by name.
 """
+# The table of units above is made by tests/repository --write.
 
 from __future__ import annotations
 

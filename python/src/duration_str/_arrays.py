@@ -5,11 +5,10 @@ from __future__ import annotations
 import datetime
 import sys
 from functools import partial
-from importlib import import_module
 from typing import TYPE_CHECKING, Any, overload
 
 from . import _native
-from ._columns import Errors, checked, values_of, zeros
+from ._columns import Errors, raises_errors, values_of, zeros
 from ._texts import DurationTypeError, Style, Unit, nanos_a_step, nanos_of, option_bits
 
 if TYPE_CHECKING:
@@ -33,25 +32,29 @@ def _is_missing(value: Any) -> bool:
 
 def _flat(values: Any) -> list[Any]:
     """The values of a sequence, or of an array one after the other, with None where one is masked."""
-    numpy: Any = import_module("numpy")
+    import numpy
+
     pandas = sys.modules.get("pandas")
     if pandas is not None and isinstance(values, pandas.DataFrame):
         raise TypeError("a DataFrame is no column: take its columns one by one")
     if not hasattr(values, "__array__"):
         return values_of(values)
-    flat = numpy.asarray(values, dtype=object)
+    flat: Any = numpy.asarray(values, dtype=object)
     if isinstance(values, numpy.ma.MaskedArray):
-        flat = numpy.where(numpy.ma.getmaskarray(values), None, flat)
+        flat = flat.copy()
+        flat[values.mask] = None
     texts: list[Any] = flat.ravel().tolist()
     return texts
 
 
 def _lengths(values: Any) -> Any:
     """The array of timedelta64 that the values are, with NaT where one is masked, or None if they are something else."""
-    numpy: Any = import_module("numpy")
+    import numpy
+
     if getattr(getattr(values, "dtype", None), "kind", None) != "m":
         return None
-    return numpy.ma.filled(values, numpy.timedelta64("NaT")) if numpy.ma.isMA(values) else numpy.asarray(values)
+    is_masked = isinstance(values, numpy.ma.MaskedArray)
+    return values.filled(numpy.timedelta64("NaT")) if is_masked else numpy.asarray(values)
 
 
 def _like(values: Any, result: Any) -> Any:
@@ -64,25 +67,27 @@ def _like(values: Any, result: Any) -> Any:
     return result.reshape(values.shape) if hasattr(values, "shape") else result
 
 
-def _kept(value: Any, index: int, raises: bool) -> int:
+def _nanos_of_value(value: Any, index: int, raises: bool) -> int:
     """The timedelta64[ns] of a value that is no text: NaT where it is missing, or refused and not raised."""
-    numpy: Any = import_module("numpy")
+    import numpy
+
     if _is_missing(value):
         return _NAT
-    where = "" if index < 0 else f", at index {index}"
+    where = "" if index < 0 else f"at index {index}: "
     is_kept = isinstance(value, (datetime.timedelta, numpy.timedelta64))
     if is_kept and abs(nanos := nanos_of(value)) < 2**63:
         return nanos
     if raises and is_kept:
-        raise OverflowError(f"timedelta64 doesn't have 2**63 nanoseconds or more: {value!r}{where}")
+        raise OverflowError(f"{where}timedelta64 doesn't have 2**63 nanoseconds or more: {value!r}")
     if raises:
-        raise DurationTypeError(f"a duration's text must be a str, not {type(value).__name__}{where}")
+        raise DurationTypeError(f"{where}a duration's text must be a str, not {type(value).__name__}")
     return _NAT
 
 
-def _kept_lengths(values: Any, lengths: Any, raises: bool) -> Any:
+def _nanos_of_lengths(values: Any, lengths: Any, raises: bool) -> Any:
     """The timedelta64[ns] of a column of timedelta64. What has nanoseconds already is as it is."""
-    numpy: Any = import_module("numpy")
+    import numpy
+
     if lengths.dtype == numpy.dtype("timedelta64[ns]"):
         return values.copy() if hasattr(values, "array") and values.dtype == lengths.dtype else _like(values, lengths)
     step, numbers = nanos_a_step(lengths.dtype), lengths.astype("int64").ravel()
@@ -90,7 +95,7 @@ def _kept_lengths(values: Any, lengths: Any, raises: bool) -> Any:
     beyond = abs(numbers) > (2**63 - 1) // step
     if raises and beyond.any():
         first = int(beyond.argmax())
-        _kept(lengths.ravel()[first], first, raises)
+        _nanos_of_value(lengths.ravel()[first], first, raises)
     nanos = numpy.where(beyond | (numbers == _NAT), _NAT, numbers * step)
     return _like(values, nanos.view("timedelta64[ns]"))
 
@@ -119,30 +124,35 @@ def to_timedelta(
 def to_timedelta(
     values: Any, *, errors: Errors = "raise", no_calc: bool = False, lowercase: bool = False, cn_unit: bool = False
 ) -> Any:
-    """As `pandas.to_timedelta`, of texts: of a Series a Series of timedelta64[ns] with its index and its name, of an
-    Index an Index, and of a NumPy array or any other sequence an array of the same shape; of one text a Timedelta where
-    pandas is imported, or else a timedelta64. It needs NumPy, and no pandas. The options are those of `parse_ns`.
+    """As `pandas.to_timedelta`, of texts: of a Series a Series of
+    timedelta64[ns] with its index and its name, of an Index an Index, and
+    of a NumPy array or any other sequence an array of the same shape; of
+    one text a Timedelta where pandas is imported, or else a timedelta64. It
+    needs NumPy, and no pandas. The options are those of `parse_ns`.
 
-    Timedeltas are kept, and an array of timedelta64[ns] is returned as it is. None, NaN, NaT, pandas' NA, and what an
-    array masks become NaT; but None by itself is None, as for pandas.
+    Timedeltas are kept, and an array of timedelta64[ns] is returned as it
+    is. None, NaN, NaT, pandas' NA, and what an array masks become NaT; but
+    None by itself is None, as for pandas.
 
-    With `errors="raise"` the first text that is refused raises its DurationError, which has its position as `index`. So
-    does a value of 2**63 nanoseconds or more, some 292 years, which timedelta64 does not have. Any other value, such as
-    a number or bytes, raises DurationTypeError, also where a text before it is refused. With `errors="coerce"` all of
-    these become NaT.
+    With `errors="raise"` the first text that is refused raises its
+    DurationError, which has its position as `index`. So does a value of
+    2**63 nanoseconds or more, some 292 years, which timedelta64 does not
+    have. Any other value, such as a number or bytes, raises
+    DurationTypeError, also where a text before it is refused. With
+    `errors="coerce"` all of these become NaT.
     """
-    raises, options = checked(errors), option_bits(no_calc, lowercase, cn_unit)
+    raises, options = raises_errors(errors), option_bits(no_calc, lowercase, cn_unit)
     if values is None:
         return None
-    numpy: Any = import_module("numpy")
+    import numpy
+
     if (lengths := _lengths(values)) is not None and not isinstance(values, numpy.timedelta64):
-        return _kept_lengths(values, lengths, raises)
+        return _nanos_of_lengths(values, lengths, raises)
     is_one = isinstance(values, (str, datetime.timedelta, numpy.timedelta64))
-    # Of a column pandas would look at each value.
-    is_one = is_one or (not hasattr(values, "__iter__") and _is_missing(values))
+    is_one = is_one or not hasattr(values, "__iter__")
     texts = [values] if is_one else _flat(values)
     nanos = zeros(len(texts))
-    _native.read_list(texts, nanos, options, raises, -1 if is_one else 0, partial(_kept, raises=raises))
+    _native.read_list(texts, nanos, options, raises, -1 if is_one else 0, partial(_nanos_of_value, raises=raises))
     result = numpy.asarray(nanos).view("timedelta64[ns]")
     if not is_one:
         return _like(values, result)
@@ -153,9 +163,11 @@ def to_timedelta(
 def format_many(
     values: Any, *, parts: int = 11, largest: Unit = "y", smallest: Unit = "ns", style: Style = "short"
 ) -> Any:
-    """The texts of a column of durations, each an int of nanoseconds or a timedelta, as `format` prints it within the
-    same limits and in the same style: of a list or any other iterable a list of str, of a Series, an Index or a NumPy
-    array one of objects, with the same shape, index and name. These may also have timedelta64, of units from weeks to
+    """The texts of a column of durations, each an int of nanoseconds or a
+    timedelta, as `format` prints it within the same limits and in the same
+    style: of a list or any other iterable a list of str, of a Series, an
+    Index or a NumPy array one of objects, with the same shape, index and
+    name. These may also have timedelta64, of units from weeks to
     nanoseconds. What is missing, as in `to_timedelta`, is None.
 
     Raises what `format` raises, with the position in its message.
@@ -171,10 +183,11 @@ def format_many(
     try:
         _native.format_list(given, lambda value: None if _is_missing(value) else nanos_of(value), texts, limits)
     except (OverflowError, TypeError, ValueError) as error:
-        raise type(error)(f"{error}, at index {len(texts)}") from None
+        raise type(error)(f"at index {len(texts)}: {error}") from None
     if not hasattr(values, "__array__"):
         return texts
-    numpy: Any = import_module("numpy")
+    import numpy
+
     result = numpy.empty(len(texts), dtype=object)
     result[:] = texts
     return _like(values, result)

@@ -27,7 +27,7 @@ def zeros(count: int) -> array[int]:
     return array("Q", (0,)) * count
 
 
-def checked(errors: str) -> bool:
+def raises_errors(errors: str) -> bool:
     """Whether errors are to be raised."""
     if errors not in ("raise", "coerce"):
         raise ValueError(f"errors must be 'raise' or 'coerce', not {errors!r}")
@@ -45,20 +45,22 @@ def parse_many(
 def parse_many(
     texts: Any, *, errors: Errors = "raise", no_calc: bool = False, lowercase: bool = False, cn_unit: bool = False
 ) -> array[int] | tuple[array[int], array[int]]:
-    """The values in nanoseconds of texts, any iterable of str, as an `array('Q')`. The options are those of `parse_ns`.
+    """The values in nanoseconds of texts, any iterable of str, as an
+    `array('Q')`. The options are those of `parse_ns`.
 
-    With `errors="raise"` the first text that is refused raises its DurationError, which has its `index`; a value that
-    is no str, such as None, raises DurationTypeError, also where a text before it is refused.
+    With `errors="raise"` the first text that is refused raises its
+    DurationError, which has its `index`; a value that is no str, such as
+    None, raises DurationTypeError, also where a text before it is refused.
 
-    With `errors="coerce"` there are two arrays: the values, 0 for each value that is refused or no str, and the
-    positions of these.
+    With `errors="coerce"` there are two arrays: the values, 0 for each
+    value that is refused or no str, and the positions of these.
 
     >>> duration_str.parse_many(["1s", "2m"])
     array('Q', [1000000000, 120000000000])
     >>> duration_str.parse_many(["1s", "soon", None], errors="coerce")
     (array('Q', [1000000000, 0, 0]), array('Q', [1, 2]))
     """
-    raises, given = checked(errors), values_of(texts)
+    raises, given = raises_errors(errors), values_of(texts)
     nanos = zeros(len(given))
     refused = _native.read_list(given, nanos, option_bits(no_calc, lowercase, cn_unit), raises, 0, None)
     return nanos if raises else (nanos, array("Q", refused))
@@ -75,20 +77,24 @@ def parse_buffers(
 def parse_buffers(
     data: Any, offsets: Any, *, errors: Errors = "raise", no_calc: bool = False, lowercase: bool = False, cn_unit: bool = False
 ) -> array[int] | tuple[array[int], array[int]]:
-    """As `parse_many`, of texts in UTF-8 that stand in a buffer: text `k` is `data[offsets[k] : offsets[k + 1]]`, so
-    there is one offset more than there are texts. `data` is any contiguous buffer, and `offsets` one of integers of 8
-    bytes or of 4. The bytes must not change during a call, or any text may be read for what stood there for a moment.
-    `bytes` are read in place, while other threads run; of any other buffer, read-only or not, small pieces are copied.
-    A file that is mapped must not become shorter meanwhile, which ends the process.
+    """As `parse_many`, of texts in UTF-8 that stand in a buffer: text `k`
+    is `data[offsets[k] : offsets[k + 1]]`, so there is one offset more than
+    there are texts. `data` is any contiguous buffer, and `offsets` one of
+    integers of 8 bytes or of 4. The bytes must not change during a call, or
+    any text may be read for what stood there for a moment. `bytes` are read
+    in place, while other threads run; of any other buffer, read-only or
+    not, small pieces are copied. A file that is mapped must not become
+    shorter meanwhile, which ends the process.
 
-    Bytes that are not UTF-8 are refused. Offsets that decrease or lie beyond the bytes raise ValueError, or with
-    `errors="coerce"` are a refused position.
+    Bytes that are not UTF-8 are refused. Offsets that decrease or lie
+    beyond the bytes raise ValueError, or with `errors="coerce"` are a
+    refused position.
 
     >>> from array import array
     >>> duration_str.parse_buffers(b"1s2m", array("q", [0, 2, 4]))
     array('Q', [1000000000, 120000000000])
     """
-    raises = checked(errors)
+    raises = raises_errors(errors)
     with memoryview(offsets) as row:
         nanos = zeros(max(0, len(row) - 1))
         refused = _native.read_buffers(data, row, nanos, option_bits(no_calc, lowercase, cn_unit), raises)

@@ -1,5 +1,8 @@
-/* The calls of duration_str.h for Python, by the limited API: one module serves CPython from 3.11 on. */
+/* The calls of duration_str.h for Python, by the limited API: one module serves CPython from 3.11 on. Interpreters without a
+ * lock have no such API; they take one while the module is loaded. */
+#ifndef Py_GIL_DISABLED
 #define Py_LIMITED_API 0x030b0000
+#endif
 #define PY_SSIZE_T_CLEAN
 #include <Python.h>
 #include <duration_str.h>
@@ -25,7 +28,7 @@ struct state {
 
 /* A text as UTF-8, which the str keeps. */
 struct text {
-    const uint8_t *bytes;
+    const char *bytes;
     size_t length;
 };
 
@@ -34,15 +37,13 @@ static PyObject *size_or_none(bool is_there, size_t size) {
     return is_there ? PyLong_FromSize_t(size) : Py_NewRef(Py_None);
 }
 
-/* Raises the package's error of a text, with this line about it, references that it takes. Index -1 is none, and so are
- * options of -1, for a line that isn't the library's. */
+/* Raises the package's error of a text, with this line about it, references that it takes. Index -1 is none. */
 static void raise_error(struct state *state, PyObject *line, PyObject *text, const struct duration_str_answer *answer,
-                        const uint8_t *bytes, long long options, Py_ssize_t index) {
-    const char *found = answer->found_length ? (const char *)bytes + answer->place : NULL;
-    PyObject *error = PyObject_CallFunction(state->kept[ERROR], "NNINIz#NN", line, text, answer->cause,
+                        const char *bytes, Py_ssize_t index) {
+    const char *found = answer->found_length ? bytes + answer->place : NULL;
+    PyObject *error = PyObject_CallFunction(state->kept[ERROR], "NNINIz#N", line, text, answer->cause,
                                             size_or_none(answer->has_place, answer->place), answer->expected, found,
                                             (Py_ssize_t)answer->found_length,
-                                            size_or_none(options >= 0, (size_t)options),
                                             size_or_none(index >= 0, (size_t)index));
     if (error)
         PyErr_SetObject(state->kept[ERROR], error);
@@ -51,30 +52,12 @@ static void raise_error(struct state *state, PyObject *line, PyObject *text, con
 
 /* Raises the package's error of a value that is no str; index -1 is none. */
 static void raise_type_error(struct state *state, PyObject *value, Py_ssize_t index) {
-    const char *format = index < 0 ? "a duration's text must be a str, not %U"
-                                   : "a duration's text must be a str, not %U, at index %zd";
     PyObject *name = PyType_GetName(Py_TYPE(value));
-    if (name)
-        PyErr_Format(state->kept[TYPE_ERROR], format, name, index);
+    if (name && index < 0)
+        PyErr_Format(state->kept[TYPE_ERROR], "a duration's text must be a str, not %U", name);
+    else if (name)
+        PyErr_Format(state->kept[TYPE_ERROR], "at index %zd: a duration's text must be a str, not %U", index, name);
     Py_XDECREF(name);
-}
-
-/* report(text, options): the message about a text that is refused under these options */
-static PyObject *report(PyObject *self, PyObject *arguments) {
-    const char *text;
-    Py_ssize_t size;
-    unsigned int options;
-    (void)self;
-    if (!PyArg_ParseTuple(arguments, "s#I", &text, &size, &options))
-        return NULL;
-    const size_t length = duration_str_message((const uint8_t *)text, (size_t)size, options, NULL, 0);
-    PyObject *bytes = length > PY_SSIZE_T_MAX ? PyErr_NoMemory() : PyBytes_FromStringAndSize(NULL, (Py_ssize_t)length);
-    if (!bytes)
-        return NULL;
-    duration_str_message((const uint8_t *)text, (size_t)size, options, (uint8_t *)PyBytes_AsString(bytes), length);
-    PyObject *message = PyUnicode_FromEncodedObject(bytes, "utf-8", NULL);
-    Py_DECREF(bytes);
-    return message;
 }
 
 /* Turns the pending error of a str that is no text into the package's. */
@@ -85,8 +68,8 @@ static void raise_surrogate(struct state *state, PyObject *text, Py_ssize_t inde
     PyErr_Fetch(&type, &error, &traceback);
     PyErr_NormalizeException(&type, &error, &traceback);
     if (!PyUnicodeEncodeError_GetStart(error, &start))
-        line = PyUnicode_FromFormat("not UTF-8: the character at index %zd is a lone surrogate", start);
-    raise_error(state, line, PyUnicode_FromObject(text), &answer, NULL, -1, index);
+        line = PyUnicode_FromFormat("not UTF-8: a lone surrogate at index %zd", start);
+    raise_error(state, line, PyUnicode_FromObject(text), &answer, NULL, index);
     Py_XDECREF(type);
     Py_XDECREF(error);
     Py_XDECREF(traceback);
@@ -94,9 +77,9 @@ static void raise_surrogate(struct state *state, PyObject *text, Py_ssize_t inde
 
 /* The line about a text that the library refuses, and its answer; null, and no error, if the text is read. */
 static PyObject *line_of(struct text text, uint32_t options, struct duration_str_answer *answer) {
-    uint8_t line[DURATION_STR_ONE_LINE_BUFFER_SIZE];
+    char line[DURATION_STR_ONE_LINE_BUFFER_SIZE];
     const size_t length = duration_str_one_line(text.bytes, text.length, options, answer, line);
-    return length ? PyUnicode_FromStringAndSize((const char *)line, (Py_ssize_t)length) : NULL;
+    return length ? PyUnicode_FromStringAndSize(line, (Py_ssize_t)length) : NULL;
 }
 
 /* Reads the text of a str, whatever a subclass says of itself. Returns 1 if it is read, 0 if it is refused, and -1 with an
@@ -104,7 +87,7 @@ static PyObject *line_of(struct text text, uint32_t options, struct duration_str
 static int read_str(struct state *state, PyObject *given, uint32_t options, uint64_t *nanos, bool raises, Py_ssize_t index) {
     Py_ssize_t length;
     struct duration_str_answer answer;
-    struct text text = {.bytes = (const uint8_t *)PyUnicode_AsUTF8AndSize(given, &length)};
+    struct text text = {.bytes = PyUnicode_AsUTF8AndSize(given, &length)};
     if (!text.bytes) {
         if (!PyErr_ExceptionMatches(PyExc_UnicodeEncodeError))
             return -1;
@@ -126,12 +109,12 @@ static int read_str(struct state *state, PyObject *given, uint32_t options, uint
     }
     if (!raises)
         return 0;
-    raise_error(state, line, PyUnicode_FromObject(given), &answer, text.bytes, options, index);
+    raise_error(state, line, PyUnicode_FromObject(given), &answer, text.bytes, index);
     return -1;
 }
 
-/* The place of a keyword among some names that are kept, or -1 with an error. */
-static int place_of(struct state *state, PyObject *keyword, int first, int count) {
+/* The place of a keyword of a call among some names that are kept, or -1 with an error. */
+static int place_of(struct state *state, const char *call, PyObject *keyword, int first, int count) {
     /* Almost always it is the same str. */
     for (int place = 0; place < count; place++)
         if (keyword == state->kept[first + place])
@@ -139,20 +122,26 @@ static int place_of(struct state *state, PyObject *keyword, int first, int count
     for (int place = 0; place < count; place++)
         if (!PyUnicode_Compare(keyword, state->kept[first + place]))
             return place;
-    PyErr_Format(PyExc_TypeError, "unexpected keyword argument %R", keyword);
+    PyErr_Format(PyExc_TypeError, "%s() got an unexpected keyword argument %R", call, keyword);
     return -1;
 }
 
+/* Whether a call has one positional argument; raises if not. */
+static bool has_one(const char *call, Py_ssize_t count) {
+    if (count != 1)
+        PyErr_Format(PyExc_TypeError, "%s() takes exactly one positional argument (%zd given)", call, count);
+    return count == 1;
+}
+
 /* Reads the text of a call, whose arguments METH_FASTCALL | METH_KEYWORDS gives. Returns -1 with an error if it is refused. */
-static int read_call(struct state *state, PyObject *const *arguments, Py_ssize_t count, PyObject *keywords, uint64_t *nanos) {
+static int read_call(struct state *state, const char *call, PyObject *const *arguments, Py_ssize_t count, PyObject *keywords,
+                     uint64_t *nanos) {
     uint32_t options = 0;
-    if (count != 1) {
-        PyErr_Format(PyExc_TypeError, "one text is wanted as a positional argument, not %zd", count);
+    if (!has_one(call, count))
         return -1;
-    }
     const Py_ssize_t words = keywords ? PyTuple_Size(keywords) : 0;
     for (Py_ssize_t at = 0; at < words; at++) {
-        const int option = place_of(state, PyTuple_GetItem(keywords, at), NO_CALC, OPTIONS);
+        const int option = place_of(state, call, PyTuple_GetItem(keywords, at), NO_CALC, OPTIONS);
         PyObject *value = arguments[count + at];
         if (option < 0)
             return -1;
@@ -169,7 +158,7 @@ static int read_call(struct state *state, PyObject *const *arguments, Py_ssize_t
 
 static PyObject *parse_ns(PyObject *self, PyObject *const *arguments, Py_ssize_t count, PyObject *keywords) {
     uint64_t nanos;
-    if (read_call(PyModule_GetState(self), arguments, count, keywords, &nanos))
+    if (read_call(PyModule_GetState(self), "parse_ns", arguments, count, keywords, &nanos))
         return NULL;
     return PyLong_FromUnsignedLongLong(nanos);
 }
@@ -177,7 +166,7 @@ static PyObject *parse_ns(PyObject *self, PyObject *const *arguments, Py_ssize_t
 static PyObject *parse(PyObject *self, PyObject *const *arguments, Py_ssize_t count, PyObject *keywords) {
     struct state *state = PyModule_GetState(self);
     uint64_t nanos;
-    if (read_call(state, arguments, count, keywords, &nanos))
+    if (read_call(state, "parse", arguments, count, keywords, &nanos))
         return NULL;
     /* The product takes two thirds of the constructor's time. */
     PyObject *micros = PyLong_FromUnsignedLongLong(nanos / 1000);
@@ -188,9 +177,12 @@ static PyObject *parse(PyObject *self, PyObject *const *arguments, Py_ssize_t co
 
 static PyObject *parse_seconds(PyObject *self, PyObject *const *arguments, Py_ssize_t count, PyObject *keywords) {
     struct state *state = PyModule_GetState(self);
-    PyObject *nanos = parse_ns(self, arguments, count, keywords);
-    PyObject *seconds = nanos ? PyNumber_TrueDivide(nanos, state->kept[A_SECOND]) : NULL;
-    Py_XDECREF(nanos);
+    uint64_t nanos;
+    if (read_call(state, "parse_seconds", arguments, count, keywords, &nanos))
+        return NULL;
+    PyObject *number = PyLong_FromUnsignedLongLong(nanos);
+    PyObject *seconds = number ? PyNumber_TrueDivide(number, state->kept[A_SECOND]) : NULL;
+    Py_XDECREF(number);
     return seconds;
 }
 
@@ -206,6 +198,7 @@ static const struct limits no_limits = {
     {DURATION_STR_YEAR, DURATION_STR_NANOSECOND}, DURATION_STR_NANOSECOND + 1, DURATION_STR_SHORT};
 
 /* The names of the units as they are printed, in Latin-1, and of the styles */
+/* Made by tests/repository --write. */
 static const char *const unit_names[] = {"y", "q", "mon", "w", "d", "h", "min", "s", "ms", "\xb5s", "ns"};
 static const char *const style_names[] = {"short", "compact", "long"};
 
@@ -223,6 +216,7 @@ static int place_among(PyObject *name, const char *const *names, int count, cons
 static int unit_of(PyObject *name, const char *keyword) {
     if (PyUnicode_Check(name) && !PyUnicode_CompareWithASCIIString(name, "us"))
         return DURATION_STR_MICROSECOND;
+    /* Made by tests/repository --write. */
     const char *told = "y, q, mon, w, d, h, min, s, ms, \xc2\xb5s or us, ns";
     return place_among(name, unit_names, DURATION_STR_NANOSECOND + 1, keyword, told);
 }
@@ -245,7 +239,7 @@ static int take_parts(PyObject *value, uint32_t *parts) {
 
 /* Takes the value of a keyword. Returns -1 with an error. */
 static int take_limit(struct state *state, PyObject *keyword, PyObject *value, struct limits *limits) {
-    const int limit = place_of(state, keyword, LARGEST, STYLE + 1 - LARGEST);
+    const int limit = place_of(state, "format", keyword, LARGEST, STYLE + 1 - LARGEST);
     if (limit < 0)
         return -1;
     if (LARGEST + limit == PARTS)
@@ -275,12 +269,13 @@ static int take_limits(struct state *state, PyObject *const *values, PyObject *k
 
 /* The text of a duration; without limits the call that has none is the faster one. */
 static PyObject *printed(uint64_t secs, uint32_t nanos, const struct limits *limits) {
-    uint8_t buffer[DURATION_STR_STYLED_BUFFER_SIZE];
+    char buffer[DURATION_STR_STYLED_BUFFER_SIZE];
     const bool is_whole = !memcmp(limits, &no_limits, sizeof *limits);
-    const size_t length = is_whole ? duration_str_format(secs, nanos, buffer)
-                                   : duration_str_format_styled(secs, nanos, limits->units[0], limits->units[1],
-                                                                limits->parts, limits->style, buffer);
-    return PyUnicode_FromStringAndSize((const char *)buffer, (Py_ssize_t)length);
+    const size_t length = is_whole && secs < UINT64_MAX / SECOND
+                              ? duration_str_format(secs * SECOND + nanos, buffer)
+                              : duration_str_format_styled(secs, nanos, limits->units[0], limits->units[1],
+                                                           limits->parts, limits->style, buffer);
+    return PyUnicode_FromStringAndSize(buffer, (Py_ssize_t)length);
 }
 
 /* The text of an int of nanoseconds. */
@@ -341,8 +336,8 @@ static PyObject *printed_value(struct state *state, PyObject *value, PyObject *f
 static PyObject *format(PyObject *self, PyObject *const *arguments, Py_ssize_t count, PyObject *keywords) {
     struct state *state = PyModule_GetState(self);
     struct limits limits;
-    if (count != 1)
-        return PyErr_Format(PyExc_TypeError, "one duration is wanted as a positional argument, not %zd", count);
+    if (!has_one("format", count))
+        return NULL;
     if (take_limits(state, arguments + 1, keywords, &limits))
         return NULL;
     return printed_value(state, arguments[0], state->kept[NANOS_OF], &limits);
@@ -435,7 +430,7 @@ static int keep(struct state *state, const struct list *list, Py_ssize_t at, PyO
 static void raise_beyond(struct state *state, PyObject *given, Py_ssize_t index) {
     const struct duration_str_answer answer = {.cause = DURATION_STR_OVERFLOW};
     PyObject *line = PyUnicode_FromString("duration of 2^63 nanoseconds or more, which timedelta64 doesn't have");
-    raise_error(state, line, PyUnicode_FromObject(given), &answer, NULL, -1, index);
+    raise_error(state, line, PyUnicode_FromObject(given), &answer, NULL, index);
 }
 
 /* Reads a text of the list, as read_str does. */
@@ -530,23 +525,22 @@ static void raise_between(struct state *state, const Py_buffer *data, const size
                           uint32_t options, Py_ssize_t index) {
     const size_t start = offsets[0], end = offsets[1];
     if (!is_within(offsets, data->len)) {
-        const char *format = are_signed ? "the offsets %zd and %zd decrease or lie beyond %zd bytes, at index %zd"
-                                        : "the offsets %zu and %zu decrease or lie beyond %zd bytes, at index %zd";
-        PyErr_Format(PyExc_ValueError, format, start, end, data->len, index);
+        const char *format = are_signed ? "at index %zd: the offsets %zd and %zd decrease or lie beyond %zd bytes"
+                                        : "at index %zd: the offsets %zu and %zu decrease or lie beyond %zd bytes";
+        PyErr_Format(PyExc_ValueError, format, index, start, end, data->len);
         return;
     }
     PyObject *copy = PyBytes_FromStringAndSize((const char *)data->buf + start, (Py_ssize_t)(end - start));
     if (!copy)
         return;
     struct duration_str_answer answer;
-    const struct text text = {(const uint8_t *)PyBytes_AsString(copy), end - start};
+    const struct text text = {PyBytes_AsString(copy), end - start};
     PyObject *line = line_of(text, options, &answer);
     if (answer.cause == DURATION_STR_READ) {
-        PyErr_Format(PyExc_RuntimeError, "the text changed while it was read, at index %zd", index);
+        PyErr_Format(PyExc_RuntimeError, "at index %zd: the text changed while it was read", index);
     } else {
-        PyObject *given = PyUnicode_DecodeUTF8((const char *)text.bytes, (Py_ssize_t)text.length, "surrogateescape");
-        const bool is_text = answer.cause != DURATION_STR_NOT_TEXT;
-        raise_error(state, line, given, &answer, text.bytes, is_text ? (long long)options : -1, index);
+        PyObject *given = PyUnicode_DecodeUTF8(text.bytes, (Py_ssize_t)text.length, "surrogateescape");
+        raise_error(state, line, given, &answer, text.bytes, index);
     }
     Py_DECREF(copy);
 }
@@ -577,7 +571,7 @@ static size_t run_at(const struct column *column, size_t at, Py_ssize_t length) 
  * that is being read. Returns -1 with an error if there is no memory. */
 static int read_copies(const Py_buffer *data, const struct column *column) {
     size_t moved[RUN_TEXTS + 1], room = RUN_BYTES, run;
-    uint8_t *copy = PyMem_Malloc(room);
+    char *copy = PyMem_Malloc(room);
     for (size_t at = 0; copy && at < column->texts; at += run) {
         const size_t *offsets = column->offsets + at;
         run = run_at(column, at, data->len);
@@ -587,7 +581,7 @@ static int read_copies(const Py_buffer *data, const struct column *column) {
             copy = PyMem_Malloc(room = length);
         }
         if (copy && length)
-            memcpy(copy, (const uint8_t *)data->buf + offsets[0], length);
+            memcpy(copy, (const char *)data->buf + offsets[0], length);
         for (size_t end = 0; end <= run; end++)
             moved[end] = offsets[end] - offsets[0];
         if (!run)
@@ -668,7 +662,6 @@ static PyMethodDef methods[] = {
     {"parse", FAST(parse), parse_doc},
     {"parse_seconds", FAST(parse_seconds), parse_seconds_doc},
     {"format", FAST(format), format_doc},
-    {"report", report, METH_VARARGS, NULL},
     {"limits", FAST(limits), NULL},
     {"format_list", format_list, METH_VARARGS, NULL},
     {"read_list", read_list, METH_VARARGS, NULL},

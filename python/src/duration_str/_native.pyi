@@ -1,10 +1,11 @@
 from array import array
 from collections.abc import Callable
 from datetime import timedelta
-from typing import Any, Protocol
+from typing import Any, Protocol, type_check_only
 
 from ._texts import Style, Unit
 
+@type_check_only
 class NumpyDuration(Protocol):
     """An integer of NumPy or its timedelta64: both have a denominator, and its floats have none."""
 
@@ -30,7 +31,6 @@ def format(
     smallest: Unit = "ns",
     style: Style = "short",
 ) -> str: ...
-def report(text: str, options: int, /) -> str: ...
 def limits(*, parts: int, largest: Unit, smallest: Unit, style: Style) -> tuple[int, int, int, int]: ...
 def format_list(
     values: list[Any],

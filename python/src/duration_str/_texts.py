@@ -8,6 +8,7 @@ import sys
 from importlib import import_module
 from typing import Any, Literal
 
+# Made by tests/repository --write.
 #: A unit by the name that is printed, or `us`
 Unit = Literal["y", "q", "mon", "w", "d", "h", "min", "s", "ms", "µs", "us", "ns"]
 
@@ -54,16 +55,18 @@ _EXPECTED = [Expected(bits) for bits in range(16)]
 
 
 class DurationError(ValueError):
-    """A refused text. As a string it is one line for people, which says where and what is wrong, and often what to write;
-    for a text of a column it ends with its index.
+    """A refused text. As a string it is one line for people, which says what is wrong, where, and often what to write; for a
+    text of a column it begins with its index.
 
     >>> try:
-    ...     duration_str.parse("3h 2 hurs")
+    ...     duration_str.parse("3h 2 mins")
     ... except duration_str.DurationError as error:
-    ...     print(error)
-    ...     print(error.cause.name, error.column, error.found)
-    unknown unit "hurs" at column 6
-    SYNTAX 5 hurs
+    ...     print(error.report)
+    ...     print(error.cause.name, error.pos, error.found)
+    3h 2 mins
+         ^
+    unknown unit "mins" at column 6 (did you mean "min"?)
+    SYNTAX 5 mins
     """
 
     text: str
@@ -72,8 +75,8 @@ class DurationError(ValueError):
     """Why it is refused."""
     place: int | None
     """Where the fault stands, as a byte of the text in UTF-8, or None where it has no place."""
-    column: int | None
-    """The same as a count of characters from 0, where the line counts from 1: `text[column:]` begins with `found`."""
+    pos: int | None
+    """The same as a count of characters from 0, where the line counts from 1: `text[pos:]` begins with `found`."""
     expected: Expected
     """What could stand at the place of a syntax fault; for other faults no flag is set."""
     found: str | None
@@ -82,35 +85,36 @@ class DurationError(ValueError):
     """The position of the text in the column that was read, or None where it was read by itself."""
 
     def __init__(
-        self, one_line: str, text: str, cause: int, place: int | None = None, expected: int = 0,
-        found: str | None = None, options: int | None = None, index: int | None = None,
+        self, line: str, text: str, cause: int, place: int | None = None, expected: int = 0,
+        found: str | None = None, index: int | None = None,
     ) -> None:  # fmt: skip
-        super().__init__(one_line if index is None else f"{one_line}, at index {index}")
+        super().__init__(line if index is None else f"at index {index}: {line}")
         self.text, self.cause, self.place, self.expected = text, _CAUSES[cause], place, _EXPECTED[expected]
-        self.found, self.index, self._options = found, index, options
-        self.column = place if place is None or text.isascii() else len(text.encode()[:place].decode())
-
-    @property
-    def one_line(self) -> str:
-        """The error as a string."""
-        return str(self)
+        self.found, self.index = found, index
+        self.pos = place if place is None or text.isascii() else len(text.encode()[:place].decode())
 
     @property
     def report(self) -> str:
-        """The text, a caret below the place, and `line`: the lines of a message for a terminal. Of a text that has a line
-        feed it is `byte N: ` and `line`; where there is no place it is `line`."""
-        if self._options is None:
-            return str(self).removesuffix(f", at index {self.index}")
-        told: str = import_module("duration_str._native").report(self.text, self._options)
-        return told
-
-    @property
-    def line(self) -> str:
-        """What is wrong, or what was expected at the place, without the place or the text."""
-        return self.report.rpartition("\n")[2].removeprefix(f"byte {self.place}: ")
+        """For a terminal: the text, a caret below the place of a syntax fault, and the line. It is the line alone for other
+        faults, for a text of more than 80 characters, and for one with something in it that the line would escape."""
+        if self.cause is not Cause.SYNTAX or len(self.text) > 80 or not _is_clear(self.text):
+            return str(self)
+        return f"{self.text}\n{' ' * (self.pos or 0)}^\n{self}"
 
     def __reduce__(self) -> tuple[type[DurationError], tuple[object, ...], dict[str, object]]:
         return type(self), (str(self), self.text, self.cause), self.__dict__
+
+
+def _is_clear(text: str) -> bool:
+    """Whether a line would escape nothing of a text. A line quotes 40 characters of one that is too large."""
+    for start in range(0, len(text), 35):
+        quoted = f"585y {text[start : start + 35]}"
+        try:
+            import_module("duration_str._native").parse_ns(quoted)
+        except DurationError as error:
+            if not str(error).endswith(f' of over 584 years in "{quoted}"'):
+                return False
+    return True
 
 
 def option_bits(no_calc: bool, lowercase: bool, cn_unit: bool) -> int:
@@ -142,4 +146,5 @@ def nanos_of(value: Any) -> int:
         return int.__index__(value)
     if numpy and isinstance(value, numpy.integer):
         return int(value)
-    raise TypeError(f"a duration must be an int of nanoseconds or a timedelta, not {type(value).__name__}")
+    help = ": timedelta(seconds=...) takes seconds" if isinstance(value, float) else ""
+    raise TypeError(f"a duration must be an int of nanoseconds or a timedelta, not {type(value).__name__}{help}")

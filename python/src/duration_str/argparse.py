@@ -15,6 +15,9 @@ class DurationType:
     def __init__(self, *, no_calc: bool = False, lowercase: bool = False, cn_unit: bool = False) -> None:
         self._options = {"no_calc": no_calc, "lowercase": lowercase, "cn_unit": cn_unit}
 
+    def __repr__(self) -> str:
+        return "DURATION"
+
     def __call__(self, text: str) -> datetime.timedelta:
         try:
             return parse(text, **self._options)

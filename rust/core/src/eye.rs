@@ -5,7 +5,6 @@
 pub(crate) struct Eye<'a> {
     text: &'a str,
     place: usize,
-    next: usize,
     looks: u64,
 }
 
@@ -16,7 +15,6 @@ impl<'a> Eye<'a> {
         Eye {
             text,
             place: 0,
-            next: 0,
             looks: 0,
         }
     }
@@ -36,19 +34,15 @@ impl<'a> Eye<'a> {
     /// Looks at the character at the place; `None` at the end of the text.
     #[inline(always)]
     pub(crate) fn look(&mut self) -> Option<char> {
-        let mut next = self.place;
-        let Some(c) = character_at(self.text, self.place, &mut next) else {
-            return None;
-        };
-        self.next = next;
+        let c = character_at(self.text, self.place)?;
         self.looks += 1;
         Some(c)
     }
 
     /// Moves past the character just looked at.
     #[inline(always)]
-    pub(crate) fn step(&mut self) {
-        self.place = self.next;
+    pub(crate) fn step(&mut self, looked_at: char) {
+        self.place += looked_at.len_utf8();
     }
 
     /// The text from an earlier place to the present one.
@@ -64,27 +58,23 @@ impl<'a> Eye<'a> {
     }
 }
 
-/// The character at a place, and `None` at the end of the text. `next` becomes the place after it: the compiler would
-/// keep a returned pair in memory, and this reference in a register.
+/// The character at a place, and `None` at the end of the text.
 #[inline]
-fn character_at(text: &str, place: usize, next: &mut usize) -> Option<char> {
+fn character_at(text: &str, place: usize) -> Option<char> {
     let byte = *text.as_bytes().get(place)?;
     if byte < 128 {
-        *next = place + 1;
         Some(char::from(byte))
     } else {
-        let (c, end) = decoded_at(text, place);
-        *next = end;
-        Some(c)
+        Some(decoded_at(text, place))
     }
 }
 
-/// The character at a place, of any width, and the place after it.
+/// The character at a place, of any width.
 #[cold]
 #[inline(never)]
-fn decoded_at(text: &str, place: usize) -> (char, usize) {
+fn decoded_at(text: &str, place: usize) -> char {
     match text[place..].chars().next() {
-        Some(c) => (c, place + c.len_utf8()),
+        Some(c) => c,
         None => unreachable!(),
     }
 }

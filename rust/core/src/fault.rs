@@ -8,12 +8,12 @@ use crate::token::Tokens;
 /// A refusal: the text that was read, and the cause. It prints as a message for people.
 ///
 /// ```
-/// use duration_str::{Options, parse_with};
+/// use duration_str_core::{Options, parse_with};
 ///
 /// let fault = parse_with("3ms-2ms", Options::off()).unwrap_err();
 /// assert_eq!(fault.to_string(), "3ms-2ms\n   ^\nexpected ['+', '*']");
 /// ```
-#[derive(Clone, Copy, Debug, PartialEq, Eq)]
+#[derive(Clone, Copy, Debug, PartialEq, Eq, Hash)]
 pub struct Fault<'a> {
     /// The whole text that was read; the empty text for `NotText`.
     pub(crate) text: &'a str,
@@ -25,7 +25,7 @@ impl<'a> Fault<'a> {
     /// The whole text that was read; the empty text for `NotText`.
     ///
     /// ```
-    /// use duration_str::{Options, parse_with};
+    /// use duration_str_core::{Options, parse_with};
     ///
     /// assert_eq!(parse_with("1x", Options::off()).unwrap_err().text(), "1x");
     /// ```
@@ -37,7 +37,7 @@ impl<'a> Fault<'a> {
     /// Why it is refused.
     ///
     /// ```
-    /// use duration_str::{Cause, Options, parse_with};
+    /// use duration_str_core::{Cause, Options, parse_with};
     ///
     /// let cause = parse_with("600y", Options::off()).unwrap_err().cause();
     /// assert_eq!(cause, Cause::Overflow { place: Some(0) });

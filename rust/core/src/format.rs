@@ -1,17 +1,18 @@
 // Made by tools/erase of crates/duration_str/src/format.rt.
 //! How a duration is printed: in the units from a largest to a smallest, in so many parts at most, and in a style.
 
-use crate::unit::{TimeUnit, UNITS};
+use crate::unit::{PRINTED, Printed, TimeUnit, UNITS};
 
 /// How a duration is printed: in which units, in how many parts at most, and in which style. It begins with
 /// [`Format::whole`], since a later version may have more fields.
 ///
 /// ```
-/// use duration_str::{Format, TimeUnit, write_within};
+/// use duration_str::{Format, STYLED_BUFFER_SIZE, TimeUnit, write_within};
 /// use std::time::Duration;
 ///
 /// let days = Format::whole().largest(TimeUnit::Day);
-/// assert_eq!(write_within(&Duration::new(120 * 86_400, 5), days, &mut [0; 144]), "120d 5ns");
+/// let mut buffer = [0; STYLED_BUFFER_SIZE];
+/// assert_eq!(write_within(&Duration::new(120 * 86_400, 5), days, &mut buffer), "120d 5ns");
 /// ```
 #[derive(Clone, Copy, Debug, PartialEq, Eq, Hash)]
 #[non_exhaustive]
@@ -59,11 +60,12 @@ impl Format {
     /// The same format with this largest unit.
     ///
     /// ```
-    /// use duration_str::{Format, TimeUnit, write_within};
+    /// use duration_str::{Format, STYLED_BUFFER_SIZE, TimeUnit, write_within};
     /// use std::time::Duration;
     ///
+    /// let mut buffer = [0; STYLED_BUFFER_SIZE];
     /// let minutes = Format::whole().largest(TimeUnit::Minute);
-    /// assert_eq!(write_within(&Duration::new(5_430, 0), minutes, &mut [0; 144]), "90min 30s");
+    /// assert_eq!(write_within(&Duration::new(5_430, 0), minutes, &mut buffer), "90min 30s");
     /// ```
     #[inline]
     #[must_use]
@@ -74,12 +76,13 @@ impl Format {
     /// The same format with this smallest unit.
     ///
     /// ```
-    /// use duration_str::{Format, TimeUnit, write_within};
+    /// use duration_str::{Format, STYLED_BUFFER_SIZE, TimeUnit, write_within};
     /// use std::time::Duration;
     ///
+    /// let mut buffer = [0; STYLED_BUFFER_SIZE];
     /// let minutes = Format::whole().smallest(TimeUnit::Minute);
-    /// assert_eq!(write_within(&Duration::new(5_430, 0), minutes, &mut [0; 144]), "1h 30min");
-    /// assert_eq!(write_within(&Duration::new(30, 0), minutes, &mut [0; 144]), "0min");
+    /// assert_eq!(write_within(&Duration::new(5_430, 0), minutes, &mut buffer), "1h 30min");
+    /// assert_eq!(write_within(&Duration::new(30, 0), minutes, &mut buffer), "0min");
     /// ```
     #[inline]
     #[must_use]
@@ -90,11 +93,12 @@ impl Format {
     /// The same format with so many parts at most.
     ///
     /// ```
-    /// use duration_str::{Format, write_within};
+    /// use duration_str::{Format, STYLED_BUFFER_SIZE, write_within};
     /// use std::time::Duration;
     ///
+    /// let mut buffer = [0; STYLED_BUFFER_SIZE];
     /// let one_part = Format::whole().parts(1);
-    /// assert_eq!(write_within(&Duration::new(5_430, 0), one_part, &mut [0; 144]), "1h");
+    /// assert_eq!(write_within(&Duration::new(5_430, 0), one_part, &mut buffer), "1h");
     /// ```
     #[inline]
     #[must_use]
@@ -105,11 +109,12 @@ impl Format {
     /// The same format in this style.
     ///
     /// ```
-    /// use duration_str::{Format, Style, write_within};
+    /// use duration_str::{Format, STYLED_BUFFER_SIZE, Style, write_within};
     /// use std::time::Duration;
     ///
+    /// let mut buffer = [0; STYLED_BUFFER_SIZE];
     /// let long = Format::whole().style(Style::Long);
-    /// assert_eq!(write_within(&Duration::new(5_430, 0), long, &mut [0; 144]), "1 hour 30 minutes 30 seconds");
+    /// assert_eq!(write_within(&Duration::new(5_430, 0), long, &mut buffer), "1 hour 30 minutes 30 seconds");
     /// ```
     #[inline]
     #[must_use]
@@ -118,12 +123,21 @@ impl Format {
     }
 
     /// The units from the largest to the smallest.
-    pub(crate) fn units(self) -> &'static [TimeUnit] {
+    pub(crate) fn units(self) -> &'static [Printed] {
         let first = self.largest.rank();
         let last = self.smallest.rank();
         if last < first {
             return &[];
         }
-        &UNITS[first..last + 1]
+        &PRINTED[first..last + 1]
+    }
+    /// The units in which so many nanoseconds are printed as in all of these. Most durations are below a day, and have
+    /// no longer units to look for.
+    #[inline(always)]
+    pub(crate) fn units_for(self, nanos: u64) -> &'static [Printed] {
+        if nanos < TimeUnit::Day.nanos() && self.largest.rank() < TimeUnit::Hour.rank() {
+            return self.largest(TimeUnit::Hour).units();
+        }
+        self.units()
     }
 }

@@ -1,14 +1,13 @@
 //! What the types have beside the proved source. It stands here, since only the crate of a type may say it.
-use super::cause::{Cause, Expected};
+use super::cause::Cause;
 use super::fault::Fault;
-use super::format::Format;
+use super::format::{Format, Style};
 use super::options::Options;
 use super::token::Tokens;
-use super::unit::TimeUnit;
+use super::unit::{TimeUnit, UNITS};
 use core::cmp::Ordering;
 use core::error::Error;
 use core::fmt;
-use core::hash::{Hash, Hasher};
 use core::str::FromStr;
 
 impl Options {
@@ -69,6 +68,69 @@ impl Default for Format {
     }
 }
 
+/// [`Style::Short`].
+impl Default for Style {
+    fn default() -> Style {
+        Style::Short
+    }
+}
+
+/// `short`, `compact` or `long`.
+impl fmt::Display for Style {
+    fn fmt(&self, f: &mut fmt::Formatter<'_>) -> fmt::Result {
+        f.pad(match self {
+            Style::Short => "short",
+            Style::Compact => "compact",
+            Style::Long => "long",
+        })
+    }
+}
+
+impl FromStr for Style {
+    type Err = UnknownStyle;
+
+    fn from_str(word: &str) -> Result<Style, UnknownStyle> {
+        match word {
+            "short" => Ok(Style::Short),
+            "compact" => Ok(Style::Compact),
+            "long" => Ok(Style::Long),
+            _ => Err(UnknownStyle),
+        }
+    }
+}
+
+/// A word that names no style.
+///
+/// ```
+/// use duration_str::{Style, UnknownStyle};
+///
+/// assert_eq!("long".parse(), Ok(Style::Long));
+/// assert_eq!("Long".parse::<Style>(), Err(UnknownStyle));
+/// assert_eq!(UnknownStyle.to_string(), "no style: write short, compact or long");
+/// ```
+#[derive(Clone, Copy, Debug, PartialEq, Eq, Hash)]
+pub struct UnknownStyle;
+
+impl fmt::Display for UnknownStyle {
+    fn fmt(&self, f: &mut fmt::Formatter<'_>) -> fmt::Result {
+        f.pad("no style: write short, compact or long")
+    }
+}
+
+impl Error for UnknownStyle {}
+
+impl TimeUnit {
+    /// The units, the longest first.
+    ///
+    /// ```
+    /// use duration_str::TimeUnit;
+    ///
+    /// let names: Vec<String> = TimeUnit::ALL.iter().map(TimeUnit::to_string).collect();
+    /// assert_eq!(names.join(" "), "y q mon w d h min s ms µs ns");
+    /// ```
+    pub const ALL: &'static [TimeUnit] = &UNITS;
+}
+
 /// By length: a minute is less than an hour.
 impl Ord for TimeUnit {
     fn cmp(&self, other: &TimeUnit) -> Ordering {
@@ -105,7 +167,7 @@ pub struct UnknownUnit;
 
 impl fmt::Display for UnknownUnit {
     fn fmt(&self, f: &mut fmt::Formatter<'_>) -> fmt::Result {
-        f.write_str("no unit of time such as h or min")
+        f.pad("no unit of time such as h or min")
     }
 }
 
@@ -130,12 +192,6 @@ impl<'a> Fault<'a> {
 
 impl Error for Fault<'_> {}
 
-impl Hash for Fault<'_> {
-    fn hash<H: Hasher>(&self, state: &mut H) {
-        (self.text, self.cause).hash(state);
-    }
-}
-
 /// `Tokens` are not `Clone`: a copy would look at characters again that [`Tokens::looked`] has counted.
 impl fmt::Debug for Tokens<'_> {
     fn fmt(&self, f: &mut fmt::Formatter<'_>) -> fmt::Result {
@@ -153,21 +209,46 @@ impl fmt::Display for Cause {
     }
 }
 
-impl Hash for Expected {
-    fn hash<H: Hasher>(&self, state: &mut H) {
-        (self.number, self.unit_word, self.operator, self.text_end).hash(state);
-    }
-}
+/// By serde a unit and a style are the texts that they print as, and are read from all that `FromStr` reads.
+#[cfg(feature = "serde")]
+mod named {
+    use super::{Style, TimeUnit};
+    use core::fmt::{self, Display};
+    use core::marker::PhantomData;
+    use core::str::FromStr;
+    use serde::de::{Deserialize, Deserializer, Error, Visitor};
+    use serde::ser::{Serialize, Serializer};
 
-impl Hash for Cause {
-    fn hash<H: Hasher>(&self, state: &mut H) {
-        core::mem::discriminant(self).hash(state);
-        match *self {
-            Cause::Syntax { place, expected } => (place, expected).hash(state),
-            Cause::NumberTooLarge { place } | Cause::Overflow { place } => place.hash(state),
-            Cause::Mixed { first, later } => (first as u8, later as u8).hash(state),
-            Cause::NotText { optional } => optional.hash(state),
-            Cause::Empty | Cause::OutOfRange => {}
+    /// Reads a name.
+    struct Name<T>(PhantomData<T>);
+
+    impl<T: FromStr<Err: Display>> Visitor<'_> for Name<T> {
+        type Value = T;
+
+        fn expecting(&self, f: &mut fmt::Formatter<'_>) -> fmt::Result {
+            f.write_str("a name")
+        }
+
+        fn visit_str<E: Error>(self, word: &str) -> Result<T, E> {
+            word.parse().map_err(E::custom)
         }
     }
+
+    macro_rules! named {
+        ($($Named:ident)+) => {$(
+            impl Serialize for $Named {
+                fn serialize<S: Serializer>(&self, serializer: S) -> Result<S::Ok, S::Error> {
+                    serializer.collect_str(self)
+                }
+            }
+
+            impl<'de> Deserialize<'de> for $Named {
+                fn deserialize<D: Deserializer<'de>>(deserializer: D) -> Result<$Named, D::Error> {
+                    deserializer.deserialize_str(Name(PhantomData))
+                }
+            }
+        )+};
+    }
+
+    named!(Style TimeUnit);
 }

@@ -5,7 +5,7 @@
 #[forbid(unsafe_code)]
 mod impls; // Written by hand.
 
-pub use self::impls::UnknownUnit;
+pub use self::impls::{UnknownStyle, UnknownUnit};
 
 #[forbid(unsafe_code)]
 mod cause;
@@ -37,8 +37,11 @@ mod token;
 mod unit;
 
 pub use self::format::{Format, Style};
-pub use self::one_line::MAX_ONE_LINE_LEN;
+pub use self::one_line::{MAX_ONE_LINE_LEN, ONE_LINE_BUFFER_SIZE};
 pub use self::parser::{Cause, Expected, Fault, parse, parse_looked, parse_nanos, parse_std, parse_with};
-pub use self::printing::{MAX_LONG_LEN, MAX_PRINTED_LEN, write_human, write_within};
+pub use self::printing::{
+    FORMAT_BUFFER_SIZE, MAX_LONG_LEN, MAX_PRINTED_LEN, STYLED_BUFFER_SIZE, write_human,
+    write_within,
+};
 pub use self::token::{Token, Tokens, What};
-pub use self::unit::{CondUnit, Options, TimeUnit};
+pub use self::unit::{CondUnit, Options, TimeUnit, UNITS};

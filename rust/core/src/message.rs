@@ -4,44 +4,15 @@
 //! A `Display` may fail for reasons that its contract does not name, so no contract can promise that it prints. Into a
 //! buffer a message for which there is room is always written.
 
-use crate::cause::Cause;
 use crate::fault::Fault;
 use crate::printing::put_number;
 use core::fmt;
-
-impl Cause {
-    /// Writes the line that says why the text is refused to the start of a buffer, and returns its length in bytes.
-    ///
-    /// `None` if it is longer than the buffer, which is then unchanged. Allocates nothing.
-    ///
-    /// ```
-    /// use duration_str::{Options, parse_with};
-    ///
-    /// let mut buffer = [0; 64];
-    /// let cause = parse_with("3 + ", Options::off()).unwrap_err().cause();
-    /// assert_eq!(cause.write_line(&mut buffer), Some(15));
-    /// assert_eq!(&buffer[..15], b"expected number");
-    /// ```
-    pub fn write_line(self, buffer: &mut [u8]) -> Option<usize> {
-        put(buffer, 0, self.line().as_bytes())
-    }
-
-    /// The length in bytes of the line that `write_line` writes.
-    ///
-    /// ```
-    /// assert_eq!(duration_str::Cause::Empty.line_len(), 11);
-    /// ```
-    #[must_use]
-    pub const fn line_len(self) -> usize {
-        self.line().len()
-    }
-}
 
 impl Fault<'_> {
     /// The length in bytes of the message that `write_message` writes; `usize::MAX` if it is greater than that.
     ///
     /// ```
-    /// use duration_str::{Options, parse_with};
+    /// use duration_str_core::{Options, parse_with};
     ///
     /// assert_eq!(parse_with("3ms-2ms", Options::off()).unwrap_err().message_len(), 32);
     /// ```
@@ -55,7 +26,7 @@ impl Fault<'_> {
     /// `None` if it is longer than the buffer, which is then unchanged. Allocates nothing.
     ///
     /// ```
-    /// use duration_str::{Options, parse_with};
+    /// use duration_str_core::{Options, parse_with};
     ///
     /// let mut buffer = [0; 64];
     /// let fault = parse_with("", Options::off()).unwrap_err();
@@ -147,6 +118,7 @@ impl Layout {
     /// The message with this layout, at the start of the buffer; `None` if there is no room.
     fn message<'b>(self, buffer: &'b mut [u8], text: &str, line: &str) -> Option<&'b str> {
         match self.put(buffer, text, line) {
+            // SAFETY: `put` writes UTF-8 up to `end`, by its clause `utf8`.
             Some(end) => Some(unsafe { core::str::from_utf8_unchecked(&buffer[..end]) }),
             None => None,
         }
@@ -212,6 +184,9 @@ fn put_spaces(buffer: &mut [u8], at: usize, count: usize) -> Option<usize> {
 
 /// Writes a number in decimal as `put` does.
 pub(crate) fn put_decimal(buffer: &mut [u8], at: usize, number: usize) -> Option<usize> {
+    if number < 10 {
+        return put(buffer, at, &[b'0' + number as u8]);
+    }
     let mut digits = [0; 64];
     let end = put_number(&mut digits, 0, number as u64);
     put(buffer, at, &digits[..end])

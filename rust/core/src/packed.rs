@@ -156,7 +156,7 @@ static SLOT_NAMES: [u64; 128] = [
     6_465, // day
 ];
 
-/// The unit of the name in each slot; in an empty one any unit.
+/// The unit of the name in each slot; the year in an empty one, whose unit is never returned.
 static SLOT_UNITS: [TimeUnit; 128] = [
     Year, Year, Second, Milli, Year, Nano, Hour, Year, Week, Month, Micro, Micro, Day, Year, Year,
     Year, Year, Milli, Year, Quarter, Year, Year, Micro, Second, Hour, Year, Day, Year, Year, Week,

@@ -13,6 +13,10 @@ use core::time::Duration;
 /// It returns what `parse_with` returns for `Options::off()`. Terms such as `3m`, `29ms` or `10` (no unit means
 /// seconds) are joined by `+` or by `*`; an operator that is left out is a plus. The value is below 2^64 nanoseconds.
 ///
+/// # Errors
+///
+/// The [`Fault`], if the text means no duration.
+///
 /// ```
 /// use duration_str::parse;
 /// use std::time::Duration;
@@ -22,10 +26,14 @@ use core::time::Duration;
 /// ```
 #[inline(never)]
 pub fn parse(input: &str) -> Result<Duration, Fault<'_>> {
-    as_duration(parse_nanos(input, Options::off()))
+    parse_nanos(input, Options::off()).map(Duration::from_nanos)
 }
 
 /// What `parse` returns.
+///
+/// # Errors
+///
+/// That of [`parse`].
 ///
 /// ```
 /// assert_eq!(duration_str::parse_std("2h 37m").unwrap().as_secs(), 9_420);
@@ -41,6 +49,10 @@ pub fn parse_std(input: &str) -> Result<Duration, Fault<'_>> {
 /// value of the first term; `Syntax` if no sentence continues as the text does, with what could stand there; the first
 /// fault of the evaluation. Under `no_calc` the terms are added one by one, and their faults precede later syntax
 /// faults. Allocates nothing.
+///
+/// # Errors
+///
+/// The [`Fault`], if the text means no duration.
 ///
 /// ```
 /// use duration_str::{Options, parse_with};
@@ -62,10 +74,14 @@ pub fn parse_with(input: &str, o: Options) -> Result<Duration, Fault<'_>> {
 /// What `parse_with` returns where an option is on.
 #[inline(never)]
 fn parse_chosen(input: &str, o: Options) -> Result<Duration, Fault<'_>> {
-    as_duration(parse_nanos(input, o))
+    parse_nanos(input, o).map(Duration::from_nanos)
 }
 
 /// The nanoseconds of what `parse_with` returns, or its refusal.
+///
+/// # Errors
+///
+/// That of [`parse_with`].
 ///
 /// ```text
 /// parse_nanos("1ms 5ns", Options::off()) // Ok(1_000_005)
@@ -85,16 +101,7 @@ pub fn parse_nanos(input: &str, o: Options) -> Result<u64, Fault<'_>> {
 /// ```
 pub fn parse_looked(input: &str, o: Options) -> (Result<Duration, Fault<'_>>, u64) {
     let (answer, looks) = read_text(input, o);
-    (as_duration(answer), looks)
-}
-
-/// The nanoseconds as a duration, or the same refusal.
-#[inline(always)]
-fn as_duration(answer: Result<u64, Fault<'_>>) -> Result<Duration, Fault<'_>> {
-    match answer {
-        Ok(nanos) => Ok(Duration::from_nanos(nanos)),
-        Err(fault) => Err(fault),
-    }
+    (answer.map(Duration::from_nanos), looks)
 }
 
 /// What `parse_nanos` returns, and how many times a character of the text was looked at.

@@ -6,45 +6,37 @@ use crate::operator::CondUnit;
 use crate::token::{TokenStart, Tokens};
 use crate::unit::TimeUnit;
 
+/// The later terms: the operator between them with their total, `None` without any, or their first fault.
+type Later = Result<Option<(CondUnit, u64)>, Cause>;
+
 /// The value of the tokens in nanoseconds, or the cause of their refusal.
 ///
 /// The later terms are combined first, by the operator before the second term, and the first term is combined with
-/// their total at the end. Under `no_calc` the first term is the beginning of that total.
+/// their total at the end. Under `no_calc` the first term is the beginning of that total. The first fault of a later
+/// term stands at once under `no_calc`; else it takes the total's place, and the syntax is read to its end, whose fault
+/// precedes it.
 #[inline(always)]
 pub(crate) fn read(tokens: &mut Tokens<'_>, no_calc: bool) -> Result<u64, Cause> {
     expect_number(tokens)?;
     let number = tokens.take_number();
     let value = read_unit(tokens, no_calc)?.times(number, Some(0))?;
     let (first, mut later) = if no_calc {
-        (0, Some((CondUnit::Plus, value)))
+        (0, Ok(Some((CondUnit::Plus, value))))
     } else {
-        (value, None)
+        (value, Ok(None))
     };
     while let Some(next) = read_operator(tokens, no_calc)? {
         let number = tokens.take_number();
         let unit = read_unit(tokens, no_calc)?;
-        match with_term(later, next, number, unit) {
-            Ok(total) => later = Some((next, total)),
-            Err(fault) => return read_on(tokens, no_calc, fault),
+        later = with_term(later, next, number, unit);
+        if no_calc {
+            later?;
         }
     }
-    match later {
+    match later? {
         None => Ok(first),
         Some((operator, total)) => within(combination(operator, first, total)),
     }
-}
-
-/// The fault of a later term that was read. Under `no_calc` it stands at once; else the syntax is read to its end
-/// first, whose fault precedes it.
-#[inline(always)]
-fn read_on(tokens: &mut Tokens<'_>, no_calc: bool, fault: Cause) -> Result<u64, Cause> {
-    if !no_calc {
-        while read_operator(tokens, no_calc)?.is_some() {
-            tokens.take_number();
-            read_unit(tokens, no_calc)?;
-        }
-    }
-    Err(fault)
 }
 
 /// Moves to the number that must follow, at the start and after an operator.
@@ -66,6 +58,7 @@ fn read_unit(tokens: &mut Tokens<'_>, no_calc: bool) -> Result<TimeUnit, Cause> 
     match sort {
         TokenStart::Word => tokens.take_word().ok_or(no_unit(place, no_calc)),
         TokenStart::Operator(_) if !no_calc => Ok(TimeUnit::Second),
+        // An arm of its own, since the prover would not know of a joined one which pattern it is.
         TokenStart::Operator(_) => Err(no_unit(place, no_calc)),
         TokenStart::Number | TokenStart::Other => Err(no_unit(place, no_calc)),
     }
@@ -91,22 +84,17 @@ fn read_operator(tokens: &mut Tokens<'_>, no_calc: bool) -> Result<Option<CondUn
             expect_number(tokens)?;
             Ok(Some(operator))
         }
+        // An arm of its own, as in `read_unit`.
         TokenStart::Operator(_) => Err(fault),
         TokenStart::Word | TokenStart::Other => Err(fault),
     }
 }
 
-/// The total of the later terms with one more, or its fault: `later` is the operator between them with their total so
-/// far, and `next` stands before this one.
+/// The later terms with one more, before which `next` stands.
 #[inline(always)]
-fn with_term(
-    later: Option<(CondUnit, u64)>,
-    next: CondUnit,
-    number: Option<u64>,
-    unit: TimeUnit,
-) -> Result<u64, Cause> {
-    let Some((operator, total)) = later else {
-        return unit.times(number, None);
+fn with_term(later: Later, next: CondUnit, number: Option<u64>, unit: TimeUnit) -> Later {
+    let Some((operator, total)) = later? else {
+        return Ok(Some((next, unit.times(number, None)?)));
     };
     if next != operator {
         return Err(Cause::Mixed {
@@ -115,16 +103,13 @@ fn with_term(
         });
     }
     let value = unit.times(number, None)?;
-    within(combination(operator, total, value))
+    Ok(Some((next, within(combination(next, total, value))?)))
 }
 
 /// The value, or an overflow.
 #[inline]
 fn within(value: Option<u64>) -> Result<u64, Cause> {
-    match value {
-        Some(value) => Ok(value),
-        None => Err(Cause::Overflow { place: None }),
-    }
+    value.ok_or(Cause::Overflow { place: None })
 }
 
 /// Two values combined by the operator; `None` from 2^64 on.

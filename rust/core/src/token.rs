@@ -139,8 +139,10 @@ impl<'a> Tokens<'a> {
     /// digit nor a unit letter, is taken as a token.
     #[inline(always)]
     pub(crate) fn advance(&mut self) {
-        self.eye.step();
-        self.head = self.eye.look();
+        if let Some(c) = self.head {
+            self.eye.step(c);
+            self.head = self.eye.look();
+        }
     }
 
     /// Moves past the blanks.
@@ -161,7 +163,8 @@ impl<'a> Tokens<'a> {
         let mut number = 0u64;
         while let Some(c) = self.head {
             if c.is_ascii_digit() {
-                number = ((number as u128 * 10 + (c as u32 - 48) as u128) % MODULUS) as u64;
+                let digit = c as u32 - b'0' as u32;
+                number = ((number as u128 * 10 + digit as u128) % MODULUS) as u64;
                 self.advance();
             } else {
                 break;
@@ -182,7 +185,7 @@ impl<'a> Tokens<'a> {
     }
 
     /// Moves past the letters of the word ahead, and returns them packed. Its first character is a unit letter, and
-    /// is handled before the loop, which takes fewer instructions.
+    /// is handled before the loop, which takes fewer instructions. Of unit letters the capitals alone are below `a`.
     #[inline(always)]
     fn take_letters(&mut self) -> Letters {
         let Some(first) = self.head else {
@@ -296,7 +299,8 @@ fn is_unit_letter(c: char, o: Options) -> bool {
     letter_number(c, o).is_some()
 }
 
-/// The number of a unit letter under these options, ignoring case; `None` of any other character.
+/// The number of a unit letter under these options, ignoring case: 1 to 26 of an ASCII letter, which is its code modulo
+/// 32; `None` of any other character.
 #[inline(always)]
 fn letter_number(c: char, o: Options) -> Option<u64> {
     if c.is_ascii_alphabetic() {

@@ -5,7 +5,7 @@ use duration_str_core::{Options, parse_with};
 use proc_macro::{Delimiter, Span, TokenStream, TokenTree};
 
 /// A duration that is read when the program is compiled: a constant of type [`Duration`](core::time::Duration). A text
-/// that is refused is an error of the compiler, with the message of the fault.
+/// that is refused is an error of the compiler, with the fault in one line.
 ///
 /// All options are off, whatever features are on, but for those that are named after the text: `no_calc`, `lowercase`,
 /// `cn_unit`. The text is a literal without escapes.
@@ -28,7 +28,7 @@ use proc_macro::{Delimiter, Span, TokenStream, TokenTree};
 /// ```
 #[proc_macro]
 pub fn duration(input: TokenStream) -> TokenStream {
-    value(input).unwrap_or_else(|(message, span)| refused(&message, span))
+    value(input).unwrap_or_else(|(message, span)| compile_error(&message, span))
 }
 
 /// What is wrong, and where.
@@ -45,7 +45,8 @@ fn value(input: TokenStream) -> Result<TokenStream, Refusal> {
         )
     })?;
     let options = options(tokens)?;
-    let value = parse_with(text, options).map_err(|fault| (fault.to_string(), span))?;
+    let value = parse_with(text, options)
+        .map_err(|fault| (fault.write_one_line(&mut [0; 384]).to_string(), span))?;
     let (secs, nanos) = (value.as_secs(), value.subsec_nanos());
     Ok(code(&format!(
         "::core::time::Duration::new({secs}, {nanos})"
@@ -106,7 +107,7 @@ fn options(mut tokens: impl Iterator<Item = TokenTree>) -> Result<Options, Refus
 }
 
 /// An error of the compiler at this place.
-fn refused(message: &str, span: Span) -> TokenStream {
+fn compile_error(message: &str, span: Span) -> TokenStream {
     let at_span = |mut token: TokenTree| {
         token.set_span(span);
         token

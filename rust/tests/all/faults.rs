@@ -1,15 +1,19 @@
 //! Texts that are refused, and what their faults tell.
-use crate::vectors::vectors;
+use crate::vectors::{Refused, vectors};
 use crate::{FEATURES, all_options};
 use duration_str::{
-    Cause, CondUnit, DError, Expected, Fault, Options, parse, parse_duration, parse_with,
+    Cause, CondUnit, DError, Expected, Fault, Options, UnitError, parse, parse_duration,
+    parse_with, parse_with_units,
 };
+use duration_str_core as proved;
 use std::error::Error;
 
-const NO_CALC: Options = Options {
-    no_calc: true,
-    ..Options::off()
-};
+/// The message of the specification for a refused text.
+fn message(text: &str, options: Options) -> String {
+    proved::parse_with(text, options)
+        .expect_err(text)
+        .to_string()
+}
 
 /// The line of this name.
 fn line(name: &str) -> String {
@@ -26,18 +30,15 @@ fn check(name: &str, is_told: impl Fn(Options) -> bool) {
     for options in all_options().filter(|options| is_told(*options)) {
         for (text, spaces, name) in &vectors().faults[name] {
             let line = line(name);
-            let message = match spaces {
+            let wanted = match spaces {
                 Some(spaces) => format!("{text}\n{}^\n{line}", " ".repeat(*spaces)),
                 None => line.clone(),
             };
+            assert_eq!(message(text, options), wanted, "{options:?}");
             let fault = fault(text, options);
-            assert_eq!(
-                (fault.to_string(), fault.cause().line(), fault.text()),
-                (message.clone(), &line[..], &text[..]),
-                "{options:?}"
-            );
+            assert_eq!((fault.cause().line(), fault.text()), (&line[..], &text[..]));
             if options == FEATURES {
-                assert_eq!(parse(text), Err(message));
+                assert_eq!(parse(text), Err(wanted));
             }
         }
     }
@@ -50,100 +51,68 @@ fn tells_what_is_wrong() {
     check("under no_calc", |options| options.no_calc);
 }
 
-// A number, a unit, an operator, the end: whether each could stand there.
-const NUMBER: [bool; 4] = [true, false, false, false];
-const AFTER_NUMBER: [bool; 4] = [false, true, true, true];
-const AFTER_UNIT: [bool; 4] = [true, false, true, true];
-
 #[test]
-fn points_at_what_it_found() {
-    let off = Options::off();
-    let rows = [
-        ("0mxyz", off, 1, Some("mxyz"), AFTER_NUMBER),
-        ("1m 3-5", off, 4, Some("-"), AFTER_NUMBER),
-        ("1m+", off, 3, None, NUMBER),
-        ("1m+…", off, 3, Some("…"), NUMBER),
-        ("1m 2s ?", off, 6, Some("?"), AFTER_UNIT),
-        ("1 12", off, 2, Some("12"), AFTER_NUMBER),
-        ("99999999999999999999 x", off, 21, Some("x"), AFTER_NUMBER),
-        ("3ms*2ms", NO_CALC, 3, Some("*"), [true, false, false, true]),
-        ("1分s", off.with_cn_unit(), 1, Some("分s"), AFTER_NUMBER),
-    ];
-    for (text, options, place, found, kinds) in rows {
+fn tells_all_of_a_refusal() {
+    for row in &vectors().refused {
+        let Refused(text, names, cause, place, found, kinds, line) = row;
+        let has = |name: &str| names.iter().any(|each| each == name);
+        let options = Options {
+            no_calc: has("no_calc"),
+            lowercase: has("lowercase"),
+            cn_unit: has("cn_unit"),
+        };
         let fault = fault(text, options);
-        let expected = fault.expected().expect(text);
-        assert_eq!(fault.cause(), Cause::Syntax { place, expected }, "{text}");
-        let Expected {
-            number,
-            unit_word,
-            operator,
-            text_end,
-            ..
-        } = expected;
-        assert_eq!([number, unit_word, operator, text_end], kinds, "{text}");
-        assert_eq!(
-            (fault.place(), fault.found()),
-            (Some(place), found),
-            "{text}"
-        );
+        let told = (fault.place(), fault.found());
+        assert_eq!(told, (*place, found.as_deref()), "{text}");
+        assert_eq!(name_of(fault.cause()), cause, "{text}");
+        assert_eq!(fault.expected().map_or(vec![], kinds_of), *kinds, "{text}");
+        let error = fault.into_owned();
+        assert_eq!([fault.to_string(), error.to_string()], [&line[..]; 2]);
+        assert_eq!(fault.report(), error.report());
     }
 }
 
-#[test]
-fn tells_the_cause() {
-    let rows = [
-        ("", Cause::Empty, None),
-        (
-            "99999999999999999999y",
-            Cause::NumberTooLarge { place: Some(0) },
-            None,
-        ),
-        (
-            "1s 99999999999999999999",
-            Cause::NumberTooLarge { place: None },
-            None,
-        ),
-        ("600y", Cause::Overflow { place: Some(0) }, None),
-        ("1s 600y", Cause::Overflow { place: None }, None),
-        (
-            "1s+2*3",
-            Cause::Mixed {
-                first: CondUnit::Plus,
-                later: CondUnit::Star,
-            },
-            None,
-        ),
-        (
-            "1s*2+3",
-            Cause::Mixed {
-                first: CondUnit::Star,
-                later: CondUnit::Plus,
-            },
-            None,
-        ),
-    ];
-    for (text, cause, found) in rows {
-        let fault = fault(text, Options::off());
-        assert_eq!((fault.cause(), fault.found()), (cause, found), "{text}");
-        let has_kinds = matches!(cause, Cause::Syntax { .. });
-        assert_eq!(fault.expected().is_some(), has_kinds, "{text}");
+fn name_of(cause: Cause) -> &'static str {
+    match cause {
+        Cause::Empty => "EMPTY",
+        Cause::Syntax { .. } => "SYNTAX",
+        Cause::NumberTooLarge { .. } => "NUMBER_TOO_LARGE",
+        Cause::Overflow { .. } => "OVERFLOW",
+        Cause::Mixed { .. } => "MIXED",
+        _ => "another",
     }
+}
+
+fn kinds_of(expected: Expected) -> Vec<&'static str> {
+    let kinds = [
+        (expected.number, "number"),
+        (expected.unit_word, "unit"),
+        (expected.operator, "operator"),
+        (expected.text_end, "end"),
+    ];
+    let could_stand = kinds.into_iter().filter(|(could, _)| *could);
+    could_stand.map(|(_, name)| name).collect()
+}
+
+#[test]
+fn tells_both_operators_that_are_mixed() {
+    let (first, later) = (CondUnit::Star, CondUnit::Plus);
+    let cause = fault("1s*2+3", Options::off()).cause();
+    assert_eq!(cause, Cause::Mixed { first, later });
 }
 
 #[test]
 fn tells_the_byte_where_the_text_has_lines() {
-    assert_eq!(
-        fault("1m\n2x", Options::off()).to_string(),
-        format!("byte 4: {}", line("units"))
-    );
+    let wanted = format!("byte 4: {}", line("units"));
+    assert_eq!(message("1m\n2x", Options::off()), wanted);
 }
 
 #[test]
 fn writes_messages_of_any_length() {
     for length in [100, 150, 200, 256, 10_000] {
         let text = format!("1s{}x", " ".repeat(length));
-        let message = format!("{text}\n{}^\n{}", " ".repeat(length + 2), line("operators"));
-        assert_eq!(fault(&text, Options::off()).to_string(), message);
+        let wanted = format!("{text}\n{}^\n{}", " ".repeat(length + 2), line("operators"));
+        assert_eq!(message(&text, Options::off()), wanted);
     }
 }
 
@@ -168,119 +137,19 @@ fn becomes_an_error() {
     }
     let text = String::from("1x");
     let error: Box<dyn Error + '_> = fault(&text, Options::off()).into();
-    assert_eq!(error.to_string(), format!("1x\n ^\n{}", line("units")));
+    assert_eq!(error.to_string(), fault(&text, Options::off()).to_string());
 }
 
 #[test]
 fn shows_faults_to_programmers() {
-    let shown = format!("{:?}", fault("1s+2*3", Options::off()));
-    assert_eq!(
-        shown,
-        r#"Fault { text: "1s+2*3", cause: Mixed { first: Plus, later: Star } }"#
-    );
+    let fault = fault("1s+2*3", Options::off());
+    assert_eq!(format!("{fault:?}"), format!("Fault({fault})"));
+    let cause = fault.cause();
+    assert_eq!(format!("{cause:?}"), "Mixed { first: Plus, later: Star }");
     assert_eq!(format!("{} {}", CondUnit::Plus, CondUnit::Star), "+ *");
-}
-
-/// The line of a fault.
-fn one_line(text: &str, options: Options) -> String {
-    fault(text, options).into_owned().to_string()
-}
-
-#[test]
-fn tells_in_one_line() {
-    let number = "9".repeat(50);
-    let rows = [
-        ("", "empty text".to_string()),
-        (
-            "1m 3-5",
-            r#"expected a unit, '+', '*' or the end at column 5, found "-""#.to_string(),
-        ),
-        (
-            "1m+",
-            "expected a number at column 4, found the end".to_string(),
-        ),
-        (
-            "3h 2 hurs",
-            r#"unknown unit "hurs" at column 6"#.to_string(),
-        ),
-        (
-            "30 mins",
-            r#"unknown unit "mins" at column 4: write "min""#.to_string(),
-        ),
-        (
-            "1 h\u{a0}2\u{3bc}s",
-            r#"expected a number, '+', '*' or the end at column 4, found "\u{00a0}""#.to_string(),
-        ),
-        (
-            "1\u{3bc}s",
-            "unknown unit \"\u{3bc}s\" at column 2: write \"us\"".to_string(),
-        ),
-        (
-            "2 Hrs",
-            r#"unknown unit "Hrs" at column 3: write "h""#.to_string(),
-        ),
-        ("6 Mo", r#"unknown unit "Mo" at column 3"#.to_string()),
-        (
-            "1.5h",
-            r#"expected a unit, '+', '*' or the end at column 2, found ".": a number has digits alone, no point or comma"#
-                .to_string(),
-        ),
-        (
-            "-1",
-            r#"expected a number at column 1, found "-": negative durations are not read"#.to_string(),
-        ),
-        (
-            "- 1",
-            r#"expected a number at column 1, found "-""#.to_string(),
-        ),
-        (
-            "PT5M",
-            r#"expected a number at column 1, found "PT": ISO 8601 is not read: write each number before its unit"#
-                .to_string(),
-        ),
-        (
-            "1µs\r\n\u{7}x",
-            r#"expected a number, '+', '*' or the end at column 6, found "\u{0007}""#.to_string(),
-        ),
-        (
-            "1s \u{7f}",
-            r#"expected a number, '+', '*' or the end at column 4, found "\u{007f}""#.to_string(),
-        ),
-        (
-            "1s \u{2066}h",
-            r#"expected a number, '+', '*' or the end at column 4, found "\u{2066}""#.to_string(),
-        ),
-        (
-            r"1s \h",
-            r#"expected a number, '+', '*' or the end at column 4, found "\\""#.to_string(),
-        ),
-        (
-            "600y",
-            r#"duration of 2^64 nanoseconds or more in "600y""#.to_string(),
-        ),
-        (
-            "1s 600y",
-            r#"duration of 2^64 nanoseconds or more in "1s 600y""#.to_string(),
-        ),
-        ("1s+2*3", r#"'*' after '+' in "1s+2*3""#.to_string()),
-        (
-            &number,
-            format!(
-                "number of 2^64 or more at column 1, found \"{}\"...",
-                &number[..40]
-            ),
-        ),
-    ];
-    for (text, line) in rows {
-        assert_eq!(one_line(text, Options::off()), line);
-    }
     assert_eq!(
-        one_line("1+2", NO_CALC),
-        r#"expected a unit or the end at column 2, found "+""#
-    );
-    assert_eq!(
-        one_line("1m+2", NO_CALC),
-        r#"expected a number or the end at column 3, found "+""#
+        format!("{:>16}", Cause::Overflow { place: None }),
+        "  overflow error"
     );
 }
 
@@ -301,11 +170,120 @@ fn takes_as_much_memory_as_the_message_is_long() {
         "580y 580y",
         "99999999999999999999",
     ] {
-        let message = parse(text).unwrap_err();
-        let fault = fault(text, FEATURES);
+        let told = parse(text).unwrap_err();
         assert_eq!(
-            (&message, message.capacity()),
-            (&fault.to_string(), fault.message_len())
+            (told.capacity(), &told),
+            (told.len(), &message(text, FEATURES))
         );
     }
+}
+
+#[test]
+fn shows_a_caret_where_a_terminal_is_safe() {
+    let has_caret = |text: &str| {
+        let fault = fault(text, Options::off());
+        let spaces = " ".repeat(text.chars().count() - 1);
+        let whole = format!("{text}\n{spaces}^\n{fault}");
+        let report = fault.report();
+        assert!(report == whole || report == fault.to_string(), "{report}");
+        report == whole
+    };
+    for text in ["1m-", "1µs ?", "1s 分", &format!("{}?", "1ns ".repeat(19))] {
+        assert!(has_caret(text), "{text}");
+    }
+    // 80 characters, and 81; the last, or one of the first 40, is escaped.
+    assert!(has_caret(&format!("1s{}?", " ".repeat(77))));
+    assert!(!has_caret(&format!("1s{}?", " ".repeat(78))));
+    for escaped in ["\n", "\u{1b}", "\u{7f}", "\u{200b}", "\u{202e}", "\"", "\\"] {
+        assert!(!has_caret(&format!("1s{escaped}?")), "{escaped:?}");
+        assert!(!has_caret(&format!("1s{escaped}{}?", " ".repeat(60))));
+        assert!(!has_caret(&format!("1s{}{escaped}?", " ".repeat(60))));
+        assert!(!has_caret(&format!("1s{}?", escaped.repeat(20))));
+    }
+    for text in ["", "600y", "99999999999999999999", "1s+2*3"] {
+        let fault = fault(text, Options::off());
+        assert_eq!(fault.report(), fault.to_string());
+    }
+}
+
+#[test]
+fn pads_errors() {
+    let fault = fault("", Options::off());
+    assert_eq!(
+        format!("{fault:>12}|{fault:-<12}"),
+        "  empty text|empty text--"
+    );
+    let error = fault.into_owned();
+    assert_eq!(
+        format!("{error:>12}|{error:-<12}"),
+        "  empty text|empty text--"
+    );
+    let error = parse_with_units("").unwrap_err();
+    assert_eq!(
+        format!("{error:>12}|{error:-<12}"),
+        "  empty text|empty text--"
+    );
+    let missing = parse_with_units("1").unwrap_err().to_string().len();
+    let error = parse_with_units("1").unwrap_err();
+    assert_eq!(format!("{error:>0$}", missing + 2), format!("  {error}"));
+}
+
+#[test]
+fn requires_units() {
+    for text in ["1h 30m", "1h30m", "0s", "1m*2s", " 1 h + 30 m "] {
+        assert_eq!(
+            parse_with_units(text).unwrap(),
+            parse_duration(text).unwrap()
+        );
+    }
+    let rows = [
+        ("90", 2, "column 3, found the end"),
+        ("0", 1, "column 2, found the end"),
+        ("1h 30", 5, "column 6, found the end"),
+        ("1h30 ", 5, "column 6, found the end"),
+        ("1µs+2 * 3", 6, "column 7, found \"*\""),
+        ("2*1h", 1, "column 2, found \"*\""),
+    ];
+    for (text, place, wanted) in rows {
+        if parse_duration(text).is_err() {
+            continue;
+        }
+        let error = parse_with_units(text).unwrap_err();
+        let line = format!("expected a unit at {wanted} (each number needs one)");
+        assert_eq!(
+            (error.text(), error.place(), error.cause()),
+            (text, Some(place), None)
+        );
+        assert_eq!(
+            (error.to_string(), format!("{error:?}")),
+            (line.clone(), format!("UnitError({line})"))
+        );
+        let spaces = " ".repeat(text[..place].chars().count());
+        assert_eq!(error.report(), format!("{text}\n{spaces}^\n{line}"));
+    }
+    // What is refused anyway is refused for the same.
+    for text in [
+        "",
+        "1 2",
+        "1 x",
+        "600y",
+        "1s+2*3",
+        "-5",
+        "99999999999999999999",
+    ] {
+        let (error, same) = (
+            parse_with_units(text).unwrap_err(),
+            parse_duration(text).unwrap_err(),
+        );
+        assert_eq!(
+            (error.to_string(), error.report()),
+            (same.to_string(), same.report())
+        );
+        assert_eq!(
+            (error.cause(), error.place()),
+            (Some(same.cause()), same.place())
+        );
+    }
+    let shared: Box<dyn Error + Send + Sync> = parse_with_units("90").unwrap_err().into();
+    assert!(shared.downcast_ref::<UnitError>().is_some());
 }

@@ -1,5 +1,5 @@
 //! Which calls read by the features.
-use duration_str::{HumanDuration, parse, parse_duration, parse_std};
+use duration_str::{HumanDuration, Options, parse, parse_duration, parse_std, parse_with_units};
 
 /// Texts, and whether they are read by the calls of `duration-str` 0.19.0 and by all others. Of the features only the one
 /// that adds names counts for these.
@@ -9,6 +9,22 @@ const TEXTS: [(&str, bool, bool); 4] = [
     ("1M", cfg!(not(feature = "lowercase")), true),
     ("1分", cfg!(feature = "cn_unit"), cfg!(feature = "cn_unit")),
 ];
+
+#[test]
+fn adds_options_in_any_order() {
+    let all = Options::off()
+        .with_no_calc()
+        .with_lowercase()
+        .with_cn_unit();
+    assert!(all.no_calc && all.lowercase && all.cn_unit);
+    assert_eq!(
+        Options::off()
+            .with_cn_unit()
+            .with_lowercase()
+            .with_no_calc(),
+        all
+    );
+}
 
 #[test]
 fn reads_by_all_features_as_before() {
@@ -50,6 +66,13 @@ fn reads_whatever_another_crate_takes_away() {
     for (text, _, is_read) in TEXTS {
         assert_eq!(parse_duration(text).is_ok(), is_read, "{text}");
         assert_eq!(text.parse::<HumanDuration>().is_ok(), is_read, "{text}");
+        // The last number has no unit.
+        let has_units = text != "1m+1";
+        assert_eq!(
+            parse_with_units(text).is_ok(),
+            is_read && has_units,
+            "{text}"
+        );
     }
 }
 

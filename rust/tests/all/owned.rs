@@ -1,8 +1,8 @@
 //! Faults that own their text, durations that are written as text, and the parts of texts.
 use crate::all_options;
 use duration_str::{
-    Cause, CondUnit, DError, HumanDuration, Options, OwnedFault, TimeUnit, UnknownUnit,
-    format_duration, parse_duration, parse_with,
+    Cause, CondUnit, DError, DurationError, HumanDuration, Options, Style, TimeUnit, UnknownStyle,
+    UnknownUnit, format_duration, parse_duration, parse_with,
 };
 use duration_str_core::{self as proved, Tokens, What};
 use std::collections::HashSet;
@@ -25,7 +25,7 @@ fn owns_what_the_fault_tells() {
     for options in all_options() {
         for text in texts {
             let fault = parse_with(text, options).expect_err(text);
-            let owned = OwnedFault::from(fault);
+            let owned = DurationError::from(fault);
             assert_eq!(owned.as_fault(), fault);
             assert_eq!((owned.text(), owned.cause()), (text, fault.cause()));
             assert_eq!(owned.place(), fault.place());
@@ -42,12 +42,10 @@ fn is_an_error_that_threads_share() {
     fn is_shared(_: &(dyn Error + Send + Sync + 'static)) {}
     let fault = "1x".parse::<HumanDuration>().unwrap_err();
     is_shared(&fault);
+    let line = fault.as_fault().to_string();
     assert_eq!(
         [format!("{fault:#}"), format!("{fault:?}")],
-        [
-            r#"unknown unit "x" at column 2"#,
-            r#"OwnedFault(unknown unit "x" at column 2)"#
-        ]
+        [line.clone(), format!("DurationError({line})")]
     );
 }
 
@@ -135,7 +133,7 @@ fn keeps_faults_in_sets() {
     assert_eq!(different.len(), 8);
     let faults = ["1x", "1x", "2x"].map(|text| parse_with(text, Options::off()).unwrap_err());
     assert_eq!(HashSet::from(faults).len(), 2);
-    let owned: HashSet<OwnedFault> = faults.map(OwnedFault::from).into();
+    let owned: HashSet<DurationError> = faults.map(DurationError::from).into();
     assert_eq!(owned.len(), 2);
     let errors: HashSet<DError> = faults.map(DError::from).into();
     assert_eq!(errors.len(), 1);
@@ -145,9 +143,28 @@ fn keeps_faults_in_sets() {
 
 #[test]
 fn orders_units_by_length() {
-    let names = "y q mon w d h min s ms µs ns".split(' ');
-    let longest = names.map(|name| name.parse::<TimeUnit>().unwrap());
-    assert!(longest.is_sorted_by(|longer, shorter| longer > shorter));
+    let units = TimeUnit::ALL;
+    assert!(units.is_sorted_by(|longer, shorter| longer > shorter));
+    let names: Vec<String> = units.iter().map(ToString::to_string).collect();
+    assert_eq!(names.join(" "), "y q mon w d h min s ms µs ns");
+}
+
+#[test]
+fn has_names_of_styles() {
+    assert_eq!(Style::default(), Style::Short);
+    for (name, style) in [
+        ("short", Style::Short),
+        ("compact", Style::Compact),
+        ("long", Style::Long),
+    ] {
+        assert_eq!(
+            (name.parse(), format!("{style:>8}")),
+            (Ok(style), format!("{name:>8}"))
+        );
+    }
+    for word in ["", "Long", " long", "1h"] {
+        assert_eq!(word.parse::<Style>(), Err(UnknownStyle));
+    }
 }
 
 #[test]

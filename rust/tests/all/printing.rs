@@ -1,5 +1,5 @@
 //! Printed durations.
-use crate::vectors::vectors;
+use crate::vectors::{Printed, vectors};
 use duration_str::{
     Cause, Format, FormattedDuration, HumanDuration, HumanFormat, Options, Style, TimeUnit,
     format_duration, parse_with, write_human, write_within,
@@ -7,65 +7,15 @@ use duration_str::{
 use proptest::prelude::*;
 use std::time::Duration;
 
-#[test]
-fn prints_what_was_read() {
-    for (text, printed) in vectors().printed {
-        let length = parse_with(&text, Options::off()).unwrap();
-        assert_eq!(length.human_format(), printed);
-        assert_eq!(write_human(&length, &mut [0xff; 64]), printed);
-        #[cfg(feature = "chrono")]
-        assert_eq!(
-            chrono::Duration::from_std(length).unwrap().human_format(),
-            printed
-        );
-        #[cfg(feature = "time")]
-        assert_eq!(
-            time::Duration::try_from(length).unwrap().human_format(),
-            printed
-        );
+/// The duration with this text, which may be too long to be read.
+fn length_of(text: &str) -> Duration {
+    let numbers = text
+        .strip_suffix(" ns")
+        .and_then(|text| text.split_once(" s "));
+    match numbers {
+        Some((secs, nanos)) => Duration::new(secs.parse().unwrap(), nanos.parse().unwrap()),
+        None => parse_with(text, Options::off()).unwrap(),
     }
-}
-
-/// So many seconds and 999,999,999 nanoseconds, printed.
-fn longest(secs: u64) -> String {
-    vectors().printed_longest[&format!("{secs} s 999999999 ns")].clone()
-}
-
-#[test]
-fn prints_the_longest() {
-    for secs in [i64::MAX as u64, u64::MAX] {
-        assert_eq!(
-            Duration::new(secs, 999_999_999).human_format(),
-            longest(secs)
-        );
-    }
-}
-
-/// The duration printed within limits by each call, which have to agree.
-fn within(length: Duration, largest: TimeUnit, smallest: TimeUnit, parts: usize) -> String {
-    let format = Format::whole()
-        .largest(largest)
-        .smallest(smallest)
-        .parts(parts);
-    let human = HumanDuration(length);
-    let whole = format_duration(length);
-    let printed = write_within(&length, format, &mut [0xff; 144]).to_string();
-    for other in [
-        whole.parts(parts).largest(largest).smallest(smallest),
-        whole.largest(largest).smallest(smallest).parts(parts),
-        whole.smallest(smallest).parts(parts).largest(largest),
-        human.parts(parts).largest(largest).smallest(smallest),
-        human.largest(largest).smallest(smallest).parts(parts),
-        human.smallest(smallest).parts(parts).largest(largest),
-        length
-            .formatted()
-            .parts(parts)
-            .largest(largest)
-            .smallest(smallest),
-    ] {
-        assert_eq!(other.to_string(), printed);
-    }
-    printed
 }
 
 /// The unit with this name.
@@ -74,21 +24,80 @@ fn unit(name: &str) -> TimeUnit {
 }
 
 #[test]
-fn prints_within_limits() {
-    for (text, largest, smallest, parts, printed) in vectors().printed_within {
-        let length = parse_with(&text, Options::off()).unwrap();
-        let limits = (unit(&largest), unit(&smallest), parts);
-        assert_eq!(
-            within(length, limits.0, limits.1, limits.2),
-            printed,
-            "{text} {limits:?}"
-        );
+fn prints_the_vectors() {
+    for Printed(text, largest, smallest, parts, short, long) in vectors().printed {
+        let length = length_of(&text);
+        let (first, last) = (unit(&largest), unit(&smallest));
+        let compact = short.replace(' ', "");
+        for (style, printed) in [
+            (Style::Short, &short),
+            (Style::Compact, &compact),
+            (Style::Long, &long),
+        ] {
+            let format = Format::whole()
+                .largest(first)
+                .smallest(last)
+                .parts(parts)
+                .style(style);
+            assert_eq!(
+                write_within(&length, format, &mut [0xff; 144]),
+                printed,
+                "{text}"
+            );
+            let human = HumanDuration(length);
+            let whole = format_duration(length);
+            for other in [
+                whole
+                    .parts(parts)
+                    .largest(first)
+                    .smallest(last)
+                    .style(style),
+                whole
+                    .style(style)
+                    .smallest(last)
+                    .parts(parts)
+                    .largest(first),
+                human
+                    .parts(parts)
+                    .largest(first)
+                    .smallest(last)
+                    .style(style),
+                human
+                    .style(style)
+                    .largest(first)
+                    .smallest(last)
+                    .parts(parts),
+                human
+                    .smallest(last)
+                    .parts(parts)
+                    .largest(first)
+                    .style(style),
+                length
+                    .formatted()
+                    .parts(parts)
+                    .largest(first)
+                    .smallest(last)
+                    .style(style),
+            ] {
+                assert_eq!(other.to_string(), *printed, "{text}");
+            }
+        }
+        if (&largest[..], &smallest[..], parts) == ("y", "ns", 11) {
+            prints_whole(length, &short);
+        }
     }
-    for (_, largest, smallest, parts, printed) in vectors().printed_longest_within {
-        assert_eq!(
-            within(Duration::MAX, unit(&largest), unit(&smallest), parts),
-            printed
-        );
+}
+
+fn prints_whole(length: Duration, printed: &str) {
+    assert_eq!(length.human_format(), printed);
+    assert_eq!(write_human(&length, &mut [0xff; 64]), printed);
+    #[cfg(feature = "chrono")]
+    if let Ok(length) = chrono::Duration::from_std(length) {
+        assert_eq!(length.human_format(), printed);
+    }
+    #[cfg(feature = "time")]
+    if let Ok(length) = time::Duration::try_from(length) {
+        assert_eq!(length.human_format(), printed);
     }
 }
 
@@ -99,26 +108,6 @@ fn chooses_one_limit() {
     assert_eq!(printed(build.parts(1)), "1h");
     assert_eq!(printed(build.largest(TimeUnit::Minute)), "90min 29ms");
     assert_eq!(printed(build.smallest(TimeUnit::Minute)), "1h 30min");
-}
-
-#[test]
-fn prints_in_styles() {
-    let rows = [
-        (Style::Short, "1h 30min 1s", "0s"),
-        (Style::Compact, "1h30min1s", "0s"),
-        (Style::Long, "1 hour 30 minutes 1 second", "0 seconds"),
-    ];
-    for (style, text, zero) in rows {
-        let length = Duration::from_secs(5_401);
-        assert_eq!(format_duration(length).style(style).to_string(), text);
-        assert_eq!(HumanDuration(length).style(style).to_string(), text);
-        assert_eq!(length.formatted().style(style).to_string(), text);
-        assert_eq!(
-            format_duration(Duration::ZERO).style(style).to_string(),
-            zero
-        );
-    }
-    assert_eq!(Format::default(), Format::whole());
 }
 
 /// A precision would cut the text of the duration to that of another one.
@@ -151,6 +140,9 @@ fn prints_negative(length: impl HumanFormat) {
     let hours = printed.parts(1).style(Style::Long);
     assert_eq!(hours.to_string(), "-1 hour");
     assert_eq!(printed.get_ref(), &Duration::from_secs(5_401));
+    let zero = printed.smallest(TimeUnit::Day);
+    assert_eq!(format!("{zero}|{zero:>3}|{zero:-<4}|"), "0d| 0d|0d--|");
+    assert_eq!(printed.parts(0).style(Style::Long).to_string(), "0 seconds");
 }
 
 #[test]
@@ -187,7 +179,7 @@ fn prints_negative_durations_of_time() {
         Signed::milliseconds(-193_029).human_format(),
         "-3min 13s 29ms"
     );
-    let longest = longest(i64::MAX as u64);
+    let longest = Duration::new(i64::MAX as u64, 999_999_999).human_format();
     assert_eq!(Signed::MAX.human_format(), longest);
     assert_eq!((-Signed::MAX).human_format(), format!("-{longest}"));
     // One second more than the longest one.

@@ -2,6 +2,7 @@
 use crate::vectors::vectors;
 use crate::{FEATURES, all_options};
 use duration_str::{Options, parse, parse_std, parse_with};
+use duration_str_core as proved;
 use std::time::Duration;
 
 /// A text's answer by each call that takes no options.
@@ -28,7 +29,8 @@ fn check(name: &str, reads: impl Fn(Options) -> bool) {
                 let wanted = reads(options).then_some(Duration::new(*secs, *nanos));
                 assert_eq!(answer.ok(), wanted, "{text:?} under {options:?}");
                 if options == FEATURES {
-                    let wanted = answer.map_err(|fault| fault.to_string());
+                    let wanted =
+                        proved::parse_with(text, options).map_err(|fault| fault.to_string());
                     assert!(
                         answers(text).iter().all(|answer| *answer == wanted),
                         "{text:?}: {:?}",

@@ -11,18 +11,34 @@ pub struct Vectors {
     pub values: BTreeMap<String, Vec<(u64, u32, Vec<String>)>>,
     /// Texts, the characters before the caret, where there is one, and the name of the line, by the options.
     pub faults: BTreeMap<String, Vec<(String, Option<usize>, String)>>,
-    /// Texts, and what their values print as.
-    pub printed: Vec<(String, String)>,
-    /// What the longest durations print as.
-    pub printed_longest: BTreeMap<String, String>,
-    /// Texts, and what their values print as within limits.
-    pub printed_within: Vec<Within>,
-    /// The same of the longest duration, with its seconds and nanoseconds in place of a text.
-    pub printed_longest_within: Vec<Within>,
+    pub printed: Vec<Printed>,
+    /// Texts that are refused, with all that is told of them.
+    pub refused: Vec<Refused>,
 }
 
-/// A duration, its largest and its smallest unit by their printed names, how many parts at most, and the printed text.
-pub type Within = (String, String, String, usize, String);
+/// A text, its options, its cause, the byte of its place, what was found and could stand there, and the line.
+#[derive(Deserialize)]
+pub struct Refused(
+    pub String,
+    pub Vec<String>,
+    pub String,
+    pub Option<usize>,
+    pub Option<String>,
+    pub Vec<String>,
+    pub String,
+);
+
+/// A duration's text, or its seconds and nanoseconds as `1 s 1 ns`; its largest and its smallest unit, how many parts at
+/// most; and the printed text, in the short and in the long style.
+#[derive(Deserialize)]
+pub struct Printed(
+    pub String,
+    pub String,
+    pub String,
+    pub usize,
+    pub String,
+    pub String,
+);
 
 pub fn vectors() -> Vectors {
     serde_json::from_str(include_str!("../../vectors.json"))

@@ -1,7 +1,6 @@
 -- The printed names: their lengths in bytes, and that they are characters.
 use Rattle.duration_str.proofs.Common.{ℕ, leb, leb-true, list_all, units, ◌≤◌, Bool, false, Style, Short, Compact, Long}
-use Rattle.duration_str.proofs.Common.{name_part}
-use Rattle.duration_str.proofs.Common.{◌≡◌, true, length, encode_utf8_all, refl, TimeUnit, byte_len, row_of}
+use Rattle.duration_str.proofs.Common.{name_part, ◌≡◌, true, length, encode_utf8_all, refl, TimeUnit, byte_len, row_of}
 use Rattle.std.proofs.Math.Utf8.{scalars}
 use Rattle.duration_str.proofs.Characters.EachUnit.{each_unit, all_units}
 

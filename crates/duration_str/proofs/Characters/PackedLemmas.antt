@@ -1,15 +1,14 @@
 -- Packed names and their slots.
-use Rattle.duration_str.proofs.Common.{◌≡◌, ℕ, ◌+◌, ◌-◌, ◌*◌, ◌/◌, ◌%◌, ◌^◌, ◌<◌, ◌≤◌, Bool, true, false}
-use Rattle.duration_str.proofs.Common.{not, leb, eqb, ◌==◌, ◌&&◌, ◌||◌, List, [], ◌∷◌, map, length, get_or, Option}
-use Rattle.duration_str.proofs.Common.{Some, None, refl, ap, sym, ◌∙◌, arith, inl, inr, lit<, eq-eqb}
-use Rattle.duration_str.proofs.Common.{eqb-true, leb-true, if◌then◌else◌, bytes_eq, pow-succ', cases_Bool}
-use Rattle.duration_str.proofs.Common.{and_parts, and_from, false_from_ne_true, nat_tests, bytes_eq-Decides}
-use Rattle.duration_str.proofs.Common.{same_from_decides, list_all, list_any, list_any-append, to_ascii_lowercase}
-use Rattle.duration_str.proofs.Common.{is_ascii_alphabetic, is_ascii_uppercase, Options, TimeUnit, SPREAD, all_names}
-use Rattle.duration_str.proofs.Common.{byte_len, chinese_letters, is_chinese, is_unit_letter, width, letter_number}
-use Rattle.duration_str.proofs.Common.{number_in, units, row_of, comparison_form, is_named, unit_of_word}
-use Rattle.duration_str.proofs.Common.{packed_number_after, packed_number, packs_to, pow-le-pow_right, or_cases}
-use Rattle.duration_str.proofs.Common.{or_parts, length-reverse, reverse-reverse}
+use Rattle.duration_str.proofs.Common.{◌≡◌, ℕ, ◌+◌, ◌-◌, ◌*◌, ◌/◌, ◌%◌, ◌^◌, ◌<◌, ◌≤◌, Bool, true, false, not, leb, eqb}
+use Rattle.duration_str.proofs.Common.{◌==◌, ◌&&◌, ◌||◌, List, [], ◌∷◌, map, length, get_or, Option, Some, None, refl}
+use Rattle.duration_str.proofs.Common.{ap, sym, ◌∙◌, arith, inl, inr, lit<, eq-eqb, eqb-true, leb-true, if◌then◌else◌}
+use Rattle.duration_str.proofs.Common.{bytes_eq, pow-succ', cases_Bool, and_parts, and_from, false_from_ne_true}
+use Rattle.duration_str.proofs.Common.{nat_tests, bytes_eq-Decides, same_from_decides, list_all, list_any}
+use Rattle.duration_str.proofs.Common.{list_any-append, to_ascii_lowercase, is_ascii_alphabetic, is_ascii_uppercase}
+use Rattle.duration_str.proofs.Common.{Options, TimeUnit, SPREAD, all_names, byte_len, chinese_letters, is_chinese}
+use Rattle.duration_str.proofs.Common.{is_unit_letter, width, letter_number, number_in, units, row_of, comparison_form}
+use Rattle.duration_str.proofs.Common.{is_named, unit_of_word, packed_number_after, packed_number, packs_to}
+use Rattle.duration_str.proofs.Common.{pow-le-pow_right, or_cases, or_parts, length-reverse, reverse-reverse}
 use mathlib.Core.List.{reverse_aux, reverse}
 use Rattle.std.specs.List.{range_with_len}
 use Rattle.duration_str.specs.Internal.Packed.{unit_of_packed}

@@ -1,14 +1,14 @@
 -- The steps of cutting, in terms of a text, the byte up to which it is cut, and the looks.
 use Rattle.duration_str.proofs.Common.{◌≡◌, ℕ, ◌+◌, ◌-◌, ◌*◌, ◌%◌, ◌<◌, ◌≤◌, ◌^◌, Bool, true, false, List, [], ◌∷◌}
 use Rattle.duration_str.proofs.Common.{◌++◌, length, take, drop, Option, Some, None, IsUtf8, refl, ap, sym, ◌∙◌, arith}
-use Rattle.duration_str.proofs.Common.{nat_lt, ◌&&◌, ◌||◌, is_some, IsSome, IfSome, slice_range, if◌then◌else◌}
+use Rattle.duration_str.proofs.Common.{nat_lt, ◌&&◌, ◌||◌, is_some, slice_range, if◌then◌else◌}
 use Rattle.duration_str.proofs.Common.{IsCharBoundary, chars, take-append-drop, drop-drop, add-zero, length-append}
 use Rattle.duration_str.proofs.Common.{append_assoc, length-drop, is_ascii_uppercase, and_from, list_any-append}
 use Rattle.duration_str.proofs.Common.{list_all-append, ForSome, encodes-chars, chars-append, IsUtf8-take, IsUtf8-drop}
 use Rattle.duration_str.proofs.Common.{Options, TimeUnit, tokens_from, IsLexeme, EndsRun, byte_len, is_blank, is_digit}
 use Rattle.duration_str.proofs.Common.{is_unit_letter, number_after, number_of, unit_of_word, u64_from, unit_of_packed}
-use Rattle.duration_str.proofs.Common.{ahead, StandsAt, Between, Passes, TakesDigits, TakesLetters, letter_number}
-use Rattle.duration_str.proofs.Common.{packed_number_after, length-le-encodes, append_cancel_right}
+use Rattle.duration_str.proofs.Common.{ahead, width, Stands, StandsAt, Between, Passes, TakesDigits, TakesLetters}
+use Rattle.duration_str.proofs.Common.{letter_number, packed_number_after, length-le-encodes, append_cancel_right}
 use Rattle.std.proofs.Math.Bool.{or-false}
 pub use Rattle.duration_str.proofs.Cutting.TokenLemmas.{blanks_no_token, tokens_step}
 use Rattle.duration_str.proofs.Characters.CharacterLemmas.{capital_below}
@@ -30,10 +30,9 @@ chars_short text utf8 = omega (arith, length-le-encodes (chars text), ap length 
 
 module _ {text : List ℕ} (place looks : ℕ) where
   -- no character after the head was looked at
-  pub counted_past : (next : ℕ) (head : Option ℕ) → IsSome head → ForSome head (StandsAt text place next)
-      → IsCounted text place looks head → looks + length (ahead text next) ≡ length (chars text)
-  counted_past next None h stands counted = absurd cc
-  counted_past next (Some c) h stands counted = omega (arith, ap length (stands c refl).head, counted)
+  pub counted_past : (c : ℕ) → Stands text place c → IsCounted text place looks (Some c)
+      → looks + length (ahead text (place + width c)) ≡ length (chars text)
+  counted_past c stands counted = omega (arith, ap length stands.head, counted)
 
   -- one more look fits into 64 bits
   pub looks_fit : IsUtf8 text → length text < 2 ^ 63 → looks + length (ahead text place) ≡ length (chars text)
@@ -41,10 +40,10 @@ module _ {text : List ℕ} (place looks : ℕ) where
   looks_fit utf8 short counted = omega (arith, chars_short text utf8, short, counted)
 
   -- there are at most as many looks as characters
-  pub looks_most : (next : ℕ) (head : Option ℕ) → ForSome head (StandsAt text place next)
-      → IsCounted text place looks head → looks ≤ length (chars text)
-  looks_most next None stands counted = omega (arith, counted)
-  looks_most next (Some c) stands counted = omega (arith, ap length (stands c refl).head, counted)
+  pub looks_most : (head : Option ℕ) → ForSome head (Stands text place) → IsCounted text place looks head
+      → looks ≤ length (chars text)
+  looks_most None stands counted = omega (arith, counted)
+  looks_most (Some c) stands counted = omega (arith, ap length (stands c refl).head, counted)
 
   -- each character before the place was looked at
   pub looks_least : (head : Option ℕ) → IsUtf8 text → IsCharBoundary text place → IsCounted text place looks head
@@ -53,12 +52,6 @@ module _ {text : List ℕ} (place looks : ℕ) where
       let front = chars (take place text) in
       let parts = chars-append (take place text) (drop place text) (IsUtf8-take text place utf8 boundary) in
       omega (arith, ap length (rw take-append-drop at parts), length-append front (ahead text place), counted)
-
--- what a look found, if the text and the place stay the same
-pub stands_same : {text text' : List ℕ} {place place' next : ℕ} (head : Option ℕ) → text' ≡ text → place' ≡ place
-    → IfSome head (StandsAt text place next) → ForSome head (StandsAt text' place' next)
-stands_same None e p h c is = cc
-stands_same (Some d) e p h c is = let same : d ≡ c = cc in rw (e, p) (rw same at h)
 
 -- ---- characters that pass a test
 

@@ -2,11 +2,10 @@
 use Rattle.duration_str.proofs.Common.{◌≡◌, ℕ, Bool, true, false, inl, inr, List, [], ◌∷◌, length, ◌<◌, Option, Some}
 use Rattle.duration_str.proofs.Common.{None, refl, sym, ◌∙◌, add-zero, arith, IsTrue, if◌then◌else◌, cases_Bool}
 use Rattle.duration_str.proofs.Common.{and_parts, list_all, Options, TimeUnit, CondUnit, TokenStart, Number, Word}
-use Rattle.duration_str.proofs.Common.{is_blank}
-use Rattle.duration_str.proofs.Common.{is_digit, is_unit_letter, operator_of, number_of, IsNumber, unit_of_word}
-use Rattle.duration_str.proofs.Common.{Terminal, number, word, operator_or_other, terminal_of, EndsRun, are_of_one_run}
-use Rattle.duration_str.proofs.Common.{goes_on, IsLexeme, AreTokens, tokens_from, ahead, StandsAt, Between, Passes}
-use Rattle.duration_str.proofs.Common.{Stops, sign_sort, sort_at, sort_of, is_number, IsSign, Token}
+use Rattle.duration_str.proofs.Common.{is_blank, is_digit, is_unit_letter, operator_of, number_of, IsNumber}
+use Rattle.duration_str.proofs.Common.{unit_of_word, Terminal, number, word, operator_or_other, terminal_of, EndsRun}
+use Rattle.duration_str.proofs.Common.{are_of_one_run, goes_on, IsLexeme, AreTokens, tokens_from, ahead, StandsAt}
+use Rattle.duration_str.proofs.Common.{Between, Passes, Stops, sign_sort, sort_at, sort_of, is_number, IsSign, Token}
 use Rattle.duration_str.proofs.Common.{with_first_character}
 use Rattle.duration_str.proofs.Characters.CharacterLemmas.{digit-not_letter, letter-not_digit}
 use Rattle.duration_str.proofs.Cutting.TokenLemmas.{tokens_are}

@@ -1,12 +1,12 @@
 -- The steps of `Tokens`: what is ahead, and the next token.
-use Rattle.duration_str.proofs.Common.{◌≡◌, ℕ, ◌-◌, ◌<◌, ◌≤◌, drop, length-drop, arith, true, List, [], ◌∷◌, length}
+use Rattle.duration_str.proofs.Common.{◌≡◌, ℕ, ◌+◌, ◌-◌, ◌<◌, ◌≤◌, drop, length-drop, arith, true, List, [], ◌∷◌, length}
 use Rattle.duration_str.proofs.Common.{Option, Some, None, IsUtf8, refl, ap, sym, ◌∙◌, slice_range, IsCharBoundary}
 use Rattle.duration_str.proofs.Common.{length-take-le, ForSome, IsUtf8-had, TimeUnit, CondUnit, TokenStart, Number}
 use Rattle.duration_str.proofs.Common.{Word}
 use Rattle.duration_str.proofs.Common.{Operator, Other, Tokens, Terminal, word, operator, other, operator_or_other}
 use Rattle.duration_str.proofs.Common.{terminal_of, is_blank, is_digit, is_unit_letter, operator_of, number_of}
-use Rattle.duration_str.proofs.Common.{tokens_from, ahead, StandsAt, Passes, Stops, TakesDigits, sort_of, u64_from}
-use Rattle.duration_str.proofs.Common.{source, options_of, tokens_left, what_of, KeepsInput, YieldsNextToken, IsAhead}
+use Rattle.duration_str.proofs.Common.{tokens_from, ahead, width, Stands, StandsAt, Passes, Stops, TakesDigits}
+use Rattle.duration_str.proofs.Common.{sort_of, u64_from, source, options_of, tokens_left, what_of, KeepsInput, YieldsNextToken, IsAhead}
 use Rattle.duration_str.proofs.Common.{LooksAhead, IsSign, TakesToken, TakesTokenWith, TakesNumber, Token, cut_place}
 use Rattle.duration_str.specs.declared.token.Token.{Token as RustToken}
 use Rattle.duration_str.proofs.Characters.NumberLemmas.{bytes_of_digits}
@@ -52,9 +52,9 @@ pub first_left : (s : Tokens) (sort : TokenStart) → IsAhead s (Some sort)
     → (cs : List ℕ) × (rest : List Token) × (tokens_left s ≡ record { start = cut_place s; characters = cs } ∷ rest)
     × (sort ≡ sort_of (terminal_of (options_of s) cs))
 first_left s sort h =
-    let stands : StandsAt (source s) (cut_place s) s.eye.next h.character = s.some h.character h.is_head in
-    let (cs, rest, is, sort_is) =
-    first_token (options_of s) (cut_place s) h.character (ahead (source s) s.eye.next) h.not_blank in
+    let stands : Stands (source s) (cut_place s) h.character = s.some h.character h.is_head in
+    let after = ahead (source s) (cut_place s + width h.character) in
+    let (cs, rest, is, sort_is) = first_token (options_of s) (cut_place s) h.character after h.not_blank in
     (cs, rest, rw stands.head is, rw h.is_sort sort_is)
 
 -- a word starts with a unit letter

@@ -1,17 +1,10 @@
 -- With all units and as many parts as there are units, the counts are those of the breakdown.
 use Rattle.duration_str.proofs.Common.{◌≡◌, ℕ, ◌-◌, ◌/◌, ◌%◌, ◌≤◌, ◌==◌, ◌∙◌, inl, inr, false, List, [], ◌∷◌, length}
 use Rattle.duration_str.proofs.Common.{arith, refl, sym, ap, cases_Bool, nat_tests, unit_lengths, Format, whole_format}
-use Rattle.duration_str.proofs.Common.{counts_within, text_within, printed_counts, counts_of, AllParts, Short}
-use Rattle.duration_str.proofs.Common.{⊤, ◌++◌, ◌<◌, map, take, nanos_of, Day, Hour, IsPrinted, IsPrintedWithin}
-use Rattle.duration_str.proofs.Common.{lengths_within}
-use Rattle.std.proofs.Math.Nat.{div-eq_of_lt}
+use Rattle.duration_str.proofs.Common.{counts_within, text_within, printed_counts, counts_of, AllParts}
 use Rattle.duration_str.proofs.LawProofs.GreatestBreakdown.{greatest_breakdown_holds}
 use Rattle.duration_str.proofs.LawProofs.GreatestWithin.{left_whole, greatest_within, one_greatest_within}
 use Rattle.duration_str.proofs.Printer.PrintingLemmas.{counts_are}
-
-abbrev AreAbove : ℕ → List ℕ → Type 0
-AreAbove nanos [] = ⊤
-AreAbove nanos (l ∷ lengths) = (nanos < l) × AreAbove nanos lengths
 
 pub all_counts : (lengths : List ℕ) (most nanos : ℕ) → length lengths ≤ most
     → counts_within lengths most nanos ≡ counts_of lengths nanos
@@ -40,26 +33,4 @@ all_parts_holds style parts nanos text enough =
         greatest_within format nanos,
         counts_are style nanos text p ∙ ap (printed_counts style) (sym same),
       ),
-    )
-
--- Lengths that are more than the duration don't go into it.
-skipped : (longer shorter : List ℕ) (nanos : ℕ) → AreAbove nanos longer
-    → counts_of (longer ++ shorter) nanos ≡ map (λ l. 0) longer ++ counts_of shorter nanos
-skipped [] shorter nanos h = refl
-skipped (l ∷ longer) shorter nanos h =
-    let none : nanos / l ≡ 0 = div-eq_of_lt h.0 in
-    rw (none, left_whole nanos l none, skipped longer shorter nanos h.1)
-
--- A duration below a day prints the same from the hour on.
-pub printed_below_day : (nanos : ℕ) (text : List ℕ) → nanos < nanos_of Day
-    → IsPrintedWithin (record whole_format { largest = Hour }) nanos text → IsPrinted nanos text
-printed_below_day nanos text h p =
-    let format : Format = record whole_format { largest = Hour } in
-    let lengths : List ℕ = lengths_within format in
-    let all : counts_of unit_lengths nanos ≡ 0 ∷ 0 ∷ 0 ∷ 0 ∷ 0 ∷ counts_of lengths nanos =
-    skipped (take 5 unit_lengths) lengths nanos (omega arith) in (
-      counts_of unit_lengths nanos,
-      greatest_breakdown_holds nanos,
-      p.2 ∙ ap (text_within format) (one_greatest_within format nanos p.0 p.1
-          ∙ all_counts lengths format.parts nanos (omega arith)) ∙ ap (printed_counts Short) (sym all),
     )

@@ -1,44 +1,14 @@
--- A word for which a unit's name is advised names no unit.
-use Rattle.duration_str.proofs.Common.{◌≡◌, ℕ, Bool, true, false, not, List, [], ◌∷◌, ◌++◌, None, refl, sym, map, flat_map}
-use Rattle.duration_str.proofs.Common.{bytes_eq, cases_Bool, find, inl, inr, false_from_ne_true, list_any, list_all, Options}
-use Rattle.duration_str.proofs.Common.{TimeUnit, to_ascii_lowercase, comparison_form, encode_utf8_all, units, NearWords}
-use Rattle.duration_str.proofs.Common.{nat_tests, arith}
-use Rattle.duration_str.specs.OneLine.{near_advice, near_words, small_words, greek_words, is_among}
-use Rattle.duration_str.proofs.Characters.EachUnit.{all_units}
-use Rattle.duration_str.proofs.Characters.UnitLemmas.{lower-encodes, bytes_eq-encodes, named_passes}
+-- A word for which a name is advised names no unit, and the name is one of the unit that people mean by it.
+use Rattle.duration_str.proofs.Common.{◌≡◌, ◌∙◌, ℕ, Bool, true, not, List, [], ◌∷◌, Some, refl, sym, map, find, Option, false, if◌then◌else◌}
+use Rattle.duration_str.proofs.Common.{bytes_eq, cases_Bool, inl, inr, list_any, list_all, Options, codes, TimeUnit, Month}
+use Rattle.duration_str.proofs.Common.{MicroSecond, to_ascii_lowercase, comparison_form, encode_utf8_all, units, row_of}
+use Rattle.duration_str.proofs.Common.{unit_of_word, all_names, nat_tests, arith, ap}
+use Rattle.std.specs.Option.{option_map}
+use Rattle.duration_str.specs.Laws.{NearWords, IsAdvised}
+use Rattle.duration_str.specs.OneLine.{near_words, small_words, us_words, is_among}
+use Rattle.duration_str.proofs.Characters.EachUnit.{all_units, each_unit}
+use Rattle.duration_str.proofs.Characters.UnitLemmas.{lower-encodes, bytes_eq-encodes, named_unit}
 use Rattle.duration_str.proofs.Characters.PackedLemmas.{no_name}
-
-abbrev all_near : List (List ℕ)
-all_near = small_words ++ (greek_words ++ flat_map near_words units)
-
--- whether a word in small letters is near a unit's name
-abbrev is_near : List ℕ → Bool
-is_near word = list_any (bytes_eq word) all_near
-
-among_same : (word : List ℕ) (words : List (List ℕ))
-    → is_among words (encode_utf8_all word) ≡ list_any (bytes_eq word) words
-among_same word [] = refl
-among_same word (w ∷ words) = rw (bytes_eq-encodes word w, among_same word words) refl
-
--- What is not near is none of the words.
-none_among : (word : List ℕ) (words : List (List ℕ)) (test : List ℕ → Bool) → list_all test words ≡ true
-    → test word ≡ false → is_among words (encode_utf8_all word) ≡ false
-none_among word words test all far =
-    false_from_ne_true _ (λ t. let near = named_passes test word words all (rw (among_same word words) at t) in cc)
-
-no_unit : (word : List ℕ) → is_near word ≡ false → (us : List TimeUnit)
-    → find (λ u. is_among (near_words u) (encode_utf8_all word)) us ≡ None
-no_unit word far [] = refl
-no_unit word far (u ∷ us) =
-    let all = all_units (λ v. list_all is_near (near_words v)) refl u in
-    rw (none_among word (near_words u) is_near all far, no_unit word far us) refl
-
-no_advice : (word : List ℕ) → is_near (map to_ascii_lowercase word) ≡ false → near_advice (encode_utf8_all word) ≡ []
-no_advice word far =
-    let lower = map to_ascii_lowercase word in
-    let exact = none_among word small_words (λ w. is_near (map to_ascii_lowercase w)) refl far in
-    let greek = none_among lower greek_words is_near refl far in
-    rw (exact, lower-encodes word, greek, no_unit lower far units) refl
 
 lower_twice : (word : List ℕ) → map to_ascii_lowercase (map to_ascii_lowercase word) ≡ map to_ascii_lowercase word
 lower_twice [] = refl
@@ -50,9 +20,74 @@ lower_form : (o : Options) (word : List ℕ)
     → map to_ascii_lowercase (comparison_form o word) ≡ map to_ascii_lowercase word
 lower_form o word = elim (cases_Bool o.lowercase) [ inl on ↦ rw on refl | inr off ↦ rw off (lower_twice word) ]
 
-pub near_words_hold : NearWords
-near_words_hold o word some = elim (cases_Bool (is_near (map to_ascii_lowercase word))) [
-  | inl near ↦
-      sym (no_name o word (λ name. not (is_near (map to_ascii_lowercase name))) refl (rw (lower_form o word, near) refl))
-  | inr far ↦ absurd (some (no_advice word far))
+among_same : (word : List ℕ) (words : List (List ℕ))
+    → is_among words (encode_utf8_all word) ≡ list_any (bytes_eq word) words
+among_same word [] = refl
+among_same word (w ∷ words) = rw (bytes_eq-encodes word w, among_same word words) refl
+
+-- whether a name in small letters is one of the words that are near the unit's
+abbrev is_near : TimeUnit → List ℕ → Bool
+is_near u name = list_any (bytes_eq (map to_ascii_lowercase name)) (near_words u)
+
+near_apart : (u : TimeUnit) → list_all (λ v. list_all (λ name. not (is_near u name)) (all_names v)) units ≡ true
+near_apart = all_units (λ u. list_all (λ v. list_all (λ name. not (is_near u name)) (all_names v)) units) refl
+
+printed_small : (u : TimeUnit) → map to_ascii_lowercase (row_of u).printed ≡ (row_of u).printed
+printed_small = each_unit (λ u. map to_ascii_lowercase (row_of u).printed ≡ (row_of u).printed) assumption
+
+printed_named : (u : TimeUnit) → list_any (bytes_eq (row_of u).printed) (row_of u).names ≡ true
+printed_named = all_units (λ u. list_any (bytes_eq (row_of u).printed) (row_of u).names) refl
+
+named : (o : Options) (name : List ℕ) (u : TimeUnit) → map to_ascii_lowercase name ≡ name
+    → list_any (bytes_eq name) (row_of u).names ≡ true → unit_of_word o name ≡ Some u
+named o name u small among =
+    let form : comparison_form o name ≡ name = elim (cases_Bool o.lowercase) [ inl on ↦ rw on refl | inr off ↦ rw off small ] in
+    named_unit o name u (rw (form, among) refl)
+
+found_near : (small : List ℕ) (us : List TimeUnit) (name : List ℕ)
+    → option_map (λ u. (row_of u).printed) (find (λ u. is_among (near_words u) small) us) ≡ Some name
+    → (u : TimeUnit) × (is_among (near_words u) small ≡ true) × ((row_of u).printed ≡ name)
+found_near small [] name e = absurd cc
+found_near small (u ∷ us) name e = elim (cases_Bool (is_among (near_words u) small)) [
+  | inl near ↦ let found = rw near at e in (u, near, cc)
+  | inr far ↦ found_near small us name (rw far at e)
 ]
+
+advised : (o : Options) (word name : List ℕ) (u : TimeUnit)
+    → is_among (near_words u) (map to_ascii_lowercase (encode_utf8_all word)) ≡ true → unit_of_word o name ≡ Some u
+    → IsAdvised o word name
+advised o word name u near read =
+    let is = rw (lower-encodes word, among_same (map to_ascii_lowercase word)) at near in
+    record {
+      unit = u;
+      near = near;
+      unread = sym (no_name o word (λ name. not (is_near u name)) (near_apart u) (rw (lower_form o word, is) refl));
+      read = read;
+    }
+
+otherwise : (b : Bool) (x y : Option (List ℕ)) → b ≡ false → y ≡ (if b then x else y)
+otherwise b x y e = rw e refl
+
+pub near_words_hold : NearWords
+near_words_hold o word name e =
+    let bytes = encode_utf8_all word in
+    let small = map to_ascii_lowercase bytes in
+    elim (cases_Bool (is_among small_words small)) [
+      | inl month ↦ elim (cases_Bool (is_among small_words bytes)) [
+        | inl exact ↦
+            let same : codes "mon" ≡ name = let is = rw (month, exact) at e in cc in
+            let near : is_among (near_words Month) small ≡ true = grind arith in
+            advised o word name Month near (rw (← same) (named o (codes "mon") Month refl refl))
+        | inr other ↦ absurd (let clash = rw (month, other) at e in cc)
+      ]
+      | inr none ↦ elim (cases_Bool (is_among us_words small)) [
+        | inl us ↦
+            let same : codes "us" ≡ name = let is = rw (none, us) at e in cc in
+            let near : is_among (near_words MicroSecond) small ≡ true = grind arith in
+            advised o word name MicroSecond near (rw (← same) (named o (codes "us") MicroSecond refl refl))
+        | inr other ↦
+            let found = found_near small units name (otherwise _ _ _ other ∙ otherwise _ _ _ none ∙ e) in
+            let read = named o (row_of found.0).printed found.0 (printed_small found.0) (printed_named found.0) in
+            advised o word name found.0 found.1 (ap (unit_of_word o) (sym found.2) ∙ read)
+      ]
+    ]

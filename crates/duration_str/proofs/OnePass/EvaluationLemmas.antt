@@ -1,16 +1,14 @@
 -- Combining the later terms one by one gives their faults in the order of the whole list.
-use Rattle.duration_str.proofs.Common.{◌≡◌, ℕ, ◌+◌, ◌^◌, ◌<◌, Bool, true, false, inl, inr, List, [], ◌∷◌, ◌++◌}
-use Rattle.duration_str.proofs.Common.{Option, Some, None, Result, Ok, Err, IsTrue, if◌then◌else◌, unwrap_or, refl, ap}
-use Rattle.duration_str.proofs.Common.{◌∙◌, arith, mul_comm, mul-div_cancel, second, append_assoc, append-nil, ok_or}
-use Rattle.duration_str.proofs.Common.{lt-ltb, cases_Bool}
-use Rattle.duration_str.proofs.Common.{CondUnit, Plus, Star, Cause, Overflow, Term, value_of_term, sum_of}
+use Rattle.duration_str.proofs.Common.{◌≡◌, ℕ, ◌+◌, ◌^◌, ◌<◌, Bool, true, false, inl, inr, List, [], ◌∷◌, ◌++◌, Option}
+use Rattle.duration_str.proofs.Common.{Some, None, Result, Ok, Err, IsTrue, if◌then◌else◌, unwrap_or, refl, ap, ◌∙◌}
+use Rattle.duration_str.proofs.Common.{arith, mul_comm, mul-div_cancel, second, append_assoc, append-nil, ok_or, lt-ltb}
+use Rattle.duration_str.proofs.Common.{cases_Bool, CondUnit, Plus, Star, Cause, Overflow, Term, value_of_term, sum_of}
 use Rattle.duration_str.proofs.Common.{later_total, combination, value_of, fits, or_else, unless, term_fault}
 use Rattle.duration_str.proofs.Common.{fault_of_terms, evaluation_fault, u64_from, checked_term, first_fault}
-use Rattle.duration_str.proofs.Common.{running_fault, fault_or, checked_combination, with_term}
+use Rattle.duration_str.proofs.Common.{running_fault, fault_or, checked_combination, total_with}
 use Rattle.std.proofs.lemmas.List.Sums.{fold-append}
 use Rattle.duration_str.proofs.Sentences.FaultLemmas.{no_fault, is_same_operator-true}
-use Rattle.duration_str.proofs.Sentences.SumLemmas.{AreAdded, sum-append}
-use Rattle.duration_str.proofs.Sentences.SumLemmas.{running_below, value_is_sum}
+use Rattle.duration_str.proofs.Sentences.SumLemmas.{AreAdded, sum-append, running_below, value_is_sum}
 use Rattle.duration_str.proofs.Sentences.AnswerLemmas.{later_value}
 
 -- the answer to a text with these terms, given the syntax fault after them or `None`
@@ -76,7 +74,7 @@ together-push Plus before t = omega (arith, sum-append before (t ∷ []))
 together-push Star before t = rw fold-append
 
 one_more : (op : CondUnit) (before : List Term) (t : Term) → fault_of_terms op [] before ≡ None
-    → with_term (Some (op, later_total op before)) t.operator (u64_from t.number) t.length
+    → total_with (Some (op, later_total op before)) t.operator (u64_from t.number) t.length
     ≡ value_by op (before ++ t ∷ [])
 one_more op before t none =
     simp (fault_order, checked_term_is None t, later_append op [] before (t ∷ []), none, together-push op before t)
@@ -113,7 +111,7 @@ abbrev pub answer_with : Bool → ℕ → Option (CondUnit × ℕ) → List Term
 answer_with no_calc first later [] syntax = fault_or syntax (value_at_end first later)
 answer_with no_calc first later (t ∷ terms) syntax =
     after_term no_calc syntax (λ total. answer_with no_calc first (Some (t.operator, total)) terms syntax)
-    (with_term later t.operator (u64_from t.number) t.length)
+    (total_with later t.operator (u64_from t.number) t.length)
 
 -- the answer, given the value of the first term and the terms after it
 abbrev pub answer_after_first : Bool → ℕ → List Term → Option Cause → Result ℕ Cause
@@ -167,7 +165,7 @@ unless_fault (Some cause) h = refl
 
 -- Under `no_calc` one more term is added, and its fault or that of the sum is reported immediately.
 one_added : (f : Term) (before : List Term) (t : Term) → t.operator ≡ Plus
-    → with_term (Some (Plus, sum_of (f ∷ before))) t.operator (u64_from t.number) t.length
+    → total_with (Some (Plus, sum_of (f ∷ before))) t.operator (u64_from t.number) t.length
     ≡ fault_or (running_fault (f ∷ before) (t ∷ [])) (Ok (sum_of (f ∷ (before ++ t ∷ []))))
 one_added f before t plus =
     let same = (is_same_operator-true Plus t.operator).1 plus in

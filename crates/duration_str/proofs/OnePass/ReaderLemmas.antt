@@ -1,10 +1,9 @@
 -- The reader's steps: what comes next, by the sort ahead, and what is left after it.
-use Rattle.duration_str.proofs.Common.{◌≡◌, ℕ, true, false, length, Option, Some, None, Ok}
-use Rattle.duration_str.proofs.Common.{refl, sym, ap, ◌∙◌, if◌then◌else◌, TimeUnit, CondUnit, Syntax, TokenStart}
+use Rattle.duration_str.proofs.Common.{◌≡◌, ℕ, length, Option, Some, None}
+use Rattle.duration_str.proofs.Common.{refl, sym, ap, ◌∙◌, if◌then◌else◌, TimeUnit, Syntax, TokenStart}
 use Rattle.duration_str.proofs.Common.{Tokens, Terminal, number, word, operator, other, terminal_of, expected_at_start}
 use Rattle.duration_str.proofs.Common.{sort_of, source, options_of, tokens_left, LooksAhead, is_number, TakesToken}
-use Rattle.duration_str.proofs.Common.{TakesSign, Rest, terminal_at, end_at, rest_from, rest_of, number_fault, fault_or}
-use Rattle.duration_str.proofs.Common.{leaving, operator_read}
+use Rattle.duration_str.proofs.Common.{Rest, terminal_at, end_at, rest_from, rest_of, number_fault}
 use Rattle.duration_str.specs.Iteration.{cut_place}
 use Rattle.duration_str.proofs.Cutting.StepLemmas.{none_left, first_left}
 use Rattle.duration_str.specs.declared.token.TokenStart.TheVariants as sorts
@@ -47,26 +46,9 @@ number_comes {sort = Some sorts.Word} look = rw (starts look refl).2
 number_comes {sort = Some (sorts.Operator op)} look = rw (starts look refl).1
 number_comes {sort = Some sorts.Other} look = rw (starts look refl).1
 
--- The only sort of numbers is `Number`.
-pub number_is : (sort : Option TokenStart) → is_number sort ≡ true → sort ≡ Some sorts.Number
-number_is (Some sorts.Number) e = refl
-number_is _ e = absurd cc
-
-operator_terminal : (terminal : Terminal) (op : CondUnit) → sorts.Operator op ≡ sort_of terminal
-    → terminal ≡ operator op
-operator_terminal (operator next) op e = cc
-operator_terminal _ op e = absurd cc
-
 pub after_token : {s t : Tokens} {terminal : Terminal} → TakesToken s t terminal
     → rest_of s ≡ terminal_at (cut_place s) terminal (rest_of t)
 after_token {s} {t} taken =
     ap (rest_from (options_of s) (length (source s))) taken.first
     ∙ (λ i. terminal_at (cut_place s) (sym taken.is_terminal i)
     (rest_from (sym taken.kept.options i) (length (sym taken.kept.text i)) (tokens_left t)))
-
-pub operator_taken : {s m : Tokens} {ahead : Option TokenStart} {op : CondUnit} (t : Tokens) → LooksAhead s m ahead
-    → ahead ≡ Some (sorts.Operator op) → TakesSign m t
-    → operator_read false (rest_of s) ≡ leaving (rest_of t) (fault_or (number_fault (rest_of t)) (Ok (Some op)))
-operator_taken {m = m} {op = op} t look is takes =
-    let taken = takes (sorts.Operator op) tt (rw is at look.ahead) in
-    rw (← same_rest look, after_token taken.token, operator_terminal taken.terminal op taken.has)

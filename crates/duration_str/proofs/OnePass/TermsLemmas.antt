@@ -1,14 +1,13 @@
 -- The terms that are left while a text is read, and the answer that they give.
-use Rattle.duration_str.proofs.Common.{◌≡◌, ℕ, Bool, true, false, List, [], ◌∷◌, ◌++◌, length, take, drop}
-use Rattle.duration_str.proofs.Common.{is_some, Option, Some, None, Result, Ok, Err, if◌then◌else◌, IsTrue, refl, sym}
-use Rattle.duration_str.proofs.Common.{ap, subst, ◌∙◌, TimeUnit, CondUnit, Plus, Cause}
-use Rattle.duration_str.proofs.Common.{Tokens, nanos_of, Terminal, number, operator, AllPlus, Term}
-use Rattle.duration_str.proofs.Common.{terms_of, terms_after, unless, checked_term, term_of, without_last_number}
-use Rattle.duration_str.proofs.Common.{complete_terminals, late_answer, answer_at, expected_after, last_of, front_of}
-use Rattle.duration_str.proofs.Common.{TakesNumber, Rest, terminal_at, rest_of, start_left}
-use Rattle.duration_str.proofs.Common.{terminals_in, ReadItem, leaving, unit_read, operator_read, answer_left}
-use Rattle.duration_str.proofs.Common.{fault_or, fault_at, fault_left, with_term}
-use Rattle.duration_str.proofs.Common.{Second, word}
+use Rattle.duration_str.proofs.Common.{◌≡◌, ◌<◌, ℕ, arith, Bool, true, false, List, [], ◌∷◌, ◌++◌, length, take, drop}
+use Rattle.duration_str.proofs.Common.{false, Option, Some, None, Result, Ok, Err, if◌then◌else◌, IsTrue, refl, sym, ap}
+use Rattle.duration_str.proofs.Common.{subst, ◌∙◌, TimeUnit, CondUnit, Plus, Cause, Expected, Syntax, Tokens, nanos_of}
+use Rattle.duration_str.proofs.Common.{Terminal, number, operator, AllPlus, Term, terms_of, terms_after, unless}
+use Rattle.duration_str.proofs.Common.{checked_term, term_of, without_last_number, complete_terminals, late_answer}
+use Rattle.duration_str.proofs.Common.{answer_at, expected_after, last_of, front_of, TakesNumber, Rest, terminal_at}
+use Rattle.duration_str.proofs.Common.{rest_of, start_left, terminals_in, ReadItem, leaving, unit_read, operator_read}
+use Rattle.duration_str.proofs.Common.{answer_left, fault_or, by_operator, with_term, word}
+use Rattle.std.specs.Prelude.{IfErr}
 use Rattle.duration_str.specs.Iteration.{cut_place}
 use Rattle.duration_str.proofs.Sentences.FrontLemmas.{begins_allowed, table_front}
 use Rattle.duration_str.proofs.Sentences.SumLemmas.{AreAdded, terms_added}
@@ -16,6 +15,11 @@ use Rattle.duration_str.proofs.Sentences.AnswerLemmas.{allowed_plus}
 use Rattle.duration_str.proofs.OnePass.EvaluationLemmas.{answer_of, checked_term_is, after_term, answer_with}
 use Rattle.duration_str.proofs.OnePass.EvaluationLemmas.{answer_after_first, one_by_one}
 use Rattle.duration_str.proofs.OnePass.ReaderLemmas.{after_token}
+
+-- the syntax fault at a place with these kinds expected and these terminals following
+abbrev pub fault_at : ℕ → Expected → List Terminal → Option Cause
+fault_at place expected [] = unless expected.text_end (Syntax place expected)
+fault_at place expected (terminal ∷ terminals) = Some (Syntax place expected)
 
 -- terms, and the syntax fault after them
 pub record Ended : Type 0 where
@@ -94,44 +98,51 @@ pub term_passed : {s a : Tokens} {n : Option ℕ} {next : CondUnit} (no_calc : B
 term_passed {next = next} no_calc b is taken r unit =
     ap (after_unit no_calc) (sym is) ∙ number_taken no_calc next taken r unit
 
--- The same, where it is known that an operator was read.
-pub some_passed : {s a : Tokens} {n : Option ℕ} (no_calc : Bool) (b : Rest) (read : Option CondUnit)
-    → is_some read ≡ true → leaving (rest_of s) (Ok read) ≡ operator_read no_calc b → (taken : TakesNumber s a n)
-    → (r : Result (ReadItem TimeUnit) Cause) → r ≡ unit_read no_calc (rest_of a)
-    → (op : CondUnit) × (after_unit no_calc (operator_read no_calc b) ≡ after_number no_calc op taken.n r)
-some_passed no_calc b None some is taken r unit = absurd cc
-some_passed no_calc b (Some op) some is taken r unit = (op, term_passed no_calc b is taken r unit)
-
 abbrev pub count : Ended → ℕ
 count left = length left.terms
 
--- Of what is left after a unit, the syntax fault is that after the terms.
-pub fault_after_unit : (no_calc : Bool) (rest : Rest)
-    → fault_left no_calc (word (Some Second)) rest ≡ (after_unit no_calc (operator_read no_calc rest)).fault
-fault_after_unit no_calc (terminal_at at (number n) rest) = refl
-fault_after_unit false (terminal_at at (operator op) (terminal_at p (number n) rest)) = refl
-fault_after_unit no_calc rest = refl
+-- Of the terms that are left one is passed.
+pub fewer : {s a : Tokens} {b : Rest} {n : Option ℕ} {u : TimeUnit} {next : CondUnit} (no_calc : Bool) (p : Rest)
+    → leaving (rest_of s) (Ok (Some next)) ≡ operator_read no_calc p → TakesNumber s a n
+    → leaving b (Ok u) ≡ unit_read no_calc (rest_of a)
+    → count (after_unit no_calc (operator_read no_calc b)) < count (after_unit no_calc (operator_read no_calc p))
+fewer no_calc p read taken unit = omega (arith, ap count (term_passed no_calc p read taken _ unit))
 
 -- ---- Steps of the answer
 
--- the answer, given the first value, the later terms so far, and what is left
-abbrev pub with_left : Bool → ℕ → Option (CondUnit × ℕ) → Ended → Result ℕ Cause
-with_left no_calc first later left = answer_with no_calc first later left.terms left.fault
+-- the answer, given the first value, the later terms so far or their first fault, and what is left
+abbrev pub with_left : Bool → ℕ → Result (Option (CondUnit × ℕ)) Cause → Ended → Result ℕ Cause
+with_left no_calc first (Ok later) left = answer_with no_calc first later left.terms left.fault
+with_left no_calc first (Err fault) left = if no_calc then Err fault else fault_or left.fault (Err fault)
 
 -- the answer, given the value of the first term and what is left after it
 abbrev pub total_of : Bool → ℕ → Ended → Result ℕ Cause
 total_of no_calc value left = answer_after_first no_calc value left.terms left.fault
 
+-- A syntax fault precedes a fault that is held.
+pub unread : (no_calc : Bool) (first : ℕ) (later : Result (Option (CondUnit × ℕ)) Cause) (cause : Cause)
+    → IfErr later (λ fault. no_calc ≡ false) → with_left no_calc first later (no_terms cause) ≡ Err cause
+unread no_calc first (Ok later) cause held = refl
+unread no_calc first (Err fault) cause held = rw held refl
+
+by_total : (no_calc : Bool) (first : ℕ) (op : CondUnit) (left : Ended) (total : Result ℕ Cause)
+    → after_term no_calc left.fault (λ n. answer_with no_calc first (Some (op, n)) left.terms left.fault) total
+    ≡ with_left no_calc first (by_operator op total) left
+by_total no_calc first op left (Ok n) = refl
+by_total no_calc first op left (Err fault) = refl
+
 -- A later term is read from p up to b and combined.
-pub later_step : (no_calc : Bool) (first : ℕ) (later : Option (CondUnit × ℕ)) (p : Rest) {s a : Tokens} {b : Rest}
-    {n : Option ℕ} {u : TimeUnit} {next : CondUnit} → leaving (rest_of s) (Ok (Some next)) ≡ operator_read no_calc p
-    → TakesNumber s a n → leaving b (Ok u) ≡ unit_read no_calc (rest_of a)
-    → let left = after_unit no_calc (operator_read no_calc b) in
-    with_left no_calc first later (after_unit no_calc (operator_read no_calc p))
-    ≡ after_term no_calc left.fault (λ total. with_left no_calc first (Some (next, total)) left)
-    (with_term later next n (nanos_of u))
-later_step no_calc first later p read taken unit =
-    ap (with_left no_calc first later) (term_passed no_calc p read taken _ unit) ∙ rw taken.is_value refl
+pub later_step : (no_calc : Bool) (first : ℕ) (later : Result (Option (CondUnit × ℕ)) Cause) (p : Rest) {s a : Tokens}
+    {b : Rest} {n : Option ℕ} {u : TimeUnit} {next : CondUnit}
+    → leaving (rest_of s) (Ok (Some next)) ≡ operator_read no_calc p → TakesNumber s a n
+    → leaving b (Ok u) ≡ unit_read no_calc (rest_of a)
+    → with_left no_calc first later (after_unit no_calc (operator_read no_calc p))
+    ≡ with_left no_calc first (with_term later next n (nanos_of u)) (after_unit no_calc (operator_read no_calc b))
+later_step no_calc first (Ok later) p {b = b} {next = next} read taken unit =
+    ap (with_left no_calc first (Ok later)) (term_passed no_calc p read taken _ unit)
+    ∙ rw taken.is_value (by_total no_calc first next (after_unit no_calc (operator_read no_calc b)) _)
+later_step no_calc first (Err fault) p read taken unit =
+    ap (with_left no_calc first (Err fault)) (term_passed no_calc p read taken _ unit)
 
 -- ---- The answer in order: the early fault, the syntax fault, the late fault, and the value
 

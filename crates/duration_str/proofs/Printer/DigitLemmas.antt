@@ -1,6 +1,8 @@
 -- The steps of writing a number in decimal, and its length.
 use Rattle.duration_str.proofs.Common.{◌≡◌, ℕ, suc, ◌+◌, ◌/◌, ◌%◌, ◌^◌, ◌<◌, ◌≤◌, ◌++◌, List, [], ◌∷◌, length, decimal}
 use Rattle.duration_str.proofs.Common.{arith, append_assoc, ap, ◌∙◌, length-append, decimal_digit, pow-succ', lit<}
+use Rattle.duration_str.proofs.Common.{take, drop, sym, length-take-le}
+use Rattle.std.proofs.Math.Seq.{take-add, take-append_seam}
 use Rattle.duration_str.proofs.Common.{decimal_step_wide, decimal_by_steps_wide, length-decimal-le_wide, take_more_set}
 
 pub length_one : (n : ℕ) → n < 10 → length (decimal n) ≡ 1
@@ -15,6 +17,17 @@ pub put_last : (bytes before after : List ℕ) (n : ℕ) → after ≡ before ++
 put_last bytes before after n last first low high =
     rw (last, first, decimal_digit (n % 10) (omega arith), decimal_step_wide n low high)
     (append_assoc bytes (decimal (n / 10)) ((48 + n % 10) ∷ []))
+
+-- The bytes before a byte that is written are those that were there.
+pub same_before : (at : ℕ) (old new more : List ℕ) → at ≤ length old → at ≤ length new
+    → take (at + 1) new ≡ take at old ++ more → take at new ≡ take at old
+same_before at old new more in_old in_new same =
+    let both : take at new ++ take 1 (drop at new) ≡ take at old ++ more = sym (take-add at 1 new) ∙ same in
+    let front : take at (take at new ++ take 1 (drop at new)) ≡ take at new =
+    rw (length-take-le at new in_new) at (take-append_seam (take at new) (take 1 (drop at new))) in
+    let before : take at (take at old ++ more) ≡ take at old =
+    rw (length-take-le at old in_old) at (take-append_seam (take at old) more) in
+    sym front ∙ ap (take at) both ∙ before
 
 pub ruleset put_steps = (decimal_digit, length_one, length_step, take_more_set)
 

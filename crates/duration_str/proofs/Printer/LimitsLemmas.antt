@@ -1,24 +1,21 @@
 -- The steps of printing within limits, and the most bytes that it takes.
-use Rattle.duration_str.proofs.Common.{◌≡◌, ℕ, ◌+◌, ◌-◌, ◌*◌, ◌/◌, ◌%◌, ◌^◌, ◌<◌, ◌≤◌, ◌==◌}
-use Rattle.duration_str.proofs.Common.{◌++◌, false, inl, inr, List, [], ◌∷◌, length, map}
-use Rattle.duration_str.proofs.Common.{decimal, encode_utf8_all, arith, refl, leb}
-use Rattle.duration_str.proofs.Common.{leb-true, ltb, ltb-true, length-append, IsUtf8, cases_Bool}
-use Rattle.duration_str.proofs.Common.{nat_tests, list_all, le-div_iff_mul-le, div-le_self, mod-le}
-use Rattle.duration_str.proofs.Common.{TimeUnit, Year, units}
-use Rattle.duration_str.proofs.Common.{nanos_of, Format, units_within, lengths_within}
-use Rattle.duration_str.proofs.Common.{zero_unit, counts_within, with_part}
-use Rattle.duration_str.proofs.Common.{with_counts}
-use Rattle.duration_str.proofs.Common.{true, ap, sym, chars, chars_from_encodes, Style, Short, Compact, Long, between}
-use Rattle.duration_str.proofs.Common.{with_gap, part_bytes, name_part, most_len, text_within, IsPrintedWithin}
+use Rattle.duration_str.proofs.Common.{◌≡◌, ℕ, ◌+◌, ◌-◌, ◌*◌, ◌/◌, ◌%◌, ◌^◌, ◌<◌, ◌≤◌, ◌==◌, ◌++◌, false, inl, inr}
+use Rattle.duration_str.proofs.Common.{List, [], ◌∷◌, length, map, decimal, encode_utf8_all, arith, refl, leb, leb-true}
+use Rattle.duration_str.proofs.Common.{ltb, ltb-true, length-append, IsUtf8, cases_Bool, nat_tests, list_all}
+use Rattle.duration_str.proofs.Common.{le-div_iff_mul-le, div-le_self, mod-le, TimeUnit, Year, Quarter, Month, Week}
+use Rattle.duration_str.proofs.Common.{Day, Hour, units, Bool, and_parts, take, units_from, units_down_to, nanos_of}
+use Rattle.duration_str.proofs.Common.{Format, units_within, lengths_within, zero_unit, counts_within, with_part}
+use Rattle.duration_str.proofs.Common.{with_counts, true, ap, sym, chars, chars_from_encodes, Style, Short, Compact}
+use Rattle.duration_str.proofs.Common.{Long, between, with_gap, part_bytes, name_part, most_len, text_within}
+use Rattle.duration_str.proofs.Common.{IsPrintedWithin}
 use Rattle.duration_str.proofs.Characters.EachUnit.{Each, each_unit, all_units}
 use Rattle.duration_str.proofs.Characters.NameLemmas.{length_part, name_len}
-use Rattle.duration_str.proofs.Printer.DigitLemmas.{length_smaller, length_one}
-use Rattle.duration_str.proofs.Printer.PrintedBytesLemmas.{AreShort, ended, ended_parts}
-use Rattle.duration_str.proofs.Printer.PrintedBytesLemmas.{IsUtf8-joined, no_gap}
+use Rattle.duration_str.proofs.Printer.DigitLemmas.{length_smaller}
+use Rattle.duration_str.proofs.Printer.PrintedBytesLemmas.{AreShort, ended, ended_parts, IsUtf8-joined, no_gap}
 use Rattle.duration_str.proofs.LawProofs.GreatestWithin.{some_length, below_length, greatest_within}
 use Rattle.duration_str.specs.Internal.PrintedBytes.{digits}
 use Rattle.duration_str.specs.Internal.UnitTable.{rank_of}
-use Rattle.std.proofs.Math.Nat.{zero-div}
+use Rattle.std.proofs.Math.Nat.{div-eq_of_lt, zero-div}
 use borrow.Rule.Slice.PartMut.{mid_of}
 
 -- ---- The units
@@ -41,6 +38,60 @@ pub none_within : (format : Format) → rank_of format.smallest < rank_of format
 none_within format h =
     let none : rank_of format.smallest + 1 - rank_of format.largest ≡ 0 = omega arith in
     rw none at (slice_within format)
+
+-- ---- The units below a day
+
+-- the units of these limits that are a day or longer
+abbrev days : TimeUnit → TimeUnit → List TimeUnit
+days l s = units_down_to s (units_from l (take 5 units))
+
+split_each : (parts : ℕ) (style : Style) (l : TimeUnit) → rank_of l < 5
+    → Each (λ s. units_within (record { largest = l; smallest = s; parts = parts; style = style })
+    ≡ days l s ++ units_within (record { largest = Hour; smallest = s; parts = parts; style = style })) units
+split_each parts style Year h = assumption
+split_each parts style Quarter h = assumption
+split_each parts style Month h = assumption
+split_each parts style Week h = assumption
+split_each parts style Day h = assumption
+split_each parts style l h = absurd (omega arith)
+
+abbrev is_days : TimeUnit → Bool
+is_days u = leb (nanos_of Day) (nanos_of u)
+
+all_days : (l s : TimeUnit) → list_all is_days (days l s) ≡ true
+all_days l s =
+    all_units (λ s. list_all is_days (days l s)) (all_units (λ l. list_all (λ s. list_all is_days (days l s)) units)
+    refl l) s
+
+-- Units that are longer than the duration print nothing.
+without_days : (style : Style) (longer shorter : List TimeUnit) (bytes : List ℕ) (most nanos : ℕ)
+    → list_all is_days longer ≡ true → nanos < nanos_of Day
+    → with_counts style bytes shorter (counts_within (map nanos_of shorter) most nanos)
+    ≡ with_counts style bytes (longer ++ shorter) (counts_within (map nanos_of (longer ++ shorter)) most nanos)
+without_days style [] shorter bytes most nanos long h = refl
+without_days style (u ∷ longer) shorter bytes most nanos long h =
+    let parts = and_parts (is_days u) (list_all is_days longer) long in
+    let more = without_days style longer shorter bytes most nanos parts.1 h in
+    let none : nanos / nanos_of u ≡ 0 =
+    div-eq_of_lt (omega (arith, leb-true (nanos_of Day) (nanos_of u) parts.0)) in
+    elim (cases_Bool (most == 0)) [
+      | inl done ↦ rw done more
+      | inr some ↦ rw (some, none) more
+    ]
+
+pub below_day : (format : Format) (bytes : List ℕ) (nanos : ℕ) → rank_of format.largest < 5 → nanos < nanos_of Day
+    → with_counts format.style bytes (units_within (record format { largest = Hour }))
+    (counts_within (lengths_within (record format { largest = Hour })) format.parts nanos)
+    ≡ with_counts format.style bytes (units_within format) (counts_within (lengths_within format) format.parts nanos)
+below_day format bytes nanos longer h =
+    let split : units_within format
+    ≡ days format.largest format.smallest ++ units_within (record format { largest = Hour }) =
+    each_unit (λ s. units_within (record format { smallest = s })
+    ≡ days format.largest s ++ units_within (record format { largest = Hour; smallest = s }))
+    (split_each format.parts format.style format.largest longer) format.smallest in
+    rw split (without_days format.style (days format.largest format.smallest)
+    (units_within (record format { largest = Hour })) bytes format.parts nanos
+    (all_days format.largest format.smallest) h)
 
 -- ---- The parts
 
@@ -70,7 +121,7 @@ counts_grow style (u ∷ us) bytes (n ∷ counts) =
 counts_grow style _ bytes _ = omega arith
 
 -- Nothing is left to print.
-with_nothing : (style : Style) (us : List TimeUnit) (bytes : List ℕ) (most nanos : ℕ) → nanos ≡ 0
+pub with_nothing : (style : Style) (us : List TimeUnit) (bytes : List ℕ) (most nanos : ℕ) → nanos ≡ 0
     → bytes ≡ with_counts style bytes us (counts_within (map nanos_of us) most nanos)
 with_nothing style [] bytes most nanos none = refl
 with_nothing style (u ∷ us) bytes most nanos none = elim (cases_Bool (most == 0)) [
@@ -221,21 +272,6 @@ within_fits format nanos h =
       parts_fit style (units_within format) (2 ^ 64 * 10 ^ 9) [] format.parts nanos h (omega arith),
       each_fits style format.largest format.smallest,
     ))
-
--- The zero fits.
-pub zero_fits : (style : Style) (u : TimeUnit) → length (part_bytes style 0 u) ≤ 60
-zero_fits style u = omega (
-  arith,
-  length-append (decimal 0) (encode_utf8_all (name_part style false u)),
-  length_one 0 (omega arith),
-  length_part style false u,
-  leb-true (name_len style u) 59 (all_units (λ u. leb (name_len style u) 59) (each style) u),
-)
-  where
-    each : (style : Style) → list_all (λ u. leb (name_len style u) 59) units ≡ true
-    each Short = refl
-    each Compact = refl
-    each Long = refl
 
 -- ---- The text
 

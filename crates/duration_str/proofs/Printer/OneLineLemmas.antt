@@ -1,5 +1,5 @@
 -- A fault in one line.
-use Rattle.duration_str.proofs.Common.{rules, ◌≡◌, ◌≢◌, ◌∙◌, ℕ, ◌+◌, ◌-◌, ◌*◌, ◌/◌, ◌%◌, ◌<◌, ◌≤◌, ◌^◌, ◌==◌, ◌||◌}
+use Rattle.duration_str.proofs.Common.{rules, ◌≡◌, ◌≢◌, ◌∙◌, ℕ, ◌+◌, ◌-◌, ◌*◌, ◌%◌, ◌<◌, ◌≤◌, ◌^◌, ◌==◌, ◌||◌}
 use Rattle.duration_str.proofs.Common.{◌&&◌}
 use Rattle.duration_str.proofs.Common.{true, false, List, [], ◌∷◌, ◌++◌, Some, None, zero, suc, Bool, inl, inr}
 use Rattle.duration_str.proofs.Common.{nat_tests}
@@ -7,32 +7,35 @@ use Rattle.duration_str.proofs.Common.{IsUtf8, IsCharBoundary, chars, encode_utf
 use Rattle.duration_str.proofs.Common.{sym, refl, ap, arith, append_assoc, append-nil, encodes-append, encodes-chars}
 use Rattle.duration_str.proofs.Common.{length-le-encodes, length-append, IsUtf8-take, chars_past_char}
 use Rattle.duration_str.proofs.Common.{chars_from_encodes}
-use Rattle.duration_str.proofs.Common.{length-take-le, chars-nil, lit<, codes, chars-append}
+use Rattle.duration_str.proofs.Common.{length-take-le, chars-nil, lit<, codes}
 use Rattle.duration_str.proofs.Common.{length-decimal-le, scalar, scalars, and_parts, scalars-chars}
 use Rattle.duration_str.proofs.Common.{length-encode, len_utf8_bounds, cases_Bool, decimal, ahead, IsUtf8-drop, ForSome}
-use Rattle.duration_str.proofs.Common.{Cause, Empty, Syntax, NumberTooLarge, Overflow, Mixed, NotText, Plus, Star}
+use Rattle.duration_str.proofs.Common.{Cause, Empty, Syntax, NumberTooLarge, Overflow, Mixed, NotText}
 use Rattle.duration_str.proofs.Common.{Expected, IsCharBoundary-at_seam, list_all, ltb-true, slice_range, eqb-true}
 use Rattle.duration_str.proofs.Common.{true≢false}
 use Rattle.std.proofs.Common.{lit≤, nat_lt}
+use Rattle.std.proofs.lemmas.Bool.{le-leb, lt-leb}
 use Rattle.std.proofs.lemmas.List.{nil_from_length, length-take}
 use Rattle.std.proofs.Math.Seq.{take-append_seam}
-use Rattle.std.specs.Char.{digit_char}
 use Rattle.std.specs.List.{take_while}
 use Rattle.std.proofs.lemmas.List.Sums.{take_while-cons}
 use Rattle.duration_str.specs.declared.cause.Cause.TheVariants.{OutOfRange}
 use Rattle.duration_str.specs.Faults.{place_of}
 use Rattle.duration_str.specs.Messages.{chars_before, line_of}
 use Rattle.duration_str.proofs.Common.{TimeUnit, row_of, Option}
-use Rattle.duration_str.proofs.Characters.NameLemmas.{length_name}
-use Rattle.duration_str.proofs.Common.{leb-true, nat_le, byte_len}
+use Rattle.duration_str.proofs.Common.{leb-true, nat_le}
 use Rattle.duration_str.proofs.Characters.EachUnit.{all_units}
-use Rattle.std.specs.Option.{option_map_or}
-use Rattle.duration_str.specs.declared.one_line.Kind.TheVariants.{Clear}
-use Rattle.duration_str.specs.OneLine.{advice_of, near_advice, first_piece, quoted_end, escaped, quoted, is_plain, is_of}
-use Rattle.duration_str.specs.OneLine.{code_of, found_words, found_line, unknown_line, at_column, expected_words}
-use Rattle.duration_str.specs.OneLine.{syntax_line, text_line, one_line_of, is_letter, help_at, words_if, notation_help}
+use Rattle.duration_str.specs.OneLine.{near_name, unit_help, first_piece, quoted_end, shown, quoted, is_plain, is_clear, is_like}
+use Rattle.duration_str.specs.OneLine.{found_words, found_line, at_column, expected_words}
+use Rattle.duration_str.specs.OneLine.{syntax_line, text_line, overflow_line, one_line_of, help_at, is_among, near_words, small_words, us_words}
+use Rattle.std.specs.Char.Escape.{escape_default, escape_unicode, short_escape, hex_digit_at}
+use Rattle.std.specs.Prelude.{not}
+use Rattle.std.specs.Int.{is_in_range}
+use Rattle.std.specs.Prelude.{cond}
+use Rattle.std.specs.Option.{option_map}
+use Rattle.duration_str.proofs.Common.{map, to_ascii_lowercase, find, units}
 use Rattle.duration_str.specs.OneLine.{begins_with_letter}
-use Rattle.duration_str.proofs.Common.{is_digit, Month, not-true, if◌then◌else◌, false_from_ne_true}
+use Rattle.duration_str.proofs.Common.{if◌then◌else◌}
 use Rattle.duration_str.proofs.Common.{list_all-append, decimal_by_steps, encode_ascii, IsTrue}
 use Rattle.std.proofs.Math.Utf8.{low_scalar}
 use Rattle.std.proofs.lemmas.Str.{chars-encodes}
@@ -87,57 +90,54 @@ short_plain most bytes is =
     let parts = good_parts is.characters is.good in
     rw (← is.spells, chars-encodes is.characters parts.0, parts.1) refl
 
-less : (m n : ℕ) (bytes : List ℕ) → m ≤ n → IsShort m bytes → IsShort n bytes
-less m n bytes h is = record {
-  characters = is.characters;
-  good = is.good;
-  spells = is.spells;
-  short = omega (arith, is.short);
-}
+less : {m n : ℕ} {bytes : List ℕ} → m ≤ n → IsShort m bytes → IsShort n bytes
+less h is = record { characters = is.characters; good = is.good; spells = is.spells; short = omega (arith, h, is.short) }
 
-joined : (m n : ℕ) (xs ys : List ℕ) → IsShort m xs → IsShort n ys → IsShort (m + n) (xs ++ ys)
-joined m n xs ys front back = record {
+joined : {m n : ℕ} {xs ys : List ℕ} → IsShort m xs → IsShort n ys → IsShort (m + n) (xs ++ ys)
+joined {xs = xs} {ys = ys} front back = record {
   characters = front.characters ++ back.characters;
   good = rw (list_all-append is_good front.characters back.characters, front.good, back.good) refl;
   spells = rw (encodes-append front.characters back.characters, front.spells, back.spells) refl;
   short = omega (arith, front.short, back.short, length-append xs ys);
 }
 
+chosen : {most : ℕ} (b : Bool) {xs ys : List ℕ} → IsShort most xs → IsShort most ys
+    → IsShort most (if b then xs else ys)
+chosen true first second = first
+chosen false first second = second
+
+-- Plain characters, in at most so many bytes.
+spelled : (most : ℕ) (cs : List ℕ) → (list_all is_good cs && nat_le (length (encode_utf8_all cs)) most) ≡ true
+    → IsShort most (encode_utf8_all cs)
+spelled most cs e =
+    let both = and_parts (list_all is_good cs) (nat_le (length (encode_utf8_all cs)) most) e in
+    record { characters = cs; good = both.0; spells = refl; short = leb-true _ _ both.1 }
+
 -- whether a byte is a plain character of ASCII
 abbrev is_plain_byte : ℕ → Bool
 is_plain_byte b = nat_le 32 b && nat_lt b 127
 
-byte_good : (b : ℕ) → is_plain_byte b ≡ true → is_good b ≡ true
-byte_good b e =
-    let both = and_parts (nat_le 32 b) (nat_lt b 127) e in
-    let small = ltb-true b 127 both.1 in
-    let plain : is_plain b ≡ true = grind (arith, nat_tests) in
-    rw (low_scalar b (omega (arith, small)), plain) refl
-
-plain_bytes : (bytes : List ℕ) → list_all is_plain_byte bytes ≡ true → IsShort (length bytes) bytes
-plain_bytes [] e = record { characters = []; good = refl; spells = refl; short = omega arith }
-plain_bytes (b ∷ bytes) e =
+bytes_good : (bytes : List ℕ) → list_all is_plain_byte bytes ≡ true
+    → (encode_utf8_all bytes ≡ bytes) × (list_all is_good bytes ≡ true)
+bytes_good [] e = (refl, refl)
+bytes_good (b ∷ bytes) e =
     let both = and_parts (is_plain_byte b) (list_all is_plain_byte bytes) e in
     let small = ltb-true b 127 (and_parts (nat_le 32 b) (nat_lt b 127) both.0).1 in
-    let rest = plain_bytes bytes both.1 in
-    record {
-      characters = b ∷ rest.characters;
-      good = rw (byte_good b both.0, rest.good) refl;
-      spells = rw (encode_ascii b (omega (arith, small)), rest.spells) refl;
-      short = omega arith;
-    }
+    let plain : is_plain b ≡ true = grind (arith, nat_tests) in
+    let rest = bytes_good bytes both.1 in
+    (rw (encode_ascii b (omega (arith, small)), rest.0) refl, rw (low_scalar b (omega (arith, small)), plain, rest.1) refl)
 
--- Bytes that are plain characters of ASCII, at most so many.
-literal : (most : ℕ) (bytes : List ℕ) → (nat_le (length bytes) most && list_all is_plain_byte bytes) ≡ true
-    → IsShort most bytes
+-- whether bytes are plain characters of ASCII, at most so many
+abbrev are_short : ℕ → List ℕ → Bool
+are_short most bytes = nat_le (length bytes) most && list_all is_plain_byte bytes
+
+literal : (most : ℕ) (bytes : List ℕ) → are_short most bytes ≡ true → IsShort most bytes
 literal most bytes e =
     let both = and_parts (nat_le (length bytes) most) (list_all is_plain_byte bytes) e in
-    less (length bytes) most bytes (leb-true _ _ both.0) (plain_bytes bytes both.1)
+    let are = bytes_good bytes both.1 in
+    record { characters = bytes; good = are.1; spells = are.0; short = leb-true _ _ both.0 }
 
-chosen : (most : ℕ) (b : Bool) {xs ys : List ℕ} → IsShort most xs → IsShort most ys
-    → IsShort most (if b then xs else ys)
-chosen most true first second = first
-chosen most false first second = second
+-- ---- The column
 
 digit_plain : (n : ℕ) → n < 10 → list_all is_plain_byte ((48 + n) ∷ []) ≡ true
 digit_plain n h = let e : is_plain_byte (48 + n) ≡ true = grind (arith, nat_tests) in rw e refl
@@ -148,255 +148,219 @@ decimal_plain n h =
     (λ n ds big e. rw (list_all-append is_plain_byte ds ((48 + n % 10) ∷ []), e)
     (digit_plain (n % 10) (omega arith))) n h
 
-code_short : (c : ℕ) → IsShort 8 (code_of c)
-code_short c =
-    let third : is_plain_byte (digit_char (c / 0x1000 % 16)) ≡ true = grind (arith, nat_tests) in
-    let second : is_plain_byte (digit_char (c / 0x100 % 16)) ≡ true = grind (arith, nat_tests) in
-    let first : is_plain_byte (digit_char (c / 0x10 % 16)) ≡ true = grind (arith, nat_tests) in
-    let last : is_plain_byte (digit_char (c % 16)) ≡ true = grind (arith, nat_tests) in
-    literal 8 (code_of c) (rw (third, second, first, last) refl)
-
-clear_short : (c : ℕ) → scalar c ≡ true → is_of Clear c ≡ true → IsShort 4 (escaped c)
-clear_short c e clear =
-    let both = and_parts (is_plain c) _ clear in
-    rw (not-true _ both.1, both.0) (record {
-      characters = c ∷ [];
-      good = rw (e, both.0) refl;
-      spells = append-nil _;
-      short = omega (arith, length-encode c, len_utf8_bounds c);
-    })
-
-escaped_short : (c : ℕ) → scalar c ≡ true → IsShort 8 (escaped c)
-escaped_short c e = elim (cases_Bool (is_of Clear c)) [
-  | inl clear ↦ less 4 8 _ (lit≤ tt) (clear_short c e clear)
-  | inr other ↦ elim (cases_Bool (c == 34 || c == 92)) [
-    | inl mark ↦
-        let plain : is_plain_byte c ≡ true = grind (arith, nat_tests) in
-        rw mark (literal 8 (92 ∷ c ∷ []) (rw plain refl))
-    | inr no_mark ↦
-        let hidden = false_from_ne_true (is_plain c) (λ plain. let clash = rw (plain, no_mark) at other in absurd cc) in
-        rw (no_mark, hidden) (code_short c)
-  ]
-]
-
--- Characters that pass a test, each of which is written in at most `wide` bytes.
-quoted_end_short : (wide : ℕ) (test : ℕ → Bool) → ((c : ℕ) → test c ≡ true → IsShort wide (escaped c))
-    → (most : ℕ) (cs : List ℕ) → list_all test cs ≡ true → IsShort (wide * most + 4) (quoted_end most cs)
-quoted_end_short wide test each most [] e = less 4 _ _ (omega arith) (literal 4 (codes "\"") refl)
-quoted_end_short wide test each zero (c ∷ cs) e = less 4 _ _ (omega arith) (literal 4 (codes "\"...") refl)
-quoted_end_short wide test each (suc most) (c ∷ cs) e =
-    let both = and_parts (test c) (list_all test cs) e in
-    less (wide + (wide * most + 4)) _ _ (omega arith)
-    (joined wide (wide * most + 4) _ _ (each c both.0) (quoted_end_short wide test each most cs both.1))
-
-all_scalars : (cs : List ℕ) → scalars cs ≡ true → list_all scalar cs ≡ true
-all_scalars [] e = refl
-all_scalars (c ∷ cs) e = let both = and_parts (scalar c) (scalars cs) e in rw both.0 (all_scalars cs both.1)
-
-quoted_short : (cs : List ℕ) → scalars cs ≡ true → IsShort 325 (quoted cs)
-quoted_short cs e =
-    joined 1 324 _ _ (literal 1 (codes "\"") refl) (quoted_end_short 8 scalar escaped_short 40 cs (all_scalars cs e))
-
--- whether a number is a character that passes a test
-abbrev is_passing : (ℕ → Bool) → ℕ → Bool
-is_passing test c = scalar c && test c
-
-run_passes : (test : ℕ → Bool) (most : ℕ) (cs : List ℕ) → scalars cs ≡ true
-    → list_all (is_passing test) (take most (take_while test cs)) ≡ true
-run_passes test zero cs e = refl
-run_passes test (suc most) [] e = refl
-run_passes test (suc most) (c ∷ cs) e =
-    let both = and_parts (scalar c) (scalars cs) e in
-    elim (cases_Bool (test c)) [
-      | inl passes ↦ rw (take_while-cons test c cs, passes, both.0, passes) (run_passes test most cs both.1)
-      | inr fails ↦ rw (take_while-cons test c cs, fails) refl
-    ]
-
--- A run of clear characters.
-run_short : (test : ℕ → Bool) → ((c : ℕ) → test c ≡ true → is_of Clear c ≡ true) → (cs : List ℕ) → scalars cs ≡ true
-    → IsShort 165 (quoted (take 41 (take_while test cs)))
-run_short test clear cs e =
-    let each = λ (c : ℕ) (passes : is_passing test c ≡ true).
-    let both = and_parts (scalar c) (test c) passes in clear_short c both.0 (clear c both.1) in
-    joined 1 164 _ _ (literal 1 (codes "\"") refl)
-    (quoted_end_short 4 (is_passing test) each 40 (take 41 (take_while test cs)) (run_passes test 41 cs e))
-
-digit_clear : (c : ℕ) → is_digit c ≡ true → is_of Clear c ≡ true
-digit_clear c digit = grind (arith, nat_tests)
-
-letter_clear : (c : ℕ) → is_letter c ≡ true → is_of Clear c ≡ true
-letter_clear c letter = grind (arith, nat_tests)
-
--- A quoted piece is a run, or one character.
-piece_short : (cs : List ℕ) → scalars cs ≡ true → IsShort 165 (quoted (first_piece cs))
-piece_short [] e = literal 165 (codes "\"\"") refl
-piece_short (c ∷ cs) e =
-    let both = and_parts (scalar c) (scalars cs) e in
-    let single = joined 1 9 _ _ (literal 1 (codes "\"") refl)
-    (joined 8 1 _ _ (escaped_short c both.0) (literal 1 (codes "\"") refl)) in
-    picked (is_digit c) _ _ (run_short is_digit digit_clear (c ∷ cs) e)
-    (picked (is_letter c) _ _ (run_short is_letter letter_clear (c ∷ cs) e) (less 10 165 (quoted (c ∷ [])) (lit≤ tt) single))
-  where
-    picked : (b : Bool) (xs ys : List ℕ) → IsShort 165 (quoted xs) → IsShort 165 (quoted ys)
-        → IsShort 165 (quoted (if b then xs else ys))
-    picked true xs ys first second = first
-    picked false xs ys first second = second
-
-found_short : (piece : List ℕ) → IsShort 165 (quoted piece) → IsShort 173 (found_words piece)
-found_short [] is = literal 173 (codes ", found the end") refl
-found_short (c ∷ piece) is = joined 8 165 _ _ (literal 8 (codes ", found ") refl) is
-
 -- The text is short enough for memory, and the place is in it.
 pub record IsPlaced (text : List ℕ) (place : ℕ) : Type 0 where
   pub utf8 : IsUtf8 text
   pub small : length text < 2 ^ 63
   pub boundary : IsCharBoundary text place
 
-column_short : (text : List ℕ) (place : ℕ) → IsPlaced text place → IsShort 31 (at_column text place)
+column_short : (text : List ℕ) (place : ℕ) → IsPlaced text place → IsShort 31 (at_column (chars_before text place + 1))
 column_short text place is =
     let column = chars_before text place + 1 in
     let small : column < 2 ^ 64 =
     omega (arith, chars_before_le text place is.utf8 is.boundary, is.small, is.boundary.0) in
-    joined 11 20 _ _ (literal 11 (codes " at column ") refl)
-    (less _ 20 _ (length-decimal-le 20 column (lit< tt) (omega arith) small)
-    (plain_bytes (decimal column) (decimal_plain column small)))
+    let long = length-decimal-le 20 column (lit< tt) (omega arith) small in
+    let are = bytes_good (decimal column) (decimal_plain column small) in
+    joined (literal 11 (codes " at column ") refl) (record { characters = decimal column; good = are.1; spells = are.0; short = long })
 
-ahead_short : (text : List ℕ) (place : ℕ) → IsPlaced text place → IsShort 165 (quoted (first_piece (ahead text place)))
-ahead_short text place is =
-    piece_short (ahead text place) (scalars-chars (drop place text) (IsUtf8-drop text place is.utf8 is.boundary))
+-- ---- Quotes
 
-found_line_short : (m : ℕ) (problem text : List ℕ) (place : ℕ) (help : List ℕ) → IsPlaced text place
-    → IsShort m problem → IsShort 57 help
-    → IsShort (m + 261) (found_line problem text place (first_piece (ahead text place)) help)
-found_line_short m problem text place help is first last =
-    joined m 261 _ _ first
-    (joined 31 230 _ _ (column_short text place is)
-    (joined 173 57 _ _ (found_short _ (ahead_short text place is)) last))
+either : (b : Bool) (xs ys : List ℕ) → list_all is_plain_byte xs ≡ true → list_all is_plain_byte ys ≡ true
+    → list_all is_plain_byte (cond b xs ys) ≡ true
+either true xs ys first second = first
+either false xs ys first second = second
 
-name_short : (u : TimeUnit) → IsShort 3 (encode_utf8_all (row_of u).printed)
-name_short u = record {
-  characters = (row_of u).printed;
-  good = all_units (λ u. list_all is_good (row_of u).printed) refl u;
-  spells = refl;
-  short = omega (arith, length_name u, leb-true _ 3 (all_units (λ u. nat_le (byte_len (row_of u).printed) 3) refl u));
-}
+code_plain : (c : ℕ) → list_all is_plain_byte (escape_unicode c) ≡ true
+code_plain c =
+    let d0 : is_plain_byte (hex_digit_at 1 c) ≡ true = grind (arith, nat_tests) in
+    let d1 : is_plain_byte (hex_digit_at 0x10 c) ≡ true = grind (arith, nat_tests) in
+    let d2 : is_plain_byte (hex_digit_at 0x100 c) ≡ true = grind (arith, nat_tests) in
+    let d3 : is_plain_byte (hex_digit_at 0x1000 c) ≡ true = grind (arith, nat_tests) in
+    let d4 : is_plain_byte (hex_digit_at 0x1_0000 c) ≡ true = grind (arith, nat_tests) in
+    let d5 : is_plain_byte (hex_digit_at 0x10_0000 c) ≡ true = grind (arith, nat_tests) in
+    either (nat_lt c 0x10) _ _ (rw d0 refl) (either (nat_lt c 0x100) _ _ (rw (d1, d0) refl)
+    (either (nat_lt c 0x1000) _ _ (rw (d2, d1, d0) refl) (either (nat_lt c 0x1_0000) _ _ (rw (d3, d2, d1, d0) refl)
+    (either (nat_lt c 0x10_0000) _ _ (rw (d4, d3, d2, d1, d0) refl) (rw (d5, d4, d3, d2, d1, d0) refl)))))
 
-advice_short : (u : TimeUnit) → IsShort 13 (advice_of (row_of u).printed)
-advice_short u =
-    joined 9 4 _ _ (literal 9 (codes ": write \"") refl)
-    (joined 3 1 _ _ (name_short u) (literal 1 (codes "\"") refl))
+escape_plain : (c : ℕ) → is_clear c ≡ false → list_all is_plain_byte (escape_default c) ≡ true
+escape_plain c other = elim (cases_Bool (nat_lt 0 (short_escape c))) [
+  | inl some ↦ let plain : is_plain_byte (short_escape c) ≡ true = grind (arith, nat_tests) in rw (some, plain) refl
+  | inr none ↦ elim (cases_Bool (nat_lt c 32)) [
+    | inl small ↦ rw (none, small, code_plain c) refl
+    | inr big ↦ elim (cases_Bool (nat_lt c 127)) [
+      | inl ascii ↦ let plain : is_plain_byte c ≡ true = grind (arith, nat_tests) in rw (none, big, ascii, plain) refl
+      | inr wide ↦ rw (none, big, wide, code_plain c) refl
+    ]
+  ]
+]
 
-near_short : (word : List ℕ) → IsShort 13 (near_advice word)
-unfolding lib.Utf8.encode
-near_short word =
-    chosen 13 _ (advice_short Month) (chosen 13 _ (literal 13 (advice_of (codes "us")) refl) (by_unit _))
+shown_short : (c : ℕ) → scalar c ≡ true → IsShort (4 * length (shown c)) (encode_utf8_all (shown c))
+shown_short c e = elim (cases_Bool (is_clear c)) [
+  | inl clear ↦
+      let both = and_parts (is_plain c) _ clear in
+      rw clear (record {
+        characters = c ∷ [];
+        good = rw (e, both.0) refl;
+        spells = refl;
+        short = omega (arith, length-encode c, len_utf8_bounds c, ap length (append-nil (encode_utf8 c)));
+      })
+  | inr other ↦
+      let are = bytes_good (escape_default c) (escape_plain c other) in
+      rw other (record { characters = escape_default c; good = are.1; spells = refl; short = omega (arith, ap length are.0) })
+]
+
+quoted_end_short : (room : ℕ) (cs : List ℕ) → scalars cs ≡ true → IsShort (4 * room + 4) (quoted_end room cs)
+quoted_end_short room [] e = less (omega arith) (literal 4 (codes "\"") refl)
+quoted_end_short room (c ∷ cs) e =
+    let both = and_parts (scalar c) (scalars cs) e in
+    let wide = length (shown c) in
+    elim (cases_Bool (nat_le wide room)) [
+      | inl fits ↦
+          rw fits (less {m = 4 * wide + (4 * (room - wide) + 4)} (omega (arith, leb-true wide room fits))
+          (joined (shown_short c both.0) (quoted_end_short (room - wide) cs both.1)))
+      | inr full ↦ rw full (less (omega arith) (literal 4 (codes "\"...") refl))
+    ]
+
+quoted_short : (cs : List ℕ) → scalars cs ≡ true → IsShort 165 (quoted cs)
+quoted_short cs e = joined (literal 1 (codes "\"") refl) (quoted_end_short 40 cs e)
+
+first_scalars : (cs : List ℕ) → scalars cs ≡ true → scalars (first_piece cs) ≡ true
+first_scalars [] e = refl
+first_scalars (c ∷ cs) e =
+    let both = and_parts (scalar c) (scalars cs) e in rw (both.0, piece_scalars c 40 cs both.1) refl
   where
-    by_unit : (unit : Option TimeUnit) → IsShort 13 (option_map_or (λ u. advice_of (row_of u).printed) unit [])
-    by_unit None = literal 13 [] refl
-    by_unit (Some u) = advice_short u
+    piece_scalars : (first most : ℕ) (cs : List ℕ) → scalars cs ≡ true
+        → scalars (take most (take_while (is_like first) cs)) ≡ true
+    piece_scalars first zero cs e = refl
+    piece_scalars first (suc most) [] e = refl
+    piece_scalars first (suc most) (c ∷ cs) e =
+        let both = and_parts (scalar c) (scalars cs) e in
+        elim (cases_Bool (is_like first c)) [
+          | inl like ↦ rw (take_while-cons (is_like first) c cs, like, both.0) (piece_scalars first most cs both.1)
+          | inr other ↦ rw (take_while-cons (is_like first) c cs, other) refl
+        ]
 
-unknown_short : (text : List ℕ) (place : ℕ) (help : List ℕ) → IsPlaced text place → IsShort 13 help
-    → IsShort 222 (unknown_line text place (first_piece (ahead text place)) help)
-unknown_short text place help is last =
-    joined 13 209 _ _ (literal 13 (codes "unknown unit ") refl)
-    (joined 165 44 _ _ (ahead_short text place is) (joined 31 13 _ _ (column_short text place is) last))
+found_short : (piece : List ℕ) → IsShort 165 (quoted piece) → IsShort 173 (found_words piece)
+found_short [] is = literal 173 (codes ", found the end") refl
+found_short (c ∷ piece) is = joined (literal 8 (codes ", found ") refl) is
+
+-- ---- Help
 
 expected_short : (expected : Expected) → IsShort 38 (expected_words expected)
-expected_short expected =
-    chosen 38 expected.unit_word (chosen 38 expected.operator (literal 38 _ refl) (literal 38 _ refl))
-    (chosen 38 expected.operator (literal 38 _ refl)
-    (chosen 38 expected.text_end (literal 38 _ refl) (literal 38 _ refl)))
+expected_short expected = search (chosen, literal) depth 20
 
-words_short : (apply : Bool) (words : List ℕ) → (nat_le (length words) 57 && list_all is_plain_byte words) ≡ true
-    → IsShort 57 (words_if apply words)
-words_short apply words e = chosen 57 apply (literal 57 words e) (literal 57 [] refl)
+help_short : (expected : Expected) (text : List ℕ) (place : ℕ) (piece : List ℕ)
+    → IsShort 52 (help_at expected text place piece)
+help_short expected text place piece = search (chosen, literal) depth 30
 
-notation_short : (before piece : List ℕ) → IsShort 57 (notation_help before piece)
-notation_short before piece = search (chosen, words_short, literal) depth 20
+name_short : (u : TimeUnit) → IsShort 3 (encode_utf8_all (row_of u).printed)
+unfolding lib.Utf8.encode
+name_short u =
+    spelled 3 (row_of u).printed
+    (all_units (λ u. list_all is_good (row_of u).printed && nat_le (length (encode_utf8_all (row_of u).printed)) 3) refl u)
 
-help_short : (text : List ℕ) (place : ℕ) (piece : List ℕ) → IsShort 57 (help_at text place piece)
-help_short text place piece = chosen 57 _ (notation_short (take place text) piece) (literal 57 [] refl)
+near_short : (name : List ℕ) → IsShort 3 (encode_utf8_all name) → IsShort 50 (unit_help (Some name))
+near_short name is =
+    less (lit≤ tt) (joined (literal 16 (codes " (did you mean \"") refl) (joined is (literal 3 (codes "\"?)") refl)))
+
+unit_help_short : (word : List ℕ) → IsShort 50 (unit_help (near_name word))
+unfolding lib.Utf8.encode
+unit_help_short word =
+    let small = map to_ascii_lowercase word in
+    let unit = find (λ u. is_among (near_words u) small) units in
+    let none = literal 50 (unit_help None) refl in
+    picked (is_among small_words small) _ _
+    (picked (is_among small_words word) (Some (codes "mon")) None (near_short (codes "mon") (literal 3 (codes "mon") refl)) none)
+    (picked (is_among us_words small) (Some (codes "us")) _ (near_short (codes "us") (literal 3 (codes "us") refl)) (by_unit unit))
+  where
+    picked : (b : Bool) (x y : Option (List ℕ)) → IsShort 50 (unit_help x) → IsShort 50 (unit_help y)
+        → IsShort 50 (unit_help (if b then x else y))
+    picked true x y first second = first
+    picked false x y first second = second
+
+    by_unit : (unit : Option TimeUnit) → IsShort 50 (unit_help (option_map (λ u. (row_of u).printed) unit))
+    by_unit None = literal 50 (unit_help None) refl
+    by_unit (Some u) = near_short (row_of u).printed (name_short u)
+
+-- ---- The line
 
 syntax_short : (text : List ℕ) (place : ℕ) (expected : Expected) → IsPlaced text place
-    → IsShort 365 (syntax_line text place expected (first_piece (ahead text place)))
+    → IsShort 294 (syntax_line text place expected (first_piece (ahead text place)))
 syntax_short text place expected is =
-    chosen 365 _ (less 222 365 _ (lit≤ tt) (unknown_short text place _ is (near_short _)))
-    (less 299 365 _ (lit≤ tt) (found_line_short 38 _ text place _ is (expected_short expected) (help_short text place _)))
+    let rest = ahead text place in
+    let piece =
+    quoted_short (first_piece rest)
+    (first_scalars rest (scalars-chars (drop place text) (IsUtf8-drop text place is.utf8 is.boundary))) in
+    let column = column_short text place is in
+    let help = help_short expected text place (encode_utf8_all (first_piece rest)) in
+    chosen _ (less (lit≤ tt) (joined (literal 13 (codes "unknown unit ") refl) (joined piece (joined column (unit_help_short _)))))
+    (less (lit≤ tt) (joined (expected_short expected) (joined column (joined (found_short _ piece) help))))
 
-text_short : (problem text : List ℕ) → IsUtf8 text → IsShort 36 problem → IsShort 365 (text_line problem text)
-text_short problem text utf8 first =
-    joined 36 329 _ _ first
-    (joined 4 325 _ _ (literal 4 (codes " in ") refl) (quoted_short (chars text) (scalars-chars text utf8)))
+text_short : (problem text help : List ℕ) → IsUtf8 text → IsShort 26 problem → IsShort 41 help
+    → IsShort 294 (text_line problem text help)
+text_short problem text help utf8 first last =
+    less (lit≤ tt)
+    (joined first (joined (literal 4 (codes " in ") refl) (joined (quoted_short (chars text) (scalars-chars text utf8)) last)))
 
--- The line has plain characters alone, and at most 365 bytes.
+none_short : IsShort 41 []
+none_short = literal 41 [] refl
+
+overflow_short : (text : List ℕ) → IsUtf8 text → IsShort 294 (overflow_line text)
+overflow_short text utf8 =
+    let over = literal 26 (codes "duration of over 584 years") refl in
+    chosen _ (text_short _ text [] utf8 (literal 26 (codes "step of over 584 years") refl) none_short)
+    (chosen _ (text_short _ text _ utf8 over (literal 41 (codes " (a number without a unit is in seconds)") refl))
+    (text_short _ text [] utf8 over none_short))
+
+-- The line has plain characters alone, and at most 294 bytes.
 pub one_line_short : (text : List ℕ) (cause : Cause) → IsUtf8 text → length text < 2 ^ 63
-    → ForSome (place_of cause) (IsCharBoundary text) → IsShort 365 (one_line_of text cause)
+    → ForSome (place_of cause) (IsCharBoundary text) → IsShort 294 (one_line_of text cause)
 unfolding lib.Utf8.encode
-one_line_short text Empty utf8 small placed = literal 365 (codes "empty text") refl
+one_line_short text Empty utf8 small placed = literal 294 (codes "empty text") refl
 one_line_short text (Syntax place expected) utf8 small placed =
     syntax_short text place expected (record { utf8 = utf8; small = small; boundary = placed place refl })
-one_line_short text (NumberTooLarge (Some place)) utf8 small placed =
-    let is : IsPlaced text place = record { utf8 = utf8; small = small; boundary = placed place refl } in
-    less 283 365 _ (lit≤ tt)
-    (found_line_short 22 _ text place [] is (literal 22 (codes "number of 2^64 or more") refl) (literal 57 [] refl))
-one_line_short text (NumberTooLarge None) utf8 small placed =
-    text_short _ text utf8 (literal 36 (codes "number of 2^64 or more") refl)
-one_line_short text (Overflow place) utf8 small placed =
-    text_short _ text utf8 (literal 36 (codes "duration of 2^64 nanoseconds or more") refl)
-one_line_short text (Mixed first Plus) utf8 small placed =
-    text_short _ text utf8 (literal 36 (codes "'+' after '*'") refl)
-one_line_short text (Mixed first Star) utf8 small placed =
-    text_short _ text utf8 (literal 36 (codes "'*' after '+'") refl)
-one_line_short text OutOfRange utf8 small placed = literal 365 (encode_utf8_all (line_of OutOfRange)) refl
-one_line_short text (NotText true) utf8 small placed = literal 365 (encode_utf8_all (line_of (NotText true))) refl
-one_line_short text (NotText false) utf8 small placed = literal 365 (encode_utf8_all (line_of (NotText false))) refl
+one_line_short text (NumberTooLarge place) utf8 small placed =
+    text_short _ text [] utf8 (literal 26 (codes "number of 2^64 or more") refl) none_short
+one_line_short text (Overflow place) utf8 small placed = overflow_short text utf8
+one_line_short text (Mixed first later) utf8 small placed =
+    text_short _ text [] utf8 (literal 26 (codes "sum and product mixed") refl) none_short
+one_line_short text OutOfRange utf8 small placed = literal 294 (encode_utf8_all (line_of OutOfRange)) refl
+one_line_short text (NotText true) utf8 small placed = literal 294 (encode_utf8_all (line_of (NotText true))) refl
+one_line_short text (NotText false) utf8 small placed = literal 294 (encode_utf8_all (line_of (NotText false))) refl
 
 -- No word stands where a unit could.
 pub no_unit_word : (text : List ℕ) (place : ℕ) (expected : Expected) (piece : List ℕ)
     → (expected.unit_word && begins_with_letter piece) ≡ false
-    → found_line (expected_words expected) text place piece (help_at text place (encode_utf8_all piece))
+    → found_line (expected_words expected) (chars_before text place + 1) piece (help_at expected text place (encode_utf8_all piece))
     ≡ syntax_line text place expected piece
 no_unit_word text place expected piece no_word = rw no_word refl
 
 -- ---- A quote
 
--- Clear characters are written as they are.
-quoted_front : (run rest : List ℕ) (more : ℕ) → list_all (is_passing (is_of Clear)) run ≡ true
-    → quoted_end (length run + more) (run ++ rest) ≡ encode_utf8_all run ++ quoted_end more rest
-quoted_front [] rest more e = let all : 0 + more ≡ more = omega arith in rw all refl
-quoted_front (c ∷ run) rest more e =
-    let both = and_parts (is_passing (is_of Clear) c) (list_all (is_passing (is_of Clear)) run) e in
-    let clear = and_parts (is_plain c) _ (and_parts (scalar c) (is_of Clear c) both.0).1 in
-    let next : suc (length run) + more ≡ suc (length run + more) = omega arith in
-    rw (next, not-true _ clear.1, clear.0, quoted_front run rest more both.1) (sym (append_assoc (encode_utf8 c) _ _))
+-- whether a byte is a character of ASCII that is quoted as it is
+abbrev is_clear_byte : ℕ → Bool
+is_clear_byte b = is_in_range 32 126 b && not (b == 34 || b == 92)
 
--- A run is written.
-pub quoted_run : (written whole rest run after : List ℕ) (left more : ℕ) → IsUtf8 rest → IsUtf8 run
-    → rest ≡ run ++ after → chars run ≡ take left (take_while (is_of Clear) (chars rest))
-    → length (chars run) + more ≡ left → written ++ quoted_end left (chars rest) ≡ whole
-    → (written ++ run) ++ quoted_end more (chars after) ≡ whole
-quoted_run written whole rest run after left more utf8 utf8_run parts are count all =
-    let clear = rw (← are) at (run_passes (is_of Clear) left (chars rest) (scalars-chars rest utf8)) in
-    let cut = rw (encodes-chars run utf8_run) at (quoted_front (chars run) (chars after) more clear) in
-    append_assoc written run _
-    ∙ ap (λ bytes. written ++ bytes) (sym (rw (← count, parts, chars-append run after utf8_run) cut)) ∙ all
+clear_end : (text : List ℕ) (room : ℕ) → length text ≤ room → list_all is_clear_byte text ≡ true
+    → (encode_utf8_all text ≡ text) × (quoted_end room text ≡ text ++ codes "\"")
+clear_end [] room fits e = (refl, refl)
+clear_end (c ∷ text) room fits e =
+    let both = and_parts (is_clear_byte c) (list_all is_clear_byte text) e in
+    let parts = and_parts (is_in_range 32 126 c) (not (c == 34 || c == 92)) both.0 in
+    let within = and_parts (nat_le 32 c) (nat_le c 126) parts.0 in
+    let low = leb-true 32 c within.0 in
+    let high = leb-true c 126 within.1 in
+    let plain : is_plain c ≡ true = grind (arith, nat_tests) in
+    let clear : is_clear c ≡ true = rw (plain, parts.1) refl in
+    let small : c < 128 = omega (arith, high) in
+    let rest = clear_end text (room - 1) (omega (arith, fits)) both.1 in
+    (rw (encode_ascii c small, rest.0) refl, rw (clear, le-leb 1 room (omega (arith, fits)), encode_ascii c small, rest.1) refl)
 
--- The character after a run that is not full fails the test.
-pub run_stopped : (test : ℕ → Bool) (after rest : List ℕ) (left c : ℕ) → IsUtf8 after → after ≡ encode_utf8 c ++ rest
-    → left ≢ 0 → take left (take_while test (chars after)) ≡ [] → test c ≡ false
-run_stopped test after rest zero c utf8 parts some none = absurd (some refl)
-run_stopped test after rest (suc left) c utf8 parts some none =
-    false_from_ne_true (test c) (λ passes.
-    let more = rw (chars_past_char after rest c utf8 parts, take_while-cons test c (chars rest), passes) at none in absurd cc)
-
--- A character is written.
-pub quoted_more : (written whole rest after : List ℕ) (left c : ℕ) → left ≢ 0 → IsUtf8 rest
-    → rest ≡ encode_utf8 c ++ after → written ++ quoted_end left (chars rest) ≡ whole
-    → (written ++ escaped c) ++ quoted_end (left - 1) (chars after) ≡ whole
-quoted_more written whole rest after zero c some utf8 parts all = absurd (some refl)
-quoted_more written whole rest after (suc left) c some utf8 parts all =
-    let e : suc left - 1 ≡ left = omega arith in
-    rw (e, append_assoc) (rw (chars_past_char rest after c utf8 parts) at all)
+-- A short text of such characters is quoted as it is.
+pub quoted_clear : (text : List ℕ) → IsUtf8 text → length text ≤ 40 → list_all is_clear_byte text ≡ true
+    → quoted (chars text) ≡ codes "\"" ++ (text ++ codes "\"")
+quoted_clear text utf8 fits e =
+    let parts = clear_end text 40 fits e in rw (← chars_from_encodes text text utf8 parts.0, parts.1) refl
 
 -- There is no room for what is to be written.
 pub quoted_stops : (written after whole : List ℕ) (room : ℕ) → written ++ after ≡ whole → room < length written
@@ -407,12 +371,19 @@ quoted_stops written after whole room all full = omega (arith, full, ap length a
 pub end_inside : (bytes buffer : List ℕ) (end : ℕ) → end ≡ length bytes → take end buffer ≡ bytes → end ≤ length buffer
 end_inside bytes buffer end long is = omega (arith, long, ap length is, length-take end buffer)
 
+-- A character is written.
+pub quoted_more : (written whole rest after : List ℕ) (room c : ℕ) → length (shown c) ≤ room → IsUtf8 rest
+    → rest ≡ encode_utf8 c ++ after → written ++ quoted_end room (chars rest) ≡ whole
+    → (written ++ encode_utf8_all (shown c)) ++ quoted_end (room - length (shown c)) (chars after) ≡ whole
+quoted_more written whole rest after room c fits utf8 parts all =
+    rw append_assoc (rw (chars_past_char rest after c utf8 parts, le-leb (length (shown c)) room fits) at all)
+
 -- Characters are left out.
-pub quoted_cut : (written whole rest after : List ℕ) (left c : ℕ) → left ≡ 0 → IsUtf8 rest
-    → rest ≡ encode_utf8 c ++ after → written ++ quoted_end left (chars rest) ≡ whole
+pub quoted_cut : (written whole rest after : List ℕ) (room c : ℕ) → room < length (shown c) → IsUtf8 rest
+    → rest ≡ encode_utf8 c ++ after → written ++ quoted_end room (chars rest) ≡ whole
     → written ++ codes "\"..." ≡ whole
-quoted_cut written whole rest after left c none utf8 parts all =
-    rw (none, chars_past_char rest after c utf8 parts) at all
+quoted_cut written whole rest after room c full utf8 parts all =
+    rw (chars_past_char rest after c utf8 parts, lt-leb (length (shown c)) room full) at all
 
 -- The text ends.
 pub quoted_all : (written whole rest : List ℕ) (left : ℕ) → length rest ≡ 0
@@ -427,65 +398,62 @@ pub found_some : (piece : List ℕ) → (length piece == 0) ≡ false → IsUtf8
     → found_words (chars piece) ≡ codes ", found " ++ quoted (chars piece)
 found_some piece some utf8 = found_chars (chars piece) piece (encodes-chars piece utf8) some
 
--- ---- A run
+-- ---- A piece
 
--- These characters of a text were taken for a run of at most so many, and so many more may follow.
-pub record Taken (test : ℕ → Bool) (most : ℕ) (text rest : List ℕ) (left : ℕ) : Type 0 where
+take_nil : (n : ℕ) → take {A = ℕ} n [] ≡ []
+take_nil zero = refl
+take_nil (suc n) = refl
+
+-- These characters of a text were taken for a piece that begins with this one, and so many more may follow.
+pub record Taken (first : ℕ) (text rest : List ℕ) (left : ℕ) : Type 0 where
   pub taken : List ℕ
   pub parts : text ≡ encode_utf8_all taken ++ rest
-  pub count : length taken + left ≡ most
-  pub whole : take most (take_while test (chars text)) ≡ taken ++ take left (take_while test (chars rest))
+  pub whole : first_piece (chars text) ≡ taken ++ take left (take_while (is_like first) (chars rest))
 
-pub taken_none : (test : ℕ → Bool) (most : ℕ) (text : List ℕ) → Taken test most text text most
-taken_none test most text = record { taken = []; parts = refl; count = omega arith; whole = refl }
+pub taken_first : (first : ℕ) (text rest : List ℕ) → IsUtf8 text → text ≡ encode_utf8 first ++ rest
+    → Taken first text rest 40
+taken_first first text rest utf8 parts = record {
+  taken = first ∷ [];
+  parts = parts ∙ search (rules, append-nil);
+  whole = rw (chars_past_char text rest first utf8 parts) refl;
+}
 
 -- One more is taken.
-pub taken_more : (test : ℕ → Bool) (most : ℕ) (text rest after : List ℕ) (left c : ℕ) → IsUtf8 rest
-    → rest ≡ encode_utf8 c ++ after → left ≢ 0 → test c ≡ true
-    → Taken test most text rest left → Taken test most text after (left - 1)
-taken_more test most text rest after zero c utf8 parts some passes before = absurd (some refl)
-taken_more test most text rest after (suc left) c utf8 parts some passes before =
+pub taken_more : (first : ℕ) (text rest after : List ℕ) (left c : ℕ) → IsUtf8 rest → rest ≡ encode_utf8 c ++ after
+    → left ≢ 0 → is_like first c ≡ true → Taken first text rest left → Taken first text after (left - 1)
+taken_more first text rest after zero c utf8 parts some like before = absurd (some refl)
+taken_more first text rest after (suc left) c utf8 parts some like before =
     let e : suc left - 1 ≡ left = omega arith in
     rw e (record {
       taken = before.taken ++ c ∷ [];
       parts = before.parts ∙ rw (parts, encodes-append before.taken) (simp append_assoc);
-      count = omega (arith, before.count, length-append before.taken (c ∷ []));
       whole = before.whole
-          ∙ rw (chars_past_char rest after c utf8 parts, take_while-cons test c (chars after), passes) (simp append_assoc);
+          ∙ rw (chars_past_char rest after c utf8 parts, take_while-cons (is_like first) c (chars after), like) (simp append_assoc);
     })
 
--- The next character fails the test.
-pub run_stops : (test : ℕ → Bool) (rest after : List ℕ) (left c : ℕ) → IsUtf8 rest → rest ≡ encode_utf8 c ++ after
-    → test c ≡ false → take left (take_while test (chars rest)) ≡ []
-run_stops test rest after zero c utf8 parts other = refl
-run_stops test rest after (suc left) c utf8 parts other =
-    rw (chars_past_char rest after c utf8 parts, take_while-cons test c (chars after), other) refl
+-- The next character is of another kind.
+pub taken_other : (first : ℕ) (rest after : List ℕ) (left c : ℕ) → IsUtf8 rest → rest ≡ encode_utf8 c ++ after
+    → is_like first c ≡ false → take left (take_while (is_like first) (chars rest)) ≡ []
+taken_other first rest after left c utf8 parts other =
+    rw (chars_past_char rest after c utf8 parts, take_while-cons (is_like first) c (chars after), other) (take_nil left)
 
 -- The text ends.
-pub run_ends : (test : ℕ → Bool) (rest : List ℕ) (left : ℕ) → length rest ≡ 0
-    → take left (take_while test (chars rest)) ≡ []
-run_ends test rest zero none = refl
-run_ends test rest (suc left) none = rw (chars_of_none rest none) refl
+pub taken_end : (first : ℕ) (rest : List ℕ) (left : ℕ) → length rest ≡ 0
+    → take left (take_while (is_like first) (chars rest)) ≡ []
+taken_end first rest left none = rw (chars_of_none rest none) (take_nil left)
 
--- The first character is taken.
-pub first_taken : (text rest : List ℕ) (c : ℕ) → text ≡ encode_utf8 c ++ rest
-    → text ≡ encode_utf8_all (c ∷ []) ++ rest
-first_taken text rest c parts = parts ∙ search (rules, append-nil)
+module _ (first : ℕ) (text rest : List ℕ) (left : ℕ) (is : Taken first text rest left) where
+  long : length text - length rest ≡ length (encode_utf8_all is.taken)
+  long = omega (arith, ap length is.parts, length-append (encode_utf8_all is.taken) rest)
 
--- The characters of a run are those that were taken.
-pub taken_all : (taken run : List ℕ) → IsUtf8 run → run ≡ encode_utf8_all taken → chars run ≡ taken
-taken_all taken run utf8 is = sym (chars_from_encodes taken run utf8 (sym is))
-
-module _ (text rest taken : List ℕ) (parts : text ≡ encode_utf8_all taken ++ rest) where
-  taken_long : length text - length rest ≡ length (encode_utf8_all taken)
-  taken_long = omega (arith, ap length parts, length-append (encode_utf8_all taken) rest)
-
-  -- A run is the bytes of what was taken.
-  pub taken_bytes : (run : List ℕ) → run ≡ slice_range text 0 (length text - length rest) → run ≡ encode_utf8_all taken
-  taken_bytes run is =
-      let long : length text - length rest - 0 ≡ length (encode_utf8_all taken) = omega (arith, taken_long) in
-      is ∙ rw (long, parts) (take-append_seam (encode_utf8_all taken) rest)
-
-  -- It ends where a character begins.
+  -- A piece ends where a character begins.
   pub taken_boundary : IsUtf8 rest → IsCharBoundary text (length text - length rest)
-  taken_boundary utf8 = rw taken_long (IsCharBoundary-at_seam text (encode_utf8_all taken) rest parts utf8)
+  taken_boundary utf8 = rw long (IsCharBoundary-at_seam text (encode_utf8_all is.taken) rest is.parts utf8)
+
+  -- It is what was taken.
+  pub taken_all : (piece : List ℕ) → IsUtf8 piece → piece ≡ slice_range text 0 (length text - length rest)
+      → take left (take_while (is_like first) (chars rest)) ≡ [] → chars piece ≡ first_piece (chars text)
+  taken_all piece utf8 cut ends =
+      let from : length text - length rest - 0 ≡ length (encode_utf8_all is.taken) = omega (arith, long) in
+      let bytes = cut ∙ rw (from, is.parts) (take-append_seam (encode_utf8_all is.taken) rest) in
+      sym (chars_from_encodes is.taken piece utf8 (sym bytes)) ∙ sym (is.whole ∙ rw ends (append-nil is.taken))

@@ -1,16 +1,13 @@
 -- The bytes built unit by unit are the UTF-8 of the printed text.
-use Rattle.duration_str.proofs.Common.{rules, ◌≡◌, ◌∙◌, ℕ, ◌^◌, ◌<◌, ◌≤◌, ◌==◌, List, [], ◌∷◌, ◌++◌}
-use Rattle.duration_str.proofs.Common.{length, take, decimal, encode_utf8_all, refl, sym, inl, inr, arith}
-use Rattle.duration_str.proofs.Common.{length-append, append_assoc, append-nil, flat_map, codes, IsUtf8}
-use Rattle.duration_str.proofs.Common.{length-take-le, cases_Bool, encodes-append, encodes-IsAscii}
-use Rattle.duration_str.proofs.Common.{TimeUnit, ⊤}
-use Rattle.duration_str.proofs.Common.{printed_parts}
-use Rattle.duration_str.proofs.Common.{with_counts, IsAscii-decimal_wide}
-use Rattle.duration_str.proofs.Common.{IsUtf8-append, IsUtf8-from_ascii, IsUtf8-nil}
+use Rattle.duration_str.proofs.Common.{rules, ◌≡◌, ◌∙◌, ℕ, ◌^◌, ◌<◌, ◌≤◌, ◌==◌, List, [], ◌∷◌, ◌++◌, length, take}
+use Rattle.duration_str.proofs.Common.{decimal, encode_utf8_all, refl, sym, inl, inr, arith, length-append}
+use Rattle.duration_str.proofs.Common.{append_assoc, append-nil, flat_map, codes, IsUtf8, length-take-le, cases_Bool}
+use Rattle.duration_str.proofs.Common.{encodes-append, encodes-IsAscii, TimeUnit, ⊤, printed_parts, with_counts}
+use Rattle.duration_str.proofs.Common.{IsAscii-decimal_wide, IsUtf8-append, IsUtf8-from_ascii, IsUtf8-nil, Style, Short}
+use Rattle.duration_str.proofs.Common.{Compact, Long, between, printed_part, part_bytes, joined_parts, with_gap}
+use Rattle.duration_str.proofs.Common.{name_part}
 use Rattle.duration_str.proofs.Printer.DigitLemmas.{some_decimal}
 use Rattle.duration_str.proofs.Characters.NameLemmas.{scalar_part}
-use Rattle.duration_str.proofs.Common.{Style, Short, Compact, Long, between, printed_part, part_bytes, joined_parts}
-use Rattle.duration_str.proofs.Common.{with_gap, name_part}
 
 pub encode_part : (style : Style) (n : ℕ) (u : TimeUnit) → n < 10 ^ 64
     → encode_utf8_all (printed_part style n u) ≡ part_bytes style n u

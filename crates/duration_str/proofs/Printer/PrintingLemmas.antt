@@ -1,12 +1,11 @@
 -- A printed text is spelled by a sum whose total is the duration.
 use Rattle.duration_str.proofs.Common.{◌≡◌, ℕ, ◌%◌, ◌^◌, ◌<◌, inl, inr, Bool, true, false, ◌==◌, List, [], ◌∷◌, ◌++◌}
-use Rattle.duration_str.proofs.Common.{map, drop, Some, if◌then◌else◌, decimal, arith, refl, append_assoc}
-use Rattle.duration_str.proofs.Common.{append-nil, eqb-true, flat_map, ⊤, cases_Bool, FitsDuration}
-use Rattle.duration_str.proofs.Common.{Options, TimeUnit, Year, Second, row_of, units, nanos_of, unit_lengths, Terminal}
-use Rattle.duration_str.proofs.Common.{number, word, terminal_of, IsSentence, Spells, AllPlus, sum_of, terms_of}
-use Rattle.duration_str.proofs.Common.{weighted_sum, IsPrintedIn, counts_of, printed_parts, joined_parts}
-use Rattle.duration_str.proofs.Common.{Style, Short, Compact, Long, IsBlank, ap, between, before_name, name_in}
-use Rattle.duration_str.proofs.Common.{printed_part, printed_counts}
+use Rattle.duration_str.proofs.Common.{map, drop, Some, if◌then◌else◌, decimal, arith, refl, append_assoc, append-nil}
+use Rattle.duration_str.proofs.Common.{eqb-true, flat_map, ⊤, cases_Bool, FitsDuration, Options, TimeUnit, Year, Second}
+use Rattle.duration_str.proofs.Common.{row_of, units, nanos_of, unit_lengths, Terminal, number, word, terminal_of}
+use Rattle.duration_str.proofs.Common.{IsSentence, Spells, AllPlus, sum_of, terms_of, weighted_sum, IsPrintedIn}
+use Rattle.duration_str.proofs.Common.{counts_of, printed_parts, joined_parts, Style, Short, Compact, Long, IsBlank, ap}
+use Rattle.duration_str.proofs.Common.{between, before_name, name_in, printed_part, printed_counts}
 use Rattle.duration_str.proofs.Characters.NumberLemmas.{decimal_terminal}
 use Rattle.duration_str.proofs.LawProofs.GreatestBreakdown.{one_greatest, greatest_breakdown_holds}
 use Rattle.duration_str.proofs.Sentences.SumReadings.{IsSumOf, terms_of_lexemes}

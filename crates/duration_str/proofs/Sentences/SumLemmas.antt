@@ -82,12 +82,6 @@ added_overflow (t ∷ u ∷ later) a f =
       rw (plus, (running_overflow [] (u ∷ later) a.2 f.1).1) (overflow_grows (sum_of (u ∷ later)) _ (omega arith)),
     )
 
-pub later_none : (before terms : List Term) → AreAdded terms → sum_of (before ++ terms) < 2 ^ 64
-    → fault_of_terms Plus before terms ≡ None
-later_none before terms a h =
-    let fits = sum_fits_each terms (omega (arith, sum-append before terms)) in
-    (simp no_fault at (rw (lt-ltb _ _ h) at (running_overflow before terms a fits).1)).1
-
 pub running_none : (terms : List Term) → AreAdded terms → sum_of terms < 2 ^ 64 → running_fault [] terms ≡ None
 running_none terms a h = rw ((running_overflow [] terms a (sum_fits_each terms h)).0, lt-ltb _ _ h)
 

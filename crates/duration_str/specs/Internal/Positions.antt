@@ -11,6 +11,10 @@ pub record StandsAt (text : List ℕ) (place next c : ℕ) : Type 0 where
   pub head : ahead text place ≡ c ∷ ahead text next
   pub bytes : next ≡ place + width c
 
+-- The character c is at byte `place`.
+abbrev pub Stands : List ℕ → ℕ → ℕ → Type 0
+Stands text place c = StandsAt text place (place + width c) c
+
 -- These are the characters from byte `place` to byte `next`.
 pub record Between (text : List ℕ) (place next : ℕ) (characters : List ℕ) : Type 0 where
   pub cut : ahead text place ≡ characters ++ ahead text next

@@ -1,9 +1,7 @@
 -- What is left of a text while it is read: the next thing to read, and the answer.
 use Rattle.std.specs.Prelude.{◌≡◌, ℕ, zero, suc, ◌≤◌, Bool, false, List, [], ◌∷◌, length, take}
-use Rattle.std.specs.Prelude.{drop, Option, Some, None, Result, Ok, Err, IfErr, if◌then◌else◌}
+use Rattle.std.specs.Prelude.{drop, Option, Some, None, Result, Ok, Err, IfErr}
 use Rattle.std.specs.Option.{ForSome, ok_or}
-use Rattle.std.specs.Duration.{as_nanos}
-use Rattle.std.specs.declared.time.Duration.{Duration}
 use Rattle.duration_str.specs.declared.options.Options.{Options}
 use Rattle.duration_str.specs.declared.unit.TimeUnit.{TimeUnit}
 use Rattle.duration_str.specs.declared.unit.TimeUnit.TheVariants.{Second}
@@ -12,14 +10,13 @@ use Rattle.duration_str.specs.declared.operator.CondUnit.TheVariants.{Plus}
 use Rattle.duration_str.specs.declared.cause.Cause.{Cause}
 use Rattle.duration_str.specs.declared.cause.Cause.TheVariants.{Syntax, Overflow, Mixed}
 use Rattle.duration_str.specs.declared.cause.Expected.{Expected}
-use Rattle.duration_str.specs.declared.fault.Fault.{Fault}
 use Rattle.duration_str.specs.declared.token.Tokens.{Tokens}
 use Rattle.duration_str.specs.Grammar.{Terminal, number, word, operator, terminal_of}
 use Rattle.duration_str.specs.Tokens.{Token}
 use Rattle.duration_str.specs.Value.{combination, is_same_operator, unless, fault_or}
 use Rattle.duration_str.specs.Internal.Numbers.{u64_from, checked_term}
 use Rattle.duration_str.specs.Answer.{answer_at, expected_at_start, expected_after_number}
-use Rattle.duration_str.specs.Answer.{expected_after_unit, expected_after, last_of, front_after, front_of}
+use Rattle.duration_str.specs.Answer.{expected_after_unit, front_of}
 use Rattle.duration_str.specs.Faults.{place_of}
 use Rattle.duration_str.specs.Iteration.{source, options_of, cut_place, tokens_left}
 use Rattle.duration_str.specs.Internal.Steps.{IsAhead}
@@ -104,12 +101,6 @@ answer_left no_calc rest =
     let n = front_of no_calc terminals in
     answer_at no_calc (start_left n rest) (take n terminals) (drop n terminals)
 
--- The result is these nanoseconds as a duration, or the same fault.
-abbrev pub IsDurationOf : Result ℕ Fault → Result Duration Fault → Type 0
-IsDurationOf (Ok nanos) (Ok d) = as_nanos d ≡ nanos
-IsDurationOf (Err fault) (Err same) = same ≡ fault
-IsDurationOf _ _ = ⊥
-
 -- ---- Values, or the first fault
 
 -- two values combined, the second one or its fault given, if that is below 2^64; otherwise an overflow
@@ -119,28 +110,22 @@ checked_combination op x (Err cause) = Err cause
 
 -- the total of the later terms with one more, or its fault: `later` is the operator between them with their total so
 -- far, and the operator `next` stands before this one
-abbrev pub with_term : Option (CondUnit × ℕ) → CondUnit → Option ℕ → ℕ → Result ℕ Cause
-with_term None next n length = checked_term None n length
-with_term (Some (op, total)) next n length =
+abbrev pub total_with : Option (CondUnit × ℕ) → CondUnit → Option ℕ → ℕ → Result ℕ Cause
+total_with None next n length = checked_term None n length
+total_with (Some (op, total)) next n length =
     fault_or (unless (is_same_operator op next) (Mixed op next))
     (checked_combination op total (checked_term None n length))
 
--- the syntax fault at a place with these kinds expected and these terminals following
-abbrev pub fault_at : ℕ → Expected → List Terminal → Option Cause
-fault_at place expected [] = unless expected.text_end (Syntax place expected)
-fault_at place expected (terminal ∷ terminals) = Some (Syntax place expected)
+-- the operator between the later terms, given their total or its fault
+abbrev pub by_operator : CondUnit → Result ℕ Cause → Result (Option (CondUnit × ℕ)) Cause
+by_operator op (Ok total) = Ok (Some (op, total))
+by_operator op (Err cause) = Err cause
 
--- the syntax fault of what is left after this terminal, or `None`
-abbrev pub fault_left : Bool → Terminal → Rest → Option Cause
-fault_left no_calc last rest =
-    let terminals = terminals_in rest in
-    let n = front_after no_calc (Some last) terminals in
-    fault_at (start_left n rest) (expected_after no_calc (last_of (Some last) (take n terminals))) (drop n terminals)
-
--- the fault of a term, or the syntax fault of what is left after its unit, which precedes it except under `no_calc`
-abbrev pub fault_in_order : Bool → Rest → Cause → Result ℕ Cause
-fault_in_order no_calc rest fault =
-    if no_calc then Err fault else fault_or (fault_left no_calc (word (Some Second)) rest) (Err fault)
+-- the later terms with one more, or their first fault
+abbrev pub with_term : Result (Option (CondUnit × ℕ)) Cause → CondUnit → Option ℕ → ℕ
+    → Result (Option (CondUnit × ℕ)) Cause
+with_term (Ok later) next n length = by_operator next (total_with later next n length)
+with_term (Err cause) next n length = Err cause
 
 -- ---- Steps of the reader
 

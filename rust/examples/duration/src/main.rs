@@ -30,7 +30,7 @@ fn main() -> ExitCode {
             ExitCode::SUCCESS
         }
         Err(fault) => {
-            println!("{fault}");
+            println!("{}", fault.report());
             ExitCode::FAILURE
         }
     }

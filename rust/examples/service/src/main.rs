@@ -1,6 +1,6 @@
 //! A program that was written for humantime 2 and humantime-serde 1; `before.rs` has its import of then. To change it over,
 //! these dependencies in Cargo.toml became `duration-str`, and the import the first one here.
-use duration_str::{human as humantime_serde, humantime};
+use duration_str::{humantime, humantime_serde};
 use std::error::Error;
 
 mod service;
@@ -14,6 +14,7 @@ const IS_BEFORE: bool = false;
 
 #[cfg(test)]
 mod tests {
+    use crate::humantime::parse_duration;
     use crate::service::{settings, Arguments};
     use clap::Parser;
 
@@ -53,18 +54,16 @@ mod tests {
 
     #[test]
     fn tells_what_is_wrong_in_one_line() {
-        let refusal = |arguments: &[&str], config| told(arguments, config).unwrap_err();
-        assert_eq!(
-            refusal(&["--timeout", "3h 2 hurs"], "").lines().next(),
-            Some("error: Invalid value '3h 2 hurs' for '--timeout <TIMEOUT>': unknown unit \"hurs\" at column 6")
-        );
-        assert_eq!(
-            refusal(&["--pause", "5 mins"], "").lines().next(),
-            Some("error: Invalid value '5 mins' for '--pause <PAUSE>': unknown unit \"mins\" at column 3: write \"min\"")
-        );
-        assert_eq!(
-            refusal(&[], r#"{ "timeout": "600y" }"#),
-            "duration of 2^64 nanoseconds or more in \"600y\" at line 1 column 19"
-        );
+        let line = |text| parse_duration(text).unwrap_err();
+        for (option, text) in [("timeout", "3h 2 hurs"), ("pause", "5 mins"), ("timeout", "-5m")] {
+            let refusal = told(&[&format!("--{option}"), text], "").unwrap_err();
+            let name = option.to_uppercase();
+            let told = format!("error: Invalid value '{text}' for '--{option} <{name}>': {}", line(text));
+            assert_eq!(refusal.lines().next(), Some(&told[..]));
+        }
+        // A month of humantime.
+        let refusal = told(&[], r#"{ "timeout": "1M" }"#).unwrap_err();
+        let told = format!("invalid duration: {} at line 1 column 17", line("1M"));
+        assert_eq!(refusal, told);
     }
 }

@@ -11,7 +11,7 @@ use std::time::Duration;
 #[derive(Parser)]
 pub struct Arguments {
     /// How long a request may take, instead of what the configuration says
-    #[arg(long, value_parser = parse_duration)]
+    #[arg(long, allow_hyphen_values = true, value_parser = parse_duration)]
     pub timeout: Option<Duration>,
     /// The time between two attempts
     #[arg(long, default_value = "1s 500ms")]
@@ -68,7 +68,7 @@ mod tests {
     const TIMEOUTS: [(&str, [u64; 2]); 9] = [
         ("1h 30m", [5_400, 5_400]),
         ("2weeks 3days", [1_468_800, 1_468_800]),
-        ("1M", [60, 2_630_016]),
+        ("1M", [0, 2_630_016]),
         ("1month", [2_592_000, 2_630_016]),
         ("1y", [31_536_000, 31_557_600]),
         ("5mins", [0, 300]),

@@ -1,4 +1,4 @@
-use Rattle.duration_str.proofs.Common.{◌≡◌, ◌∙◌, ◌+◌, ◌<◌, length, arith, ap, get_or, IsCharBoundary, StandsAt}
+use Rattle.duration_str.proofs.Common.{◌≡◌, ◌∙◌, ◌<◌, length, arith, ap, get_or}
 use Rattle.std.proofs.lemmas.Grind.{get_or_default_zero}
 use Rattle.duration_str.proofs.Characters.TextLemmas.{ascii_stands, end_ahead}
 use Rattle.duration_str.proofs.eye.character_at.Goals as goal
@@ -8,10 +8,8 @@ returns-in_err-byte-clause-none c =
     rw c.from_residual.ensures
     (end_ahead c.args.text.now c.args.place (omega (arith, c.in_err-byte.ensures {u = tt}, c.as_bytes.ensures.len)))
 
--- The byte is an ASCII character.
-ascii : (c : goal.After-from) → StandsAt c.args.text.now c.args.place (c.args.place + 1) c.in_ok-byte.field-0.now
-    × IsCharBoundary c.args.text.now (c.args.place + 1)
-ascii c =
+pub returns-then-byte-lt128-clause-some : goal.returns-then-byte-lt128-clause-some
+returns-then-byte-lt128-clause-some c =
     let text = c.args.text.now in
     let place = c.args.place in
     let b = c.in_ok-byte.field-0.now in
@@ -19,10 +17,4 @@ ascii c =
     let inside : place < length text = omega (arith, c.as_bytes.ensures.len, found) in
     let is : b ≡ get_or text place 0 =
     found.1 ∙ ap (λ bytes. get_or bytes place b) c.as_bytes.ensures.value ∙ get_or_default_zero text place b inside in
-    ascii_stands text place b c.utf8.text c.requires inside is c.if-byte-lt128.true
-
-pub returns-then-byte-lt128-clause-some : goal.returns-then-byte-lt128-clause-some
-returns-then-byte-lt128-clause-some c = rw c.from.ensures (ascii c).0
-
-pub returns-then-byte-lt128-clause-boundary : goal.returns-then-byte-lt128-clause-boundary
-returns-then-byte-lt128-clause-boundary c = λ some. (ascii c).1
+    rw c.from.ensures (ascii_stands text place b c.utf8.text c.requires inside is c.if-byte-lt128.true)

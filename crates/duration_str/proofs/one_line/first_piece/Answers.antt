@@ -1,29 +1,46 @@
-use Rattle.duration_str.proofs.Common.{◌≡◌, ◌∙◌, ◌++◌, sym, encode_utf8_all, ◌∷◌, []}
-use Rattle.duration_str.proofs.Common.{chars_past_char, refl}
-use Rattle.duration_str.proofs.Printer.OneLineLemmas.{first_taken, taken_boundary, taken_bytes, taken_all}
+use Rattle.duration_str.proofs.Common.{◌∙◌, sym, refl}
+use Rattle.duration_str.proofs.Printer.OneLineLemmas.{taken_first, taken_more, taken_other, taken_end, taken_boundary}
+use Rattle.duration_str.proofs.Printer.OneLineLemmas.{taken_all}
 use Rattle.duration_str.proofs.one_line.first_piece.Goals as goal
-use Rattle.duration_str.proofs.one_line.first_piece.Goals.{After-as_str}
+use Rattle.duration_str.proofs.one_line.first_piece.Goals.{in-Some-next+then-left-eq0, in_default-next, then-left-eq0-via-then-left-eq0}
+use Rattle.duration_str.proofs.one_line.first_piece.Goals.{then-left-eq0-via-else-left-eq0+then-not-is_like}
 
-parts : (c : After-as_str) → c.args.text.now ≡ encode_utf8_all (c.in-Some.first ∷ []) ++ c.as_str.result.now
-parts c =
-    first_taken c.args.text.now c.as_str.result.now c.in-Some.first
-    (rw c.as_str.ensures (sym c.chars-chars.ensures.rest ∙ (c.in-Some.ensures {u = tt}).steps.0))
+pub loop-c-init : goal.loop-c-init
+loop-c-init c = record {
+  text = c.as_str-rest.utf8;
+  utf8 = c.as_str-rest.utf8;
+  same = sym c.as_str-rest.ensures;
+  taken = taken_first c.in-Some.first c.args.text.now _ c.utf8.text
+      (rw c.as_str-rest.ensures (sym c.chars-chars.ensures.rest ∙ (c.in-Some.ensures {u = tt}).steps.0));
+}
+
+pub loop-c-preserved : goal.loop-c-preserved
+loop-c-preserved c =
+    let held = c.loop-c.invariant in
+    let rest = c.as_str-rest-in-Some-next in
+    record {
+      text = rest.utf8;
+      utf8 = rest.utf8;
+      same = sym rest.ensures;
+      taken = taken_more c.in-Some.first c.args.text.now _ _ c.loop-c.left c.in-Some-next.c held.utf8
+          (rw rest.ensures (sym held.same ∙ (c.in-Some-next.ensures {u = tt}).steps.0)) c.if-left-eq0.false
+          (sym c.is_like.ensures ∙ c.if-not-is_like.false) held.taken;
+    }
 
 pub range-requires-clause-end_boundary : goal.range-requires-clause-end_boundary
 range-requires-clause-end_boundary c =
-    taken_boundary c.args.text.now _ (c.in-Some.first ∷ []) (parts (goal.at.range-requires-clause-end_boundary c).After-as_str)
-    c.as_str.utf8
+    let held = c.loop-c.invariant in taken_boundary c.in-Some.first c.args.text.now _ c.loop-c.left held.taken held.utf8
 
-pub returns-else-is_letter : goal.returns-else-is_letter
-returns-else-is_letter c =
-    let text = c.args.text.now in
-    let single = c.in-Some.first ∷ [] in
-    let all = parts (goal.at.returns-else-is_letter c).After-as_str in
-    let first = chars_past_char text _ c.in-Some.first c.utf8.text
-    (sym c.chars-chars.ensures.rest ∙ (c.in-Some.ensures {u = tt}).steps.0) in
-    taken_all single _ c.range.utf8 (taken_bytes text _ single all _ c.range.ensures.value)
-    ∙ rw (
-      first,
-      sym c.is_ascii_digit.ensures.value ∙ c.if-is_ascii_digit.false,
-      sym c.is_letter.ensures ∙ c.if-is_letter.false,
-    ) refl
+pub returns : goal.returns
+returns c =
+    let held = c.loop-c.invariant in
+    taken_all c.in-Some.first c.args.text.now _ c.loop-c.left held.taken _ c.range.utf8 c.range.ensures.value (elim c.match-next-2.branch [
+      | in-Some-next+then-left-eq0 w ↦ elim w.then-left-eq0.branch [
+        | then-left-eq0-via-then-left-eq0 v ↦ rw v.if-left-eq0.true refl
+        | then-left-eq0-via-else-left-eq0+then-not-is_like v ↦
+            taken_other c.in-Some.first c.loop-c.rest.now _ c.loop-c.left w.in-Some-next.c held.utf8
+            (sym held.same ∙ (w.in-Some-next.ensures {u = tt}).steps.0) (sym v.is_like.ensures ∙ v.if-not-is_like.true)
+      ]
+      | in_default-next w ↦
+          taken_end c.in-Some.first c.loop-c.rest.now c.loop-c.left (rw held.same at (w.in_default-next.ensures {u = tt}).steps.0.0)
+    ])

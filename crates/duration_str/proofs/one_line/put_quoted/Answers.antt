@@ -1,59 +1,64 @@
-use Rattle.duration_str.proofs.Common.{◌≡◌, ◌∙◌, ◌++◌, sym, chars, take}
-use Rattle.duration_str.specs.declared.one_line.Kind.TheVariants.{Clear}
-use Rattle.duration_str.specs.OneLine.{quoted, quoted_end, is_of}
-use Rattle.duration_str.proofs.Printer.OneLineLemmas.{quoted_run, quoted_more, quoted_stops, quoted_cut, quoted_all}
-use Rattle.duration_str.proofs.Printer.OneLineLemmas.{run_stopped, end_inside}
+use Rattle.duration_str.proofs.Common.{◌≡◌, ◌++◌, ◌-◌, ◌∙◌, append_assoc, sym, chars, encode_utf8_all, take}
+use Rattle.std.proofs.lemmas.Str.{IsUtf8-past_char}
+use Rattle.std.specs.Str.Iter.{chars_rest}
+use Rattle.duration_str.specs.OneLine.{quoted, quoted_end, shown}
+use Rattle.duration_str.proofs.Common.{codes}
+use Rattle.duration_str.proofs.Printer.OneLineLemmas.{quoted_more, quoted_stops, quoted_cut, quoted_all, quoted_clear, end_inside}
 use Rattle.duration_str.proofs.one_line.put_quoted.Goals as goal
-use Rattle.duration_str.proofs.one_line.put_quoted.Goals.{After-as_bytes}
+use Rattle.duration_str.proofs.one_line.put_quoted.Goals.{After-put_shown, After-put_text}
 
-with_run : (c : After-as_bytes)
-    → (take c.loop-end.end c.loop-end.buffer ++ c.as_bytes.result.now)
-    ++ quoted_end c.run_of-run.result.left (chars c.run_of-run.result.rest.now)
+-- what is written with the character, and what is left after it, make the whole
+more : (c : After-put_shown)
+    → (take c.loop-c.end c.loop-c.buffer ++ encode_utf8_all (shown c.in-Some.c))
+    ++ quoted_end (c.loop-c.room - c.shown_len-width.result) (chars (chars_rest c.next.new.self))
     ≡ take c.args.at c.args.buffer.now ++ quoted (chars c.args.text.now)
-with_run c =
-    let held = c.loop-end.invariant in
-    let same = c.as_bytes.ensures.value in
-    let run = c.run_of-run.ensures in
-    quoted_run _ _ c.loop-end.rest.now c.as_bytes.result.now _ c.loop-end.left _ held.utf8 c.as_bytes.ensures.utf8
-    (rw same run.parts) (rw same run.characters) (rw same run.left) held.whole
+more c =
+    let held = c.loop-c.invariant in
+    rw c.shown_len-width.ensures
+    (quoted_more _ _ _ _ c.loop-c.room c.in-Some.c (rw c.shown_len-width.ensures at c.if-width-room.false) held.utf8
+    (c.in-Some.ensures {u = tt}).steps.0 held.whole)
+
+-- a short text of clear characters
+clear : (c : After-put_text)
+    → (take c.in_ok-end.end c.put.new.buffer ++ c.args.text.now) ++ codes "\""
+    ≡ take c.args.at c.args.buffer.now ++ quoted (chars c.args.text.now)
+clear c =
+    let are = rw c.as_bytes.ensures.value at (sym c.are_clear.ensures ∙ c.if-are_clear.true) in
+    rw ((c.in_ok-end.ensures {u = tt}).0.1, quoted_clear c.args.text.now c.utf8.text c.if-text-le-MOST_SHOWN.true are)
+    (simp append_assoc)
 
 pub returns-in_err-end-2 : goal.returns-in_err-end-2
 returns-in_err-end-2 c =
-    rw c.from_residual-in_err-end-2.ensures (quoted_stops _ _ _ _
-    (with_run (goal.at.returns-in_err-end-2 c).After-as_bytes) (c.in_err-end-2.ensures {u = tt}).0)
+    rw c.from_residual-in_err-end-2.ensures (quoted_stops _ _ _ _ (clear (goal.at.returns-in_err-end-2 c).After-put_text)
+    (c.in_err-end-2.ensures {u = tt}))
 
-pub returns-in_default : goal.returns-in_default
-returns-in_default c =
-    let none = rw c.chars-chars.ensures.rest at c.in_default.ensures.steps.0.0 in
-    rw (quoted_all _ _ _ c.run_of-run.result.left none (rw (← (c.in_ok-end-2.ensures {u = tt}).0.1) at (with_run (goal.at.returns-in_default c).After-as_bytes)))
-    at c.put-in_default.ensures.0
+pub returns-then-are_clear : goal.returns-then-are_clear
+returns-then-are_clear c =
+    rw (← clear (goal.at.returns-then-are_clear c).After-put_text)
+    (rw (c.in_ok-end-2.ensures {u = tt}).1 at c.put-then-are_clear.ensures.0)
 
-pub returns-then-run-eq0 : goal.returns-then-run-eq0
-returns-then-run-eq0 c =
-    let parts = sym c.chars-chars.ensures.rest ∙ c.in-Some.ensures.steps.0 in
-    rw (quoted_cut _ _ _ _ c.run_of-run.result.left c.in-Some.c c.if-run-eq0.true c.run_of-run.ensures.utf8 parts
-    (rw (← (c.in_ok-end-2.ensures {u = tt}).0.1) at (with_run (goal.at.returns-then-run-eq0 c).After-as_bytes))) at c.put-then-run-eq0.ensures.0
-
-pub put_escaped-requires-clause-kind : goal.put_escaped-requires-clause-kind
-put_escaped-requires-clause-kind c =
-    let parts = sym c.chars-chars.ensures.rest ∙ c.in-Some.ensures.steps.0 in
-    run_stopped (is_of Clear) _ _ c.run_of-run.result.left c.in-Some.c c.run_of-run.ensures.utf8 parts c.if-run-eq0.false c.run_of-run.ensures.ends
+pub returns-then-width-room : goal.returns-then-width-room
+returns-then-width-room c =
+    let held = c.loop-c.invariant in
+    rw (quoted_cut _ _ _ _ c.loop-c.room c.in-Some.c (rw c.shown_len-width.ensures at c.if-width-room.true) held.utf8
+    (c.in-Some.ensures {u = tt}).steps.0 held.whole)
+    at c.put-then-width-room.ensures.0
 
 pub returns-in_err-end-3 : goal.returns-in_err-end-3
 returns-in_err-end-3 c =
-    let parts = sym c.chars-chars.ensures.rest ∙ c.in-Some.ensures.steps.0 in
-    rw c.from_residual-in_err-end-3.ensures (quoted_stops _ _ _ _
-    (quoted_more _ _ _ _ c.run_of-run.result.left c.in-Some.c c.if-run-eq0.false c.run_of-run.ensures.utf8 parts
-    (rw (← (c.in_ok-end-2.ensures {u = tt}).0.1) at (with_run (goal.at.returns-in_err-end-3 c).After-as_bytes))) (c.in_err-end-3.ensures {u = tt}))
+    rw c.from_residual-in_err-end-3.ensures (quoted_stops _ _ _ _ (more (goal.at.returns-in_err-end-3 c).After-put_shown)
+    (c.in_err-end-3.ensures {u = tt}))
 
-pub loop-end-preserved : goal.loop-end-preserved
-loop-end-preserved c =
-    let parts = sym c.chars-chars.ensures.rest ∙ c.in-Some.ensures.steps.0 in
+pub loop-c-preserved : goal.loop-c-preserved
+loop-c-preserved c =
     let wrote = c.in_ok-end-3.ensures {u = tt} in
     record {
-      text = c.as_str-rest.utf8;
-      utf8 = c.as_str-rest.utf8;
+      utf8 = IsUtf8-past_char _ _ c.in-Some.c c.loop-c.invariant.utf8 (c.in-Some.ensures {u = tt}).steps.0;
       inside = end_inside _ _ _ wrote.0 wrote.1;
-      whole = rw (wrote.1, c.as_str-rest.ensures) (quoted_more _ _ _ _ c.run_of-run.result.left c.in-Some.c
-          c.if-run-eq0.false c.run_of-run.ensures.utf8 parts (rw (← (c.in_ok-end-2.ensures {u = tt}).0.1) at (with_run (goal.at.loop-end-preserved c).After-as_bytes)));
+      whole = rw wrote.1 (more (goal.at.loop-c-preserved c).After-put_shown);
     }
+
+pub returns : goal.returns
+returns c =
+    let held = c.loop-c.invariant in
+    rw (quoted_all _ _ _ c.loop-c.room (c.in_default.ensures {u = tt}).steps.0.0 held.whole) at c.put-2.ensures.0

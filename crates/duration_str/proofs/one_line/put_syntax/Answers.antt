@@ -17,7 +17,8 @@ returns-then-begins_with_letter c =
       encodes-chars c.first_piece-piece.result.now c.first_piece-piece.utf8,
       c.if-expected.true,
       sym c.begins_with_letter.ensures ∙ c.if-begins_with_letter.true,
-      ← c.near_advice.ensures,
+      ← c.unit_help.ensures,
+      ← c.chars_before-column.ensures.count,
     ) c.put_unknown.ensures
 
 pub returns-else-expected : goal.returns-else-expected
@@ -32,5 +33,6 @@ returns-else-expected c =
       ← same (goal.at.returns-else-expected c).After-first_piece-piece,
       ← no_unit_word c.args.text.now c.args.place c.args.expected piece no_word,
       encodes-chars c.first_piece-piece.result.now c.first_piece-piece.utf8,
+      ← c.chars_before-column.ensures.count,
     )
     (rw (c.help_at-help.ensures, c.as_bytes.ensures.value, c.expected_words.ensures) at c.put_found.ensures)

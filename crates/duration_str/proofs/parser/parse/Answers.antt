@@ -2,4 +2,4 @@ use Rattle.duration_str.proofs.Sentences.ParsingLemmas.{parses_text}
 use Rattle.duration_str.proofs.parser.parse.Goals as goal
 
 pub returns : goal.returns
-returns c = rw c.off.ensures at (parses_text _ c.args.input.now _ _ c.as_duration.ensures c.parse_nanos.ensures)
+returns c = rw c.off.ensures at (parses_text _ c.args.input.now _ _ c.map.ensures.cases c.parse_nanos.ensures)

@@ -1,15 +1,12 @@
-use Rattle.duration_str.proofs.Sentences.ParsingLemmas.{parses_text, same_on_ok, same_on_err}
+use Rattle.duration_str.proofs.Sentences.ParsingLemmas.{parses_text, same_on_err}
 use Rattle.duration_str.specs.Results.{ReachesPlace}
 use Rattle.duration_str.proofs.parser.parse_looked.Goals as goal
 
 pub returns-clause-parsed : goal.returns-clause-parsed
 returns-clause-parsed c =
-    parses_text c.args.o c.args.input.now _ _ c.as_duration.ensures c.read_text-looks.ensures.reads
-
-pub returns-clause-whole : goal.returns-clause-whole
-returns-clause-whole c = same_on_ok _ _ _ c.as_duration.ensures c.read_text-looks.ensures.whole
+    parses_text c.args.o c.args.input.now _ _ c.map.ensures.cases c.read_text-looks.ensures.reads
 
 pub returns-clause-reaches : goal.returns-clause-reaches
 returns-clause-reaches c =
     same_on_err (λ cause. ReachesPlace c.args.input.now cause c.read_text-looks.result.1) _ _
-    c.as_duration.ensures c.read_text-looks.ensures.reaches
+    c.map.ensures.cases c.read_text-looks.ensures.reaches

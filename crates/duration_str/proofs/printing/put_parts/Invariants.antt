@@ -1,11 +1,12 @@
 use Rattle.duration_str.proofs.Common.{◌≡◌, ◌≤◌, take, drop, length, map, nanos_of, with_counts, counts_within}
+use Rattle.duration_str.specs.Internal.UnitTable.{units_in}
 use Rattle.duration_str.proofs.printing.put_parts.Given as goal
 
-abbrev pub invariant-loop-unit : goal.invariant-loop-unit
-invariant-loop-unit l = record {
+abbrev pub invariant-loop-row : goal.invariant-loop-row
+invariant-loop-row l = record {
   inside : l.end ≤ length l.buffer;
-  same : with_counts l.style (take l.end l.buffer) (drop l.unit-index l.units)
-      (counts_within (map nanos_of (drop l.unit-index l.units)) l.left l.rest)
-      ≡ with_counts l.style (take l.fn.at l.fn.buffer) l.fn.units
-      (counts_within (map nanos_of l.fn.units) l.fn.most l.fn.nanos);
+  same : with_counts l.style (take l.end l.buffer) (units_in (drop l.row-index l.rows))
+      (counts_within (map nanos_of (units_in (drop l.row-index l.rows))) l.left l.rest)
+      ≡ with_counts l.style (take l.fn.at l.fn.buffer) (units_in l.fn.rows)
+      (counts_within (map nanos_of (units_in l.fn.rows)) l.fn.most l.fn.nanos);
 }

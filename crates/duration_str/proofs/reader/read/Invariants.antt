@@ -1,4 +1,5 @@
-use Rattle.duration_str.proofs.Common.{◌≡◌, rest_of, answer_left, operator_read, source}
+use Rattle.std.specs.Prelude.{IfErr}
+use Rattle.duration_str.proofs.Common.{◌≡◌, false, rest_of, answer_left, operator_read, source, IsPlaceless}
 use Rattle.duration_str.proofs.OnePass.TermsLemmas.{after_unit, with_left, count}
 use Rattle.duration_str.proofs.reader.read.Given as goal
 
@@ -7,6 +8,8 @@ invariant-loop-next l = record {
   same_source : source l.tokens ≡ source l.fn.tokens;
   same : with_left l.no_calc l.first l.later (after_unit l.no_calc (operator_read l.no_calc (rest_of l.tokens)))
       ≡ answer_left l.no_calc (rest_of l.fn.tokens);
+  placeless : IfErr l.later IsPlaceless;
+  held : IfErr l.later (λ fault. l.no_calc ≡ false);
 }
 
 abbrev pub decreases-loop-next : goal.decreases-loop-next

@@ -8,6 +8,9 @@ pub returns : goal.returns
 unfolding chars encode
 returns c =
     let law = c.near_words.ensures in (
-      no_unit law (codes "hrs") 10 refl,
-      (no_unit law (codes "mins") 12 refl, (no_unit law (codes "secs") 10 refl, (no_unit law (codes "yrs") 10 refl, tt))),
+      no_unit law (codes "hrs") (codes "h") refl,
+      (
+        no_unit law (codes "mins") (codes "min") refl,
+        (no_unit law (codes "secs") (codes "s") refl, (no_unit law (codes "yrs") (codes "y") refl, tt)),
+      ),
     )

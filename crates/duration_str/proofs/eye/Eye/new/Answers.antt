@@ -3,6 +3,3 @@ use Rattle.duration_str.proofs.eye.Eye.new.Goals as goal
 
 pub invariant_of-result-clause-at_place : goal.invariant_of-result-clause-at_place
 invariant_of-result-clause-at_place c = IsCharBoundary-start c.args.text.now c.utf8.text
-
-pub invariant_of-result-clause-at_next : goal.invariant_of-result-clause-at_next
-invariant_of-result-clause-at_next c = IsCharBoundary-start c.args.text.now c.utf8.text

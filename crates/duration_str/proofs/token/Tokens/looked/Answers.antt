@@ -4,7 +4,7 @@ use Rattle.duration_str.proofs.token.Tokens.looked.Goals as goal
 
 pub returns-clause-most : goal.returns-clause-most
 returns-clause-most c =
-    let s = c.args.self.now in rw c.looks.ensures (looks_most s.eye.place _ s.eye.next s.head s.some s.counted)
+    let s = c.args.self.now in rw c.looks.ensures (looks_most s.eye.place _ s.head s.some s.counted)
 
 pub returns-clause-least : goal.returns-clause-least
 returns-clause-least c =

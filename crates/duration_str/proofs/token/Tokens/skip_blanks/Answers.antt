@@ -1,10 +1,7 @@
 use Rattle.duration_str.proofs.Common.{◌∙◌, sym}
-use Rattle.duration_str.proofs.Cutting.PositionLemmas.{passes_none, passes_head}
-use Rattle.duration_str.proofs.Cutting.StepLemmas.{keeps_all, keeps_on, fewer_ahead}
+use Rattle.duration_str.proofs.Cutting.PositionLemmas.{passes_head}
+use Rattle.duration_str.proofs.Cutting.StepLemmas.{keeps_on, fewer_ahead}
 use Rattle.duration_str.proofs.token.Tokens.skip_blanks.Goals as goal
-
-pub loop-self-init : goal.loop-self-init
-loop-self-init c = record { kept = keeps_all _; blanks = passes_none }
 
 pub loop-self-preserved : goal.loop-self-preserved
 loop-self-preserved c =

@@ -1,4 +1,4 @@
-use Rattle.duration_str.proofs.Common.{◌∙◌, ap, sym, arith, length}
+use Rattle.duration_str.proofs.Common.{◌∙◌, ap, sym, length}
 use Rattle.duration_str.specs.declared.token.Token.{Token}
 use Rattle.duration_str.proofs.Cutting.StepLemmas.{none_left, takes_terminal}
 use Rattle.duration_str.proofs.token.TokensIterator.next.Goals as goal
@@ -10,14 +10,6 @@ returns-in_err-sort-clause-steps c =
     rw c.from_residual.ensures
     (record { first = (sym e.same_left ∙ none, none); kept = e.kept; token = tt; end = whole ∙ ap length e.kept.text })
 
-pub since-text-requires-clause-order : goal.since-text-requires-clause-order
-since-text-requires-clause-order c =
-    omega (arith, c.take_token-what.ensures.token.between.bytes, c.place-start.ensures)
-
-pub since-text-requires-clause-boundary : goal.since-text-requires-clause-boundary
-since-text-requires-clause-boundary c =
-    rw (c.take_token-what.ensures.token.kept.text, c.place-start.ensures) c.sort_ahead.new.self.eye.at_place
-
 pub returns-clause-steps : goal.returns-clause-steps
 returns-clause-steps c =
     let m = c.sort_ahead.new.self in
@@ -28,7 +20,3 @@ returns-clause-steps c =
     let x : Token = record { start = start; text = c.since-text.result; what = c.take_token-what.result } in
     takes_terminal x e.kept e.same_left taken.token c.place-start.ensures c.since-text.ensures c.since-text.utf8
     taken.has m.eye.at_place t.eye.at_place
-
-pub returns-clause-goes : goal.returns-clause-goes
-returns-clause-goes c =
-    omega (arith, ap length c.take_token-what.ensures.token.first, ap length c.sort_ahead.ensures.same_left)

@@ -1,0 +1,15 @@
+use Rattle.duration_str.proofs.Common.{◌≡◌, IsUtf8}
+use denote.Text.{Utf8}
+use denote.Shadow.{shadow}
+use Rattle.std.specs.Str.Iter.{chars_rest}
+use Rattle.duration_str.proofs.Printer.OneLineLemmas.{Taken}
+use Rattle.duration_str.proofs.one_line.first_piece.Given as goal
+
+-- what was passed is taken
+abbrev pub invariant-loop-c : goal.invariant-loop-c
+invariant-loop-c l = record {
+  text : shadow (Utf8 l.rest);
+  utf8 : IsUtf8 l.rest;
+  same : chars_rest l.chars ≡ l.rest;
+  taken : Taken l.first l.text l.rest l.left;
+}

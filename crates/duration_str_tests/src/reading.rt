@@ -1,0 +1,182 @@
+// What texts are read as: each by every call that reads under its options, and printed again where that is told.
+use crate::vectors::{CN_UNIT, LOWERCASE, NO_CALC, OFF};
+use duration_str::{
+    HumanFormat, Options, parse, parse_chrono, parse_looked, parse_std, parse_time, parse_with,
+    write_human,
+};
+use jiff::SignedDuration;
+use std::alloc::{AllocError, Global};
+use std::test::Fail;
+use std::time::Duration;
+
+/// Texts, between bars, that are read under these options as so many nanoseconds.
+const READ: [(&str, Options, u64); 61] = [
+    ("0|0    |     0    |0m|580y*2*0|1000000000*1ns*1ns", OFF, 0),
+    // The last factor would make 2^48 nanoseconds into 2^64 with one more.
+    ("0*281474976710656ns*65535", OFF, 0),
+    ("1ns*1ns*1000000000", OFF, 1),
+    ("1m * 1ns|1 m * 1ns", OFF, 60),
+    ("1µS", OFF, 1_000),
+    ("42µs", OFF, 42_000),
+    ("1MS", OFF, 1_000_000),
+    ("1m*10ms|1 m*10 ms|10ms*1m", OFF, 600_000_000),
+    ("1|00000000000000000000000001", OFF, 1_000_000_000),
+    ("2*3", OFF, 6_000_000_000),
+    ("1ns+30s|30s+1ns", OFF, 30_000_000_001),
+    ("1M|\t1m\r\n", OFF, 60_000_000_000),
+    ("1m 2", OFF, 62_000_000_000),
+    ("1m+30|1m+30s|1min+30", OFF, 90_000_000_000),
+    ("1ns+30s+ 1min", OFF, 90_000_000_001),
+    ("1ns   +30s+ 1min+4µs", OFF, 90_000_004_001),
+    ("1m31|1m31s|1m+31", OFF, 91_000_000_000),
+    ("1ns+30s+ 1min+1", OFF, 91_000_000_001),
+    ("1m+60+24|1m+60+24 ", OFF, 144_000_000_000),
+    (
+        "      1m      +  60 +             24 ",
+        OFF,
+        144_000_000_000,
+    ),
+    (
+        "3m + 1s + 29ms +17µs|3 m + 1 s + 29 ms +17µs",
+        OFF,
+        181_029_017_000,
+    ),
+    ("3m 1s 29ms 17µs|3m1s29ms17us", OFF, 181_029_017_000),
+    ("3m + 13s + 29ms|3 m + 13 s + 29 ms", OFF, 193_029_000_000),
+    (
+        "3m+31|3m + 31|3 m+31|3 m + 31|3m31|3m  31",
+        OFF,
+        211_000_000_000,
+    ),
+    ("3m31s|3m  31s|3 m  31 s|3m31s0ns", OFF, 211_000_000_000),
+    (
+        "  3m 31s 0ns |3 m31 s0 ns|  3 m 31 s 0 ns ",
+        OFF,
+        211_000_000_000,
+    ),
+    ("1m*10|1m * 10|1 m*10", OFF, 600_000_000_000),
+    ("1hr|1m*60|1m * 1m|1 m * 1 m", OFF, 3_600_000_000_000),
+    ("123m", OFF, 7_380_000_000_000),
+    ("2h 37m|2h 37m | 2h 37m| 2h 37m    ", OFF, 9_420_000_000_000),
+    ("1m*60*20", OFF, 72_000_000_000_000),
+    ("1d|   1d|1d   |   1d   |1 d", OFF, 86_400_000_000_000),
+    ("1d2h3min4s|1 d2 h3 min 4s", OFF, 93_784_000_000_000),
+    ("1q", OFF, 7_862_400_000_000_000),
+    ("2 Quarters", OFF, 15_724_800_000_000_000),
+    ("1y+30|1 y + 30", OFF, 31_536_030_000_000_000),
+    ("580y*1", OFF, 18_290_880_000_000_000_000),
+    (
+        "18446744073709551615ns|0+18446744073709551615ns",
+        OFF,
+        u64::MAX,
+    ),
+    ("1m84s |1m84 ", NO_CALC, 144_000_000_000),
+    ("1min30", NO_CALC, 90_000_000_000),
+    ("1m31|1m31s", NO_CALC, 91_000_000_000),
+    ("3m 13s 29ms", NO_CALC, 193_029_000_000),
+    ("3m31|3m  31|3 m31", NO_CALC, 211_000_000_000),
+    ("2h 37m", NO_CALC, 9_420_000_000_000),
+    ("1d2h3min4s", NO_CALC, 93_784_000_000_000),
+    ("1y30|1 y  30", NO_CALC, 31_536_030_000_000_000),
+    ("1q", LOWERCASE, 7_862_400_000_000_000),
+    ("1纳秒", CN_UNIT, 1),
+    ("1微秒", CN_UNIT, 1_000),
+    ("1毫秒", CN_UNIT, 1_000_000),
+    ("1秒", CN_UNIT, 1_000_000_000),
+    ("1分", CN_UNIT, 60_000_000_000),
+    ("1分31秒|1分+31秒", CN_UNIT, 91_000_000_000),
+    ("1分+31秒+2毫秒+3纳秒", CN_UNIT, 91_002_000_003),
+    (" 1分+   31秒 + 2毫秒+  3纳秒  ", CN_UNIT, 91_002_000_003),
+    ("1时", CN_UNIT, 3_600_000_000_000),
+    ("1日|1天", CN_UNIT, 86_400_000_000_000),
+    ("1周", CN_UNIT, 604_800_000_000_000),
+    ("1月", CN_UNIT, 2_592_000_000_000_000),
+    ("1年", CN_UNIT, 31_536_000_000_000_000),
+    ("1年 2日", CN_UNIT, 31_708_800_000_000_000),
+];
+
+/// Texts with the printed texts of the durations that they are read as.
+const PRINTED: [(&str, &str); 15] = [
+    ("0s", "0s"),
+    ("3m + 13s + 29ms", "3min 13s 29ms"),
+    ("1d2h3min4s", "1d 2h 3min 4s"),
+    ("1y 12d 3s", "1y 1w 5d 3s"),
+    ("751d 1mon 3week 5d 2ns", "2y 2mon 2w 3d 2ns"),
+    ("807d 2ns", "2y 2mon 2w 3d 2ns"),
+    ("90d", "3mon"),
+    ("91d", "1q"),
+    ("364d", "4q"),
+    ("35d", "1mon 5d"),
+    ("377d 3s", "1y 1w 5d 3s"),
+    ("    7h    ", "7h"),
+    ("    7h  1s  ", "7h 1s"),
+    ("    7h  0s  ", "7h"),
+    (
+        "18446744073709551615ns",
+        "584y 3q 2mon 1w 3d 23h 34min 33s 709ms 551µs 615ns",
+    ),
+];
+
+/// Whether each call that reads under these options reads the text as so many nanoseconds.
+fn is_read(text: &str, o: Options, nanos: u64) -> bool {
+    let wanted = Ok(Duration::from_nanos(nanos));
+    let signed = Ok(SignedDuration::from_nanos_i128(i128::from(nanos)));
+    let has_calls = o == OFF;
+    parse_with(text, o) == wanted
+        && parse_looked(text, o).0 == wanted
+        && (!has_calls || parse(text) == wanted && parse_std(text) == wanted)
+        && (!has_calls || parse_chrono(text) == signed && parse_time(text) == signed)
+}
+
+/// The first of these texts that is not read as its nanoseconds.
+fn first_misread(rows: &[(&'static str, Options, u64)]) -> Option<&'static str> {
+    for (texts, o, nanos) in rows.iter().copied() {
+        for text in texts.split('|') {
+            if !is_read(text, o, nanos) {
+                return Some(text);
+            }
+        }
+    }
+    None
+}
+
+#[test]
+fn reads_values(rt: HostRuntime) {
+    assert_eq!(rt; first_misread(&READ), None);
+}
+
+/// Whether the text is read as durations, signed and not, that print so into strings and into a buffer.
+fn prints(alloc: Global, text: &str, printed: &str) -> Result<bool, AllocError> {
+    let (Ok(plain), Ok(signed), Ok(other)) = (parse(text), parse_chrono(text), parse_time(text))
+    else {
+        return Ok(false);
+    };
+    if !plain.is_printable() || !signed.is_printable() || !other.is_printable() {
+        return Ok(false);
+    }
+    Ok(
+        plain.human_format(alloc)?.as_str() == printed
+            && signed.human_format(alloc)?.as_str() == printed
+            && other.human_format(alloc)?.as_str() == printed
+            && write_human(&plain, &mut [0xff; 64]) == printed,
+    )
+}
+
+/// The first of these texts that is read as something that prints otherwise.
+fn first_misprinted(
+    alloc: Global,
+    rows: &[(&'static str, &'static str)],
+) -> Result<Option<&'static str>, AllocError> {
+    for (text, printed) in rows.iter().copied() {
+        if !prints(alloc, text, printed)? || parse(printed) != parse(text) {
+            return Ok(Some(text));
+        }
+    }
+    Ok(None)
+}
+
+#[test]
+fn prints_what_is_read(rt: HostRuntime) -> Result<(), Fail> {
+    assert_eq!(rt; first_misprinted(rt.alloc(), &PRINTED)?, None);
+    Ok(())
+}

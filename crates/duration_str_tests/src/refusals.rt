@@ -1,0 +1,271 @@
+// Why texts are refused: the cause, the token at the place, and what the fault prints.
+use crate::vectors::{
+    AFTER_NUMBER, AFTER_UNIT, ALONE_AFTER_NUMBER, ALONE_AFTER_UNIT, CN_UNIT, LOWERCASE, NO_CALC,
+    NUMBER, OFF, OPERATORS, START, TOO_LARGE, UNITS, syntax,
+};
+use duration_str::{
+    Cause, CondUnit, Expected, Fault, Options, parse, parse_chrono, parse_looked, parse_std,
+    parse_time, parse_with, write_human,
+};
+use std::alloc::{AllocError, Global};
+use std::process::Abort;
+use std::test::Fail;
+use std::time::Duration;
+
+/// A text that is refused for its syntax: the place, the blanks before the caret, and the token at the place, if any.
+type Row = (&'static str, usize, usize, &'static str);
+
+/// Texts that are refused under these options where this could stand, which the last line says.
+type Group = (Options, Expected, &'static str, &'static [Row]);
+
+const SYNTAX: [Group; 9] = [
+    (OFF, START, NUMBER, &STARTS),
+    (OFF, AFTER_NUMBER, UNITS, &NUMBERS),
+    (OFF, AFTER_UNIT, OPERATORS, &WORDS),
+    (
+        LOWERCASE,
+        AFTER_NUMBER,
+        UNITS,
+        &[("1M", 1, 1, "M"), ("1Q", 1, 1, "Q")],
+    ),
+    (CN_UNIT, AFTER_NUMBER, UNITS, &[("1分s", 1, 1, "分s")]),
+    (CN_UNIT, AFTER_UNIT, OPERATORS, &[("3ms-2ms", 3, 3, "-")]),
+    (NO_CALC, START, NUMBER, &[("   ", 3, 3, "")]),
+    (NO_CALC, ALONE_AFTER_NUMBER, UNITS, &NUMBERS_ALONE),
+    (NO_CALC, ALONE_AFTER_UNIT, NUMBER, &WORDS_ALONE),
+];
+
+const STARTS: [Row; 6] = [
+    ("   ", 3, 3, ""),
+    ("1m+", 3, 3, ""),
+    ("+1m", 0, 0, "+"),
+    ("1m++2", 3, 3, "+"),
+    ("580y*2*x", 7, 7, "x"),
+    ("1m*", 3, 3, ""),
+];
+
+const NUMBERS: [Row; 14] = [
+    ("1 2", 2, 2, "2"),
+    ("0mxyz", 1, 1, "mxyz"),
+    ("0m+3-5", 4, 4, "-"),
+    ("1m 3-5", 4, 4, "-"),
+    ("1mx", 1, 1, "mx"),
+    ("1qs", 1, 1, "qs"),
+    ("99999999999999999999 2", 21, 21, "2"),
+    ("580y 580y 1 2", 12, 12, "2"),
+    ("1m+2*3 4", 7, 7, "4"),
+    ("1m*2 3", 5, 5, "3"),
+    (" 1分+   31秒 + 2毫秒+  3纳秒  ", 2, 2, "分"),
+    ("1分", 1, 1, "分"),
+    ("1\u{3bc}s", 1, 1, "\u{3bc}"),
+    ("1µ s", 1, 1, "µ"),
+];
+
+const WORDS: [Row; 4] = [
+    ("3ms-2ms", 3, 3, "-"),
+    ("580y 580y x", 10, 10, "x"),
+    ("580y 580y-", 9, 9, "-"),
+    // Four characters stand before the place.
+    ("1µs 分", 5, 4, "分"),
+];
+
+const NUMBERS_ALONE: [Row; 4] = [
+    ("1 2", 2, 2, "2"),
+    ("1+2", 1, 1, "+"),
+    ("0m3-5", 3, 3, "-"),
+    ("99999999999999999999+1", 20, 20, "+"),
+];
+
+const WORDS_ALONE: [Row; 5] = [
+    ("1m*2", 2, 2, "*"),
+    ("1m+2", 2, 2, "+"),
+    ("1m+2*3 4", 2, 2, "+"),
+    ("580y*2*x", 4, 4, "*"),
+    ("1m+2*99999999999999999999", 2, 2, "+"),
+];
+
+const OUT: &str = "overflow error";
+
+const PLUS_STAR: &str = "not support '+' with '*' calculate";
+
+const STAR_PLUS: &str = "not support '*' with '+' calculate";
+
+const LARGE: Cause = Cause::NumberTooLarge { place: None };
+
+const FIRST_LARGE: Cause = Cause::NumberTooLarge { place: Some(0) };
+
+const OVERFLOW: Cause = Cause::Overflow { place: None };
+
+const FIRST_OVERFLOW: Cause = Cause::Overflow { place: Some(0) };
+
+const PLUS_THEN_STAR: Cause = Cause::Mixed {
+    first: CondUnit::Plus,
+    later: CondUnit::Star,
+};
+
+const STAR_THEN_PLUS: Cause = Cause::Mixed {
+    first: CondUnit::Star,
+    later: CondUnit::Plus,
+};
+
+/// Texts, between bars, that are refused under these options for this cause, and the last line, which stands alone where
+/// the cause has no place.
+type Caused = (&'static str, Options, Cause, &'static str);
+
+const OTHERS: [Caused; 17] = [
+    ("", OFF, Cause::Empty, "Empty input"),
+    ("", NO_CALC, Cause::Empty, "Empty input"),
+    ("10000000000000000y+60", OFF, FIRST_OVERFLOW, OUT),
+    (
+        "584942417355y 3w 5d 7h 15s 999ms 999µs 999ns",
+        OFF,
+        FIRST_OVERFLOW,
+        OUT,
+    ),
+    ("580y*2|580y 580y|0*580y*2", OFF, OVERFLOW, OUT),
+    ("0*281474976710656ns*65536", OFF, OVERFLOW, OUT),
+    ("18446744073709551615ns 1ns", OFF, OVERFLOW, OUT),
+    ("1s 580y 580y 99999999999999999999", OFF, OVERFLOW, OUT),
+    ("99999999999999999999y-", OFF, FIRST_LARGE, TOO_LARGE),
+    ("99999999999999999999*2", OFF, FIRST_LARGE, TOO_LARGE),
+    ("18446744073709551616ns", OFF, FIRST_LARGE, TOO_LARGE),
+    ("1s + 99999999999999999999", OFF, LARGE, TOO_LARGE),
+    ("580y 580y 99999999999999999999", OFF, LARGE, TOO_LARGE),
+    ("1m+99999999999999999999*2", OFF, LARGE, TOO_LARGE),
+    ("1m 2s*3", OFF, PLUS_THEN_STAR, PLUS_STAR),
+    ("1m+2*99999999999999999999", OFF, PLUS_THEN_STAR, PLUS_STAR),
+    ("1m*2s 3|1m*2*3+4", OFF, STAR_THEN_PLUS, STAR_PLUS),
+];
+
+const OTHERS_ALONE: [Caused; 4] = [
+    ("99999999999999999999m+1", NO_CALC, FIRST_LARGE, TOO_LARGE),
+    ("99999999999999999999m x", NO_CALC, FIRST_LARGE, TOO_LARGE),
+    ("1m 99999999999999999999", NO_CALC, LARGE, TOO_LARGE),
+    (
+        "580y 580y|580y 580y+1|580y 580y-|580y 580y x|580y 580y 1 2",
+        NO_CALC,
+        OVERFLOW,
+        OUT,
+    ),
+];
+
+/// The fault with which each call that reads under these options refuses the text for this cause.
+fn refusal(text: &str, o: Options, cause: Cause) -> Option<Fault<'_>> {
+    let fault = parse_with(text, o).err()?;
+    let is_refused = fault.text() == text
+        && fault.cause() == cause
+        && parse_looked(text, o).0 == Err(fault)
+        && (o != OFF || parse(text) == Err(fault) && parse_std(text) == Err(fault))
+        && (o != OFF || parse_chrono(text) == Err(fault) && parse_time(text) == Err(fault));
+    is_refused.then_some(fault)
+}
+
+/// Whether the fault prints this, also where a width is asked for.
+fn is_printed(alloc: Global, fault: Fault<'_>, wanted: &str) -> Result<bool, AllocError> {
+    Ok(
+        fault.to_string(alloc)?.as_str() == wanted
+            && format!(in alloc; "{fault:>999}")?.as_str() == wanted,
+    )
+}
+
+/// Whether the fault prints its text, after so many blanks the caret, and the line.
+fn points(alloc: Global, fault: Fault<'_>, blanks: usize, line: &str) -> Result<bool, AllocError> {
+    let (text, blanks) = (fault.text(), " ".repeat(alloc, blanks)?);
+    let wanted = format!(in alloc; "{text}\n{blanks}^\n{line}")?;
+    is_printed(alloc, fault, wanted.as_str())
+}
+
+/// The first of these texts that is not refused at its place, for its token.
+fn first_misplaced(alloc: Global, groups: &[Group]) -> Result<Option<&'static str>, AllocError> {
+    for (o, expected, line, rows) in groups.iter().copied() {
+        for (text, place, blanks, token) in rows.iter().copied() {
+            let Some(fault) = refusal(text, o, syntax(place, expected)) else {
+                return Ok(Some(text));
+            };
+            if fault.found(o).unwrap_or_default() != token || !points(alloc, fault, blanks, line)? {
+                return Ok(Some(text));
+            }
+        }
+    }
+    Ok(None)
+}
+
+/// Whether the text is refused for this cause, and prints the line, below a caret where the cause has a place.
+fn is_caused(
+    alloc: Global,
+    text: &str,
+    o: Options,
+    cause: Cause,
+    line: &str,
+) -> Result<bool, AllocError> {
+    let Some(fault) = refusal(text, o, cause) else {
+        return Ok(false);
+    };
+    let is_shown = match cause.place() {
+        Some(_) => points(alloc, fault, 0, line)?,
+        None => is_printed(alloc, fault, line)?,
+    };
+    Ok(is_shown && fault.found(o).is_none())
+}
+
+/// The first of these texts that is not refused for its cause.
+fn first_misjudged(alloc: Global, rows: &[Caused]) -> Result<Option<&'static str>, AllocError> {
+    for (texts, o, cause, line) in rows.iter().copied() {
+        for text in texts.split('|') {
+            if !is_caused(alloc, text, o, cause, line)? {
+                return Ok(Some(text));
+            }
+        }
+    }
+    Ok(None)
+}
+
+#[test]
+fn refuses_texts(rt: HostRuntime) -> Result<(), Fail> {
+    assert_eq!(rt; first_misplaced(rt.alloc(), &SYNTAX)?, None);
+    assert_eq!(rt; first_misjudged(rt.alloc(), &OTHERS)?, None);
+    assert_eq!(rt; first_misjudged(rt.alloc(), &OTHERS_ALONE)?, None);
+    Ok(())
+}
+
+/// Of a text of several lines the byte is printed in place of the text and the caret.
+#[test]
+fn names_the_byte_where_there_are_lines(rt: HostRuntime) -> Result<(), Fail> {
+    let number = refusal("1m\n+\nx", OFF, syntax(5, START)).expect(&rt, "a refused text");
+    assert!(rt; is_printed(rt.alloc(), number, "byte 5: expected number")?);
+    let unit = refusal("1\n2", OFF, syntax(2, AFTER_NUMBER)).expect(&rt, "a refused text");
+    let wanted = format!(in rt.alloc(); "byte 2: {UNITS}")?;
+    assert!(rt; is_printed(rt.alloc(), unit, wanted.as_str())?);
+    Ok(())
+}
+
+/// One nanosecond more than is read prints, and what it prints is refused under each choice of options.
+#[test]
+fn refuses_what_is_printed_at_the_limit(rt: HostRuntime) {
+    let mut buffer = [0; 64];
+    let printed = write_human(&Duration::new(18_446_744_073, 709_551_616), &mut buffer);
+    for choice in 0..8u8 {
+        let options = Options {
+            no_calc: choice & 1 != 0,
+            lowercase: choice & 2 != 0,
+            cn_unit: choice & 4 != 0,
+        };
+        assert!(rt; refusal(printed, options, OVERFLOW).is_some(), "{choice}");
+    }
+}
+
+/// Whether the fault of a text points after so many blanks.
+fn points_after(rt: &impl Abort, alloc: Global, count: usize) -> Result<bool, AllocError> {
+    let text = format!(in alloc; "{}x", " ".repeat(alloc, count)?)?;
+    let fault = refusal(&text, OFF, syntax(count, START)).expect(rt, "a refused text");
+    points(alloc, fault, count, NUMBER)
+}
+
+#[test]
+fn points_after_many_blanks(rt: HostRuntime) -> Result<(), Fail> {
+    for count in 0..300usize {
+        assert!(rt; points_after(&rt, rt.alloc(), count)?, "{count}");
+    }
+    assert!(rt; points_after(&rt, rt.alloc(), 100_000)?);
+    Ok(())
+}

@@ -1,0 +1,34 @@
+//! Does over the crate what the program durstr does, for tests/compare. The status is 0 if all lines are read, and 1 if
+//! some are refused.
+#![forbid(unsafe_code)]
+
+use duration_str::{Options, format_duration, parse_with};
+use std::io::Read;
+use std::process::ExitCode;
+
+fn main() -> ExitCode {
+    let is_on = |name: &str| std::env::args().skip(1).any(|word| word == name);
+    let options = Options {
+        no_calc: is_on("no_calc"),
+        lowercase: is_on("lowercase"),
+        cn_unit: is_on("cn_unit"),
+    };
+    let mut input = Vec::new();
+    std::io::stdin().read_to_end(&mut input).expect("an input");
+    let mut refusals = 0;
+    for line in input.split_inclusive(|byte| *byte == b'\n') {
+        let line = line.strip_suffix(b"\n").unwrap_or(line);
+        let answer = match std::str::from_utf8(line) {
+            Ok(text) => parse_with(text, options).map_err(|fault| fault.to_string()),
+            Err(_) => Err(String::from("not UTF-8")),
+        };
+        match answer {
+            Ok(read) => println!("{} {}", read.as_nanos(), format_duration(read)),
+            Err(message) => {
+                println!("{message}");
+                refusals += 1;
+            }
+        }
+    }
+    ExitCode::from(u8::from(refusals > 0))
+}

@@ -1,0 +1,64 @@
+//! Reading by the library, and why a text is refused.
+use crate::options::Choices;
+use duration_str::{TimeUnit, parse_with, parse_with_units};
+use std::time::Duration;
+
+/// Why a text is refused. For a syntax fault there are the column, what stands there, and the text with a caret.
+#[derive(Default)]
+pub struct Refusal {
+    pub message: String,
+    pub report: String,
+    pub column: Option<usize>,
+    pub found: Option<String>,
+}
+
+impl Refusal {
+    pub fn new(message: &str) -> Refusal {
+        Refusal {
+            message: message.to_string(),
+            ..Refusal::default()
+        }
+    }
+}
+
+/// Reads a text. Under --from a bare number has that unit, and any other must have its own.
+pub fn read<'a>(bytes: &'a [u8], choices: &Choices) -> Result<(&'a str, Duration), Refusal> {
+    let given = std::str::from_utf8(bytes).map_err(|_| Refusal::new("not UTF-8"))?;
+    let number = choices.from.and_then(|unit| with_unit(given, unit));
+    let text = number.as_deref().unwrap_or(given);
+    let refusal = |message, report, place: Option<usize>, found: Option<&str>| Refusal {
+        message,
+        report,
+        column: place.map(|place| text[..place].chars().count() + 1),
+        found: found.map(str::to_string),
+    };
+    let duration = parse_with(text, choices.reading()).map_err(|fault| {
+        let place = fault.expected().and(fault.place());
+        refusal(fault.to_string(), fault.report(), place, fault.found())
+    })?;
+    if choices.require_unit || choices.from.is_some() {
+        // What is read under any options is refused here only if a unit is missing, before an operator or the end.
+        parse_with_units(text).map_err(|error| {
+            let found = error.place().and_then(|place| text[place..].get(..1));
+            refusal(error.to_string(), error.report(), error.place(), found)
+        })?;
+    }
+    Ok((given, duration))
+}
+
+/// A bare number such as `12.34` with this unit, as a text that the library reads: `12s 340000000ns`. The first 18
+/// decimals count, and what they make is rounded down to nanoseconds. `None` if the text is something else.
+fn with_unit(text: &str, unit: TimeUnit) -> Option<String> {
+    let number = text.trim_matches([' ', '\t', '\r', '\n']);
+    let (whole, decimals) = number.split_once('.').unwrap_or((number, "0"));
+    let is_number = |digits: &str| !digits.is_empty() && digits.bytes().all(|d| d.is_ascii_digit());
+    if !is_number(whole) || !is_number(decimals) {
+        return None;
+    }
+    let decimals = &decimals[..decimals.len().min(18)];
+    let part = decimals.parse::<u128>().ok()? * u128::from(unit.nanos());
+    Some(match part / 10_u128.pow(decimals.len() as u32) {
+        0 => format!("{whole}{unit}"),
+        nanos => format!("{whole}{unit} {nanos}ns"),
+    })
+}

@@ -1,0 +1,30 @@
+// What is chosen in the page: the options, and how a duration is printed.
+import { element } from "./elements.js";
+import { UNITS } from "./units.js";
+
+export const switches = { noCalc: element("no_calc"), lowercase: element("lowercase"), cnUnit: element("cn_unit") };
+
+export const printing = {
+    style: element("style"), largest: element("largest"), smallest: element("smallest"), parts: element("parts"),
+};
+/** What is chosen of these where everything is printed. */
+export const WHOLE = { style: "short", largest: "y", smallest: "ns", parts: String(UNITS.length) };
+
+/** How it is to be printed, less what is as in WHOLE. */
+export function chosenLimits() {
+    const chosen = Object.entries(printing).filter(([name, box]) => box.value !== WHOLE[name]);
+    return Object.fromEntries(chosen.map(([name, box]) => [name, name === "parts" ? Number(box.value) : box.value]));
+}
+
+/** Brings the largest unit and the smallest together, where the one that was changed contradicts the other. */
+export function agree(changed) {
+    const { largest, smallest } = printing;
+    if (largest.selectedIndex > smallest.selectedIndex) (changed === largest ? smallest : largest).value = changed.value;
+}
+
+export const chosenOptions = () => Object.fromEntries(Object.entries(switches).map(([name, box]) => [name, box.checked]));
+
+/** Switches to these options as pressing their boxes does. */
+export function choose(options) {
+    for (const [name, box] of Object.entries(switches)) if (box.checked !== options[name]) box.click();
+}

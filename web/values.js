@@ -1,0 +1,72 @@
+// Values in words, as decimals, in ISO 8601 and term by term.
+import { parseNs, parts } from "../js/dist/duration-str.js";
+import { terms, UNITS, unitOf } from "./units.js";
+
+const [MINUTE, SECOND] = ["m", "s"].map((name) => unitOf(name).nanos);
+/** So many terms are shown. */
+const SHOWN = 20;
+
+/** Whole digits in groups of three: `193,029`. */
+export function grouped(digits) {
+    return digits.replace(/^[0-9]+/, (whole) => whole.replace(/\B(?=([0-9]{3})+$)/g, ","));
+}
+
+/** This count of a unit: `30 minutes`, or `6 months of 30 days`, since those of a calendar vary. */
+function counted(number, unit) {
+    const count = BigInt(number).toString();
+    const name = count === "1" ? unit.names.at(-2) : unit.names.at(-1);
+    return `${grouped(count)} ${name}${UNITS.indexOf(unit) < 3 ? ` of ${unit.length}` : ""}`;
+}
+
+/** A sum that is read, in words: `1 hour 30 minutes`. */
+export function named(text, options) {
+    return Array.from(terms(text, options), ({ number, unit }) => counted(number, unitOf(unit ?? "s"))).join(" ");
+}
+
+/** A count of nanoseconds in units of this length, exactly: `193.029`. */
+export function decimal(nanos, length) {
+    const places = length.toString().length - 1;
+    const fraction = places ? (nanos % length).toString().padStart(places, "0").replace(/0+$/, "") : "";
+    return fraction ? `${nanos / length}.${fraction}` : `${nanos / length}`;
+}
+
+export const seconds = (nanos) => decimal(nanos, SECOND);
+
+/** A duration of ISO 8601 with days of 24 hours, exactly: `PT3M13.029S`. */
+export function iso(nanos) {
+    const { days, hours, minutes } = parts(nanos, { smallest: "min" });
+    const rest = nanos % MINUTE;
+    const clock = [hours && `${hours}H`, minutes && `${minutes}M`, rest && `${seconds(rest)}S`].filter(Boolean).join("");
+    const date = days ? `${days}D` : "";
+    return clock || !date ? `P${date}T${clock || "0S"}` : `P${date}`;
+}
+
+const inSeconds = (nanos) => `${grouped(seconds(nanos))} s`;
+
+/** The steps of a product, as the library takes them: first the later terms from left to right, then the first term. */
+function steps(values) {
+    const rows = [];
+    const multiply = (one, other) => {
+        const product = one * other / SECOND;
+        rows.push([`${grouped(seconds(one))} × ${grouped(seconds(other))}`, inSeconds(product)]);
+        return product;
+    };
+    const [first, second, ...others] = values;
+    multiply(first, others.reduce(multiply, second));
+    return rows;
+}
+
+/** Rows with the terms of a text that is read and what each is, and of a product the steps; of one term there are none. */
+export function termRows(text, options) {
+    const found = [];
+    for (const term of terms(text, options)) if (found.push(term) > SHOWN) break;
+    if (found.length < 2) return [];
+    const values = found.slice(0, SHOWN).map(({ words }) => parseNs(words, options));
+    const rows = values.map((value, place) => {
+        const { operator, words } = found[place];
+        return [`${place === 0 ? "" : `${operator || "+"} `}${words.replace(/\s+/g, " ")}`, inSeconds(value)];
+    });
+    if (found.length > SHOWN) return [...rows, ["and more terms", ""]];
+    if (found[1].operator === "*") return [...rows, ...steps(values)];
+    return [...rows, ["together", inSeconds(values.reduce((a, b) => a + b))]];
+}
