@@ -2,7 +2,8 @@
 # make program         the program alone
 # make library         the library alone: an archive and a shared library, or a WebAssembly module
 # make duration        the command duration, where Debian's packages of the crates that it uses are there
-# make setup           installs what the tests need, on Debian, as root or where sudo asks for no password
+# make setup           installs what the tests need, on Debian, as root or where sudo asks for no password; with all=yes
+#                      also the many packages that few of them need
 # make prove           proves everything, by the Rattle toolchain's command rt
 # make check           proves everything, where there is rt, and tests what is built, in half an hour to an hour
 # make quick           proves what has changed and runs the tests that take seconds
@@ -121,8 +122,12 @@ installed = $(addprefix $(bindir)/,durstr duration) $(addprefix $(mandir)/man1/,
     $(addprefix $(libdir)/,libduration_str.a $(shared) pkgconfig/duration_str.pc $(cmake_files)) \
     $(patsubst %,$(mandir)/man3/%.3,duration_str $(calls)) $(addprefix $(docdir)/,LICENSE NOTICE)
 
-# put FROM TO: copies the file to where TO is to be installed
-put = put() { $(INSTALL_DATA) -v -D "$$1" "$$DESTDIR$$2"; }
+# put FROM TO: copies the file to where TO is to be installed; put_program: the same of a program. $$said has what `install`
+# says, as the folders that it makes; where nothing is staged, they are written into this file, for uninstalling
+put = said=$$(mktemp) && trap 'rm -f "$$said"' EXIT; \
+    put() { LC_ALL=C $(INSTALL_DATA) -v -D "$$1" "$$DESTDIR$$2" >>"$$said"; }; \
+    put_program() { LC_ALL=C $(INSTALL_PROGRAM) -v -D "$$1" "$$DESTDIR$$2" >>"$$said"; }
+folders = $(docdir)/folders
 
 # The manual page in that file, for what is installed: with the calls, the header and its units
 description = LC_ALL=C awk $(1) -f c/manual-page.awk $(header)
@@ -157,7 +162,8 @@ install: installable
 	@$(put)
 	program=$$($(MAKE) --silent program target=$(target) static=$(static))
 	libraries=$$($(MAKE) --silent library target=$(target))
-	$(INSTALL_PROGRAM) -v -D "$$program" "$$DESTDIR$(bindir)/durstr"
+	programs=durstr
+	put_program "$$program" $(bindir)/durstr
 	$(call page,docs/man/durstr.1.in) | put /dev/stdin $(mandir)/man1/durstr.1
 	put $(header) $(includedir)/duration_str.h
 	put "$$libraries/libduration_str.a" $(libdir)/libduration_str.a
@@ -176,19 +182,27 @@ install: installable
 	    echo "install: the command duration is left out, missing: $$missing (see shell/README.md)"
 	else
 	    command=$$($(MAKE) --silent duration static=$(static))
-	    $(INSTALL_PROGRAM) -v -D "$$command" "$$DESTDIR$(bindir)/duration"
+	    programs='durstr and duration'
+	    put_program "$$command" $(bindir)/duration
 	    for file in $(completions); do
 	        case $$file in *.fish) shell=fish ;; */_*) shell=zsh ;; *) shell=bash ;; esac
 	        "$$command" --completions $$shell | put /dev/stdin "$$file"
 	    done
 	    help2man --no-info --name 'read durations such as 1h 30m, and print them' "$$command" | put /dev/stdin $(mandir)/man1/duration.1
 	fi
-	[ -n "$$DESTDIR" ] || echo 'install: programs find the shared library once ldconfig knows $(libdir)'
+	[ -z "$$DESTDIR" ] || exit 0
+	case :$$PATH: in *:$(bindir):*) where= ;; *) where=', which is not on the PATH' ;; esac
+	echo "install: $$programs: in $(bindir)$$where"
+	echo 'install: the library for C: in $(libdir), with its header in $(includedir) and manual pages in $(mandir)'
+	echo 'install: programs find the shared library once ldconfig knows $(libdir)'
+	sed -n "s/^[^:]*: creating directory '\(.*\)'$$/\1/p" "$$said" | xargs -r realpath -m --relative-to=$(prefix) >>$(folders)
 
+# Folders that were there before stay, and those with files of others.
 uninstall: installable
-	@for file in $(installed); do rm -fv "$$DESTDIR$$file"; done
+	@made=$$(cat "$$DESTDIR$(folders)" 2>/dev/null || true)
+	for file in $(installed) $(folders); do rm -fv "$$DESTDIR$$file"; done
 	rm -fv "$$DESTDIR$(libdir)"/libduration_str.so.[0-9]* # those of older versions too
-	for folder in $(docdir) $(libdir)/cmake/duration_str; do
+	for folder in $(docdir) $(libdir)/cmake/duration_str $$(for folder in $$made; do realpath -m "$(prefix)/$$folder"; done | sort -ru); do
 	    [ ! -d "$$DESTDIR$$folder" ] || rmdir --ignore-fail-on-non-empty "$$DESTDIR$$folder"
 	done
 
@@ -199,8 +213,9 @@ prove:
 	@type -P rt >/dev/null || { echo 'prove: needs the Rattle toolchain: its command rt is not on the path' >&2; exit 1; }
 	rt ci
 
+all =
 setup:
-	@tools/setup-debian
+	@tools/setup-debian $(if $(filter yes,$(all)),all)
 
 check:
 	@tests/check

@@ -1,18 +1,17 @@
 /**
- * Durations as people write them: `3m + 13s + 29ms` is read, or refused with an error that says where the fault stands and
- * what could stand there, and a duration is printed as `3min 13s 29ms`. Texts are read and printed by a proved library.
+ * Durations as people write them: `3m + 13s + 29ms` is read, or refused with an error that says what is wrong and where,
+ * and a duration is printed as `3min 13s 29ms`. A proved library reads and prints.
  *
  * A text is terms, each a number and a unit, joined by `+` or by `*`, or following one another, which adds them. A product
- * multiplies its terms in seconds. After a number the unit may be left out before an operator and at the end, and is
- * seconds. Blanks may stand anywhere but inside a number or a unit. Numbers stay below 2^64, and values below 2^64
- * nanoseconds.
+ * multiplies its terms in seconds. A number without a unit counts seconds, and must be last or before an operator. Blanks
+ * may be anywhere except inside a number or a unit. Numbers stay below 2^64, and values below 2^64 nanoseconds.
  */
 
 /** How a text is read: a plain object's own properties. All are off where they are left out; other names are a `TypeError`. */
 export interface Options {
     /** `+` and `*` are not read; terms are added as they come. */
     noCalc?: boolean | undefined;
-    /** Words are compared as they stand; otherwise ASCII capitals are read as small letters. */
+    /** Words are compared as written; otherwise ASCII capitals are read as small letters. */
     lowercase?: boolean | undefined;
     /** The Chinese names of the units are read too. */
     cnUnit?: boolean | undefined;
@@ -42,18 +41,9 @@ export interface Limits extends Counted<Unit> {
 export type PartLimits = Counted<Exclude<Unit, "q">>;
 
 /** The parts of a duration that are not 0, by the names that `Intl.DurationFormat` and `Temporal.Duration.from` take. */
-export interface Parts {
-    years?: number;
-    months?: number;
-    weeks?: number;
-    days?: number;
-    hours?: number;
-    minutes?: number;
-    seconds?: number;
-    milliseconds?: number;
-    microseconds?: number;
-    nanoseconds?: number;
-}
+export type Parts = Partial<Record<
+    "years" | "months" | "weeks" | "days" | "hours" | "minutes" | "seconds" | "milliseconds" | "microseconds" | "nanoseconds", number
+>>;
 
 /** What could stand at the place of a syntax fault. */
 export interface Expected {
@@ -72,10 +62,10 @@ interface Refused {
     readonly expected: Expected;
 }
 
-/** At a place, no expression continues as the text does. */
+/** The token at a place can't follow what is before it. */
 export interface SyntaxFault extends Refused {
     readonly code: "SYNTAX";
-    /** Where the fault stands, as an index of the string, which also counts characters: `text.slice(index)` begins with `found`. */
+    /** Where the fault is, as an index of the string: `text.slice(index)` begins with `found`. */
     readonly index: number;
     /** The same as a byte of the text in UTF-8. */
     readonly byte: number;
@@ -91,7 +81,7 @@ export interface SizeFault extends Refused {
     readonly found: null;
 }
 
-/** The text has a lone surrogate, which stands at the index, and so no UTF-8. */
+/** The text has a lone surrogate at the index, and so no UTF-8. */
 export interface TextFault extends Refused {
     readonly code: "NOT_TEXT";
     readonly index: number;
@@ -114,13 +104,13 @@ interface Told {
     /** What is wrong, where, and often what to write, in one line that a terminal and a log can show. */
     readonly message: string;
     /**
-     * For a terminal: the text, a caret under the place, and the message. It is the message alone for other faults than
-     * `SYNTAX`, for a text of more than 80 characters, and for one with something in it that the message would escape.
+     * For a terminal: the text, a caret under the place, and the message; or the message alone for other faults than
+     * `SYNTAX`, for a text of more than 80 characters, and for one with characters that the message would escape.
      */
     readonly report: string;
 }
 
-/** Why a text is refused, and the line that says so, which it is as a string. */
+/** Why a text is refused, and the line that says so; as a string it is the line. */
 export type Fault = Refusal & Told;
 
 /**
@@ -152,8 +142,8 @@ export declare const version: string;
 
 /**
  * The value of a text in milliseconds: `parse("1m 30s")` is `90000`, and `parse("1500us")` is `1.5`. From 2^53 nanoseconds
- * (104 days) on it is the number nearest to it. To read an array write `texts.map((text) => parse(text))`, since `map` hands
- * in the index as well.
+ * (104 days) on it is the number nearest to it. To read an array write `texts.map((text) => parse(text))`, since `map` passes
+ * the index, too.
  *
  * ```js
  * setTimeout(retry, parse("1m 30s")); // which takes up to 24.8 days

@@ -4,7 +4,7 @@ addEventListener("securitypolicyviolation", (event) => violations.push(event.vio
 
 const all = (selector) => [...document.querySelectorAll(selector)];
 const seen = (selector) => all(selector).filter((element) => element.checkVisibility());
-const told = (elements) => elements.map((element) => element.outerHTML.slice(0, 80));
+const excerpts = (elements) => elements.map((element) => element.outerHTML.slice(0, 80));
 const words = (selector) => all(selector).map((element) => element.textContent);
 
 function put(text) {
@@ -13,7 +13,7 @@ function put(text) {
 }
 
 /** Puts the text into the input, also as pasting does, and gives the milliseconds until it is answered and drawn. */
-function settled(text, pasted, done) {
+function timeAnswer(text, pasted, done) {
     const start = performance.now();
     all("#text")[0].select();
     if (pasted) document.execCommand("insertText", false, text);
@@ -23,7 +23,7 @@ function settled(text, pasted, done) {
 
 /** For each text its sentence, with each quoted text as one word, whether it is the page's own and not the library's, and of
  * each button its name, and the text and its value in nanoseconds after it is pressed. */
-function offered(texts) {
+function readOffers(texts) {
     const quoted = (node) => node.nodeName === "CODE" ? "x" : node.textContent;
     const buttons = (text) => {
         for (const box of all("input:checked")) box.click();
@@ -86,7 +86,7 @@ function pale() {
     const edges = seen("button, .marked").filter((element) => {
         return ratio(getComputedStyle(element).borderTopColor, behind(element.parentElement)) < 3;
     });
-    return told([...texts, ...edges]);
+    return excerpts([...texts, ...edges]);
 }
 
 /** What breaks a rule of accessibility, by the rule. */
@@ -101,18 +101,18 @@ function brokenRules() {
         "names used twice": ids.filter((id, place) => ids.indexOf(id) !== place),
         "names that are nobody's": ["aria-labelledby", "aria-describedby", "for"].flatMap(named)
             .filter((id) => !ids.includes(id)),
-        "groups without a name": told(seen("section, [role=group], [role=region], [role=toolbar]")
+        "groups without a name": excerpts(seen("section, [role=group], [role=region], [role=toolbar]")
             .filter((element) => !element.hasAttribute("aria-label") && !element.hasAttribute("aria-labelledby"))),
-        "what has the focus and no role": told(seen("[tabindex]:not(button, [role])")),
-        "buttons that send": told(all("button:not([type=button])")),
-        "images without words": told(all("img:not([alt])")),
+        "what has the focus and no role": excerpts(seen("[tabindex]:not(button, [role])")),
+        "buttons that send": excerpts(all("button:not([type=button])")),
+        "images without words": excerpts(all("img:not([alt])")),
         "headings that skip a level": levels.filter((level, place) => level > (levels[place - 1] ?? 0) + 1),
-        "a list with other parts": told(all("dl > :not(div), dl > div > :not(dt, dd)")),
-        "small targets": told(seen("button").filter(isSmall)),
-        "places to scroll that no key reaches": told(seen("body *").filter(isScrolled)
+        "a list with other parts": excerpts(all("dl > :not(div), dl > div > :not(dt, dd)")),
+        "small targets": excerpts(seen("button").filter(isSmall)),
+        "places to scroll that no key reaches": excerpts(seen("body *").filter(isScrolled)
             .filter((element) => element.tabIndex < 0 && !element.querySelector("textarea, button"))),
-        "parts outside of a landmark": told(all("body > :not(header, main, footer, script)")),
+        "parts outside of a landmark": excerpts(all("body > :not(header, main, footer, script)")),
     };
 }
 
-window.asked = { words, settled, offered, pressedUnits, places, lowest, pale, brokenRules };
+window.asked = { words, timeAnswer, readOffers, pressedUnits, places, lowest, pale, brokenRules };

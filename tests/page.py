@@ -90,7 +90,7 @@ class Page:
 
     def put(self, text, pasted=False):
         """Puts the text into the input, and gives the milliseconds until it is answered and drawn."""
-        script = "asked.settled(JSON.parse(arguments[0]), arguments[1], arguments[2])"
+        script = "asked.timeAnswer(JSON.parse(arguments[0]), arguments[1], arguments[2])"
         return self.driver.execute_async_script(script, json.dumps(text), pasted)
 
     def type(self, text):
@@ -186,7 +186,7 @@ def try_texts(page):
     page.open()
     rows = [row for rows in TEXTS["meant"].values() for row in rows]
     page.same("texts", True, len(rows) >= 150)
-    answers = page.answer_line(f"asked.offered({json.dumps([text for text, *_ in rows])})")
+    answers = page.answer_line(f"asked.readOffers({json.dumps([text for text, *_ in rows])})")
     for (text, *meant), (sentence, is_own, buttons) in zip(rows, answers):
         values = [f"{int(decimal.Decimal(seconds) * 10**9):,}" for seconds in meant if seconds]
         page.same(f"what is offered for {text!r}", values, [value for *_, value in buttons])

@@ -70,7 +70,7 @@ class Options(typing.NamedTuple):
         return [name for name, on in zip(self._fields, self) if on]
 
 
-CHOICES = [Options(*(bool(bits >> bit & 1) for bit in range(3))) for bits in range(8)]
+CHOICES = [Options(*choice[::-1]) for choice in itertools.product((False, True), repeat=len(Options._fields))]
 
 # Every choice of limits for a printed duration: the places in UNITS of the largest and the smallest unit, and how many
 # parts at most, up to one more than there are units.
@@ -182,7 +182,7 @@ def terminals_at_each_place(text, options):
     return places
 
 
-def listed(pairs):
+def list_of(pairs):
     """The list that is given as pairs of its first item and the rest."""
     items = []
     while pairs:
@@ -213,7 +213,7 @@ def sentences(text, options):
             elif not options.no_calc:
                 signs += [(terminal, rest) for rest in whole[end]]
         whole[at], after_number[at], after_unit[at] = numbers, units + signs, numbers + signs
-    return [tuple(listed(pairs)) for pairs in whole[0]]
+    return [tuple(list_of(pairs)) for pairs in whole[0]]
 
 
 # ---- Tokens and the place of a syntax fault
@@ -240,7 +240,7 @@ def token_lists(text, options):
                 if not (touches and sort in ("digits", "letters")):
                     found.append(((at, token), rest))
         lists[at] = found
-    return [listed(pairs) for pairs in lists[0]]
+    return [list_of(pairs) for pairs in lists[0]]
 
 
 class Front(typing.NamedTuple):
@@ -410,7 +410,7 @@ def quotients(nanos, lengths, chosen):
     return counts
 
 
-def printed(nanos):
+def print_whole(nanos):
     """The breakdown with the greatest first count, then the greatest second one, and so on; counts of 0 are left out."""
     lengths = [unit.length for unit in UNITS]
     return " ".join(f"{count}{unit.printed}" for count, unit in zip(quotients(nanos, lengths, lengths), UNITS) if count) or "0s"
@@ -438,21 +438,21 @@ def search_small_worlds():
             assert counts_within(nanos, lengths, parts) == max(allowed), (lengths, nanos, parts)
 
 
-def printed_part(count, unit, style):
+def print_part(count, unit, style):
     """A count with its unit's printed name; in the long style with a space and the last of its names, or for one the last
     but one."""
     one, many = unit.names.split()[-2:]
     return f"{count} {one if count == 1 else many}" if style == "long" else f"{count}{unit.printed}"
 
 
-def printed_within(nanos, largest, smallest, parts, style="short"):
+def print_within(nanos, largest, smallest, parts, style="short"):
     """What a duration prints as in the units from one place in UNITS to another, in at most so many parts and in one of
     the styles short, compact and long."""
     units = UNITS[largest : smallest + 1]
     counts = counts_within(nanos, tuple(unit.length for unit in units), parts)
-    printed_parts = [printed_part(count, unit, style) for count, unit in zip(counts, units) if count]
+    printed_parts = [print_part(count, unit, style) for count, unit in zip(counts, units) if count]
     zero = UNITS[smallest] if UNITS[smallest].length > SECOND else next(unit for unit in UNITS if unit.length == SECOND)
-    return ("" if style == "compact" else " ").join(printed_parts) or printed_part(0, zero, style)
+    return ("" if style == "compact" else " ").join(printed_parts) or print_part(0, zero, style)
 
 
 def line_of(answer):
@@ -524,14 +524,14 @@ FIRST_HELP = {
 }
 
 
-def shown(character):
+def escape(character):
     """How a character is shown in a quote."""
     return ESCAPES.get(character) or (f"\\u{{{ord(character):x}}}" if HIDDEN.match(character) else character)
 
 
-def quoted(text):
+def quote(text):
     """A text in quotes, with dots in place of what would need more characters than so many."""
-    parts = [shown(each) for each in text]
+    parts = [escape(each) for each in text]
     lengths = itertools.accumulate(map(len, parts))
     fits = sum(length <= QUOTED for length in lengths)
     return f'"{"".join(parts[:fits])}"' + ("..." if fits < len(parts) else "")
@@ -581,22 +581,22 @@ def one_line(text, answer):
         case "empty":
             return "empty text"
         case "mixed":
-            return f"sum and product mixed in {quoted(text)}"
+            return f"sum and product mixed in {quote(text)}"
         case "overflow" if "*" in text:
-            return f"step of over 584 years in {quoted(text)}"
+            return f"step of over 584 years in {quote(text)}"
         case "overflow":
             seconds = " (a number without a unit is in seconds)" if text.strip(BLANKS + DIGITS) == "" else ""
-            return f"duration of over 584 years in {quoted(text)}{seconds}"
+            return f"duration of over 584 years in {quote(text)}{seconds}"
         case "number too large":
-            return f"number of 2^64 or more in {quoted(text)}"
+            return f"number of 2^64 or more in {quote(text)}"
     piece = piece_at(text, answer.place)
     column = f" at column {answer.place + 1}"
     if "unit" in answer.expected and piece and kind_in_line(piece[0]) == "letter":
         name = near_name(piece)
         told = f'did you mean "{name}"?' if name else ALL_UNITS
-        return f"unknown unit {quoted(piece)}{column} ({told})"
+        return f"unknown unit {quote(piece)}{column} ({told})"
     told = help_at(text, answer.place, piece, answer.expected)
-    found = f", found {quoted(piece) if piece else 'the end'}"
+    found = f", found {quote(piece) if piece else 'the end'}"
     return expected_in_line(answer.expected) + column + found + (f" ({told})" if told else "")
 
 
@@ -610,6 +610,6 @@ def output_of(line, options, told=message):
     answer = answer_of(text, options)
     if answer.cause != "read":
         return told(text, answer).encode(), False
-    human = printed(answer.value)
+    human = print_whole(answer.value)
     assert len(human.encode()) <= LONGEST_PRINTED
     return f"{answer.value} {human}".encode(), True

@@ -48,14 +48,14 @@ skips() {
 has() {
     local tool
     for tool in "${@:2}"; do
-        command -v "$tool" >/dev/null || skips "$1" "$tool is missing (tools/setup-debian)" || return
+        command -v "$tool" >/dev/null || skips "$1" "$tool is missing (make setup all=yes)" || return
     done
 }
 
 # finds WHAT COMMAND WORDS..: whether `COMMAND --missing WORDS..` names nothing, as tools/cargo-debian does
 finds() {
     local missing
-    ! missing=$("$2" --missing "${@:3}") || skips "$1" "missing: $missing (tools/setup-debian)"
+    ! missing=$("$2" --missing "${@:3}") || skips "$1" "missing: $missing (make setup all=yes)"
 }
 
 # can WHAT WORDS..: whether the words succeed

@@ -1,11 +1,11 @@
 // What is said of a refused text, and of one that is read otherwise than many people do; and what is offered beside an
 // answer: whole texts that the library reads.
 import { formatNs, tryParseNs } from "../js/dist/duration-str.js";
-import { cleaned, converted } from "./conversions.js";
+import { clean, converted } from "./conversions.js";
 import { LONG } from "./elements.js";
 import { say } from "./sentences.js";
 import { terms, UNITS, unitOf } from "./units.js";
-import { named } from "./values.js";
+import { inWords } from "./values.js";
 
 /** Days and months of a date, as the names that `cn_unit` adds */
 const DATE = /[0-9]\s*[日月]/;
@@ -24,7 +24,7 @@ function optionsToTry({ noCalc, lowercase, cnUnit }, text) {
 const LEFT_OUT = { d: [24n, "h"], h: [60n, "m"], m: [60n, ""] };
 
 /** A sum with the unit that is left out at its end; nothing where it isn't certain which that is. */
-function completed(text, options) {
+function complete(text, options) {
     const found = Array.from(terms(text, options));
     if (found.length < 2 || found[1].operator === "*") return text;
     if (found.slice(0, -1).some(({ unit }) => !unit)) return null;
@@ -36,24 +36,24 @@ function completed(text, options) {
 }
 
 /** A text as it is offered, with its meaning in words; nothing where there is none, or it has no or another value. */
-function offered(text, options, nanos) {
+function offer(text, options, nanos) {
     const { ok, value } = text === null ? { ok: false } : tryParseNs(text, options);
     if (!ok || nanos !== undefined && value !== nanos) return [];
     const sum = text.includes("*") ? formatNs(value) : text;
-    return [{ text, options, value, meaning: named(sum, options) }];
+    return [{ text, options, value, meaning: inWords(sum, options) }];
 }
 
 /** What is offered in place of a refused text: itself under other options, or with the library's characters and names, or
  * converted. */
 export function offersFor(text, options) {
     if (text.trim() === "") return [];
-    for (const each of [text, cleaned(text)]) {
-        const found = optionsToTry(options, each).flatMap((tried) => offered(completed(each, tried), tried));
+    for (const each of [text, clean(text)]) {
+        const found = optionsToTry(options, each).flatMap((tried) => offer(complete(each, tried), tried));
         if (found.length > 0) return found.slice(0, 1);
     }
     return (converted(text, options)?.readings ?? []).flatMap(({ text: each, nanos }) => {
-        const whole = completed(each, options);
-        return offered(whole, options, whole === each ? nanos : undefined);
+        const whole = complete(each, options);
+        return offer(whole, options, whole === each ? nanos : undefined);
     });
 }
 
@@ -84,6 +84,6 @@ export function notesOn(text, value, options) {
         ...(found.some(({ unit }) => unit === "M") ? [say`${"M"} is minutes; months are ${"mon"}.`] : []),
         ...inDays(value),
     ];
-    const offers = bare ? offered(completed(text, options), options).filter((each) => each.value !== value) : [];
+    const offers = bare ? offer(complete(text, options), options).filter((each) => each.value !== value) : [];
     return { sentences, offers };
 }

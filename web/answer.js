@@ -4,10 +4,10 @@ import { formatNs, tryParseNs } from "../js/dist/duration-str.js";
 import { notesOn, offersFor, sentence } from "./advice.js";
 import { choose, chosenLimits, chosenOptions, switches } from "./choices.js";
 import { LANGUAGES } from "./code.js";
-import { AROUND, button, element, LONG, made, text, write } from "./elements.js";
+import { AROUND, button, element, LONG, make, text, write } from "./elements.js";
 import { lineOf, parts } from "./sentences.js";
 import { terms } from "./units.js";
-import { decimal, grouped, iso, seconds, termRows } from "./values.js";
+import { decimal, groupDigits, iso, seconds, termRows } from "./values.js";
 
 /** What a copy button copies, by the name of the element that shows it. */
 export const copied = {};
@@ -33,11 +33,11 @@ function markedParts({ words, start, fault }) {
 }
 
 /** Shows a text in the element, with a mark at each of these parts of it. */
-function putMarked(target, shown, marked) {
+function markParts(target, shown, marked) {
     let end = 0;
     target.replaceChildren(...marked.flatMap(({ from, to }) => {
         // At the end of the text a blank is marked.
-        const mark = made("mark", from === to ? "\u00a0" : shown.slice(from, to));
+        const mark = make("mark", from === to ? "\u00a0" : shown.slice(from, to));
         mark.classList.toggle("thin", /^\p{Cf}$/u.test(mark.textContent));
         const before = shown.slice(end, from);
         end = to;
@@ -55,19 +55,19 @@ function showMarks(marked) {
     text.parentElement.classList.toggle("long", long);
     const excerpt = element("excerpt");
     excerpt.hidden = !long || marked.length === 0;
-    putMarked(element("mirror"), long ? "" : text.value, long ? [] : marked);
+    markParts(element("mirror"), long ? "" : text.value, long ? [] : marked);
     if (excerpt.hidden) return;
     const [part] = marked;
     const start = whole(text.value, Math.max(0, part.from - AROUND));
     const stop = whole(text.value, Math.min(part.to, part.from + AROUND));
     const shown = text.value.slice(start, whole(text.value, stop + AROUND));
-    putMarked(excerpt, shown, [{ from: part.from - start, to: stop - start }]);
+    markParts(excerpt, shown, [{ from: part.from - start, to: stop - start }]);
 }
 
 // ---- What is offered
 
 /** In words, the options that differ from those that are chosen. */
-function switched(options) {
+function changesTo(options) {
     const changed = Object.entries(switches).filter(([name, box]) => box.checked !== options[name]);
     return changed.map(([, box]) => `${box.dataset.switched}, `).join("");
 }
@@ -78,8 +78,8 @@ function offerButton({ text: words, options, meaning }, ...part) {
         choose(options);
         write(words, ...part);
     };
-    const one = button(press, made("code", made("bdi", words)), made("span", switched(options) + meaning));
-    one.ariaLabel = `${words}: ${switched(options)}${meaning}`;
+    const one = button(press, make("code", make("bdi", words)), make("span", changesTo(options) + meaning));
+    one.ariaLabel = `${words}: ${changesTo(options)}${meaning}`;
     return one;
 }
 
@@ -112,9 +112,9 @@ function showFault(line) {
 /** Rows of words and of what stands beside them */
 function fill(table, rows) {
     table.querySelector("tbody").replaceChildren(...rows.map(([words, ...content]) => {
-        const heading = made("th", words);
+        const heading = make("th", words);
         heading.scope = "row";
-        return made("tr", heading, made("td", ...content));
+        return make("tr", heading, make("td", ...content));
     }));
 }
 
@@ -122,15 +122,15 @@ function showValue(line) {
     const { value } = line;
     show("printed", formatNs(value, chosenLimits()));
     for (const [id, length] of [["nanoseconds", 1n], ["milliseconds", 1_000_000n]]) {
-        show(id, decimal(value, length), grouped(decimal(value, length)));
+        show(id, decimal(value, length), groupDigits(decimal(value, length)));
     }
-    show("seconds", seconds(value), grouped(seconds(value)));
+    show("seconds", seconds(value), groupDigits(seconds(value)));
     show("iso", iso(value));
     const rows = termRows(text.value, chosenOptions());
     element("terms").hidden = rows.length === 0;
     fill(element("terms"), rows);
     const { sentences, offers } = remarksOn(line);
-    element("notes").replaceChildren(...sentences.map((each) => made("p", ...parts(each))));
+    element("notes").replaceChildren(...sentences.map((each) => make("p", ...parts(each))));
     showOffers(offers);
 }
 
@@ -156,8 +156,8 @@ function showLines(lines) {
         const { words, start, ok, value } = line;
         const { sentences, offers } = remarksOn(line);
         return [
-            words.trim(), ...(ok ? [made("code", formatNs(value, chosenLimits()))] : []),
-            ...sentences.map((each) => made("p", ...parts(each))),
+            words.trim(), ...(ok ? [make("code", formatNs(value, chosenLimits()))] : []),
+            ...sentences.map((each) => make("p", ...parts(each))),
             ...offers.map((offer) => offerButton(offer, start, start + words.length)),
         ];
     }));
@@ -165,7 +165,7 @@ function showLines(lines) {
 }
 
 /** The sentences and what is offered, as screen readers are told them. */
-function told(sentences) {
+function announcement(sentences) {
     const offers = Array.from(element("offered").children, (one) => one.ariaLabel);
     return [...sentences, ...(offers.length > 0 ? [`Try instead ${offers.join("; ")}.`] : [])].join(" ");
 }
@@ -191,8 +191,8 @@ export function showAnswer() {
     }
     if (isRead) {
         showValue(line);
-        return told([`${copied.printed}.`, ...Array.from(element("notes").children, (note) => note.textContent)]);
+        return announcement([`${copied.printed}.`, ...Array.from(element("notes").children, (note) => note.textContent)]);
     }
     showFault(line);
-    return told([element("sentence").textContent]);
+    return announcement([element("sentence").textContent]);
 }

@@ -1,10 +1,9 @@
 // A text that is read, in programs of each language, and printed in the same way. Such a text has no character that JSON
 // and a language escape differently.
+import { switches } from "./choices.js";
 import { UNITS } from "./units.js";
 
-const NAMES = { noCalc: "no_calc", lowercase: "lowercase", cnUnit: "cn_unit" };
-
-const chosen = (options) => Object.keys(NAMES).filter((name) => options[name]);
+const namesOf = (options) => Object.keys(switches).filter((name) => options[name]);
 const capital = (word) => word.replace(/^./, (letter) => letter.toUpperCase());
 /** The name of a unit in words, by its printed name. */
 const wordOf = (unit) => UNITS.find(({ printed }) => printed === unit).names.at(-2);
@@ -17,7 +16,7 @@ function rustLimit([name, value]) {
 }
 
 function rust(text, options, limits) {
-    const fields = chosen(options).map((name) => `${NAMES[name]}: true, `).join("");
+    const fields = namesOf(options).map((name) => `${switches[name].id}: true, `).join("");
     const taken = fields ? `Options { ${fields}..Options::off() }` : "Options::off()";
     const calls = Object.entries(limits).map(rustLimit).join("");
     const types = ["Style", "TimeUnit"].filter((name) => calls.includes(name)).map((name) => `, ${name}`).join("");
@@ -27,7 +26,7 @@ function rust(text, options, limits) {
 }
 
 function python(text, options, limits) {
-    const taken = chosen(options).map((name) => `, ${NAMES[name]}=True`).join("");
+    const taken = namesOf(options).map((name) => `, ${switches[name].id}=True`).join("");
     const printed = Object.entries(limits).map(([name, value]) => `, ${name}=${JSON.stringify(value)}`).join("");
     return `import duration_str\n\nduration = duration_str.parse(${JSON.stringify(text)}${taken})\n`
         + `text = duration_str.format(duration${printed})`;
@@ -37,12 +36,12 @@ function javascript(text, options, limits) {
     const field = ([name, value]) => `${name}: ${JSON.stringify(value)}`;
     const object = (pairs) => pairs.length > 0 ? `, { ${pairs.map(field).join(", ")} }` : "";
     return `import { format, parse } from "duration-str";\n\n`
-        + `const milliseconds = parse(${JSON.stringify(text)}${object(chosen(options).map((name) => [name, true]))});\n`
+        + `const milliseconds = parse(${JSON.stringify(text)}${object(namesOf(options).map((name) => [name, true]))});\n`
         + `const text = format(milliseconds${object(Object.entries(limits))});`;
 }
 
 /** C's call that prints the answer. */
-function cPrinted(limits) {
+function cPrintCall(limits) {
     if (Object.keys(limits).length === 0) {
         return "char buffer[DURATION_STR_FORMAT_BUFFER_SIZE];\nduration_str_format(answer.nanos, buffer);";
     }
@@ -58,16 +57,16 @@ function c(text, options, limits) {
     const escaped = (byte) => `\\${byte.toString(8).padStart(3, "0")}`;
     const isPlain = (byte) => byte >= 0x20 && byte < 0x7f;
     const words = Array.from(bytes, (byte) => isPlain(byte) ? String.fromCharCode(byte) : escaped(byte));
-    const taken = chosen(options).map((name) => `DURATION_STR_${NAMES[name].toUpperCase()}`).join(" | ") || "0";
+    const taken = namesOf(options).map((name) => `DURATION_STR_${switches[name].id.toUpperCase()}`).join(" | ") || "0";
     return `#include <duration_str.h>\n\nconst char text[] = "${words.join("")}";\nstruct duration_str_answer answer;\n`
         + `bool is_read = duration_str_parse_with(\n    text, sizeof text - 1, ${taken}, &answer);\n`
-        + cPrinted(limits);
+        + cPrintCall(limits);
 }
 
 /** The program reads lines, and prints all of a duration. */
 function shell(text, options, limits) {
     if (/\p{C}/u.test(text) || Object.keys(limits).length > 0) return "";
-    return ["printf '%s\\n'", `'${text}'`, "| durstr", ...chosen(options).map((name) => NAMES[name])].join(" ");
+    return ["printf '%s\\n'", `'${text}'`, "| durstr", ...namesOf(options).map((name) => switches[name].id)].join(" ");
 }
 
 /** What reads and prints the text, by the language's name in the page, with its title and how it is got in a clone of the

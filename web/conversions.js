@@ -52,7 +52,7 @@ function isOneEdit(one, other) {
 }
 
 /** What a misspelt word of four letters or more means: names of one unit alone, one edit away, with its first letter. */
-function misspelt(word) {
+function correction(word) {
     if (word.length < 4) return null;
     const isNear = (name) => name[0] === word[0] && isOneEdit(name, word);
     const near = UNITS.map(({ names }) => names.filter(isNear)).filter((names) => names.length > 0);
@@ -65,14 +65,14 @@ function unitName(word) {
     if (unitOf(word)) return word;
     // A capital makes it megabytes; without one, it is a label.
     if (/^mos?$/.test(small) && word !== small || small === "tag" && word !== "Tag") return null;
-    return COMMON.get(small) ?? FOREIGN.get(small) ?? misspelt(small);
+    return COMMON.get(small) ?? FOREIGN.get(small) ?? correction(small);
 }
 
 /** `3 x 5min` and `5min x 3`, in which one is a duration */
 const TIMES = /^([1-9][0-9]*)\s*x\s*(?=[0-9]+\s*\p{L}+$)|(?<=^[0-9]+\s*\p{L}+)\s+x\s*(?=[0-9]+$)/iu;
 
 /** The same text with characters and names that the library has. */
-export function cleaned(text) {
+export function clean(text) {
     return plain(text).replace(/[\u00a0\u2000-\u200a\u202f\u205f\u3000]/g, " ").replace(/×/g, "*")
         .replace(TIMES, (_, count = "") => `${count} * `)
         .replace(/\p{L}+/gu, (word) => unitName(word) ?? word);
@@ -101,7 +101,7 @@ function reading(nanos, longest) {
 }
 
 /** What is found: the readings, each value once, if all can be read. */
-function found(text, readings, sentence) {
+function meaning(text, readings, sentence) {
     const none = (why) => ({ readings: [], sentence: why });
     if (readings.some(({ nanos }) => nanos === null)) return none(say`${text} is finer than a nanosecond.`);
     if (readings.some(({ nanos }) => nanos >= LIMIT)) return none(say`${text} is ${LONGEST}.`);
@@ -119,33 +119,33 @@ const ENCLOSED = /^(?:"(.+)"|'(.+)'|`(.+)`|“(.+)”|‘(.+)’|«(.+)»|\((.+)
 
 /** What a part of a text means, as it stands or converted. */
 function inside(text, options) {
-    for (const each of [text, cleaned(text)]) {
+    for (const each of [text, clean(text)]) {
         const { ok, value } = tryParseNs(each, options);
-        if (ok) return found(text, [{ nanos: value, text: each.trim() }], null);
+        if (ok) return meaning(text, [{ nanos: value, text: each.trim() }], null);
     }
     return converted(text, options);
 }
 
 /** One duration after a key or another word, where every term has a unit. */
-function led(text, options) {
+function afterKey(text, options) {
     const { key, word, words } = LED.exec(text)?.groups ?? {};
     if (!words) return null;
     const meant = inside(words, options);
     const hasUnits = ({ text: each }) => Array.from(terms(each, options)).every(({ unit }) => unit);
     if (!meant || meant.readings.length === 0) return meant;
-    if (meant.readings.every(hasUnits) && !words.includes(":")) return found(text, meant.readings, without(key ?? word));
+    if (meant.readings.every(hasUnits) && !words.includes(":")) return meaning(text, meant.readings, without(key ?? word));
     const unit = /(?:[_-]|[a-z](?=[A-Z]))([A-Za-z]+)$/.exec(key ?? word)?.[1];
-    if (unit && unitName(unit)) return found(text, [], say`Write the unit after the number.`);
+    if (unit && unitName(unit)) return meaning(text, [], say`Write the unit after the number.`);
     const isNumber = /^[0-9]+$/.test(words);
-    return found(text, [], isNumber ? say`Write ${words} alone: without a unit it is seconds.` : say`${words} has no unit.`);
+    return meaning(text, [], isNumber ? say`Write ${words} alone: without a unit it is seconds.` : say`${words} has no unit.`);
 }
 
 /** `"30m"` and `(30m)` */
-function enclosed(text, options) {
+function withinQuotes(text, options) {
     const words = (ENCLOSED.exec(text) ?? []).slice(1).find(Boolean);
     const meant = words ? inside(words, options) : null;
     if (!meant || meant.sentence) return meant;
-    return found(text, meant.readings, /^[([{]/.test(text) ? say`Remove the brackets.` : say`Remove the quotes.`);
+    return meaning(text, meant.readings, /^[([{]/.test(text) ? say`Remove the brackets.` : say`Remove the quotes.`);
 }
 
 // ---- Clocks and ISO 8601
@@ -158,7 +158,7 @@ function clockWithUnit(text) {
     const unit = unitOf(unitName(name ?? "") ?? "");
     if (unit !== HOUR && unit !== MINUTE) return null;
     const nanos = BigInt(first) * unit.nanos + BigInt(second) * unit.nanos / 60n;
-    return found(text, [reading(nanos, unit)], say`Write units in place of colons.`);
+    return meaning(text, [reading(nanos, unit)], say`Write units in place of colons.`);
 }
 
 /** `1:30`, `1:30:00`, `1:30.5`, Python's `1 day, 12:00:00` and PostgreSQL's `1 day 12:00:00` */
@@ -170,12 +170,12 @@ function clock(text) {
     const hours = BigInt(first) * HOUR.nanos;
     if (third) {
         const nanos = sum(BigInt(days ?? 0) * DAY.nanos, hours, BigInt(second) * MINUTE.nanos, seconds);
-        return found(text, [reading(nanos, days ? DAY : HOUR)], say`Write units in place of colons.`);
+        return meaning(text, [reading(nanos, days ? DAY : HOUR)], say`Write units in place of colons.`);
     }
     const minutes = reading(sum(BigInt(first) * MINUTE.nanos, seconds), MINUTE);
-    if (fraction) return found(text, [minutes], say`Write units in place of colons.`);
+    if (fraction) return meaning(text, [minutes], say`Write units in place of colons.`);
     const both = [reading(sum(hours, BigInt(second) * MINUTE.nanos), HOUR), minutes];
-    return found(text, both, say`Hours and minutes, or minutes and seconds?`);
+    return meaning(text, both, say`Hours and minutes, or minutes and seconds?`);
 }
 
 const COUNT = "([0-9]+(?:[.,][0-9]+)?)";
@@ -191,11 +191,11 @@ function iso8601(text) {
     if (digits.length > 0 && !digits.slice(0, -1).some((count) => /[.,]/.test(count))) {
         const nanos = digits.map((count, place) => nanosOf(digitsOf(count), given[place]));
         const sum = nanos.includes(null) ? null : nanos.reduce((a, b) => a + b);
-        return found(text, [reading(sum, given[0])], say`ISO 8601 can't be read.`);
+        return meaning(text, [reading(sum, given[0])], say`ISO 8601 can't be read.`);
     }
-    if (/^P[^T]*M/i.test(text)) return found(text, [], say`A calendar month varies: ${"1mon"} is 30 days.`);
-    if (/^P[^T]*Y/i.test(text)) return found(text, [], say`A calendar year varies: ${"1y"} is 365 days.`);
-    return found(text, [], say`This is not ISO 8601.`);
+    if (/^P[^T]*M/i.test(text)) return meaning(text, [], say`A calendar month varies: ${"1mon"} is 30 days.`);
+    if (/^P[^T]*Y/i.test(text)) return meaning(text, [], say`A calendar year varies: ${"1y"} is 365 days.`);
+    return meaning(text, [], say`This is not ISO 8601.`);
 }
 
 // ---- Sums
@@ -292,7 +292,7 @@ function halves(text) {
     const ofUnit = unitOf(name ?? "");
     const sentence = say`Write numbers in digits.`;
     if (ofUnit && ofUnit.nanos <= WEEK.nanos && !isPlural(name)) {
-        return found(text, [reading(ofUnit.nanos * (three ? 3n : 1n) / 4n, ofUnit)], sentence);
+        return meaning(text, [reading(ofUnit.nanos * (three ? 3n : 1n) / 4n, ofUnit)], sentence);
     }
     const [, count, before, wholes, after] = AND_HALF.exec(text) ?? [];
     const words = count ?? wholes;
@@ -303,7 +303,7 @@ function halves(text) {
     const term = termOf(undefined, numeral, word, unit);
     if (!term) return null;
     const [[digits]] = term.counts;
-    return found(text, [reading((2n * digits + 1n) * term.unit.nanos / 2n, term.unit)], sentence);
+    return meaning(text, [reading((2n * digits + 1n) * term.unit.nanos / 2n, term.unit)], sentence);
 }
 
 /** The terms of a sum, and whether it is a list; nothing where a part of the text is none of it. */
@@ -335,13 +335,13 @@ function sumOfTerms(text) {
     const { sum = [], isList } = termsOfSum(text) ?? {};
     if (sum.length === 0) return null;
     const isFalling = sum.every(({ unit }, place) => place === 0 || unit.nanos < sum[place - 1].unit.nanos);
-    if (isList && !isFalling) return found(text, [], say`Write one duration, not a list.`);
+    if (isList && !isFalling) return meaning(text, [], say`Write one duration, not a list.`);
     const readings = [0, 1].map((choice) => {
         const parts = sum.map(({ counts, unit }) => reading(nanosOf(counts[choice] ?? counts[0], unit), unit));
         const nanos = parts.some((each) => each.nanos === null) ? null : parts.reduce((a, b) => a + b.nanos, 0n);
         return { nanos, text: parts.map((each) => each.text).join(" ") };
     });
-    return found(text, readings, wrongIn(sum));
+    return meaning(text, readings, wrongIn(sum));
 }
 
 // ---- What can't be converted
@@ -380,13 +380,13 @@ const REFUSED = [
  * that says why it is refused, if that isn't the library's reason; nothing where the notation is unknown. */
 export function converted(text, options) {
     const words = plain(text);
-    for (const convert of [led, enclosed, clock, clockWithUnit, iso8601, sumOfTerms, halves]) {
+    for (const convert of [afterKey, withinQuotes, clock, clockWithUnit, iso8601, sumOfTerms, halves]) {
         const meant = convert(words, options);
         if (meant) return meant;
     }
     for (const [pattern, sentence] of REFUSED) {
         const [part] = pattern.exec(words) ?? [];
-        if (part) return found(text, [], typeof sentence === "function" ? sentence(part) : sentence);
+        if (part) return meaning(text, [], typeof sentence === "function" ? sentence(part) : sentence);
     }
     return null;
 }

@@ -10,13 +10,13 @@ export const element = (id) => document.getElementById(id);
 export const text = element("text");
 
 /** This text, or its first 40 characters where it is longer. */
-export function shortened(found) {
+export function shorten(found) {
     const first = Array.from(found.slice(0, 2 * AROUND)).slice(0, AROUND).join("");
     return first.length < found.length ? `${first}…` : first;
 }
 
 /** An element with this content, in Chinese where a Chinese name stands in it. */
-export function made(name, ...content) {
+export function make(name, ...content) {
     const one = document.createElement(name);
     one.append(...content);
     if (CHINESE.test(one.textContent)) one.lang = "zh";
@@ -24,7 +24,7 @@ export function made(name, ...content) {
 }
 
 export function button(press, ...content) {
-    const one = made("button", ...content);
+    const one = make("button", ...content);
     one.type = "button";
     one.addEventListener("click", press);
     return one;

@@ -1,6 +1,6 @@
 // The link: it holds the text, the options and how it is printed, as `#text=1h%2030m&no_calc&style=long`.
 import { agree, chosenLimits, printing, switches, WHOLE } from "./choices.js";
-import { element, LONG, shortened, text } from "./elements.js";
+import { element, LONG, shorten, text } from "./elements.js";
 
 const boxes = Object.values(switches);
 
@@ -57,5 +57,5 @@ export function readLink() {
 }
 
 export function showUnknown(unknown) {
-    element("link-note").textContent = `Not understood in the link: ${shortened(unknown.join(", "))}`;
+    element("link-note").textContent = `Not understood in the link: ${shorten(unknown.join(", "))}`;
 }

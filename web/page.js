@@ -3,7 +3,7 @@ import { tryParseNs } from "../js/dist/duration-str.js";
 import { copied, showAnswer } from "./answer.js";
 import { agree, choose, chosenOptions, printing, switches, WHOLE } from "./choices.js";
 import { LANGUAGES } from "./code.js";
-import { button, element, made, text, write } from "./elements.js";
+import { button, element, make, text, write } from "./elements.js";
 import { readLink, showUnknown, writeLink } from "./link.js";
 import { UNITS } from "./units.js";
 
@@ -11,7 +11,7 @@ import { UNITS } from "./units.js";
 const PAUSE = 500;
 /** How long is shown what was copied, in milliseconds. */
 const SHOWN = 4_000;
-const EXAMPLES = ["3m + 13s + 29ms", "1h 30", "1:30", "1.5h", "5 mins", "PT5M", "3m - 1s"];
+const EXAMPLES = ["3m + 13s + 29ms", "1h 30", "1.5h", "5 mins", "PT5M", "3m-1s"];
 
 let pause;
 let shownCopy;
@@ -53,7 +53,7 @@ function roam(toolbar) {
 function showUnits() {
     element("units").replaceChildren(...UNITS.map(({ length, names, chinese }) => {
         const buttons = [...names, ...chinese].map((name) => button(() => addUnit(name), name));
-        return made("div", made("span", length), made("div", ...buttons));
+        return make("div", make("span", length), make("div", ...buttons));
     }));
     roam(element("units"));
 }
@@ -83,12 +83,12 @@ function showPrinting() {
 /** A place for the code in each language, which a button copies. */
 function showLanguages() {
     element("codes").replaceChildren(...Object.entries(LANGUAGES).map(([id, [title, got]]) => {
-        const code = Object.assign(made("pre"), { id, tabIndex: 0, role: "group", ariaLabel: `The code in ${title}` });
-        const unseen = Object.assign(made("span", ` the code in ${title}`), { className: "unseen" });
+        const code = Object.assign(make("pre"), { id, tabIndex: 0, role: "group", ariaLabel: `The code in ${title}` });
+        const unseen = Object.assign(make("span", ` the code in ${title}`), { className: "unseen" });
         const copies = button(() => copy(id), "Copy", unseen);
         copies.dataset.copies = id;
-        const shown = Object.assign(made("div", code, copies), { className: "code" });
-        return Object.assign(made("div", made("h3", `${title} `, made("code", got)), shown), { id: `${id}-code` });
+        const shown = Object.assign(make("div", code, copies), { className: "code" });
+        return Object.assign(make("div", make("h3", `${title} `, make("code", got)), shown), { id: `${id}-code` });
     }));
 }
 

@@ -1,5 +1,5 @@
 // Sentences: lists of strings and of quoted texts, which are shown so that nothing in them turns the rest.
-import { made, shortened } from "./elements.js";
+import { make, shorten } from "./elements.js";
 
 /** A sentence as a list of strings and of quoted texts: say`A comma can't follow ${"1h"}.` A list stands as it is. */
 export function say(strings, ...values) {
@@ -14,7 +14,7 @@ export function lineOf({ message }) {
 }
 
 /** A quoted text, by itself, so that its direction turns nothing else. */
-const quotation = (words) => made("code", made("bdi", shortened(words)));
+const quotation = (words) => make("code", make("bdi", shorten(words)));
 
 /** The parts of a sentence, as they are shown. */
 export const parts = (sentence) => sentence.map((part) => typeof part === "string" ? part : quotation(part.quoted));

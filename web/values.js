@@ -7,20 +7,20 @@ const [MINUTE, SECOND] = ["m", "s"].map((name) => unitOf(name).nanos);
 const SHOWN = 20;
 
 /** Whole digits in groups of three: `193,029`. */
-export function grouped(digits) {
+export function groupDigits(digits) {
     return digits.replace(/^[0-9]+/, (whole) => whole.replace(/\B(?=([0-9]{3})+$)/g, ","));
 }
 
 /** This count of a unit: `30 minutes`, or `6 months of 30 days`, since those of a calendar vary. */
-function counted(number, unit) {
+function countInWords(number, unit) {
     const count = BigInt(number).toString();
     const name = count === "1" ? unit.names.at(-2) : unit.names.at(-1);
-    return `${grouped(count)} ${name}${UNITS.indexOf(unit) < 3 ? ` of ${unit.length}` : ""}`;
+    return `${groupDigits(count)} ${name}${UNITS.indexOf(unit) < 3 ? ` of ${unit.length}` : ""}`;
 }
 
 /** A sum that is read, in words: `1 hour 30 minutes`. */
-export function named(text, options) {
-    return Array.from(terms(text, options), ({ number, unit }) => counted(number, unitOf(unit ?? "s"))).join(" ");
+export function inWords(text, options) {
+    return Array.from(terms(text, options), ({ number, unit }) => countInWords(number, unitOf(unit ?? "s"))).join(" ");
 }
 
 /** A count of nanoseconds in units of this length, exactly: `193.029`. */
@@ -41,14 +41,14 @@ export function iso(nanos) {
     return clock || !date ? `P${date}T${clock || "0S"}` : `P${date}`;
 }
 
-const inSeconds = (nanos) => `${grouped(seconds(nanos))} s`;
+const inSeconds = (nanos) => `${groupDigits(seconds(nanos))} s`;
 
 /** The steps of a product, as the library takes them: first the later terms from left to right, then the first term. */
 function steps(values) {
     const rows = [];
     const multiply = (one, other) => {
         const product = one * other / SECOND;
-        rows.push([`${grouped(seconds(one))} × ${grouped(seconds(other))}`, inSeconds(product)]);
+        rows.push([`${groupDigits(seconds(one))} × ${groupDigits(seconds(other))}`, inSeconds(product)]);
         return product;
     };
     const [first, second, ...others] = values;

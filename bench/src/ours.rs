@@ -1,5 +1,5 @@
 //! The calls that are measured: those of the Rust crate, and those of the archive through C.
-use crate::texts::{EXPRESSION, expressions, long_text, refused, repeat};
+use crate::texts::{EXPRESSION, expressions, long_text, refusal, repeat};
 use duration_str::{DurationError, FORMAT_BUFFER_SIZE, Fault, Format, HumanFormat, Options, STYLED_BUFFER_SIZE};
 use duration_str::{parse, parse_duration, parse_with, write_human, write_within};
 use std::hint::black_box;
@@ -81,7 +81,7 @@ pub struct Archive;
 
 impl Archive {
     /// Has a call print into a buffer.
-    fn printed<const ROOM: usize>(call: impl Fn(*mut u8) -> usize) -> usize {
+    fn print<const ROOM: usize>(call: impl Fn(*mut u8) -> usize) -> usize {
         let mut buffer = [0; ROOM];
         let end = call(buffer.as_mut_ptr());
         black_box(&buffer);
@@ -143,13 +143,13 @@ impl Library for Archive {
     fn printing(length: Duration) -> usize {
         let nanos = length.as_secs() * 1_000_000_000 + u64::from(length.subsec_nanos());
         // SAFETY: the buffer has the 64 bytes that may be written.
-        Archive::printed::<64>(|buffer| unsafe { duration_str_format(nanos, buffer) })
+        Archive::print::<64>(|buffer| unsafe { duration_str_format(nanos, buffer) })
     }
 
     fn printing_parts(length: Duration, parts: u32) -> usize {
         let (secs, nanos) = (length.as_secs(), length.subsec_nanos());
         // SAFETY: as above, with 144 bytes.
-        Archive::printed::<144>(|buffer| unsafe { duration_str_format_styled(secs, nanos, 0, 10, parts, 0, buffer) })
+        Archive::print::<144>(|buffer| unsafe { duration_str_format_styled(secs, nanos, 0, 10, parts, 0, buffer) })
     }
 
     fn refusing(text: &str, buffer: &mut [u8; ROOM]) -> usize {
@@ -202,17 +202,17 @@ pub fn calls<L: Library>(words: &[&str], count: u64) {
             repeat(count, || lengths.iter().for_each(|length| { black_box(L::printing(black_box(*length))); }));
         }
         ["refuse", name] => {
-            let text = refused(name);
+            let text = refusal(name);
             let mut buffer = [0; ROOM];
             repeat(count, || { black_box(L::refusing(black_box(&text), &mut buffer)); });
             black_box(&buffer);
         }
         ["error", name] => {
-            let text = refused(name);
+            let text = refusal(name);
             repeat(count, || { black_box(&L::error(black_box(&text))); });
         }
         ["printed-error", name] => {
-            let text = refused(name);
+            let text = refusal(name);
             repeat(count, || { black_box(&L::error(black_box(&text)).to_string()); });
         }
         _ => panic!("see the first lines of src/calls.rs"),

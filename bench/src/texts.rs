@@ -49,8 +49,8 @@ pub fn long_text(bytes: usize) -> String {
     text
 }
 
-/// The text that is refused for the cause of this name, or for a `-` at the end of 100 bytes, or in 1,000.
-pub fn refused(name: &str) -> String {
+/// The text that is refused for the cause of this name, or for a `-` at either end of 1,000 bytes.
+pub fn refusal(name: &str) -> String {
     let text = match name {
         "empty" => "",
         "syntax" => "1m 3-5",
@@ -60,19 +60,16 @@ pub fn refused(name: &str) -> String {
         "mixed" => "1m + 2s * 3",
         "fraction" => "1.5h",
         "minus" => "-5s",
-        "letter" => "m5",
-        "end" => return with_minus(100, 99),
-        "front" => return with_minus(1000, 0),
-        "middle" => return with_minus(1000, 500),
-        "last" => return with_minus(1000, 999),
+        "front" => return with_minus(0),
+        "last" => return with_minus(999),
         _ => panic!("no refused text: {name}"),
     };
     text.to_string()
 }
 
-/// A text of so many bytes with a `-` at this byte.
-fn with_minus(bytes: usize, at: usize) -> String {
-    let mut text = long_text(bytes);
+/// A text of 1,000 bytes with a `-` at this byte.
+fn with_minus(at: usize) -> String {
+    let mut text = long_text(1000);
     text.replace_range(at..=at, "-");
     text
 }

@@ -18,13 +18,13 @@
  * Blanks (space, tab, carriage return, line feed) may be anywhere except
  * inside a number or a unit.
  *
- * Units: y year years, q quarter quarters, mon month months, w week weeks,
- * d day days, h hr hour hours, m min minute minutes, s sec second seconds,
- * ms msec millisecond milliseconds, µs µsec µsecond us usec usecond
- * microsecond microseconds, ns nsec nanosecond nanoseconds. The Chinese
- * names, which an option adds: 年 year, 月 month, 周 week, 日 天 day, 时 hour, 分
- * minute, 秒 second, 毫秒 millisecond, 微秒 microsecond, 纳秒 nanosecond. A year
- * has 365 days, a quarter 91 and a month 30. Numbers are below 2^64, and
+ * Units: y year years, q quarter quarters, mon month months, w week weeks, d
+ * day days, h hr hour hours, m min minute minutes, s sec second seconds, ms
+ * msec millisecond milliseconds, µs µsec µsecond us usec usecond microsecond
+ * microseconds, ns nsec nanosecond nanoseconds. The Chinese names, which an
+ * option adds: 年 year, 月 month, 周 week, 日 天 day, 时 hour, 分 minute, 秒 second,
+ * 毫秒 millisecond, 微秒 microsecond, 纳秒 nanosecond.
+ * A year has 365 days, a quarter 91 and a month 30. Numbers are below 2^64, and
  * values below 2^64 nanoseconds. */
 #ifndef DURATION_STR_H
 #define DURATION_STR_H

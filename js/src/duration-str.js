@@ -76,22 +76,22 @@ function see() {
     texts = new Uint8Array(memory.buffer, TEXT);
 }
 
-const escaped = (byte) => `%${byte.toString(16).padStart(2, "0")}`;
+const percentCode = (byte) => `%${byte.toString(16).padStart(2, "0")}`;
 
 /** What these bytes of UTF-8 say; also where, as in jsdom, nothing but the URI functions knows it. */
-function decoded(bytes) {
-    if (typeof TextDecoder === "undefined") return decodeURIComponent(Array.from(bytes, escaped).join(""));
+function decode(bytes) {
+    if (typeof TextDecoder === "undefined") return decodeURIComponent(Array.from(bytes, percentCode).join(""));
     decoder ??= new TextDecoder("utf-8", { ignoreBOM: true });
     return decoder.decode(bytes);
 }
 
 /** What a call has written, of this length. */
-function written(length) {
-    if (length > SHORT_WRITTEN) return decoded(buffer.subarray(0, length));
+function output(length) {
+    if (length > SHORT_WRITTEN) return decode(buffer.subarray(0, length));
     let text = "";
     for (let place = 0; place < length; place++) {
         const byte = buffer[place];
-        if (byte > 0xc2) return decoded(buffer.subarray(0, length));
+        if (byte > 0xc2) return decode(buffer.subarray(0, length));
         // After the byte 0xc2 the next one is the number of its character.
         if (byte !== 0xc2) text += String.fromCharCode(byte);
     }
@@ -159,12 +159,12 @@ function faultOf(text, length, lineLength) {
     const foundLength = fields.getUint32(FOUND_LENGTH, true);
     // Of ASCII alone, bytes and UTF-16 units are the same.
     const isAscii = length === text.length;
-    const index = isAscii || byte === null ? byte : decoded(texts.subarray(0, byte)).length;
-    const token = () => isAscii ? text.slice(byte, byte + foundLength) : decoded(texts.subarray(byte, byte + foundLength));
+    const index = isAscii || byte === null ? byte : decode(texts.subarray(0, byte)).length;
+    const token = () => isAscii ? text.slice(byte, byte + foundLength) : decode(texts.subarray(byte, byte + foundLength));
     const code = CODES[fields.getUint32(CAUSE, true)];
     const found = foundLength ? token() : null;
     const expected = expectedOf(fields.getUint32(EXPECTED, true));
-    return new Fault({ code, text, index, byte, found, expected }, written(lineLength));
+    return new Fault({ code, text, index, byte, found, expected }, output(lineLength));
 }
 
 /** Why a text is refused whose character at this index is half of a surrogate pair. */
@@ -220,7 +220,7 @@ function isPlain(options) {
 }
 
 /** The options that are chosen, and the others as in `defaults`, which has all that are known. Only own names are read. */
-function chosen(options, defaults, hint = "") {
+function ownOptions(options, defaults, hint = "") {
     if (!isPlain(options)) {
         const type = typeOf(options);
         throw new TypeError(`the options must be a plain object, not ${type === "object" ? "one that inherits" : type}${hint}`);
@@ -242,7 +242,7 @@ function bitsOf(options) {
     if (options === undefined) return 0;
     let bits = 0;
     // Whoever hands a call over, as to `map`, hands in other arguments, too.
-    for (const [name, value] of Object.entries(chosen(options, OFF, ": write (text) => parse(text)"))) {
+    for (const [name, value] of Object.entries(ownOptions(options, OFF, ": write (text) => parse(text)"))) {
         if (typeof value !== "boolean") throw new TypeError(`the option ${name} must be a boolean, not ${typeOf(value)}`);
         if (value) bits |= BITS[name];
     }
@@ -302,7 +302,7 @@ function countOf(parts) {
 
 /** The limits that are chosen, with numbers for names, and the others as in `defaults`, which has all that are known. */
 function limitsOf(options, defaults) {
-    const limits = chosen(options, defaults);
+    const limits = ownOptions(options, defaults);
     const largest = numberOf("largest", limits.largest, UNITS);
     const smallest = numberOf("smallest", limits.smallest, UNITS);
     if (largest > smallest) {
@@ -334,11 +334,11 @@ function nanosecondsOf(value) {
 /** The text of so many nanoseconds. */
 function print(nanoseconds, options) {
     if (!calls) start();
-    if (options === undefined) return written(calls.duration_str_format(nanoseconds, WRITTEN));
+    if (options === undefined) return output(calls.duration_str_format(nanoseconds, WRITTEN));
     const { largest, smallest, parts, style } = limitsOf(options, ALL);
     const [secs, nanos] = [nanoseconds / SECOND, Number(nanoseconds % SECOND)];
     const number = numberOf("style", style, STYLES);
-    return written(calls.duration_str_format_styled(secs, nanos, largest, smallest, parts, number, WRITTEN));
+    return output(calls.duration_str_format_styled(secs, nanos, largest, smallest, parts, number, WRITTEN));
 }
 
 export function formatNs(nanoseconds, options) {

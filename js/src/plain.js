@@ -2,10 +2,10 @@
 import * as made from "duration_str.js";
 
 /** Such a call takes a count of 64 bits as two halves. */
-const halved = (call) => (count, ...others) => call(Number(BigInt.asIntN(32, count)), Number(count >> 32n), ...others);
+const withHalves = (call) => (count, ...others) => call(Number(BigInt.asIntN(32, count)), Number(count >> 32n), ...others);
 
 export const instance = () => ({
     ...made,
-    duration_str_format: halved(made.duration_str_format),
-    duration_str_format_styled: halved(made.duration_str_format_styled),
+    duration_str_format: withHalves(made.duration_str_format),
+    duration_str_format_styled: withHalves(made.duration_str_format_styled),
 });

@@ -1,6 +1,6 @@
 // The package as others take it: by `require`, bundled, and in a service worker. A tool that is missing is skipped.
 import assert from "node:assert/strict";
-import { execFileSync, spawn } from "node:child_process";
+import { execFileSync, spawn, spawnSync } from "node:child_process";
 import { createServer } from "node:http";
 import { existsSync, mkdirSync, mkdtempSync, readFileSync, rmSync, symlinkSync, writeFileSync } from "node:fs";
 import { createRequire } from "node:module";
@@ -8,7 +8,7 @@ import { tmpdir } from "node:os";
 import { join } from "node:path";
 import test, { after, before } from "node:test";
 import { fileURLToPath } from "node:url";
-import { OPTIONS, VECTORS } from "./vectors.js";
+import { schedule } from "../examples/schedule.mjs";
 
 const PACKAGE = fileURLToPath(new URL("..", import.meta.url));
 const SAID = "5400000000000 SYNTAX 4";
@@ -28,30 +28,23 @@ after(() => rmSync(room, { recursive: true, maxRetries: 20, retryDelay: 100 }));
 
 const runs = (...words) => execFileSync(words[0], words.slice(1), { cwd: room, encoding: "utf8" }).trim();
 
-function skippedWithout(tool) {
+function skipWithout(tool) {
     try {
         execFileSync("which", [tool]);
         return {};
     } catch {
-        return { skip: `${tool} is missing (tools/setup-debian)` };
+        return { skip: `${tool} is missing (make setup all=yes)` };
     }
 }
 
 test("has the version of package.json", () => {
     const { version } = JSON.parse(readFileSync(join(PACKAGE, "package.json"), "utf8"));
-    assert.equal(started([], "", "console.log(all.version);"), version);
-});
-
-test("is imported and required", () => {
-    assert.equal(runs("node", "module.mjs"), SAID);
-    assert.equal(runs("node", "required.cjs"), SAID);
+    assert.equal(nodeOutput([], "", "console.log(all.version);"), version);
 });
 
 test("is packed with its licence, types and module", () => {
     const { exports, files } = JSON.parse(readFileSync(join(PACKAGE, "package.json"), "utf8"));
-    const { node, import: imported, require: required, workerd, "edge-light": edge, "react-native": native } = exports["."];
-    for (const plain of [workerd, edge, native]) assert.deepEqual(plain, exports["./plain"]);
-    const named = [node, { import: imported, require: required }, exports["./plain"]].flatMap(Object.values).flatMap(Object.values);
+    const named = [exports["."], exports["./plain"]].flatMap(Object.values).flatMap(Object.values);
     assert.deepEqual(files, ["dist", "index.d.ts", "LICENSE", "NOTICE"]);
     for (const file of [...named, "LICENSE", "NOTICE"]) assert.ok(readFileSync(join(PACKAGE, file)).length > 0, file);
 });
@@ -67,7 +60,7 @@ console.log(said);`);
 });
 
 /** What Node prints that runs these lines with the package as `all`, which `before` prepares. */
-function started(words, before, lines) {
+function nodeOutput(words, before, lines) {
     const code = `${before}\nconst all = await import("duration-str");\n${lines}`;
     return runs("node", "--no-warnings", ...words, "--input-type=module", "--eval", code);
 }
@@ -78,12 +71,12 @@ const ADVICE = "allow 'wasm-unsafe-eval' in the content security policy, lift --
 
 test("is imported where WebAssembly is missing or refused, and says at a call what to do", () => {
     const missing = "delete globalThis.WebAssembly;";
-    assert.equal(started([], missing, TRY),
+    assert.equal(nodeOutput([], missing, TRY),
         `duration-str cannot use WebAssembly here (WebAssembly is not defined): ${ADVICE} ReferenceError`);
     const refused = `const { Module } = WebAssembly;
         WebAssembly.Module = class { constructor() { throw new WebAssembly.CompileError("refused"); } };`;
     const twice = `${TRY}\nWebAssembly.Module = Module;\n${TRY}`;
-    assert.equal(started([], refused, twice),
+    assert.equal(nodeOutput([], refused, twice),
         `duration-str cannot use WebAssembly here (refused): ${ADVICE} CompileError\n5400000000000n`);
 });
 
@@ -92,7 +85,7 @@ test("reads, refuses and prints without TextEncoder and TextDecoder", () => {
     const lines = `const long = "1 hour ".repeat(9) + "1微秒";
         console.log(all.parseNs(long, { cnUnit: true }), all.formatNs(all.parseNs("1h 30m 1us"), { style: "long" }));
         for (const text of ["5 mins", "1µs 😀x", "1s \\ud800"]) console.log(all.tryParseNs(text).fault.message, all.tryParseNs(text).fault.index);`;
-    assert.equal(started([], missing, lines), `32400000001000n 1 hour 30 minutes 1 microsecond
+    assert.equal(nodeOutput([], missing, lines), `32400000001000n 1 hour 30 minutes 1 microsecond
 unknown unit "mins" at column 3 (did you mean "min"?) 2
 expected a number, '+', '*' or the end at column 5, found "😀x" 4
 not UTF-8: a lone surrogate at index 3 3`);
@@ -102,38 +95,50 @@ test("works where what is built in is frozen", () => {
     const frozen = `for (const one of [Object, Array, String, Number, BigInt, Error, Function, RegExp]) {
         Object.freeze(one); Object.freeze(one.prototype);
     }`;
-    assert.equal(started(["--disable-proto=throw"], frozen, `${TRY} console.log(all.tryParseNs("x").fault.code, all.formatNs(1n));`),
+    assert.equal(nodeOutput(["--disable-proto=throw"], frozen, `${TRY} console.log(all.tryParseNs("x").fault.code, all.formatNs(1n));`),
         "5400000000000n\nSYNTAX 1ns");
 });
 
-for (const condition of ["workerd", "edge-light", "react-native"]) {
-    test(`takes no WebAssembly under the condition ${condition}`, () => {
-        for (const file of ["module.mjs", "required.cjs"]) assert.equal(runs("node", "--jitless", `--conditions=${condition}`, file), SAID);
-    });
-}
-
-test("answers in plain JavaScript as in WebAssembly", async () => {
-    const [compiled, plain] = await Promise.all([import("duration-str"), import("duration-str/plain")]);
-    const told = ({ parseNs, tryParseNs, formatNs }, text, options) => {
-        const { ok, value, fault } = tryParseNs(text, options);
-        if (!ok) return [{ ...fault }, fault.report];
-        return [value, formatNs(value), formatNs(value, { style: "long", largest: "d", parts: 2 })];
-    };
-    for (const options of OPTIONS) {
-        for (const text of JSON.stringify([VECTORS.values, VECTORS.faults]).match(/"(?:[^"\\]|\\.)*"/g).map(JSON.parse)) {
-            assert.deepEqual(told(plain, text, options), told(compiled, text, options), text);
-        }
-    }
-    for (let bits = 0n; bits <= 64n; bits++) {
-        for (const value of [(1n << bits) - 1n, (0xfedcba9876543210n >> (64n - bits))]) {
-            assert.equal(plain.formatNs(value), compiled.formatNs(value));
-            assert.equal(plain.formatNs(value, { style: "compact" }), compiled.formatNs(value, { style: "compact" }));
-        }
+test("is imported and required, under some conditions without WebAssembly", () => {
+    for (const words of [[], ...["workerd", "edge-light", "react-native"].map((name) => ["--jitless", `--conditions=${name}`])]) {
+        for (const file of ["module.mjs", "required.cjs"]) assert.equal(runs("node", ...words, file), SAID, words.join(" "));
     }
 });
 
+// What is read by plain JavaScript, and printed whole, tests/compare compares.
+test("prints in plain JavaScript as in WebAssembly", async () => {
+    const [compiled, plain] = await Promise.all([import("duration-str"), import("duration-str/plain")]);
+    for (let bits = 0n; bits <= 64n; bits++) {
+        for (const value of [(1n << bits) - 1n, (0xfedcba9876543210n >> (64n - bits))]) {
+            for (const options of [undefined, { style: "compact" }, { style: "long", largest: "d", parts: 2 }]) {
+                assert.equal(plain.formatNs(value, options), compiled.formatNs(value, options));
+            }
+        }
+    }
+    assert.deepEqual({ ...plain.tryParseNs("1µs 😀x").fault }, { ...compiled.tryParseNs("1µs 😀x").fault });
+});
+
+const DURATION = join(PACKAGE, "examples/duration.mjs");
+test("the example reads, prints and moves a moment", () => {
+    assert.equal(runs("node", DURATION, "3m + 13s + 29ms"), "193029000000 3min 13s 29ms 946684993.029000000");
+});
+
+test("the example says what is wrong", () => {
+    const ran = spawnSync(process.execPath, [DURATION, "3ms-2ms"], { encoding: "utf8" });
+    assert.deepEqual([ran.status, ran.stdout], [1, `expected a number, '+', '*' or the end at column 4, found "-"\n`]);
+});
+
+test("a schedule has a period and an end, and names a setting that is refused", () => {
+    const now = new Date("2026-01-31T12:00:00Z");
+    const { timer, period, end } = schedule({ every: "1m 30s", until: "90d" }, () => {}, now);
+    clearInterval(timer);
+    assert.deepEqual([period, end.toISOString()], [90_000, "2026-05-01T12:00:00.000Z"]);
+    assert.throws(() => schedule({ every: "soon", until: "1d" }, () => {}), /^Error: every: expected a number at column 1, found "soon"$/);
+    assert.throws(() => schedule({ every: "0s", until: "1d" }, () => {}), RangeError);
+});
+
 const BABEL = "/usr/share/nodejs/@babel/standalone/babel.js";
-test("works as Babel compiles it for older browsers", existsSync(BABEL) ? {} : { skip: "Babel is missing (tools/setup-debian)" }, () => {
+test("works as Babel compiles it for older browsers", existsSync(BABEL) ? {} : { skip: "Babel is missing (make setup all=yes)" }, () => {
     const { transform } = createRequire(import.meta.url)(BABEL);
     const source = readFileSync(join(PACKAGE, "dist/duration-str.js"), "utf8");
     const { code } = transform(source, { presets: [["env", { targets: "> 0.25%, not dead", modules: "commonjs" }]] });
@@ -142,7 +147,7 @@ test("works as Babel compiles it for older browsers", existsSync(BABEL) ? {} : {
 });
 
 for (const format of ["esm", "cjs", "iife"]) {
-    test(`is bundled by esbuild as ${format} for ES2020`, skippedWithout("esbuild"), () => {
+    test(`is bundled by esbuild as ${format} for ES2020`, skipWithout("esbuild"), () => {
         const output = `bundle.${format === "esm" ? "mjs" : "cjs"}`;
         runs("esbuild", "module.mjs", "--bundle", "--log-level=error", "--target=es2020", `--format=${format}`, `--outfile=${output}`);
         assert.equal(runs("node", output), SAID);
@@ -150,14 +155,14 @@ for (const format of ["esm", "cjs", "iife"]) {
 }
 
 for (const format of ["esm", "cjs"]) {
-    test(`is bundled by rollup as ${format}`, skippedWithout("rollup"), () => {
+    test(`is bundled by rollup as ${format}`, skipWithout("rollup"), () => {
         runs("rollup", join(PACKAGE, "dist/duration-str.js"), "--silent", `--format=${format}`, "--file=rolled.cjs");
         if (format === "cjs") assert.equal(runs("node", "-p", "require('./rolled.cjs').parseNs('1h 30m')"), "5400000000000n");
     });
 }
 
 /** What is posted from a page in Chromium that is served with these files and headers, of which the first is the page. */
-async function posted(files, headers = {}) {
+async function pageMessage(files, headers = {}) {
     let browser;
     return new Promise((resolve, reject) => {
         const server = createServer(async (request, response) => {
@@ -188,13 +193,13 @@ async function posted(files, headers = {}) {
 }
 
 /** A script of these lines with what it imports. */
-function bundled(lines) {
+function bundle(lines) {
     writeFileSync(join(room, "lines.mjs"), lines);
     return runs("esbuild", "lines.mjs", "--bundle", "--log-level=error", "--format=iife");
 }
 
-test("works in a service worker, and counts what Chromium's own types take", skippedWithout("chromium"), async () => {
-    const worker = bundled(`${MODULE}
+test("works in a service worker, and counts what Chromium's own types take", skipWithout("chromium"), async () => {
+    const worker = bundle(`${MODULE}
 import { parts } from "duration-str";
 const counted = parts(5_400_000_000_000n);
 said += \` \${new Intl.DurationFormat("en").format(counted)} \${Temporal.Duration.from(counted)} \${Temporal.Duration.from(parts(0n))}\`;
@@ -204,19 +209,19 @@ self.onmessage = (event) => event.source.postMessage(said);`);
         navigator.serviceWorker.register("worker.js").then(() => navigator.serviceWorker.ready)
             .then((registration) => registration.active.postMessage("?"));
     </script>`;
-    assert.equal(await posted({ "page.html": page, "worker.js": worker }), `${SAID} 1 hr, 30 min PT1H30M PT0S`);
+    assert.equal(await pageMessage({ "page.html": page, "worker.js": worker }), `${SAID} 1 hr, 30 min PT1H30M PT0S`);
 });
 
-test("lets a page start whose policy refuses it, and says what to allow", skippedWithout("chromium"), async () => {
-    const script = bundled(`import * as all from "duration-str";
+test("lets a page start whose policy refuses it, and says what to allow", skipWithout("chromium"), async () => {
+    const script = bundle(`import * as all from "duration-str";
 const said = () => { try { return all.parseNs("1h"); } catch (error) { return \`\${error.cause.name}: \${error.message}\`; } };
 fetch("/said", { method: "POST", body: \`started \${said()}\` });`);
     const files = { "page.html": '<script src="script.js"></script>', "script.js": script };
-    const said = await posted(files, { "content-security-policy": "script-src 'self'" });
+    const said = await pageMessage(files, { "content-security-policy": "script-src 'self'" });
     assert.match(said, /^started CompileError: duration-str cannot use WebAssembly here .* allow 'wasm-unsafe-eval' /);
-    assert.equal(await posted(files, { "content-security-policy": "script-src 'self' 'wasm-unsafe-eval'" }), "started 3600000000000");
-    const plain = bundled(`import { parseNs } from "duration-str/plain";
+    assert.equal(await pageMessage(files, { "content-security-policy": "script-src 'self' 'wasm-unsafe-eval'" }), "started 3600000000000");
+    const plain = bundle(`import { parseNs } from "duration-str/plain";
 fetch("/said", { method: "POST", body: parseNs("1h") });`);
     const policy = { "content-security-policy": "script-src 'self'" };
-    assert.equal(await posted({ ...files, "script.js": plain }, policy), "3600000000000");
+    assert.equal(await pageMessage({ ...files, "script.js": plain }, policy), "3600000000000");
 });

@@ -10,7 +10,7 @@ const options = Object.fromEntries(process.argv.slice(2).map((word) => [NAMES[wo
 const strict = new TextDecoder("utf-8", { fatal: true, ignoreBOM: true });
 
 /** What is written for a line, and whether it is read. */
-function answered(line) {
+function answer(line) {
     let text;
     try {
         text = strict.decode(line);
@@ -31,6 +31,6 @@ function* lines(input) {
     }
 }
 
-const answers = [...lines(readFileSync(0))].map(answered);
+const answers = [...lines(readFileSync(0))].map(answer);
 writeFileSync(1, answers.map(([output]) => `${output}\n`).join(""));
 process.exitCode = answers.every(([, read]) => read) ? 0 : 1;

@@ -21,7 +21,7 @@ test("prints the vectors, and refuses limits that contradict each other", () => 
     assert.equal(formatNs(1999n, { smallest: "us" }), "1µs");
     assert.equal(format(193_029, { parts: 2 }), "3min 13s");
     assert.equal(format(90_000, { style: "long" }), "1 minute 30 seconds");
-    assert.equal(formatNs(90_061_000_000_001n, { parts: 1e9, largest: undefined }), "1d 1h 1min 1s 1ns");
+    assert.equal(formatNs(90_061_000_000_001n, { parts: 2 ** 32, largest: undefined }), "1d 1h 1min 1s 1ns");
 });
 
 test("refuses limits that there are not", () => {
@@ -72,14 +72,7 @@ test("counts the parts", () => {
     }
 });
 
-test("prints nanoseconds and milliseconds", () => {
-    const rows = [
-        [0n, "0s"],
-        [1n, "1ns"],
-        [5_400_000_000_000n, "1h 30min"],
-        [25_200_000_001_000n, "7h 1µs"],
-    ];
-    for (const [value, printed] of rows) assert.equal(formatNs(value), printed);
+test("prints milliseconds", () => {
     for (const [value, printed] of [[0, "0s"], [-0, "0s"], [1, "1ms"], [193_029, "3min 13s 29ms"], [1.005, "1ms 5µs"], [0.0000004, "0s"], [0.0000006, "1ns"], [2.9999999, "3ms"]]) {
         assert.equal(format(value), printed);
     }

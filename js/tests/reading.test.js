@@ -2,14 +2,17 @@ import assert from "node:assert/strict";
 import test from "node:test";
 import { runInNewContext } from "node:vm";
 
-import { DurationError, parseNs, parse } from "duration-str";
+import { DurationError, parseNs, parse, tryParseNs } from "duration-str";
 import { IS_UNDER, OPTIONS, VECTORS } from "./vectors.js";
 
 const LARGEST = 2n ** 64n - 1n;
 
-test("makes room for what is longer in UTF-8", () => {
-    const count = 1_000_000;
-    assert.equal(parseNs("1分".repeat(count), { cnUnit: true }), BigInt(count) * 60_000_000_000n);
+// First, while the memory is small
+test("makes room at each size, for texts and faults", () => {
+    for (let count = 1; count < 1_000_000; count = Math.ceil(count * 1.2)) {
+        assert.equal(parseNs("1分".repeat(count), { cnUnit: true }), BigInt(count) * 60_000_000_000n);
+        assert.equal(tryParseNs(`${"1分".repeat(count)}-`, { cnUnit: true }).fault.index, 2 * count);
+    }
 });
 
 test("reads the vectors, and refuses them under the other options", () => {

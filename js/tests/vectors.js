@@ -14,7 +14,6 @@ export const OPTIONS = Array.from({ length: 8 }, (_, bits) => ({
 export const IS_UNDER = {
     "under all options": () => true,
     "without no_calc": (options) => !options.noCalc,
-    "under no_calc": (options) => options.noCalc,
     "under cn_unit": (options) => options.cnUnit,
     "under cn_unit without no_calc": (options) => options.cnUnit && !options.noCalc,
     "without lowercase": (options) => !options.lowercase,

@@ -8,7 +8,7 @@ use std::io::{self, Write};
 use std::process::ExitCode;
 
 /// Runs with the words of the command line, and returns the status and the line for standard error.
-fn ended() -> (u8, &'static str) {
+fn outcome() -> (u8, &'static str) {
     let mut options = Options::off();
     for word in std::env::args_os().skip(1) {
         match word.to_str().and_then(|word| with_word(options, word)) {
@@ -21,7 +21,7 @@ fn ended() -> (u8, &'static str) {
 }
 
 fn main() -> ExitCode {
-    let (status, line) = ended();
+    let (status, line) = outcome();
     if !line.is_empty() {
         // The status says the same, so a failure to write this line is ignored.
         let _ = writeln!(io::stderr(), "{line}");

@@ -22,14 +22,14 @@ def periods(configuration):
             sys.exit(f"{configuration}: {folder}: {error}")
 
 
-def expired(folder, kept, now):
+def older_files(folder, kept, now):
     return (path for path in sorted(folder.iterdir()) if now - path.stat().st_mtime_ns > kept)
 
 
 def main():
     configuration = pathlib.Path(sys.argv[1])
     for folder, kept in periods(configuration):
-        for path in expired(folder, kept, time.time_ns()):
+        for path in older_files(folder, kept, time.time_ns()):
             print(f"{path}: older than {duration_str.format(kept)}")
 
 

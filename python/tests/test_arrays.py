@@ -8,7 +8,7 @@ import unittest
 from array import array
 
 from duration_str import Cause, DurationError, format, format_many, parse_many, to_timedelta
-from tests.columns import value_columns
+from tests.vectors import value_columns
 
 try:
     import numpy
@@ -176,11 +176,6 @@ class Reading(unittest.TestCase):
             with self.assertRaises(TypeError):
                 parse_many(table)
         self.assertEqual(parse_many(numpy.array(["1s", "2s"])).tolist(), [SECOND, 2 * SECOND])
-
-    def test_takes_no_labels_for_a_column_of_arrow(self):
-        series = pandas.Series(["1s", "2s"], index=["type", "null_count"])
-        self.assertEqual(parse_many(series).tolist(), [SECOND, 2 * SECOND])
-        self.assertEqual(numbers(to_timedelta(series)), [SECOND, 2 * SECOND])
 
     def test_wants_texts(self):
         for value in [b"1s", 1, 1.5, True, ["1s"], numpy.int64(1), numpy.datetime64(1, "s")]:

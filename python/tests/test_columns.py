@@ -9,7 +9,7 @@ from itertools import accumulate
 
 import duration_str
 from duration_str import Cause, DurationError, parse_buffers, parse_many, parse_ns
-from tests.columns import refused_positions, value_columns
+from tests.vectors import refused_positions, value_columns
 
 SECOND = 10**9
 # 1,024 texts are copied at once.
@@ -27,22 +27,6 @@ def error_of(call, *arguments, **words):
     except DurationError as error:
         return error
     raise AssertionError(f"it is read as {value}")
-
-
-class Named(str):
-    """A str that says other things of itself than it holds."""
-
-    def __len__(self):
-        return 7
-
-    def __str__(self):
-        return "3s"
-
-    def encode(self, *_):
-        return b"4s"
-
-    def isascii(self):
-        return False
 
 
 class Columns(unittest.TestCase):
@@ -113,12 +97,6 @@ class Columns(unittest.TestCase):
                 parse_many(text)
         with self.assertRaises(TypeError):
             parse_many(12)
-
-    def test_reads_what_a_subclass_holds(self):
-        texts = ["1s", Named("1m"), Named("1分"), Named("x")]
-        self.assertEqual(list(parse_many(texts[:3], cn_unit=True)), [SECOND, 60 * SECOND, 60 * SECOND])
-        error = error_of(parse_many, texts, cn_unit=True)
-        self.assertEqual((error.index, error.text, type(error.text)), (3, "x", str))
 
     def test_refuses_lone_surrogates(self):
         texts = ["1s", "\ud800", "1\udc00s", "\ud83d\ude00", "1µs"]
@@ -212,20 +190,6 @@ class Buffers(unittest.TestCase):
             self.assertEqual((str(error), error.report), ("at index 1: not UTF-8", "at index 1: not UTF-8"))
         # Two texts that are cut within a character
         self.assertEqual(list(parse_buffers("1µs".encode(), array("q", [0, 2, 4]), errors="coerce")[1]), [0, 1])
-
-    def test_wants_bytes_and_integers(self):
-        offsets = array("q", [0, 2])
-        for data in ["1s", None, 5]:
-            with self.assertRaises(TypeError):
-                parse_buffers(data, offsets)
-        table = memoryview(bytes(16)).cast("q", [2, 1])
-        for wrong in [[0, 2], array("d", [0, 2]), array("H", [0, 2]), b"\0\2", table, None]:
-            with self.subTest(offsets=wrong), self.assertRaises(TypeError):
-                parse_buffers(b"1s", wrong)
-        with self.assertRaises(BufferError):
-            parse_buffers(memoryview(b"1.s.")[::2], offsets)
-        with self.assertRaises(BufferError):
-            parse_buffers(b"1s", memoryview(offsets)[::-1])
 
 
 if __name__ == "__main__":

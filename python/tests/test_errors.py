@@ -7,11 +7,8 @@ import functools
 import operator
 import unittest
 
-from duration_str import Cause, DurationError, Expected, parse, parse_ns
-from tests.vectors import IS_UNDER, OPTIONS, VECTORS
-
-AFTER_NUMBER = Expected.UNIT | Expected.OPERATOR | Expected.END
-AFTER_UNIT = Expected.NUMBER | Expected.OPERATOR | Expected.END
+from duration_str import Cause, DurationError, Expected, parse_ns
+from tests.vectors import OPTIONS, VECTORS
 
 
 def error_of(text, **options):
@@ -24,27 +21,16 @@ def error_of(text, **options):
 
 
 class Errors(unittest.TestCase):
-    def test_stands_where_the_vectors_say(self):
-        for name, rows in VECTORS["faults"].items():
-            for options in filter(IS_UNDER[name], OPTIONS):
-                for text, pos, _ in rows:
-                    with self.subTest(text=text, **options):
-                        error = error_of(text, **options)
-                        self.assertEqual((error.text, error.pos), (text, pos))
-
     def test_tells_what_is_wrong(self):
         for text, names, cause, place, found, expected, line in VECTORS["refused"]:
             with self.subTest(text=text):
                 error = error_of(text, **dict.fromkeys(names, True))
+                self.assertIsInstance(error, ValueError)
                 pos = place and len(text.encode()[:place].decode())
                 self.assertEqual((error.cause.name, error.place, error.pos, error.found), (cause, place, pos, found))
                 kinds = (Expected[name.upper()] for name in expected)
                 self.assertEqual(error.expected, functools.reduce(operator.or_, kinds, Expected(0)))
                 self.assertEqual(str(error), line)
-
-    def test_is_a_value_error(self):
-        with self.assertRaisesRegex(ValueError, r'^unknown unit "x" at column 2 \(write y, .* or ns\)$'):
-            parse("1x")
 
     def test_reports_with_a_caret(self):
         long = f"1µs {'x' * 75}x"

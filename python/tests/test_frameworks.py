@@ -43,12 +43,6 @@ def run(name, *words):
 
 
 class Lines(unittest.TestCase):
-    def test_is_one_line(self):
-        for text in ["", "1x", "1m 3-5", "600y", "1s+2*3", "1µ\n2x", "\ud800", "x\r", "1\u2028"]:
-            with self.subTest(text=text), self.assertRaises(duration_str.DurationError) as told:
-                parse(text)
-            self.assertEqual([str(told.exception)], str(told.exception).splitlines())
-
     def test_is_a_timedelta_to_who_checks_at_run_time(self):
         annotated, *_ = typing.get_args(duration_str.Duration)
         self.assertIsInstance(parse("1h"), annotated)
@@ -149,7 +143,7 @@ class Models(unittest.TestCase):
             schema = self.model.model_json_schema(mode=mode)
             self.assertEqual(schema["properties"], {"timeout": {"title": "Timeout", "type": "string"}})
 
-    def bounded(self, **words):
+    def models_with(self, **words):
         """Models of one field that has these demands, assigned and in `Annotated`."""
         field = self.pydantic.Field(**words)
         for annotation, default in [
@@ -161,7 +155,7 @@ class Models(unittest.TestCase):
     def test_keeps_what_a_field_demands(self):
         accepted = {"gt": ["61min"], "ge": ["1h", "61min"], "lt": ["59min"], "le": ["59min", "1h"]}
         for demand, wanted in accepted.items():
-            for model in self.bounded(**{demand: HOUR}):
+            for model in self.models_with(**{demand: HOUR}):
                 for text in ["59min", "1h", "61min"]:
                     for read in [
                         lambda text=text: model(length=text),
@@ -177,7 +171,7 @@ class Models(unittest.TestCase):
     def test_writes_no_demand_that_json_schema_lacks(self):
         for demand in ["gt", "ge", "lt", "le"]:
             for mode in ["validation", "serialization"]:
-                for model in self.bounded(description="how long", **{demand: HOUR}):
+                for model in self.models_with(description="how long", **{demand: HOUR}):
                     schema = model.model_json_schema(mode=mode)["properties"]["length"]
                     schema.pop("default", None)
                     self.assertEqual(schema, {"title": "Length", "type": "string", "description": "how long"})

@@ -6,7 +6,6 @@ import concurrent.futures
 import datetime
 import gc
 import importlib
-import importlib.util
 import itertools
 import mmap
 import os
@@ -22,11 +21,20 @@ from duration_str import DurationError, DurationTypeError, format, format_many, 
 SECOND = 10**9
 
 
-class Longer(str):
-    """A str whose encoding is longer than it is."""
+class Named(str):
+    """A str that says other things of itself than it holds."""
+
+    def __len__(self):
+        return 7
+
+    def __str__(self):
+        return "3s"
 
     def encode(self, *_):
         return b"4s" * 1_000_000
+
+    def isascii(self):
+        return False
 
 
 class Equal(type):
@@ -70,24 +78,18 @@ def resident():
 
 class Hostile(unittest.TestCase):
     def test_reads_what_a_str_holds(self):
-        self.assertEqual(parse_ns(Longer("1s")), SECOND)
-        self.assertEqual(parse_many([Longer("1s")]).tolist(), [SECOND])
-        with self.assertRaises(DurationError) as told:
-            parse_ns(Longer("1x"))
-        self.assertEqual((told.exception.text, type(told.exception.text)), ("1x", str))
+        self.assertEqual(parse_ns(Named("1s")), SECOND)
+        self.assertEqual(parse_many(["1s", Named("1m"), Named("1分")], cn_unit=True).tolist(), [SECOND, 60 * SECOND, 60 * SECOND])
+        for call, given, index in [(parse_ns, Named("1x"), None), (parse_many, ["1s", Named("1x")], 1)]:
+            with self.assertRaises(DurationError) as told:
+                call(given)
+            self.assertEqual((told.exception.index, told.exception.text, type(told.exception.text)), (index, "1x", str))
 
     def test_asks_no_metaclass_what_a_str_is(self):
         wanted = (array("Q", [3 * SECOND, 0, 3 * SECOND]), array("Q", [1]))
         self.assertEqual(parse_many(["3s", Odd(), "3s"], errors="coerce"), wanted)
         with self.assertRaisesRegex(DurationTypeError, "^at index 1: .* not Odd$"):
             parse_many(["3s", Odd(), "3s"])
-
-    def test_refuses_what_is_no_str_as_a_value_too(self):
-        for value in [None, 5, b"1s", ["1s"], Odd()]:
-            for call in (parse, parse_ns):
-                with self.assertRaises(ValueError) as told:
-                    call(value)
-                self.assertIsInstance(told.exception, TypeError)
 
     def test_wants_one_text_and_known_options(self):
         for call in (parse, parse_ns):
@@ -137,19 +139,13 @@ class Hostile(unittest.TestCase):
 
     def test_refuses_other_buffers(self):
         wide = memoryview(bytes(24)).cast("q")
-        for data, offsets in [
-            ("1s", wide),
-            (memoryview(b"1s2s")[::2], wide),
-            (b"1s", wide[::2]),
-            (b"1s", wide[::-1]),
-            (b"1s", memoryview(bytes(16)).cast("q", [2, 1])),
-            (b"1s", memoryview(bytes(16)).cast("d")),
-            (b"1s", memoryview(bytes(2)).cast("?")),
-            (b"1s", memoryview(bytes(16)).cast("P")),
-            (b"1s", memoryview(bytes(8)).cast("q", [])),
-            (b"1s", 5),
-        ]:
-            with self.subTest(offsets=offsets), self.assertRaises((BufferError, TypeError)):
+        table, none = memoryview(bytes(16)).cast("q", [2, 1]), memoryview(bytes(8)).cast("q", [])
+        codes = [array("d", [0, 2]), array("H", [0, 2]), b"\0\2", *(memoryview(bytes(16)).cast(code) for code in "d?P")]
+        rows = [(TypeError, data, wide) for data in ("1s", None, 5)]
+        rows += [(TypeError, b"1s", offsets) for offsets in (table, none, *codes, [0, 2], None, 5)]
+        rows += [(BufferError, memoryview(b"1s2s")[::2], wide), (BufferError, b"1s", wide[::2]), (BufferError, b"1s", wide[::-1])]
+        for error, data, offsets in rows:
+            with self.subTest(data=data, offsets=offsets), self.assertRaises(error):
                 parse_buffers(data, offsets)
         self.assertEqual(parse_buffers(b"1s", memoryview(b"\0" + bytes(array("q", [0, 2])))[1:].cast("q")).tolist(), [SECOND])
 
@@ -203,21 +199,6 @@ class Hostile(unittest.TestCase):
             with mmap.mmap(written.fileno(), len(under), access=mmap.ACCESS_READ) as mapped:
                 views = [under, memoryview(under).toreadonly(), mapped]
                 self.read_while(write, lambda place: parse_any(views[place % 3], offsets))
-
-    @unittest.skipUnless(importlib.util.find_spec("numpy"), "NumPy is missing")
-    def test_reads_what_numpy_overwrites(self):
-        import numpy
-
-        columns = [numpy.frombuffer(encoded * 20_000, dtype="u1") for encoded in ["1µs".encode(), "😀".encode()]]
-        under = columns[0].copy()
-        view = under.view()
-        view.flags.writeable = False
-
-        def write():
-            for column in columns:
-                under[:] = column
-
-        self.read_while(write, lambda _: parse_any(view, array("q", range(0, 80_001, 4))))
 
     @unittest.skipUnless(sys.version_info >= (3, 12), "interpreters share a lock before CPython 3.12")
     def test_serves_interpreters_with_locks_of_their_own(self):

@@ -18,13 +18,13 @@ use core::fmt;
 /// ```
 #[derive(Clone, Debug, PartialEq, Eq, Hash)]
 pub enum DError {
-    /// Any fault but an overflow, by the last line of its message.
+    /// Any fault except an overflow, by the last line of its message.
     ParseError(String),
     /// A term, a step or the value is 2^64 nanoseconds or more.
     OverflowError,
 }
 
-/// What a call answers whose error is [`DError`].
+/// The result of a call whose error is [`DError`].
 pub type DResult<T> = Result<T, DError>;
 
 impl fmt::Display for DError {

@@ -6,9 +6,9 @@ use duration_str_core::{self as proved, Cause, Expected, Options};
 
 /// A refused text: why and where.
 ///
-/// It displays as one line, for what stands around it in a terminal or a log: what is wrong, at which column, counted in
-/// characters from 1, and at most 40 characters of the text, escaped where they are not safe within a line.
-/// [`Fault::report`] is for a person who sees nothing else: the text, a caret, and the line.
+/// It displays as one line, for terminals and logs: what is wrong, at which column, counted in characters from 1, and at
+/// most 40 characters of the text, escaped where they are not safe within one line. [`Fault::report`] has the text and a
+/// caret, too.
 ///
 /// ```
 /// use duration_str::{Cause, Options, parse_with};
@@ -63,7 +63,7 @@ impl<'a> Fault<'a> {
         self.fault.cause()
     }
 
-    /// Where the fault stands: the byte of the text, or `None` for a fault without a position.
+    /// The byte of the text at which the fault is, or `None` if it has no place.
     ///
     /// ```
     /// use duration_str::{Options, parse_with};
@@ -91,7 +91,7 @@ impl<'a> Fault<'a> {
         }
     }
 
-    /// For a syntax fault: the token that stands at its place, or `None` at the end of the text.
+    /// For a syntax fault: the token at its place, or `None` at the end of the text.
     ///
     /// ```
     /// use duration_str::{Options, parse_with};
@@ -120,8 +120,8 @@ impl<'a> Fault<'a> {
         self.fault.write_one_line(buffer)
     }
 
-    /// The text, below it a caret at the place of a syntax fault, and below that the line. It is the line alone for
-    /// another cause, for a text of more than 80 characters, and for one with something in it that the line would escape.
+    /// The text, below it a caret at the place of a syntax fault, and below that the line; or the line alone for another
+    /// cause, for a text of more than 80 characters, and for one with characters that the line would escape.
     ///
     /// ```
     /// use duration_str::{Options, parse_with};
@@ -135,7 +135,7 @@ impl<'a> Fault<'a> {
         report(self.text(), place, self.to_string())
     }
 
-    /// The message that the calls of `duration-str` 0.19.0 refuse by.
+    /// The message with which the calls of `duration-str` 0.19.0 refuse.
     #[cold]
     #[inline(never)]
     pub(crate) fn message(&self) -> String {
@@ -157,7 +157,7 @@ impl<'a> Fault<'a> {
         }
     }
 
-    /// The same as an error with a text of its own.
+    /// The same, as an error that owns its text.
     ///
     /// ```
     /// use duration_str::{DurationError, Fault, Options, parse_with};
@@ -173,11 +173,7 @@ impl<'a> Fault<'a> {
     #[inline(never)]
     #[must_use]
     pub fn into_owned(self) -> DurationError {
-        DurationError {
-            text: self.text().to_string(),
-            cause: self.cause(),
-            options: self.options,
-        }
+        DurationError { text: self.text().to_string(), cause: self.cause(), options: self.options }
     }
 }
 
@@ -203,7 +199,7 @@ impl fmt::Debug for Fault<'_> {
 
 impl core::error::Error for Fault<'_> {}
 
-/// The error of [`parse_duration`](crate::parse_duration) and of `str::parse`: a [`Fault`] with a text of its own.
+/// The error of [`parse_duration`](crate::parse_duration) and of `str::parse`: a [`Fault`] that owns its text.
 ///
 /// It displays as one line, as that does.
 ///
@@ -258,7 +254,7 @@ impl DurationError {
         self.cause
     }
 
-    /// Where the fault stands, as [`Fault::place`] says it.
+    /// The byte at which the fault is, as in [`Fault::place`].
     ///
     /// ```
     /// assert_eq!("1x".parse::<duration_str::HumanDuration>().unwrap_err().place(), Some(1));
@@ -268,7 +264,7 @@ impl DurationError {
         self.cause.place()
     }
 
-    /// The text with a caret and the line, as [`Fault::report`] says it.
+    /// The text with a caret and the line, as in [`Fault::report`].
     ///
     /// ```
     /// let error = "600y".parse::<duration_str::HumanDuration>().unwrap_err();
@@ -326,8 +322,6 @@ fn is_quoted_as_it_is(text: &str) -> bool {
     let fault = proved::Fault::new(text, Cause::NumberTooLarge { place: None });
     let mut buffer = [0; Fault::BUFFER_LEN];
     let line = fault.map_or("", |fault| fault.write_one_line(&mut buffer));
-    let before = line
-        .strip_suffix('"')
-        .and_then(|line| line.strip_suffix(text));
+    let before = line.strip_suffix('"').and_then(|line| line.strip_suffix(text));
     before.is_some_and(|line| line.ends_with('"'))
 }

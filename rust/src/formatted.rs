@@ -43,17 +43,13 @@ pub struct FormattedDuration {
 /// ```
 #[must_use]
 pub const fn format_duration(duration: Duration) -> FormattedDuration {
-    FormattedDuration::signed(false, duration)
+    FormattedDuration::with_sign(false, duration)
 }
 
 impl FormattedDuration {
     /// A duration by its sign and magnitude.
-    pub(crate) const fn signed(is_negative: bool, magnitude: Duration) -> FormattedDuration {
-        FormattedDuration {
-            is_negative,
-            magnitude,
-            format: Format::whole(),
-        }
+    pub(crate) const fn with_sign(is_negative: bool, magnitude: Duration) -> FormattedDuration {
+        FormattedDuration { is_negative, magnitude, format: Format::whole() }
     }
 
     /// The duration; of a negative one the magnitude. It has the name of humantime's method.
@@ -142,54 +138,33 @@ chooses! {
     style: Style,
 }
 
-/// A minus where the duration is negative and the text no zero, and the text of its magnitude.
+/// A minus where the duration is negative and the text no zero, the text of its magnitude, and the fill that is asked for
+/// around them. A precision, which `Formatter::pad` cuts at, is ignored.
 impl fmt::Display for FormattedDuration {
     fn fmt(&self, f: &mut fmt::Formatter<'_>) -> fmt::Result {
-        self.pad(
-            f,
-            write_within(&self.magnitude, self.format, &mut [0; STYLED_BUFFER_SIZE]),
-        )
+        let mut buffer = [0; STYLED_BUFFER_SIZE];
+        let magnitude = write_within(&self.magnitude, self.format, &mut buffer);
+        // Only a zero begins with `0`.
+        let has_minus = self.is_negative && !magnitude.starts_with('0');
+        match (has_minus, f.width()) {
+            (false, None) => f.write_str(magnitude),
+            (_, width) => pad(f, if has_minus { "-" } else { "" }, magnitude, width.unwrap_or(0)),
+        }
     }
 }
 
-impl FormattedDuration {
-    /// Writes the sign and the magnitude with the width and the fill that are asked for. A precision, which
-    /// `Formatter::pad` cuts at, is ignored.
-    #[inline]
-    fn pad(&self, f: &mut fmt::Formatter<'_>, magnitude: &str) -> fmt::Result {
-        match f.width() {
-            None => self.write(f, magnitude),
-            Some(width) => self.pad_to(width, f, magnitude),
-        }
-    }
-
-    /// Writes them, and the fill around them that makes so many characters.
-    #[cold]
-    #[inline(never)]
-    fn pad_to(&self, width: usize, f: &mut fmt::Formatter<'_>, magnitude: &str) -> fmt::Result {
-        let count = usize::from(self.has_minus(magnitude)) + magnitude.chars().count();
-        let missing = width.saturating_sub(count);
-        let before = match f.align() {
-            Some(fmt::Alignment::Right) => missing,
-            Some(fmt::Alignment::Center) => missing / 2,
-            Some(fmt::Alignment::Left) | None => 0,
-        };
-        let fill = f.fill();
-        (0..before).try_for_each(|_| f.write_char(fill))?;
-        self.write(f, magnitude)?;
-        (before..missing).try_for_each(|_| f.write_char(fill))
-    }
-
-    /// Whether a minus stands before the text: only a zero begins with `0`.
-    fn has_minus(&self, magnitude: &str) -> bool {
-        self.is_negative && !magnitude.starts_with('0')
-    }
-
-    /// Writes the sign and the magnitude.
-    fn write(&self, f: &mut fmt::Formatter<'_>, magnitude: &str) -> fmt::Result {
-        if self.has_minus(magnitude) {
-            f.write_char('-')?;
-        }
-        f.write_str(magnitude)
-    }
+/// Writes the sign and the magnitude, and the fill around them that makes so many characters.
+#[inline]
+fn pad(f: &mut fmt::Formatter<'_>, sign: &str, magnitude: &str, width: usize) -> fmt::Result {
+    let missing = width.saturating_sub(sign.len() + magnitude.chars().count());
+    let before = match f.align() {
+        Some(fmt::Alignment::Right) => missing,
+        Some(fmt::Alignment::Center) => missing / 2,
+        Some(fmt::Alignment::Left) | None => 0,
+    };
+    let fill = f.fill();
+    (0..before).try_for_each(|_| f.write_char(fill))?;
+    f.write_str(sign)?;
+    f.write_str(magnitude)?;
+    (before..missing).try_for_each(|_| f.write_char(fill))
 }

@@ -57,8 +57,8 @@
 //! # Ok::<(), serde_json::Error>(())
 //! ```
 use crate::human_duration::HumanDuration;
+use crate::human_format::Sealed;
 use crate::parser::{ADDITIONS, CASE_SENSITIVE, parse_with};
-use crate::sealed::Sealed;
 use crate::serde_texts::Length;
 use crate::{FORMAT_BUFFER_SIZE, write_human};
 use alloc::vec::Vec;
@@ -92,9 +92,7 @@ pub trait HumanText: Sealed + Sized {
 
     /// Reads a text, also whole seconds, or with capitals and small letters that differ, as `HOW` says.
     #[doc(hidden)]
-    fn deserialize_human<'de, D: Deserializer<'de>, const HOW: u8>(
-        deserializer: D,
-    ) -> Result<Self, D::Error>;
+    fn deserialize_human<'de, D: Deserializer<'de>, const HOW: u8>(deserializer: D) -> Result<Self, D::Error>;
 }
 
 /// Prints durations as text.
@@ -129,9 +127,7 @@ pub fn serialize<T: HumanText, S: Serializer>(value: &T, serializer: S) -> Resul
 /// assert_eq!(duration, Duration::from_secs(60));
 /// # Ok::<(), serde_json::Error>(())
 /// ```
-pub fn deserialize<'de, T: HumanText, D: Deserializer<'de>>(
-    deserializer: D,
-) -> Result<T, D::Error> {
+pub fn deserialize<'de, T: HumanText, D: Deserializer<'de>>(deserializer: D) -> Result<T, D::Error> {
     T::deserialize_human::<D, TEXT>(deserializer)
 }
 
@@ -140,26 +136,37 @@ pub(crate) const TEXT: u8 = 0;
 pub(crate) const SECONDS: u8 = 1;
 pub(crate) const CASE: u8 = 2;
 
-/// A text, or its bytes, is read as a duration.
+/// A text, or its bytes, is read as a duration, and where `HOW` says so a whole number as seconds.
 struct Text<T, const HOW: u8>(PhantomData<T>);
 
 impl<T: Length, const HOW: u8> Visitor<'_> for Text<T, HOW> {
     type Value = T;
 
     fn expecting(&self, f: &mut fmt::Formatter<'_>) -> fmt::Result {
-        f.write_str("a duration such as '1min 30s'")
+        f.write_str("a duration such as '1min 30s'")?;
+        f.write_str(if HOW == SECONDS { ", or whole seconds of at most 584 years" } else { "" })
+    }
+
+    fn visit_u64<E: de::Error>(self, secs: u64) -> Result<T, E> {
+        match secs.checked_mul(1_000_000_000) {
+            Some(nanos) if HOW == SECONDS => Ok(T::of_std(Duration::from_nanos(nanos))),
+            None if HOW == SECONDS => Err(E::invalid_value(Unexpected::Unsigned(secs), &self)),
+            _ => Err(E::invalid_type(Unexpected::Unsigned(secs), &self)),
+        }
+    }
+
+    fn visit_i64<E: de::Error>(self, secs: i64) -> Result<T, E> {
+        match u64::try_from(secs) {
+            Ok(secs) => self.visit_u64(secs),
+            Err(_) if HOW == SECONDS => Err(E::invalid_value(Unexpected::Signed(secs), &self)),
+            Err(_) => Err(E::invalid_type(Unexpected::Signed(secs), &self)),
+        }
     }
 
     fn visit_str<E: de::Error>(self, text: &str) -> Result<T, E> {
-        let options = if HOW == CASE {
-            CASE_SENSITIVE
-        } else {
-            ADDITIONS
-        };
+        let options = if HOW == CASE { CASE_SENSITIVE } else { ADDITIONS };
         // Before the line stands what it is about, since the format adds its own line and column to it.
-        parse_with(text, options)
-            .map(T::of_std)
-            .map_err(|fault| E::custom(format_args!("invalid duration: {fault}")))
+        parse_with(text, options).map(T::of_std).map_err(|fault| E::custom(format_args!("invalid duration: {fault}")))
     }
 
     fn visit_bytes<E: de::Error>(self, bytes: &[u8]) -> Result<T, E> {
@@ -167,39 +174,6 @@ impl<T: Length, const HOW: u8> Visitor<'_> for Text<T, HOW> {
             Ok(text) => self.visit_str(text),
             Err(_) => Err(E::invalid_value(Unexpected::Bytes(bytes), &self)),
         }
-    }
-}
-
-/// A whole number is read as seconds, and all else as [`Text`] reads it.
-struct TextOrSeconds<T>(PhantomData<T>);
-
-impl<T: Length> Visitor<'_> for TextOrSeconds<T> {
-    type Value = T;
-
-    fn expecting(&self, f: &mut fmt::Formatter<'_>) -> fmt::Result {
-        f.write_str("a duration such as '1min 30s', or whole seconds of at most 584 years")
-    }
-
-    fn visit_u64<E: de::Error>(self, secs: u64) -> Result<T, E> {
-        match secs.checked_mul(1_000_000_000) {
-            Some(nanos) => Ok(T::of_std(Duration::from_nanos(nanos))),
-            None => Err(E::invalid_value(Unexpected::Unsigned(secs), &self)),
-        }
-    }
-
-    fn visit_i64<E: de::Error>(self, secs: i64) -> Result<T, E> {
-        match u64::try_from(secs) {
-            Ok(secs) => self.visit_u64(secs),
-            Err(_) => Err(E::invalid_value(Unexpected::Signed(secs), &self)),
-        }
-    }
-
-    fn visit_str<E: de::Error>(self, text: &str) -> Result<T, E> {
-        Text::<T, SECONDS>(PhantomData).visit_str(text)
-    }
-
-    fn visit_bytes<E: de::Error>(self, bytes: &[u8]) -> Result<T, E> {
-        Text::<T, SECONDS>(PhantomData).visit_bytes(bytes)
     }
 }
 
@@ -216,14 +190,9 @@ impl<T: Length> HumanText for T {
         serializer.serialize_str(write_human(&duration, &mut [0; FORMAT_BUFFER_SIZE]))
     }
 
-    fn deserialize_human<'de, D: Deserializer<'de>, const HOW: u8>(
-        deserializer: D,
-    ) -> Result<T, D::Error> {
-        if HOW == SECONDS {
-            deserializer.deserialize_any(TextOrSeconds(PhantomData))
-        } else {
-            deserializer.deserialize_str(Text::<T, HOW>(PhantomData))
-        }
+    fn deserialize_human<'de, D: Deserializer<'de>, const HOW: u8>(deserializer: D) -> Result<T, D::Error> {
+        let text = Text::<T, HOW>(PhantomData);
+        if HOW == SECONDS { deserializer.deserialize_any(text) } else { deserializer.deserialize_str(text) }
     }
 }
 
@@ -247,9 +216,7 @@ impl<T: HumanText> HumanText for Option<T> {
         self.as_ref().map(Part).serialize(serializer)
     }
 
-    fn deserialize_human<'de, D: Deserializer<'de>, const HOW: u8>(
-        deserializer: D,
-    ) -> Result<Self, D::Error> {
+    fn deserialize_human<'de, D: Deserializer<'de>, const HOW: u8>(deserializer: D) -> Result<Self, D::Error> {
         let value = Option::<Part<T, HOW>>::deserialize(deserializer)?;
         Ok(value.map(|Part(value)| value))
     }
@@ -260,9 +227,7 @@ impl<T: HumanText> HumanText for Vec<T> {
         serializer.collect_seq(self.iter().map(Part))
     }
 
-    fn deserialize_human<'de, D: Deserializer<'de>, const HOW: u8>(
-        deserializer: D,
-    ) -> Result<Self, D::Error> {
+    fn deserialize_human<'de, D: Deserializer<'de>, const HOW: u8>(deserializer: D) -> Result<Self, D::Error> {
         let values = Vec::<Part<T, HOW>>::deserialize(deserializer)?;
         Ok(values.into_iter().map(|Part(value)| value).collect())
     }

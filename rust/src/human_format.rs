@@ -1,6 +1,5 @@
 //! Printing, of the durations of each crate.
 use crate::formatted::{FormattedDuration, format_duration};
-use crate::sealed::Sealed;
 use alloc::string::{String, ToString};
 use core::time::Duration;
 use duration_str_core::{FORMAT_BUFFER_SIZE, write_human};
@@ -63,10 +62,8 @@ impl HumanFormat for chrono::Duration {
     fn formatted(&self) -> FormattedDuration {
         let secs = self.num_seconds();
         let after_secs = *self - chrono::Duration::seconds(secs);
-        let nanos = after_secs
-            .num_nanoseconds()
-            .expect("less than a second is left");
-        signed(*self < chrono::Duration::zero(), secs, nanos)
+        let nanos = after_secs.num_nanoseconds().expect("less than a second is left");
+        with_sign(*self < chrono::Duration::zero(), secs, nanos)
     }
 }
 
@@ -74,14 +71,30 @@ impl HumanFormat for chrono::Duration {
 impl HumanFormat for time::Duration {
     fn formatted(&self) -> FormattedDuration {
         let nanos = self.subsec_nanoseconds().into();
-        signed(self.is_negative(), self.whole_seconds(), nanos)
+        with_sign(self.is_negative(), self.whole_seconds(), nanos)
     }
 }
 
 /// A duration of so many seconds and nanoseconds, which have one sign.
 #[cfg(any(feature = "chrono", feature = "time"))]
-fn signed(is_negative: bool, secs: i64, nanos: i64) -> FormattedDuration {
-    let magnitude =
-        Duration::from_secs(secs.unsigned_abs()) + Duration::from_nanos(nanos.unsigned_abs());
-    FormattedDuration::signed(is_negative, magnitude)
+fn with_sign(is_negative: bool, secs: i64, nanos: i64) -> FormattedDuration {
+    let magnitude = Duration::from_secs(secs.unsigned_abs()) + Duration::from_nanos(nanos.unsigned_abs());
+    FormattedDuration::with_sign(is_negative, magnitude)
 }
+
+/// What keeps traits to the types that have them, so that a later version can give them another method.
+pub trait Sealed {}
+
+impl Sealed for core::time::Duration {}
+
+#[cfg(feature = "chrono")]
+impl Sealed for chrono::Duration {}
+
+#[cfg(feature = "time")]
+impl Sealed for time::Duration {}
+
+#[cfg(feature = "serde")]
+impl<T: Sealed> Sealed for Option<T> {}
+
+#[cfg(feature = "serde")]
+impl<T: Sealed> Sealed for alloc::vec::Vec<T> {}

@@ -41,9 +41,7 @@ pub use crate::human::serialize;
 /// assert_eq!(minute, Duration::from_secs(60));
 /// # Ok::<(), serde_json::Error>(())
 /// ```
-pub fn deserialize<'de, T: HumanText, D: Deserializer<'de>>(
-    deserializer: D,
-) -> Result<T, D::Error> {
+pub fn deserialize<'de, T: HumanText, D: Deserializer<'de>>(deserializer: D) -> Result<T, D::Error> {
     T::deserialize_human::<D, CASE>(deserializer)
 }
 

@@ -13,16 +13,13 @@
 //!
 //! # Which call to take
 //!
-//! - [`parse_duration`] for a text of which you know nothing else. Its [`DurationError`] owns the text, so it goes through
-//!   `?`, threads and chains of errors.
+//! - [`parse_duration`] for most texts. Its [`DurationError`] owns the text, so it goes through `?`, threads and chains of
+//!   errors.
 //! - [`parse_with_units`] to refuse `90` and `1h 30`, which the others read as seconds.
 //! - [`parse_with`] for other options, and where nothing may be allocated: its [`Fault`] borrows the text.
 //! - [`parse`], [`parse_std`], which is the same, and the calls for `chrono` and `time` are those of `duration-str` 0.19.0.
-//!   They refuse by a `String` of three lines, and read as the features of the whole program say.
-#![cfg_attr(
-    feature = "macros",
-    doc = "- [`duration!`] for a text in the source, which is read at compile time:"
-)]
+//!   Their error is a `String` of three lines, and the features of the whole program decide what they read.
+#![cfg_attr(feature = "macros", doc = "- [`duration!`] for a text in the source, which is read at compile time:")]
 #![cfg_attr(
     not(feature = "macros"),
     doc = "- `duration!` for a text in the source, which is read at compile time, by the feature `macros`:"
@@ -58,8 +55,8 @@
 //!
 //! # Command lines
 //!
-//! clap takes a [`HumanDuration`], and [`parse_duration`] for a `Duration`. With `allow_hyphen_values` also `-5m` gets to it,
-//! and is refused as a negative duration; clap would take it for an option.
+//! clap takes a [`HumanDuration`], and [`parse_duration`] for a `Duration`. With `allow_hyphen_values` `-5m` is
+//! refused as a negative duration, and not taken for an option.
 //!
 //! ```text
 //! /// How long a request may take
@@ -89,8 +86,8 @@
 //!
 //! # Why and where a text is refused
 //!
-//! A [`Fault`] and a [`DurationError`] display as one line. Their `report` is for a person who sees nothing else: the text
-//! with a caret below the place, and the line.
+//! A [`Fault`] and a [`DurationError`] display as one line. Their `report` has the text with a caret below the place,
+//! and the line.
 //!
 //! ```
 //! use duration_str::{Options, parse_with};
@@ -106,7 +103,7 @@
 //!
 //! Terms, each a number and a unit, are joined by `+` or by `*`, or follow one another, which adds them; one text has sums
 //! or products, not both. A product multiplies its terms in seconds. After a number the unit may be left out before an
-//! operator and at the end, and is seconds. Blanks may stand anywhere but inside a number or a unit.
+//! operator and at the end, and is seconds. Blanks may be anywhere except inside a number or a unit.
 //!
 //! <!-- The table is made by tests/repository --write. -->
 //! | unit | names | with `cn_unit` also |
@@ -130,17 +127,17 @@
 //! The crate is `no_std`, and needs `alloc`. `serde`, `chrono` and `time`, which are on by default, have the calls for these
 //! crates; only those of `duration-str` 0.19.0 and fields in configuration files need them. `macros` has `duration!`. For
 //! the calls of `duration-str` 0.19.0 `no_calc` (no operators), `lowercase` (capitals are not folded) and `cn_unit` (Chinese
-//! names) turn the option of their name on. Cargo joins the features that all crates of a program ask for, so for the
-//! other calls `cn_unit` alone counts, which takes nothing away; they have options by [`parse_with`].
+//! names) turn the option of their name on. Cargo joins the features that all crates of a program ask for, so the
+//! other calls follow `cn_unit` alone, which takes nothing away; [`parse_with`] takes options.
 //!
 //! # What is proved
 //!
-//! What reads and prints is proved: it is the source of a proved library with its contracts taken out. There are three
+//! What reads and prints is proved: it is the source of a proved library without its contracts. There are three
 //! `unsafe` blocks, proved with the rest of it, where a printed duration, a message and a line are known to be UTF-8.
 //!
 //! # From humantime and `duration-str` 0.19.0
 //!
-//! Those who come from humantime change one import to `use` the module [`humantime`] of this crate.
+//! To come from humantime, change one import to `use` the module [`humantime`] of this crate.
 //!
 //! This crate has the public interface of `duration-str` 0.19.0 from crates.io: [`parse`], whose error is a `String`,
 //! [`HumanFormat`], `deserialize_duration` and the others, also the calls of the module `dates`, for a moment so long from now.
@@ -173,7 +170,6 @@ pub mod humantime;
 #[cfg(feature = "serde")]
 pub mod humantime_serde;
 mod parser;
-mod sealed;
 #[cfg(feature = "serde")]
 mod serde_texts;
 mod with_units;
@@ -182,13 +178,12 @@ mod with_units;
 #[cfg(feature = "chrono")]
 #[doc(hidden)]
 pub use dates::{
-    after_naive_date, after_naive_date_time, before_naive_date, before_naive_date_time,
-    moment_after, moment_before,
+    after_naive_date, after_naive_date_time, before_naive_date, before_naive_date_time, moment_after, moment_before,
 };
 #[doc(inline)]
 pub use duration_str_core::{
-    Cause, CondUnit, Expected, FORMAT_BUFFER_SIZE, Format, Options, STYLED_BUFFER_SIZE, Style,
-    TimeUnit, UnknownStyle, UnknownUnit, write_human, write_within,
+    Cause, CondUnit, Expected, FORMAT_BUFFER_SIZE, Format, Options, STYLED_BUFFER_SIZE, Style, TimeUnit, UnknownStyle,
+    UnknownUnit, write_human, write_within,
 };
 // For the core's examples; here the buffers' sizes and `TimeUnit::ALL` say as much.
 #[doc(hidden)]

@@ -35,10 +35,7 @@ pub(crate) const FEATURES: Options = Options {
 
 /// Those under which all other calls read that take none. The feature that adds names counts; those that take something
 /// away may be asked for by any crate of a program, and would break what the others read.
-pub(crate) const ADDITIONS: Options = Options {
-    cn_unit: FEATURES.cn_unit,
-    ..Options::off()
-};
+pub(crate) const ADDITIONS: Options = Options { cn_unit: FEATURES.cn_unit, ..Options::off() };
 
 /// Those of the module `humantime`.
 pub(crate) const CASE_SENSITIVE: Options = ADDITIONS.with_lowercase();
@@ -83,10 +80,9 @@ pub fn parse(input: impl AsRef<str>) -> Result<Duration, String> {
     read(input.as_ref())
 }
 
-/// Reads a text such as `1h 30m`. It can be handed on as it is, such as to `value_parser` of clap, and has the name of
-/// humantime's function.
+/// Reads a text such as `1h 30m`. It can be a `value_parser` of clap, and has the name of humantime's function.
 ///
-/// All options are off, whatever features are on, but that `cn_unit` adds its names. [`parse_with`] has the others.
+/// All options are off, whatever features are on, except that `cn_unit` adds its names. [`parse_with`] takes options.
 ///
 /// # Errors
 ///
@@ -164,6 +160,5 @@ pub fn parse_time(input: impl AsRef<str>) -> Result<time::Duration, String> {
 /// The value of a text as a duration of `time`.
 #[cfg(feature = "time")]
 pub(crate) fn time_of(length: Duration) -> time::Duration {
-    time::Duration::try_from(length)
-        .expect("2^64 nanoseconds are 584 years, and time's durations go beyond")
+    time::Duration::try_from(length).expect("2^64 nanoseconds are 584 years, and time's durations go beyond")
 }

@@ -1,6 +1,6 @@
 //! Durations in what serde reads.
+use crate::human_format::Sealed;
 use crate::parser::parse;
-use crate::sealed::Sealed;
 use core::fmt;
 use core::marker::PhantomData;
 use core::time::Duration;
@@ -55,9 +55,7 @@ impl<'de, T: Length> Visitor<'de> for Optional<T> {
         if text.is_empty() {
             return Ok(None);
         }
-        parse(text)
-            .map(|length| Some(T::of_std(length)))
-            .map_err(E::custom)
+        parse(text).map(|length| Some(T::of_std(length))).map_err(E::custom)
     }
 
     fn visit_bytes<E: Error>(self, bytes: &[u8]) -> Result<Option<T>, E> {
@@ -134,17 +132,13 @@ macro_rules! deserializes {
         }
 
         impl<'de> DeserializeDuration<'de> for $length {
-            fn deserialize_duration<D: Deserializer<'de>>(
-                deserializer: D,
-            ) -> Result<Self, D::Error> {
+            fn deserialize_duration<D: Deserializer<'de>>(deserializer: D) -> Result<Self, D::Error> {
                 deserializer.deserialize_any(Required(PhantomData))
             }
         }
 
         impl<'de> DeserializeDuration<'de> for Option<$length> {
-            fn deserialize_duration<D: Deserializer<'de>>(
-                deserializer: D,
-            ) -> Result<Self, D::Error> {
+            fn deserialize_duration<D: Deserializer<'de>>(deserializer: D) -> Result<Self, D::Error> {
                 deserializer.deserialize_option(Optional(PhantomData))
             }
         }
@@ -154,24 +148,14 @@ macro_rules! deserializes {
         /// # Errors
         ///
         /// That of the format, also for a text that is refused.
-        #[deprecated(
-            since = "0.19.0",
-            note = "[`deserialize_duration`] reads optional durations too"
-        )]
-        pub fn $option_name<'de, D: Deserializer<'de>>(
-            deserializer: D,
-        ) -> Result<Option<$length>, D::Error> {
+        #[deprecated(since = "0.19.0", note = "[`deserialize_duration`] reads optional durations too")]
+        pub fn $option_name<'de, D: Deserializer<'de>>(deserializer: D) -> Result<Option<$length>, D::Error> {
             DeserializeDuration::deserialize_duration(deserializer)
         }
     };
 }
 
-deserializes!(
-    Duration,
-    core::convert::identity,
-    Some,
-    deserialize_option_duration
-);
+deserializes!(Duration, core::convert::identity, Some, deserialize_option_duration);
 #[cfg(feature = "chrono")]
 deserializes!(
     chrono::Duration,
@@ -195,9 +179,7 @@ deserializes!(
 ///
 /// That of [`deserialize_duration`].
 #[cfg(feature = "chrono")]
-pub fn deserialize_duration_chrono<'de, D: Deserializer<'de>>(
-    deserializer: D,
-) -> Result<chrono::Duration, D::Error> {
+pub fn deserialize_duration_chrono<'de, D: Deserializer<'de>>(deserializer: D) -> Result<chrono::Duration, D::Error> {
     DeserializeDuration::deserialize_duration(deserializer)
 }
 
@@ -209,8 +191,6 @@ pub fn deserialize_duration_chrono<'de, D: Deserializer<'de>>(
 ///
 /// That of [`deserialize_duration`].
 #[cfg(feature = "time")]
-pub fn deserialize_duration_time<'de, D: Deserializer<'de>>(
-    deserializer: D,
-) -> Result<time::Duration, D::Error> {
+pub fn deserialize_duration_time<'de, D: Deserializer<'de>>(deserializer: D) -> Result<time::Duration, D::Error> {
     DeserializeDuration::deserialize_duration(deserializer)
 }

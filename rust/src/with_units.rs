@@ -32,14 +32,10 @@ pub fn parse_with_units(input: &str) -> Result<Duration, UnitError> {
         },
         Err(fault) => (fault.place(), Some(fault.cause())),
     };
-    Err(UnitError {
-        text: input.to_string(),
-        place,
-        cause,
-    })
+    Err(UnitError { text: input.to_string(), place, cause })
 }
 
-/// Where the first unit is missing: what stands there instead follows a number.
+/// Where the first unit is missing after a number.
 fn missing_unit(text: &str) -> Option<usize> {
     let mut needs_unit = false;
     for token in Tokens::new(text, ADDITIONS) {
@@ -86,7 +82,7 @@ impl UnitError {
         self.cause
     }
 
-    /// Where the fault stands, or the unit is missing, as [`Fault::place`] says it.
+    /// The byte at which the fault is, or at which the unit is missing, as in [`Fault::place`].
     ///
     /// ```
     /// assert_eq!(duration_str::parse_with_units("90 + 1m").unwrap_err().place(), Some(3));
@@ -112,8 +108,7 @@ impl UnitError {
 
     /// The fault for which `parse_duration` refuses the text.
     fn fault(&self) -> Option<Fault<'_>> {
-        self.cause
-            .map(|cause| Fault::of(&self.text, cause, ADDITIONS))
+        self.cause.map(|cause| Fault::of(&self.text, cause, ADDITIONS))
     }
 
     /// The line of a unit that is missing. The text is one that is read, so an operator or the end is at the place.

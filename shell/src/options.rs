@@ -91,11 +91,7 @@ impl Choices {
     }
 
     pub fn reading(&self) -> Options {
-        Options {
-            no_calc: self.no_calc,
-            lowercase: self.lowercase,
-            cn_unit: self.cn_unit,
-        }
+        Options { no_calc: self.no_calc, lowercase: self.lowercase, cn_unit: self.cn_unit }
     }
 
     pub fn printed(&self, duration: Duration) -> String {

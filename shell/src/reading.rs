@@ -14,10 +14,7 @@ pub struct Refusal {
 
 impl Refusal {
     pub fn new(message: &str) -> Refusal {
-        Refusal {
-            message: message.to_string(),
-            ..Refusal::default()
-        }
+        Refusal { message: message.to_string(), ..Refusal::default() }
     }
 }
 

@@ -16,8 +16,8 @@
 #define ROOM (1u << 18)
 #define CANARY 0xa5
 #define CANARIES 32u
-#define CHOICES 8u
 #define ALL_OPTIONS (DURATION_STR_NO_CALC | DURATION_STR_LOWERCASE | DURATION_STR_CN_UNIT)
+#define CHOICES (ALL_OPTIONS + 1u)
 
 /* ---- Failing */
 
@@ -147,31 +147,12 @@ static void check_message(struct text text, uint32_t options)
     }
 }
 
-/* ---- Numbers that follow from a text */
-
-static uint64_t state;
-
-static uint64_t any(void)
-{
-    state += 0x9e3779b97f4a7c15u;
-    uint64_t mixed = (state ^ state >> 30) * 0xbf58476d1ce4e5b9u;
-    mixed = (mixed ^ mixed >> 27) * 0x94d049bb133111ebu;
-    return mixed ^ mixed >> 31;
-}
-
-static void start_from(struct text text)
-{
-    state = 0xcbf29ce484222325u;
-    for (size_t at = 0; at < text.length; at++)
-        state = (state ^ text.bytes[at]) * 0x100000001b3u;
-}
-
 /* ---- All together */
 
 /* The plain call agrees with the full one. */
 static void check_plain(struct text text, struct duration_str_answer answer)
 {
-    uint64_t before = any(), *nanos = (void *)buffer_at(number_end, sizeof *nanos);
+    uint64_t before = 0x0123456789abcdef, *nanos = (void *)buffer_at(number_end, sizeof *nanos);
     memcpy(nanos, &before, sizeof before);
     bool read = duration_str_parse((const char *)text.bytes, text.length, nanos);
     HOLDS(read == (answer.cause == DURATION_STR_READ) && *nanos == (read ? answer.nanos : before));
@@ -194,11 +175,10 @@ static void count(struct duration_str_answer answer)
 static void check(struct text text)
 {
     struct duration_str_answer answers[CHOICES];
-    start_from(text);
     for (uint32_t options = 0; options < CHOICES; options++) {
         struct duration_str_answer answer = answers[options] = read_with(text, options);
         count(answer);
-        HOLDS(are_equal(answer, read_with(text, options | ((uint32_t)any() & ~(uint32_t)ALL_OPTIONS))));
+        HOLDS(are_equal(answer, read_with(text, options | ~(uint32_t)ALL_OPTIONS)));
         if (answer.cause == DURATION_STR_READ && (options == 0 || answer.nanos != answers[0].nanos))
             check_printed(answer.nanos);
         if (options > 0 && are_equal(answer, answers[0]))

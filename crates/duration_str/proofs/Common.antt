@@ -25,7 +25,7 @@ pub use Rattle.std.proofs.lemmas.Result.{err_from_is_err_and}
 pub use Rattle.std.proofs.lemmas.Slice.Eq.{bytes_eq-Decides}
 pub use Rattle.std.proofs.lemmas.Str.{IsCharBoundary-at_seam, IsCharBoundary-from_ascii, IsCharBoundary-past_char}
 pub use Rattle.std.proofs.lemmas.Str.{IsCharBoundary-start, IsUtf8-append, IsUtf8-between, IsUtf8-drop}
-pub use Rattle.std.proofs.lemmas.Str.{IsUtf8-from_ascii, IsUtf8-had, IsUtf8-nil, IsUtf8-take, chars-IsAscii}
+pub use Rattle.std.proofs.lemmas.Str.{IsUtf8-from_ascii, IsUtf8-had, IsUtf8-nil, IsUtf8-take}
 pub use Rattle.std.proofs.lemmas.Str.{chars-append, chars-nil, chars_from_encodes, chars_past_char, drop_past_char}
 pub use Rattle.std.proofs.lemmas.Str.{encode_ascii, encodes-IsAscii, encodes-append, encodes-chars, encodes_same}
 pub use Rattle.std.proofs.lemmas.Str.{len_utf8_ascii, len_utf8_bounds, length-encode, length-le-encodes, scalars-chars}
@@ -98,8 +98,7 @@ pub use Rattle.duration_str.specs.Internal.Positions.{letter_number, number_in, 
 pub use Rattle.duration_str.specs.Internal.Positions.{wide_number}
 pub use Rattle.duration_str.specs.Internal.Numbers.{checked_term, u64_from}
 pub use Rattle.duration_str.specs.Internal.Packed.{all_names, packs_to, unit_of_packed}
-pub use Rattle.duration_str.specs.Internal.PrintedBytes.{long_part, name_part, part_bytes, with_counts}
-pub use Rattle.duration_str.specs.Internal.PrintedBytes.{with_gap, with_part}
+pub use Rattle.duration_str.specs.Internal.PrintedBytes.{name_part, part_bytes, with_counts, with_gap, with_part}
 pub use Rattle.duration_str.specs.Internal.Rest.{IsPlaceless, ReadItem, Rest, answer_left, checked_combination}
 pub use Rattle.duration_str.specs.Internal.Rest.{by_operator, end_at, number_fault}
 pub use Rattle.duration_str.specs.Internal.Rest.{leaving, operator_read, rest_from, rest_of, start_left}

@@ -2,7 +2,7 @@
 use Rattle.duration_str.proofs.Common.{◌≡◌, ℕ, Bool, true, false, List, [], ◌∷◌, ◌++◌, Some, None, Ok, Err, refl}
 use Rattle.duration_str.proofs.Common.{length, flat_map, map, replicate, encode_utf8_all, codes, Options, TimeUnit, Quarter, Plus}
 use Rattle.duration_str.proofs.Common.{Star, Empty, Syntax, NumberTooLarge, Overflow, Mixed, Expected, off, row_of}
-use Rattle.duration_str.proofs.Common.{units, unit_of_word, unit_lengths, older_units, older_unit_of_word}
+use Rattle.duration_str.proofs.Common.{units, unit_of_word, unit_lengths, older_units, older_row_of, older_unit_of_word}
 use Rattle.duration_str.proofs.Common.{Style, Compact, Long, Short, MAX_LONG_LEN, printed_counts}
 use Rattle.duration_str.proofs.Common.{counts_of, MAX_PRINTED_LEN, answer, message_of}
 use Rattle.duration_str.specs.declared.format.Format.{Format}
@@ -12,6 +12,7 @@ use Rattle.duration_str.specs.Limits.{whole_format, lengths_within, counts_withi
 use Rattle.duration_str.specs.OneLine.{one_line_of}
 use Rattle.duration_str.proofs.Characters.EachUnit.{Each}
 use Rattle.std.specs.Fmt.{digits}
+use Rattle.std.specs.Option.{option_map_or}
 use Rattle.std.specs.Str.{chars}
 use lib.Utf8.{encode}
 
@@ -322,5 +323,6 @@ names_of_one_unit = assumption
 pub forty_three_names : length (flat_map (λ u. (row_of u).names) units) ≡ 43
 forty_three_names = refl
 
-pub forty_older_names : length (flat_map (λ u. (row_of u).names) older_units) ≡ 40
+pub forty_older_names :
+    length (flat_map (λ u. option_map_or (λ row. row.names) (older_row_of u) []) older_units) ≡ 40
 forty_older_names = refl

@@ -5,7 +5,7 @@ use Rattle.duration_str.specs.declared.options.Options.{Options}
 use Rattle.duration_str.specs.declared.cause.Cause.{Cause}
 use Rattle.duration_str.specs.declared.cause.Cause.TheVariants.{Empty, Syntax}
 use Rattle.duration_str.specs.declared.cause.Expected.{Expected}
-use Rattle.duration_str.specs.Text.{byte_len}
+use Rattle.duration_str.specs.Text.{Characters, byte_len}
 use Rattle.duration_str.specs.Grammar.{Terminal, number, word, operator, other}
 use Rattle.duration_str.specs.Tokens.{tokens_of}
 use Rattle.duration_str.specs.Place.{start_after, terminals_of}
@@ -71,7 +71,7 @@ answer_at no_calc place front rest =
     else Err (Syntax place (expected_after no_calc (last_of None front))))
 
 -- the value in nanoseconds, or the cause of the refusal
-abbrev pub answer : Options → List ℕ → Result ℕ Cause
+abbrev pub answer : Options → Characters → Result ℕ Cause
 answer o [] = Err Empty
 answer o (c ∷ text) =
     let terminals = terminals_of o (c ∷ text) in

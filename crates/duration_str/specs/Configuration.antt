@@ -1,25 +1,25 @@
 -- What texts are read as with all options off, as signed durations and as configuration values.
-use Rattle.std.specs.Prelude.{◌≡◌, ℕ, ℤ, pos, List, [], ◌∷◌, Bool, true, false, Option, None, IsSomeAnd, Result, Ok}
-use Rattle.std.specs.Str.{chars}
+use Rattle.std.specs.Prelude.{◌≡◌, ℕ, ℤ, pos, [], ◌∷◌, Bool, true, false, Option, None, IsSomeAnd, Result, Ok, chars}
 use Rattle.serde_json.specs.Data.{Data, null, string}
 use Rattle.duration_str.specs.declared.cause.Cause.TheVariants.{NotText}
 use Rattle.duration_str.specs.declared.fault.Fault.{Fault}
+use Rattle.duration_str.specs.Text.{Bytes}
 use Rattle.duration_str.specs.Units.{off}
 use Rattle.duration_str.specs.Reading.{IsRead, IsRefused}
 use Rattle.duration_str.specs.Results.{IsValueOrFault}
 
 -- With all options off, the bytes are read as a value that the result shows, or refused for its cause.
-abbrev pub ParsesBy : {T : Type 0} → (T → ℕ → Type 0) → List ℕ → Result T Fault → Type 0
+abbrev pub ParsesBy : {T : Type 0} → (T → ℕ → Type 0) → Bytes → Result T Fault → Type 0
 ParsesBy shows bytes result =
     IsValueOrFault (λ v. (nanos : ℕ) × IsRead off (chars bytes) nanos × shows v nanos)
     (IsRefused off (chars bytes)) bytes result
 
 -- The bytes are read as the value in `Ok`, in nanoseconds, or refused.
-abbrev pub ParsesAs : {T : Type 0} → (T → ℤ) → List ℕ → Result T Fault → Type 0
+abbrev pub ParsesAs : {T : Type 0} → (T → ℤ) → Bytes → Result T Fault → Type 0
 ParsesAs nanos_of bytes result = ParsesBy (λ v nanos. nanos_of v ≡ pos nanos) bytes result
 
 -- The bytes are read as the value in `Ok (Some ..)`, in nanoseconds, or refused.
-abbrev pub ParsesAsSome : {T : Type 0} → (T → ℤ) → List ℕ → Result (Option T) Fault → Type 0
+abbrev pub ParsesAsSome : {T : Type 0} → (T → ℤ) → Bytes → Result (Option T) Fault → Type 0
 ParsesAsSome nanos_of bytes result = ParsesBy (λ o nanos. IsSomeAnd o (λ v. nanos_of v ≡ pos nanos)) bytes result
 
 -- The value is refused because it is not a text.

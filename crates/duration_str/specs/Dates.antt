@@ -1,11 +1,11 @@
 -- A moment moved by the value of a text, as a civil date in UTC.
-use Rattle.std.specs.Prelude.{◌≡◌, ℕ, ◌<◌, ℤ, pos, ◌+ℤ◌, ◌*ℤ◌, ◌<ℤ◌, ◌≤ℤ◌, neg_ℤ, ◌⊎◌, List, Result}
-use Rattle.std.specs.Str.{chars}
+use Rattle.std.specs.Prelude.{◌≡◌, ℕ, ◌<◌, ℤ, pos, ◌+ℤ◌, ◌*ℤ◌, ◌<ℤ◌, ◌≤ℤ◌, neg_ℤ, ◌⊎◌, Result, chars}
 use Rattle.jiff.specs.Types.{Date, DateTime}
 use Rattle.jiff.specs.Words.{epoch_day, time_nanos}
 use Rattle.duration_str.specs.declared.cause.Cause.{Cause}
 use Rattle.duration_str.specs.declared.cause.Cause.TheVariants.{OutOfRange}
 use Rattle.duration_str.specs.declared.fault.Fault.{Fault}
+use Rattle.duration_str.specs.Text.{Bytes}
 use Rattle.duration_str.specs.Units.{off}
 use Rattle.duration_str.specs.Reading.{IsRead, IsRefused}
 use Rattle.duration_str.specs.Results.{IsValueOrFault}
@@ -42,16 +42,14 @@ IsInRange instant = (first_instant ≤ℤ instant) × (instant ≤ℤ last_insta
 abbrev pub IsOutOfRange : ℤ → Type 0
 IsOutOfRange instant = (instant <ℤ first_instant) ⊎ (last_instant <ℤ instant)
 
--- The cause is that of the text's refusal; or the text is read, its value reaches an instant out of range, and the
--- cause is `OutOfRange`.
-abbrev pub IsDateFault : (ℕ → ℤ) → List ℕ → Cause → Type 0
+-- The cause is that of the text's refusal; or `OutOfRange`, if the text is read and reaches an instant out of range.
+abbrev pub IsDateFault : (ℕ → ℤ) → Bytes → Cause → Type 0
 IsDateFault reached bytes cause =
     IsRefused off (chars bytes) cause
     ⊎ ((nanos : ℕ) × IsRead off (chars bytes) nanos × IsOutOfRange (reached nanos) × (cause ≡ OutOfRange))
 
--- The text is read, and the result shows the instant that its value reaches, which is in range; or the result is a
--- fault of this text.
-abbrev pub IsDated : {T : Type 0} → (ℤ → T → Type 0) → (ℕ → ℤ) → List ℕ → Result T Fault → Type 0
+-- The text is read, and the result shows the instant in range that its value reaches; or it is a fault of this text.
+abbrev pub IsDated : {T : Type 0} → (ℤ → T → Type 0) → (ℕ → ℤ) → Bytes → Result T Fault → Type 0
 IsDated shows reached bytes result =
     IsValueOrFault (λ v. (nanos : ℕ)
     × IsRead off (chars bytes) nanos × IsInRange (reached nanos) × shows (reached nanos) v)

@@ -1,9 +1,10 @@
 -- The error made from a fault.
-use Rattle.std.specs.Prelude.{◌≡◌, ℕ, List, encode_utf8_all, string_bytes, ⊤}
+use Rattle.std.specs.Prelude.{◌≡◌, encode_utf8_all, string_bytes, ⊤}
 use Rattle.duration_str.specs.declared.cause.Cause.{Cause}
 use Rattle.duration_str.specs.declared.cause.Cause.TheVariants.{Overflow}
 use Rattle.duration_str.specs.declared.error.DError.{DError}
 use Rattle.duration_str.specs.declared.error.DError.TheVariants.{ParseError, OverflowError}
+use Rattle.duration_str.specs.Text.{Characters}
 use Rattle.duration_str.specs.Messages.{line_of}
 
 -- The cause is an overflow.
@@ -12,7 +13,7 @@ IsOverflow (Overflow place) = ⊤
 IsOverflow _ = ⊥
 
 -- The error is `ParseError` with these characters.
-abbrev pub IsParseError : {A : Type 0} → List ℕ → DError A → Type 0
+abbrev pub IsParseError : {A : Type 0} → Characters → DError A → Type 0
 IsParseError line (ParseError text) = string_bytes text ≡ encode_utf8_all line
 IsParseError line OverflowError = ⊥
 

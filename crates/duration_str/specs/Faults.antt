@@ -1,9 +1,9 @@
 -- The place of a fault, and the token there.
 use denote.Ref.{Bor}
-use Rattle.std.specs.Prelude.{◌≡◌, ℕ, ◌+◌, ◌==◌, ◌↔◌, List, length, Option, Some, None, IsNone, slice_range}
-use Rattle.std.specs.List.{find}
-use Rattle.std.specs.Str.{chars}
+use Rattle.std.specs.Prelude.{◌≡◌, ℕ, ◌+◌, ◌==◌, ◌↔◌, List, length, Option, Some, None, IsNone, slice_range, chars}
+use Rattle.std.specs.Prelude.{find}
 use Rattle.duration_str.specs.declared.options.Options.{Options}
+use Rattle.duration_str.specs.Text.{Bytes, Characters}
 use Rattle.duration_str.specs.Tokens.{Token, tokens_of}
 use Rattle.duration_str.specs.Reading.{IsRefused}
 use Rattle.duration_str.specs.declared.cause.Expected.{Expected}
@@ -26,20 +26,19 @@ abbrev pub token_at : ℕ → List Token → Option Token
 token_at place tokens = find (λ p. p.start == place) tokens
 
 -- the token that starts at the place of a syntax fault
-abbrev pub found_token : Options → List ℕ → Cause → Option Token
+abbrev pub found_token : Options → Characters → Cause → Option Token
 found_token o text (Syntax place expected) = token_at place (tokens_of o text)
 found_token o text cause = None
 
 -- The result is this token as a slice of the bytes, or `None` if there is no token.
-abbrev pub IsSliceOf : List ℕ → Option Token → Option (Bor (List ℕ)) → Type 0
+abbrev pub IsSliceOf : Bytes → Option Token → Option (Bor Bytes) → Type 0
 IsSliceOf bytes token None = token ≡ None
 IsSliceOf bytes token (Some slice) =
     (p : Token) × (token ≡ Some p) × (chars slice.now ≡ p.characters)
     × (slice.now ≡ slice_range bytes p.start (p.start + length slice.now))
 
--- Of a syntax fault for which the bytes are refused under these options, no token is found exactly if it stands at
--- their end.
-abbrev pub IsMissingAtEnd : Options → List ℕ → Cause → Option (Bor (List ℕ)) → Type 0
+-- If the bytes are refused for a syntax fault under these options, no token is found exactly if it is at their end.
+abbrev pub IsMissingAtEnd : Options → Bytes → Cause → Option (Bor Bytes) → Type 0
 IsMissingAtEnd o bytes cause token =
     (place : ℕ) (expected : Expected) → cause ≡ Syntax place expected → IsRefused o (chars bytes) cause
     → (IsNone token ↔ (place ≡ length bytes))

@@ -4,7 +4,7 @@ use Rattle.std.specs.List.{list_all}
 use Rattle.duration_str.specs.declared.options.Options.{Options}
 use Rattle.duration_str.specs.declared.unit.TimeUnit.{TimeUnit}
 use Rattle.duration_str.specs.declared.operator.CondUnit.{CondUnit}
-use Rattle.duration_str.specs.Text.{is_digit, is_unit_letter, operator_of, IsBlank, number_of}
+use Rattle.duration_str.specs.Text.{Characters, is_digit, is_unit_letter, operator_of, IsBlank, number_of}
 use Rattle.duration_str.specs.Units.{unit_of_word}
 
 -- A symbol of the grammar. No sentence contains `other`, or a word that names no unit.
@@ -20,12 +20,12 @@ operator_or_other None = other
 operator_or_other (Some op) = operator op
 
 -- the terminal of characters that are neither all digits nor all unit letters
-abbrev pub sign_terminal : List ℕ → Terminal
+abbrev pub sign_terminal : Characters → Terminal
 sign_terminal (c ∷ []) = operator_or_other (operator_of c)
 sign_terminal _ = other
 
 -- Digits are a number, unit letters are a word with the unit that it names, and `+` and `*` are operators.
-abbrev pub terminal_by : (Options → List ℕ → Option TimeUnit) → Options → List ℕ → Terminal
+abbrev pub terminal_by : (Options → Characters → Option TimeUnit) → Options → Characters → Terminal
 terminal_by unit_of o [] = other
 terminal_by unit_of o (c ∷ cs) =
     if list_all is_digit (c ∷ cs) then number (number_of (c ∷ cs))
@@ -33,7 +33,7 @@ terminal_by unit_of o (c ∷ cs) =
     else sign_terminal (c ∷ cs)
 
 -- the terminal that these characters stand for
-abbrev pub terminal_of : Options → List ℕ → Terminal
+abbrev pub terminal_of : Options → Characters → Terminal
 terminal_of o w = terminal_by unit_of_word o w
 
 -- S = Number | Number Unit | Number Op S | Number Unit Op S | Number Unit S;
@@ -47,18 +47,18 @@ IsSentence no_calc (number n ∷ word (Some u) ∷ number m ∷ more) = IsSenten
 IsSentence no_calc _ = ⊥
 
 -- The text is blanks, the lexeme, and a rest for which `IsRest` holds.
-pub record BeginsWith (lexeme : List ℕ) (IsRest : List ℕ → Type 0) (text : List ℕ) : Type 0 where
-  pub blanks : List ℕ
-  pub rest : List ℕ
+pub record BeginsWith (lexeme : Characters) (IsRest : Characters → Type 0) (text : Characters) : Type 0 where
+  pub blanks : Characters
+  pub rest : Characters
   pub blank : IsBlank blanks
   pub parts : text ≡ blanks ++ (lexeme ++ rest)
   pub is_rest : IsRest rest
 
 -- The text is blanks, then each lexeme followed by blanks. Nothing is said about the length of a lexeme.
-abbrev pub Spells : List (List ℕ) → List ℕ → Type 0
+abbrev pub Spells : List Characters → Characters → Type 0
 Spells [] text = IsBlank text
 Spells (w ∷ lexemes) text = BeginsWith w (Spells lexemes) text
 
 -- The lexemes are a sentence of the options' grammar, and spell the text.
-abbrev pub IsSentenceOf : Options → List (List ℕ) → List ℕ → Type 0
+abbrev pub IsSentenceOf : Options → List Characters → Characters → Type 0
 IsSentenceOf o lexemes text = IsSentence o.no_calc (map (terminal_of o) lexemes) × Spells lexemes text

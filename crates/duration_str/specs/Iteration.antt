@@ -1,13 +1,12 @@
 -- What callers see of the iterator `Tokens`: the text, how far it is cut, and the tokens that are left.
-use Rattle.std.specs.Prelude.{◌≡◌, ℕ, ◌+◌, List, length, Option, IfSome, IfNone, slice_range}
-use Rattle.std.specs.Str.{chars}
+use Rattle.std.specs.Prelude.{◌≡◌, ℕ, ◌+◌, List, length, Option, IfSome, IfNone, slice_range, chars}
 use Rattle.std.specs.Iterator.{YieldsFirstBy}
 use Rattle.duration_str.specs.declared.options.Options.{Options}
 use Rattle.duration_str.specs.declared.token.What.{What}
 use Rattle.duration_str.specs.declared.token.What.TheVariants as whats
 use Rattle.duration_str.specs.declared.token.Token.{Token as RustToken}
 use Rattle.duration_str.specs.declared.token.Tokens.{Tokens}
-use Rattle.duration_str.specs.Text.{ahead}
+use Rattle.duration_str.specs.Text.{Bytes, ahead}
 use Rattle.duration_str.specs.Grammar.{Terminal, number, word, operator, other, terminal_of}
 use Rattle.duration_str.specs.Tokens.{Token, tokens_from}
 
@@ -19,7 +18,7 @@ what_of (operator op) = whats.Operator op
 what_of other = whats.Other
 
 -- the bytes of the text being cut
-abbrev pub source : Tokens → List ℕ
+abbrev pub source : Tokens → Bytes
 source s = s.eye.text.now
 
 -- the options under which it is cut
@@ -48,7 +47,7 @@ pub record KeepsInput (old new : Tokens) : Type 0 where
   pub options : options_of new ≡ options_of old
 
 -- The token is the text from its start to the place, and says what it is.
-pub record IsCutAt (o : Options) (text : List ℕ) (place : ℕ) (token : RustToken) : Type 0 where
+pub record IsCutAt (o : Options) (text : Bytes) (place : ℕ) (token : RustToken) : Type 0 where
   pub end : place ≡ token.start + length token.text.now
   pub slice : token.text.now ≡ slice_range text token.start place
   pub sort : token.what ≡ what_of (terminal_of o (chars token.text.now))

@@ -13,7 +13,7 @@ use Rattle.duration_str.specs.declared.unit.TimeUnit.TheVariants.{Year}
 use Rattle.duration_str.specs.declared.cause.Cause.{Cause}
 use Rattle.duration_str.specs.declared.cause.Cause.TheVariants.{Overflow}
 use Rattle.duration_str.specs.declared.cause.Expected.{Expected}
-use Rattle.duration_str.specs.Text.{operator_of, is_chinese}
+use Rattle.duration_str.specs.Text.{Bytes, Characters, operator_of, is_chinese}
 use Rattle.duration_str.specs.Units.{UnitRow, row_of, unit_lengths, nanos_of, units, unit_of_word}
 use Rattle.duration_str.specs.OneLine.{is_among, near_name, near_words}
 use Rattle.duration_str.specs.Grammar.{Terminal, operator, IsSentence, IsSentenceOf, Spells, terminal_of}
@@ -34,51 +34,50 @@ abbrev pub is_operator : ℕ → Bool
 is_operator c = is_some (operator_of c)
 
 -- The text has no `*`.
-abbrev pub HasNoStar : List ℕ → Type 0
+abbrev pub HasNoStar : Characters → Type 0
 HasNoStar text = IsTrue (list_all (λ c. not (c == 42)) text)
 
 -- The text has neither `+` nor `*`.
-abbrev pub HasNoOperator : List ℕ → Type 0
+abbrev pub HasNoOperator : Characters → Type 0
 HasNoOperator text = IsTrue (list_all (λ c. not (is_operator c)) text)
 
 -- The text has no ASCII capital.
-abbrev pub HasNoCapital : List ℕ → Type 0
+abbrev pub HasNoCapital : Characters → Type 0
 HasNoCapital text = IsTrue (list_all (λ c. not (is_ascii_uppercase c)) text)
 
 -- The text has none of the Chinese characters of the units.
-abbrev pub HasNoChinese : List ℕ → Type 0
+abbrev pub HasNoChinese : Characters → Type 0
 HasNoChinese text = IsTrue (list_all (λ c. not (is_chinese c)) text)
 
--- Two sentences that spell one text are equal, and a sentence spells a text exactly if its lexemes are those of the
--- text's tokens.
+-- Two sentences that spell a text are equal, and a sentence spells it exactly if its lexemes are those of its tokens.
 pub record OneSentence : Type 0 where
-  pub equal : (o : Options) (text : List ℕ) (lexemes others : List (List ℕ))
+  pub equal : (o : Options) (text : Characters) (lexemes others : List Characters)
       → IsSentenceOf o lexemes text → IsSentenceOf o others text → lexemes ≡ others
-  pub tokens : (o : Options) (text : List ℕ) (lexemes : List (List ℕ))
+  pub tokens : (o : Options) (text : Characters) (lexemes : List Characters)
       → IsSentence o.no_calc (map (terminal_of o) lexemes)
       → (Spells lexemes text ↔ (lexemes ≡ lexemes_of (tokens_of o text)))
 
 -- The tokens of a text are those that `tokens_of` gives, and no others.
 pub record OneCut : Type 0 where
-  pub are : (o : Options) (text : List ℕ) → AreTokens o 0 text (tokens_of o text)
-  pub only : (o : Options) (text : List ℕ) (tokens : List Token) → AreTokens o 0 text tokens → tokens ≡ tokens_of o text
+  pub are : (o : Options) (text : Characters) → AreTokens o 0 text (tokens_of o text)
+  pub only : (o : Options) (text : Characters) (tokens : List Token) → AreTokens o 0 text tokens
+      → tokens ≡ tokens_of o text
 
 -- A text is read as one value or refused for one cause, not both.
 pub record OneReading : Type 0 where
-  pub some : (o : Options) (text : List ℕ)
+  pub some : (o : Options) (text : Characters)
       → ((nanos : ℕ) × IsRead o text nanos) ⊎ ((cause : Cause) × IsRefused o text cause)
-  pub one_value : (o : Options) (text : List ℕ) (m n : ℕ) → IsRead o text m → IsRead o text n → m ≡ n
-  pub one_cause : (o : Options) (text : List ℕ) (c d : Cause) → IsRefused o text c → IsRefused o text d → c ≡ d
-  pub not_both : (o : Options) (text : List ℕ) (nanos : ℕ) (cause : Cause)
+  pub one_value : (o : Options) (text : Characters) (m n : ℕ) → IsRead o text m → IsRead o text n → m ≡ n
+  pub one_cause : (o : Options) (text : Characters) (c d : Cause) → IsRefused o text c → IsRefused o text d → c ≡ d
+  pub not_both : (o : Options) (text : Characters) (nanos : ℕ) (cause : Cause)
       → IsRead o text nanos → IsRefused o text cause → ⊥
 
 -- The computed answer is the value of the text, or the cause of its refusal.
 pub record AnswerIsReading : Type 0 where
-  pub read : (o : Options) (text : List ℕ) (nanos : ℕ) → (answer o text ≡ Ok nanos ↔ IsRead o text nanos)
-  pub refused : (o : Options) (text : List ℕ) (cause : Cause) → (answer o text ≡ Err cause ↔ IsRefused o text cause)
+  pub read : (o : Options) (text : Characters) (nanos : ℕ) → (answer o text ≡ Ok nanos ↔ IsRead o text nanos)
+  pub refused : (o : Options) (text : Characters) (cause : Cause) → (answer o text ≡ Err cause ↔ IsRefused o text cause)
 
--- The table says, from the last terminal, what can follow the beginning of a sentence, and following the table finds
--- the longest beginning.
+-- The table says by the last terminal what can follow the beginning of a sentence, and leads to the longest beginning.
 pub record PlaceAndKinds : Type 0 where
   pub kinds : (no_calc : Bool) (front : List Terminal) (expected : Expected) → BeginsSentence no_calc front
       → (CanFollow no_calc front expected ↔ (expected ≡ expected_after no_calc (last_of None front)))
@@ -92,31 +91,32 @@ pub record PlaceAndKinds : Type 0 where
 
 -- Without operators `no_calc` changes neither what is accepted nor its value.
 abbrev pub NoCalcAgrees : Type 0
-NoCalcAgrees = (o : Options) (text : List ℕ) (nanos : ℕ) → HasNoOperator text
+NoCalcAgrees = (o : Options) (text : Characters) (nanos : ℕ) → HasNoOperator text
     → (IsRead (record o { no_calc = true }) text nanos ↔ IsRead (record o { no_calc = false }) text nanos)
 
 -- With the option on and with it off, the text has the same values and is refused for the same causes.
-pub record IsIdle (choice : Bool → Options) (text : List ℕ) : Type 0 where
+pub record IsIdle (choice : Bool → Options) (text : Characters) : Type 0 where
   pub value : (nanos : ℕ) → (IsRead (choice true) text nanos ↔ IsRead (choice false) text nanos)
   pub cause : (cause : Cause) → (IsRefused (choice true) text cause ↔ IsRefused (choice false) text cause)
 
 -- `lowercase` changes nothing without ASCII capitals, and `cn_unit` nothing without Chinese characters.
 pub record OptionsIdle : Type 0 where
-  pub lowercase : (o : Options) (text : List ℕ) → HasNoCapital text → IsIdle (λ on. record o { lowercase = on }) text
-  pub cn_unit : (o : Options) (text : List ℕ) → HasNoChinese text → IsIdle (λ on. record o { cn_unit = on }) text
+  pub lowercase : (o : Options) (text : Characters) → HasNoCapital text
+      → IsIdle (λ on. record o { lowercase = on }) text
+  pub cn_unit : (o : Options) (text : Characters) → HasNoChinese text → IsIdle (λ on. record o { cn_unit = on }) text
 
 -- Texts that one sentence spells have the same value, or are refused for the same cause.
 pub record BlanksFree : Type 0 where
-  pub value : (o : Options) (a b : List ℕ) (lexemes : List (List ℕ)) (nanos : ℕ)
+  pub value : (o : Options) (a b : Characters) (lexemes : List Characters) (nanos : ℕ)
       → IsSentenceOf o lexemes a → Spells lexemes b → IsRead o a nanos → IsRead o b nanos
-  pub cause : (o : Options) (a b : List ℕ) (lexemes : List (List ℕ)) (cause : Cause)
+  pub cause : (o : Options) (a b : Characters) (lexemes : List Characters) (cause : Cause)
       → IsSentenceOf o lexemes a → Spells lexemes b → IsRefused o a cause → IsRefused o b cause
 
 -- With `no_calc` off, two accepted texts without `*`, joined by a plus, have the sum of their values, or overflow.
 pub record SumOfTexts : Type 0 where
-  pub below : (o : Options) (a b : List ℕ) (m n : ℕ) → o.no_calc ≡ false → HasNoStar a → HasNoStar b
+  pub below : (o : Options) (a b : Characters) (m n : ℕ) → o.no_calc ≡ false → HasNoStar a → HasNoStar b
       → IsRead o a m → IsRead o b n → m + n < 2 ^ 64 → IsRead o (a ++ codes "+" ++ b) (m + n)
-  pub above : (o : Options) (a b : List ℕ) (m n : ℕ) → o.no_calc ≡ false → HasNoStar a → HasNoStar b
+  pub above : (o : Options) (a b : Characters) (m n : ℕ) → o.no_calc ≡ false → HasNoStar a → HasNoStar b
       → IsRead o a m → IsRead o b n → 2 ^ 64 ≤ m + n → IsRefused o (a ++ codes "+" ++ b) (Overflow None)
 
 -- how often a number is in a list
@@ -126,7 +126,7 @@ times_in n (m ∷ ms) = (if m == n then 1 else 0) + times_in n ms
 
 -- Two sums with the same values of terms, each equally often, are accepted alike and have the same value.
 abbrev pub Reorder : Type 0
-Reorder = (o : Options) (a b : List ℕ) (lexemes others : List (List ℕ)) (nanos : ℕ)
+Reorder = (o : Options) (a b : Characters) (lexemes others : List Characters) (nanos : ℕ)
     → IsSentenceOf o lexemes a → IsSentenceOf o others b
     → AllPlus (map (terminal_of o) lexemes) → AllPlus (map (terminal_of o) others)
     → ((n : ℕ) → times_in n (map value_of_term (written_terms o lexemes))
@@ -137,12 +137,12 @@ Reorder = (o : Options) (a b : List ℕ) (lexemes others : List (List ℕ)) (nan
 -- seconds, rounded down to nanoseconds, are below 2^64, and then as that product. With the terms exchanged it is read
 -- as the same value.
 pub record TwoFactors : Type 0 where
-  pub product : (o : Options) (text : List ℕ) (lexemes : List (List ℕ)) (t u : Term) (nanos : ℕ)
+  pub product : (o : Options) (text : Characters) (lexemes : List Characters) (t u : Term) (nanos : ℕ)
       → IsSentenceOf o lexemes text → written_terms o lexemes ≡ t ∷ u ∷ [] → u.operator ≡ Star
       → (IsRead o text nanos ↔ ((t.number < 2 ^ 64) × (value_of_term t < 2 ^ 64)
       × (u.number < 2 ^ 64) × (value_of_term u < 2 ^ 64)
       × (nanos < 2 ^ 64) × (nanos ≡ value_of_term t * value_of_term u / second)))
-  pub exchanged : (o : Options) (a b : List ℕ) (lexemes others : List (List ℕ)) (t u v w : Term) (nanos : ℕ)
+  pub exchanged : (o : Options) (a b : Characters) (lexemes others : List Characters) (t u v w : Term) (nanos : ℕ)
       → IsSentenceOf o lexemes a → IsSentenceOf o others b
       → written_terms o lexemes ≡ t ∷ u ∷ [] → u.operator ≡ Star
       → written_terms o others ≡ v ∷ w ∷ [] → w.operator ≡ Star
@@ -155,43 +155,41 @@ GreatestBreakdown = (nanos : ℕ) → IsGreatestBreakdown unit_lengths nanos (co
 
 -- Two durations print the same text in a style exactly if they are equal.
 abbrev pub EqualTexts : Type 0
-EqualTexts = (style : Style) (m n : ℕ) (a b : List ℕ) → FitsDuration m → FitsDuration n
+EqualTexts = (style : Style) (m n : ℕ) (a b : Characters) → FitsDuration m → FitsDuration n
     → IsPrintedIn style m a → IsPrintedIn style n b → (a ≡ b ↔ m ≡ n)
 
--- A text printed in any style is read back as its duration if that is below 2^64 nanoseconds. Otherwise it overflows:
--- from 585 years on in its first term.
+-- A text printed in any style is read as its duration below 2^64 ns, or overflows: from 585 years in the first term.
 pub record ReadsBack : Type 0 where
-  pub below : (o : Options) (style : Style) (nanos : ℕ) (text : List ℕ) → nanos < 2 ^ 64
+  pub below : (o : Options) (style : Style) (nanos : ℕ) (text : Characters) → nanos < 2 ^ 64
       → IsPrintedIn style nanos text → IsRead o text nanos
-  pub above : (o : Options) (style : Style) (nanos : ℕ) (text : List ℕ) → 2 ^ 64 ≤ nanos → nanos < 585 * nanos_of Year
-      → IsPrintedIn style nanos text → IsRefused o text (Overflow None)
-  pub far_above : (o : Options) (style : Style) (nanos : ℕ) (text : List ℕ) → 585 * nanos_of Year ≤ nanos
+  pub above : (o : Options) (style : Style) (nanos : ℕ) (text : Characters) → 2 ^ 64 ≤ nanos
+      → nanos < 585 * nanos_of Year → IsPrintedIn style nanos text → IsRefused o text (Overflow None)
+  pub far_above : (o : Options) (style : Style) (nanos : ℕ) (text : Characters) → 585 * nanos_of Year ≤ nanos
       → FitsDuration nanos → IsPrintedIn style nanos text → IsRefused o text (Overflow (Some 0))
 
 -- Neither the line of a cause nor the text of a fault ends with a line feed.
 pub record LastLine : Type 0 where
   pub line : (cause : Cause) → EndsInsideLine (encode_utf8_all (line_of cause))
-  pub text : (text : List ℕ) (cause : Cause) → EndsInsideLine (message_of text cause)
+  pub text : (text : Bytes) (cause : Cause) → EndsInsideLine (message_of text cause)
 
 -- Each row of the table before the quarter is a row of today's. A sentence over those units is a sentence over all
 -- units, with the same terminals. So a text that was read is read as the same value, and one whose evaluation was
 -- refused is refused for the same cause.
 pub record OlderTexts : Type 0 where
   pub rows : (u : TimeUnit) (row : UnitRow) → older_row_of u ≡ Some row → row_of u ≡ row
-  pub terminals : (o : Options) (lexemes : List (List ℕ)) (text : List ℕ)
+  pub terminals : (o : Options) (lexemes : List Characters) (text : Characters)
       → WasSentenceOf o lexemes text → older_terminals o lexemes ≡ map (terminal_of o) lexemes
-  pub sentence : (o : Options) (lexemes : List (List ℕ)) (text : List ℕ)
+  pub sentence : (o : Options) (lexemes : List Characters) (text : Characters)
       → WasSentenceOf o lexemes text → IsSentenceOf o lexemes text
-  pub value : (o : Options) (text : List ℕ) (nanos : ℕ) → WasRead o text nanos → IsRead o text nanos
-  pub cause : (o : Options) (text : List ℕ) (cause : Cause) → WasRefused o text cause → IsRefused o text cause
+  pub value : (o : Options) (text : Characters) (nanos : ℕ) → WasRead o text nanos → IsRead o text nanos
+  pub cause : (o : Options) (text : Characters) (cause : Cause) → WasRefused o text cause → IsRefused o text cause
 
 -- With all units and at least as many parts as there are units, a duration prints as without limits.
 abbrev pub AllParts : Type 0
-AllParts = (style : Style) (parts nanos : ℕ) (text : List ℕ) → length units ≤ parts
+AllParts = (style : Style) (parts nanos : ℕ) (text : Characters) → length units ≤ parts
     → (IsPrintedWithin (record whole_format { parts = parts; style = style }) nanos text ↔ IsPrintedIn style nanos text)
 
--- Broken down into the largest unit of the limits and all shorter ones, the duration has no more parts than they allow,
--- and none shorter than their smallest unit.
+-- Broken down from the limits' largest unit on, it has no more parts than they allow, none below their smallest unit.
 pub record KeepsWithin (format : Format) (nanos : ℕ) (counts : List ℕ) : Type 0 where
   pub breakdown : IsGreatestBreakdown (map nanos_of (units_from format.largest units)) nanos counts
   pub few : part_count counts ≤ format.parts
@@ -199,7 +197,7 @@ pub record KeepsWithin (format : Format) (nanos : ℕ) (counts : List ℕ) : Typ
 
 -- The text is also that of this duration, and is read as it if it is below 2^64 nanoseconds. It is the greatest one, up
 -- to the one printed, whose own breakdown keeps within the limits.
-pub record IsMostWithin (format : Format) (nanos : ℕ) (text : List ℕ) (most : ℕ) : Type 0 where
+pub record IsMostWithin (format : Format) (nanos : ℕ) (text : Characters) (most : ℕ) : Type 0 where
   pub again : IsPrintedWithin format most text
   pub read : (o : Options) → most < 2 ^ 64 → IsRead o text most
   pub never_more : most ≤ nanos
@@ -209,11 +207,11 @@ pub record IsMostWithin (format : Format) (nanos : ℕ) (text : List ℕ) (most 
 
 -- What is printed within limits is such a duration.
 abbrev pub NeverMore : Type 0
-NeverMore = (format : Format) (nanos : ℕ) (text : List ℕ) → IsPrintedWithin format nanos text
+NeverMore = (format : Format) (nanos : ℕ) (text : Characters) → IsPrintedWithin format nanos text
     → (most : ℕ) × IsMostWithin format nanos text most
 
 -- The word is near the unit's names and is none of them, and the advised name is one, under these options.
-pub record IsAdvised (o : Options) (word name : List ℕ) : Type 0 where
+pub record IsAdvised (o : Options) (word name : Characters) : Type 0 where
   pub unit : TimeUnit
   pub near : is_among (near_words unit) (map to_ascii_lowercase (encode_utf8_all word)) ≡ true
   pub unread : unit_of_word o word ≡ None
@@ -221,4 +219,5 @@ pub record IsAdvised (o : Options) (word name : List ℕ) : Type 0 where
 
 -- What is advised for a word is a name of the unit that people mean by it, and the word names no unit, under any options.
 abbrev pub NearWords : Type 0
-NearWords = (o : Options) (word name : List ℕ) → near_name (encode_utf8_all word) ≡ Some name → IsAdvised o word name
+NearWords = (o : Options) (word name : Characters) → near_name (encode_utf8_all word) ≡ Some name
+    → IsAdvised o word name

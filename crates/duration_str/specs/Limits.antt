@@ -1,10 +1,10 @@
--- A duration printed within limits, in the units from a largest to a smallest and in so many parts at most, and in a
--- style.
+-- A duration printed within limits, in the units from a largest to a smallest, in so many parts at most, and in a style.
 use Rattle.std.specs.Prelude.{◌≡◌, ℕ, ◌+◌, ◌-◌, ◌/◌, ◌%◌, ◌≤◌, List, [], ◌∷◌, if◌then◌else◌, length, ◌⊎◌, ◌==◌}
 use Rattle.std.specs.Prelude.{nat_lt, map}
 use Rattle.duration_str.specs.declared.format.Format.{Format}
 use Rattle.duration_str.specs.declared.unit.TimeUnit.{TimeUnit}
 use Rattle.duration_str.specs.declared.unit.TimeUnit.TheVariants.{Year, Second, NanoSecond}
+use Rattle.duration_str.specs.Text.{Characters}
 use Rattle.duration_str.specs.Units.{units, nanos_of}
 use Rattle.duration_str.specs.declared.format.Style.{Style}
 use Rattle.duration_str.specs.declared.format.Style.TheVariants.{Long, Short}
@@ -23,8 +23,7 @@ units_from largest (u ∷ us) = if nat_lt (nanos_of largest) (nanos_of u) then u
 -- the units before the first that is shorter than the smallest
 abbrev pub units_down_to : TimeUnit → List TimeUnit → List TimeUnit
 units_down_to smallest [] = []
-units_down_to smallest (u ∷ us) =
-    if nat_lt (nanos_of u) (nanos_of smallest) then [] else u ∷ units_down_to smallest us
+units_down_to smallest (u ∷ us) = if nat_lt (nanos_of u) (nanos_of smallest) then [] else u ∷ units_down_to smallest us
 
 -- the units from the largest to the smallest; none if the largest is shorter than the smallest
 abbrev pub units_within : Format → List TimeUnit
@@ -55,13 +54,13 @@ abbrev pub zero_unit : TimeUnit → TimeUnit
 zero_unit smallest = if nat_lt (nanos_of smallest) (nanos_of Second) then Second else smallest
 
 -- the text that prints these counts
-abbrev pub text_within : Format → List ℕ → List ℕ
+abbrev pub text_within : Format → List ℕ → Characters
 text_within format counts =
     joined_parts format.style (zero_unit format.smallest)
     (printed_parts format.style (units_within format) counts)
 
 -- A duration of `nanos` nanoseconds prints in this format as this text.
-abbrev pub IsPrintedWithin : Format → ℕ → List ℕ → Type 0
+abbrev pub IsPrintedWithin : Format → ℕ → Characters → Type 0
 IsPrintedWithin format nanos text =
     (counts : List ℕ)
     × IsGreatestWithin (lengths_within format) format.parts nanos counts × (text ≡ text_within format counts)

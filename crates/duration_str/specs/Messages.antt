@@ -1,36 +1,30 @@
 -- The messages of faults.
-use Rattle.std.specs.Prelude.{◌≢◌, ℕ, Bool, List, ◌++◌, Option, Some, None, if◌then◌else◌}
+use Rattle.std.specs.Prelude.{◌≢◌, ℕ, Bool, ◌++◌, Option, Some, None, if◌then◌else◌, chars, codes}
 use Rattle.std.specs.Prelude.{length, take, replicate, decimal, encode_utf8_all, ◌==◌}
 use Rattle.std.specs.List.{list_any, last_or}
-use Rattle.std.specs.Str.{chars}
-use lib.Chars.{codes}
 use Rattle.duration_str.specs.declared.operator.CondUnit.{CondUnit}
 use Rattle.duration_str.specs.declared.operator.CondUnit.TheVariants.{Plus, Star}
-use Rattle.duration_str.specs.declared.cause.Expected.{Expected}
 use Rattle.duration_str.specs.declared.cause.Cause.{Cause}
 use Rattle.duration_str.specs.declared.cause.Cause.TheVariants.{Empty, Syntax, NumberTooLarge, Overflow}
 use Rattle.duration_str.specs.declared.cause.Cause.TheVariants.{Mixed, OutOfRange, NotText}
 use Rattle.duration_str.specs.declared.message.Layout.{Layout}
 use Rattle.duration_str.specs.declared.message.Layout.TheVariants.{Line, Byte, Caret}
+use Rattle.duration_str.specs.Text.{Bytes, Characters}
 use Rattle.duration_str.specs.Faults.{place_of}
 
 -- the character of an operator
-abbrev pub sign_of : CondUnit → List ℕ
+abbrev pub sign_of : CondUnit → Characters
 sign_of Plus = codes "+"
 sign_of Star = codes "*"
 
--- the line of a syntax fault: it names the units if a unit could stand there, otherwise the operators if one could
-abbrev pub expected_line : Expected → List ℕ
-expected_line expected =
+-- the line that says what is wrong; for a syntax fault it names the units if one could stand there, or else operators
+abbrev pub line_of : Cause → Characters
+line_of Empty = codes "Empty input"
+line_of (Syntax place expected) =
     if expected.unit_word then
     codes "expected [\"y\", \"q\", \"mon\", \"w\", \"d\", \"h\", \"m\", \"s\", \"ms\", \"µs\", \"us\", \"ns\"]"
     else if expected.operator then codes "expected ['+', '*']"
     else codes "expected number"
-
--- the line that says what is wrong, as characters
-abbrev pub line_of : Cause → List ℕ
-line_of Empty = codes "Empty input"
-line_of (Syntax place expected) = expected_line expected
 line_of (NumberTooLarge place) = codes "number too large to fit in target type"
 line_of (Overflow place) = codes "overflow error"
 line_of (Mixed first later) =
@@ -41,40 +35,40 @@ line_of (NotText optional) =
     else codes "expect duration string, e.g: '1min+30'"
 
 -- The text, below it a caret after so many spaces, and below that the line.
-abbrev pub caret_text : List ℕ → ℕ → List ℕ → List ℕ
+abbrev pub caret_text : Bytes → ℕ → Bytes → Bytes
 caret_text text spaces line = text ++ (codes "\n" ++ (replicate spaces 32 ++ (codes "^\n" ++ line)))
 
 -- `byte N: ` with the place in decimal, and the line
-abbrev pub byte_text : ℕ → List ℕ → List ℕ
+abbrev pub byte_text : ℕ → Bytes → Bytes
 byte_text place line = codes "byte " ++ (decimal place ++ (codes ": " ++ line))
 
 -- whether the text has a line feed
-abbrev pub has_line_feed : List ℕ → Bool
+abbrev pub has_line_feed : Bytes → Bool
 has_line_feed text = list_any (λ b. b == 10) text
 
 -- the number of characters before the place
-abbrev pub chars_before : List ℕ → ℕ → ℕ
+abbrev pub chars_before : Bytes → ℕ → ℕ
 chars_before text place = length (chars (take place text))
 
 -- without a place, the line alone; with one, `byte N: ` and the line if the text has a line feed, otherwise the text, a
 -- caret after one space for each character before the place, and the line
-abbrev pub placed_text : List ℕ → Option ℕ → List ℕ → List ℕ
+abbrev pub placed_text : Bytes → Option ℕ → Bytes → Bytes
 placed_text text None line = line
 placed_text text (Some place) line =
     if has_line_feed text then byte_text place line else caret_text text (chars_before text place) line
 
 -- The last byte, if there is one, is no line feed.
-abbrev pub EndsInsideLine : List ℕ → Type 0
+abbrev pub EndsInsideLine : Bytes → Type 0
 EndsInsideLine bytes = last_or None bytes ≢ Some 10
 
 -- the bytes that a fault prints as, given the bytes of the text that was read
-abbrev pub message_of : List ℕ → Cause → List ℕ
+abbrev pub message_of : Bytes → Cause → Bytes
 message_of text cause = placed_text text (place_of cause) (encode_utf8_all (line_of cause))
 
 -- ---- Layouts
 
 -- the bytes of a message, given those of the text and of the line
-abbrev pub laid_out : Layout → List ℕ → List ℕ → List ℕ
+abbrev pub laid_out : Layout → Bytes → Bytes → Bytes
 laid_out Line text line = line
 laid_out (Byte place) text line = byte_text place line
 laid_out (Caret spaces) text line = caret_text text spaces line

@@ -1,21 +1,20 @@
 -- The table of units before the quarter was added, and what texts were read as with it.
 use Rattle.std.specs.Prelude.{◌≡◌, ℕ, Bool, false, List, [], ◌∷◌, Option, Some, None, if◌then◌else◌, map}
-use Rattle.std.specs.List.{find}
+use Rattle.std.specs.Prelude.{find, codes}
 use Rattle.std.specs.Option.{option_map_or}
-use lib.Chars.{codes}
 use Rattle.duration_str.specs.declared.options.Options.{Options}
 use Rattle.duration_str.specs.declared.operator.CondUnit.TheVariants.{Plus}
 use Rattle.duration_str.specs.declared.unit.TimeUnit.{TimeUnit}
 use Rattle.duration_str.specs.declared.unit.TimeUnit.TheVariants.{Year, Quarter, Month, Week, Day, Hour, Minute, Second}
 use Rattle.duration_str.specs.declared.unit.TimeUnit.TheVariants.{MilliSecond, MicroSecond, NanoSecond}
 use Rattle.duration_str.specs.declared.cause.Cause.{Cause}
+use Rattle.duration_str.specs.Text.{Characters}
 use Rattle.duration_str.specs.Units.{UnitRow, is_in_row}
 use Rattle.duration_str.specs.Grammar.{Terminal, terminal_by, IsSentence, Spells}
 use Rattle.duration_str.specs.Value.{Term, Evaluates, terms_by, value_of, or_else, evaluation_fault}
 use Rattle.duration_str.specs.Reading.{first_fault, running_fault}
 
--- The table before the quarter was added; `None` for the quarter, which was no unit. It does not change with today's
--- table.
+-- The table before the quarter was added, when that was no unit. It does not change with today's table.
 abbrev pub older_row_of : TimeUnit → Option UnitRow
 older_row_of Year = Some (record { nanos = 31_536_000_000_000_000; printed = codes "y"; names = codes "y" ∷ codes "year" ∷ codes "years" ∷ []; chinese = codes "年" ∷ [] })
 older_row_of Quarter = None
@@ -38,41 +37,40 @@ abbrev pub older_nanos_of : TimeUnit → ℕ
 older_nanos_of u = option_map_or (λ row. row.nanos) (older_row_of u) 0
 
 -- whether the word was a name of the unit
-abbrev pub was_named : Options → List ℕ → TimeUnit → Bool
+abbrev pub was_named : Options → Characters → TimeUnit → Bool
 was_named o word u = option_map_or (is_in_row o word) (older_row_of u) false
 
 -- the unit that a word named
-abbrev pub older_unit_of_word : Options → List ℕ → Option TimeUnit
+abbrev pub older_unit_of_word : Options → Characters → Option TimeUnit
 older_unit_of_word o word = find (was_named o word) older_units
 
 -- the terminals that these lexemes stood for
-abbrev pub older_terminals : Options → List (List ℕ) → List Terminal
+abbrev pub older_terminals : Options → List Characters → List Terminal
 older_terminals o lexemes = map (terminal_by older_unit_of_word o) lexemes
 
 -- the terms of a sentence of these lexemes
-abbrev pub older_terms : Options → List (List ℕ) → List Term
+abbrev pub older_terms : Options → List Characters → List Term
 older_terms o lexemes = terms_by older_nanos_of Plus (older_terminals o lexemes)
 
 -- The lexemes were a sentence of the options' grammar, and spell the text.
-pub record WasSentenceOf (o : Options) (lexemes : List (List ℕ)) (text : List ℕ) : Type 0 where
+pub record WasSentenceOf (o : Options) (lexemes : List Characters) (text : Characters) : Type 0 where
   pub sentence : IsSentence o.no_calc (older_terminals o lexemes)
   pub spells : Spells lexemes text
 
 -- The text was read as this value.
-pub record WasRead (o : Options) (text : List ℕ) (nanos : ℕ) : Type 0 where
-  pub lexemes : List (List ℕ)
+pub record WasRead (o : Options) (text : Characters) (nanos : ℕ) : Type 0 where
+  pub lexemes : List Characters
   pub spells : WasSentenceOf o lexemes text
   pub evaluates : Evaluates (older_terms o lexemes)
   pub value : value_of (older_terms o lexemes) ≡ Some nanos
 
--- the fault of a sentence with these terms: under `no_calc` the first of adding them, otherwise that of the first term,
--- and then that of the evaluation
+-- the fault of these terms: under `no_calc` the first in adding them, otherwise that of the first, then of evaluation
 abbrev pub sentence_fault : Bool → List Term → Option Cause
 sentence_fault no_calc terms =
     if no_calc then running_fault [] terms else or_else (first_fault terms) (evaluation_fault terms)
 
 -- A sentence spelled the text, and its evaluation was refused for this cause.
-pub record WasRefused (o : Options) (text : List ℕ) (cause : Cause) : Type 0 where
-  pub lexemes : List (List ℕ)
+pub record WasRefused (o : Options) (text : Characters) (cause : Cause) : Type 0 where
+  pub lexemes : List Characters
   pub spells : WasSentenceOf o lexemes text
   pub refused : sentence_fault o.no_calc (older_terms o lexemes) ≡ Some cause

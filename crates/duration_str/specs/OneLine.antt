@@ -1,14 +1,11 @@
 -- A fault in one line: what is wrong, at which column, and what stands there.
 use Rattle.std.specs.Prelude.{ℕ, ◌+◌, ◌-◌, Bool, false, not, ◌&&◌, ◌||◌, List, [], ◌∷◌, ◌++◌, Option, Some, None}
-use Rattle.std.specs.Prelude.{if◌then◌else◌, ◌==◌, nat_le, decimal, encode_utf8_all, map}
-use Rattle.std.specs.Prelude.{take, length, slice_index}
-use Rattle.std.specs.Option.{option_map}
+use Rattle.std.specs.Prelude.{if◌then◌else◌, ◌==◌, nat_le, decimal, encode_utf8_all, map, take, length, slice_index}
+use Rattle.std.specs.Prelude.{option_map, chars, bytes_eq, codes}
 use Rattle.std.specs.Char.{is_ascii_alphabetic, is_control, to_ascii_lowercase}
 use Rattle.std.specs.Char.Escape.{escape_default}
 use Rattle.std.specs.Int.{is_in_range}
-use Rattle.std.specs.Str.{chars, bytes_eq}
 use Rattle.std.specs.List.{list_any, list_all, find, take_while}
-use lib.Chars.{codes}
 use Rattle.duration_str.specs.declared.cause.Expected.{Expected}
 use Rattle.duration_str.specs.declared.cause.Cause.{Cause}
 use Rattle.duration_str.specs.declared.cause.Cause.TheVariants.{Empty, Syntax, NumberTooLarge, Overflow}
@@ -16,7 +13,7 @@ use Rattle.duration_str.specs.declared.cause.Cause.TheVariants.{Mixed, OutOfRang
 use Rattle.duration_str.specs.declared.unit.TimeUnit.{TimeUnit}
 use Rattle.duration_str.specs.declared.unit.TimeUnit.TheVariants.{Year, Quarter, Month, Week, Day, Hour, Minute, Second}
 use Rattle.duration_str.specs.declared.unit.TimeUnit.TheVariants.{MilliSecond, MicroSecond, NanoSecond}
-use Rattle.duration_str.specs.Text.{is_blank, is_digit, ahead}
+use Rattle.duration_str.specs.Text.{Bytes, Characters, is_blank, is_digit, ahead}
 use Rattle.duration_str.specs.Units.{units, row_of}
 use Rattle.duration_str.specs.Messages.{line_of, chars_before}
 
@@ -37,18 +34,18 @@ abbrev pub is_clear : ℕ → Bool
 is_clear c = is_plain c && not (c == 34 || c == 92)
 
 -- the characters that show a character in a quote; escaped as Rust does it: `\"`, `\\`, `\t`, `\r`, `\n`, `\u{1b}`
-abbrev pub shown : ℕ → List ℕ
+abbrev pub shown : ℕ → Characters
 shown c = if is_clear c then c ∷ [] else escape_default c
 
 -- what fits into so much room, the closing quote, and three dots if something is left out
-abbrev pub quoted_end : ℕ → List ℕ → List ℕ
+abbrev pub quoted_end : ℕ → Characters → Bytes
 quoted_end room [] = codes "\""
 quoted_end room (c ∷ text) =
     if nat_le (length (shown c)) room then encode_utf8_all (shown c) ++ quoted_end (room - length (shown c)) text
     else codes "\"..."
 
 -- a text in quotes, between which at most 40 characters are shown
-abbrev pub quoted : List ℕ → List ℕ
+abbrev pub quoted : Characters → Bytes
 quoted text = codes "\"" ++ quoted_end 40 text
 
 -- ---- What stands at a place
@@ -60,7 +57,7 @@ is_letter c =
     || c == 0xD7 || c == 0xF7 || is_in_range 0x2010 0x2BFF c || is_in_range 0x3001 0x303F c || is_in_range 0xFF00 0xFF20 c))
 
 -- whether a text begins with a letter
-abbrev pub begins_with_letter : List ℕ → Bool
+abbrev pub begins_with_letter : Characters → Bool
 begins_with_letter [] = false
 begins_with_letter (c ∷ text) = is_letter c
 
@@ -69,24 +66,24 @@ abbrev pub is_like : ℕ → ℕ → Bool
 is_like c d = (is_digit d && is_digit c) || (is_letter d && is_letter c)
 
 -- the digits or the letters that a text begins with, or its first character; of 41 characters 40 are shown
-abbrev pub first_piece : List ℕ → List ℕ
+abbrev pub first_piece : Characters → Characters
 first_piece [] = []
 first_piece (c ∷ text) = c ∷ take 40 (take_while (is_like c) text)
 
 -- ---- Help
 
 -- those of the month that mean it in small letters alone: `Mo` is a megabyte too
-abbrev pub small_words : List (List ℕ)
+abbrev pub small_words : List Characters
 small_words = codes "mo" ∷ codes "mos" ∷ []
 
 -- those of the microsecond without the micro sign; the last five have the Greek letter mu (U+03BC), which looks like it
-abbrev pub us_words : List (List ℕ)
+abbrev pub us_words : List Characters
 us_words =
     codes "usecs" ∷ codes "useconds" ∷ codes "micros" ∷ codes "μs" ∷ codes "μsec" ∷ codes "μsecs" ∷ codes "μsecond"
     ∷ codes "μseconds" ∷ []
 
 -- the words that people write for a unit and that aren't read, in small letters
-abbrev pub near_words : TimeUnit → List (List ℕ)
+abbrev pub near_words : TimeUnit → List Characters
 near_words Year = codes "yr" ∷ codes "yrs" ∷ []
 near_words Quarter = codes "qtr" ∷ codes "qtrs" ∷ []
 near_words Month = codes "mons" ∷ codes "mth" ∷ codes "mths" ∷ small_words
@@ -100,11 +97,11 @@ near_words MicroSecond = codes "µsecs" ∷ codes "µseconds" ∷ us_words
 near_words NanoSecond = codes "nsecs" ∷ codes "nanos" ∷ []
 
 -- whether bytes are one of these words
-abbrev pub is_among : List (List ℕ) → List ℕ → Bool
+abbrev pub is_among : List Characters → Bytes → Bool
 is_among words bytes = list_any (bytes_eq bytes) (map encode_utf8_all words)
 
 -- the name to write for a word that is near it, given the word's bytes: the unit's, or `us` without the micro sign
-abbrev pub near_name : List ℕ → Option (List ℕ)
+abbrev pub near_name : Bytes → Option Characters
 near_name word =
     let small = map to_ascii_lowercase word in
     if is_among small_words small then (if is_among small_words word then Some (codes "mon") else None)
@@ -112,13 +109,13 @@ near_name word =
     else option_map (λ u. (row_of u).printed) (find (λ u. is_among (near_words u) small) units)
 
 -- the name that is near, or all units
-abbrev pub unit_help : Option (List ℕ) → List ℕ
+abbrev pub unit_help : Option Characters → Bytes
 unit_help (Some name) = codes " (did you mean \"" ++ (encode_utf8_all name ++ codes "\"?)")
 unit_help None = codes " (write y, q, mon, w, d, h, min, s, ms, us or ns)"
 
 -- the help for a piece before a digit, given the bytes before it, the last of these, and its own: a point; a comma, `_`,
 -- `'` or a colon after a digit; and a sign, `P` or `PT` after blanks alone
-abbrev pub notation_help : List ℕ → ℕ → List ℕ → List ℕ
+abbrev pub notation_help : Bytes → ℕ → Bytes → Bytes
 notation_help before last piece =
     let is_between = is_digit last in
     let is_first = list_all is_blank before in
@@ -134,7 +131,7 @@ notation_help before last piece =
 
 -- the help for the piece at byte `place`, given its bytes: for what people put between terms where a number and the end
 -- could stand, so after a unit; for a point after a letter or a byte beyond ASCII; and for a notation if a digit follows
-abbrev pub help_at : Expected → List ℕ → ℕ → List ℕ → List ℕ
+abbrev pub help_at : Expected → Bytes → ℕ → Bytes → Bytes
 help_at expected text place piece =
     let before = take place text in
     let last = slice_index before (length before - 1) in
@@ -149,7 +146,7 @@ help_at expected text place piece =
 -- ---- The line
 
 -- what was expected
-abbrev pub expected_words : Expected → List ℕ
+abbrev pub expected_words : Expected → Bytes
 expected_words expected =
     if expected.unit_word then
     (if expected.operator then codes "expected a unit, '+', '*' or the end" else codes "expected a unit or the end")
@@ -158,24 +155,24 @@ expected_words expected =
     else codes "expected a number"
 
 -- the column
-abbrev pub at_column : ℕ → List ℕ
+abbrev pub at_column : ℕ → Bytes
 at_column column = codes " at column " ++ decimal column
 
 -- what stands at a place
-abbrev pub found_words : List ℕ → List ℕ
+abbrev pub found_words : Characters → Bytes
 found_words [] = codes ", found the end"
 found_words (c ∷ piece) = codes ", found " ++ quoted (c ∷ piece)
 
 -- what was expected, the column, what stands there, and the help
-abbrev pub found_line : List ℕ → ℕ → List ℕ → List ℕ → List ℕ
+abbrev pub found_line : Bytes → ℕ → Characters → Bytes → Bytes
 found_line words column piece help = words ++ (at_column column ++ (found_words piece ++ help))
 
 -- the word that is no unit, its column, and the help
-abbrev pub unknown_line : ℕ → List ℕ → List ℕ → List ℕ
+abbrev pub unknown_line : ℕ → Characters → Bytes → Bytes
 unknown_line column word help = codes "unknown unit " ++ (quoted word ++ (at_column column ++ help))
 
 -- the line of a syntax fault; columns are counted in characters from 1
-abbrev pub syntax_line : List ℕ → ℕ → Expected → List ℕ → List ℕ
+abbrev pub syntax_line : Bytes → ℕ → Expected → Characters → Bytes
 syntax_line text place expected piece =
     let column = chars_before text place + 1 in
     let bytes = encode_utf8_all piece in
@@ -183,11 +180,11 @@ syntax_line text place expected piece =
     else found_line (expected_words expected) column piece (help_at expected text place bytes)
 
 -- what is wrong, the text, and the help
-abbrev pub text_line : List ℕ → List ℕ → List ℕ → List ℕ
+abbrev pub text_line : Bytes → Bytes → Bytes → Bytes
 text_line problem text help = problem ++ (codes " in " ++ (quoted (chars text) ++ help))
 
 -- what is too large: of a text with a `*` it may be a step alone
-abbrev pub overflow_line : List ℕ → List ℕ
+abbrev pub overflow_line : Bytes → Bytes
 overflow_line text =
     if list_any (λ b. b == 42) text then text_line (codes "step of over 584 years") text []
     else if list_all (λ b. is_digit b || is_blank b) text
@@ -195,7 +192,7 @@ overflow_line text =
     else text_line (codes "duration of over 584 years") text []
 
 -- the bytes of the line, given those of the text that was read
-abbrev pub one_line_of : List ℕ → Cause → List ℕ
+abbrev pub one_line_of : Bytes → Cause → Bytes
 one_line_of text Empty = codes "empty text"
 one_line_of text (Syntax place expected) = syntax_line text place expected (first_piece (ahead text place))
 one_line_of text (NumberTooLarge place) = text_line (codes "number of 2^64 or more") text []

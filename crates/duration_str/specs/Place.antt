@@ -4,11 +4,12 @@ use Rattle.duration_str.specs.declared.options.Options.{Options}
 use Rattle.duration_str.specs.declared.unit.TimeUnit.{TimeUnit}
 use Rattle.duration_str.specs.declared.operator.CondUnit.{CondUnit}
 use Rattle.duration_str.specs.declared.cause.Expected.{Expected}
+use Rattle.duration_str.specs.Text.{Characters}
 use Rattle.duration_str.specs.Grammar.{Terminal, terminal_of, IsSentence, number, word, operator}
 use Rattle.duration_str.specs.Tokens.{Token, tokens_of, lexemes_of}
 
 -- the terminals of a text: what its tokens stand for
-abbrev pub terminals_of : Options → List ℕ → List Terminal
+abbrev pub terminals_of : Options → Characters → List Terminal
 terminals_of o text = map (terminal_of o) (lexemes_of (tokens_of o text))
 
 -- Some sentence starts with these terminals.
@@ -21,8 +22,7 @@ pub record IsFront (no_calc : Bool) (terminals front rest : List Terminal) : Typ
   pub begins : BeginsSentence no_calc front
   pub longest : (n : ℕ) → n ≤ length terminals → BeginsSentence no_calc (take n terminals) → n ≤ length front
 
--- A kind is expected exactly if the front followed by some terminal of that kind begins a sentence, and the end exactly
--- if the front is a sentence.
+-- A kind is expected exactly if the front with some terminal of it begins a sentence; the end, if the front is one.
 pub record CanFollow (no_calc : Bool) (front : List Terminal) (expected : Expected) : Type 0 where
   pub number_expected : IsTrue expected.number ↔ ((n : ℕ) × BeginsSentence no_calc (front ++ number n ∷ []))
   pub unit_expected : IsTrue expected.unit_word

@@ -5,6 +5,7 @@ use Rattle.duration_str.specs.declared.unit.TimeUnit.{TimeUnit}
 use Rattle.duration_str.specs.declared.unit.TimeUnit.TheVariants.{Second}
 use Rattle.duration_str.specs.declared.format.Style.{Style}
 use Rattle.duration_str.specs.declared.format.Style.TheVariants.{Short, Compact, Long}
+use Rattle.duration_str.specs.Text.{Characters}
 use Rattle.duration_str.specs.Units.{UnitRow, units, row_of, unit_lengths}
 
 -- the sum of the counts, each times its length
@@ -28,56 +29,56 @@ pub record IsGreatestBreakdown (lengths : List ℕ) (nanos : ℕ) (counts : List
   pub greatest : (others : List ℕ) → IsBreakdown lengths nanos others → (others ≡ counts) ⊎ IsBefore others counts
 
 -- the last name but one
-abbrev pub last_but_one : List (List ℕ) → List ℕ
+abbrev pub last_but_one : List Characters → Characters
 last_but_one [] = []
 last_but_one (name ∷ last ∷ []) = name
 last_but_one (_ ∷ names) = last_but_one names
 
 -- the long name of one of a unit; the last name is that of several
-abbrev pub long_name : UnitRow → List ℕ
+abbrev pub long_name : UnitRow → Characters
 long_name row = last_but_one row.names
 
 -- a unit's name after a count: in the long style with an `s` unless it is one
-abbrev pub name_in : Style → Bool → TimeUnit → List ℕ
+abbrev pub name_in : Style → Bool → TimeUnit → Characters
 name_in Long one u = long_name (row_of u) ++ (if one then [] else codes "s")
 name_in style one u = (row_of u).printed
 
 -- what stands between a count and its unit's name
-abbrev pub before_name : Style → List ℕ
+abbrev pub before_name : Style → Characters
 before_name Long = codes " "
 before_name style = []
 
 -- what stands between two parts
-abbrev pub between : Style → List ℕ
+abbrev pub between : Style → Characters
 between Compact = []
 between style = codes " "
 
 -- a count in decimal, followed by its unit's name
-abbrev pub printed_part : Style → ℕ → TimeUnit → List ℕ
+abbrev pub printed_part : Style → ℕ → TimeUnit → Characters
 printed_part style n u = decimal n ++ (before_name style ++ name_in style (n == 1) u)
 
 -- the parts of the counts that are not 0
-abbrev pub printed_parts : Style → List TimeUnit → List ℕ → List (List ℕ)
+abbrev pub printed_parts : Style → List TimeUnit → List ℕ → List Characters
 printed_parts style (u ∷ us) (n ∷ counts) =
     if n == 0 then printed_parts style us counts else printed_part style n u ∷ printed_parts style us counts
 printed_parts style _ _ = []
 
 -- the parts, one after another; `0` of this unit if there are none
-abbrev pub joined_parts : Style → TimeUnit → List (List ℕ) → List ℕ
+abbrev pub joined_parts : Style → TimeUnit → List Characters → Characters
 joined_parts style u [] = printed_part style 0 u
 joined_parts style u (part ∷ parts) = part ++ flat_map (λ p. between style ++ p) parts
 
 -- the text that prints these counts in a style
-abbrev pub printed_counts : Style → List ℕ → List ℕ
+abbrev pub printed_counts : Style → List ℕ → Characters
 printed_counts style counts = joined_parts style Second (printed_parts style units counts)
 
 -- A duration of `nanos` nanoseconds prints in this style as this text.
-abbrev pub IsPrintedIn : Style → ℕ → List ℕ → Type 0
+abbrev pub IsPrintedIn : Style → ℕ → Characters → Type 0
 IsPrintedIn style nanos text =
     (counts : List ℕ) × IsGreatestBreakdown unit_lengths nanos counts × (text ≡ printed_counts style counts)
 
 -- The same in the short style.
-abbrev pub IsPrinted : ℕ → List ℕ → Type 0
+abbrev pub IsPrinted : ℕ → Characters → Type 0
 IsPrinted = IsPrintedIn Short
 
 -- how often each length goes into what the longer lengths leave

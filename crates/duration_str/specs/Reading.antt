@@ -4,7 +4,7 @@ use Rattle.duration_str.specs.declared.options.Options.{Options}
 use Rattle.duration_str.specs.declared.cause.Cause.{Cause}
 use Rattle.duration_str.specs.declared.cause.Cause.TheVariants.{Empty, Syntax, Overflow}
 use Rattle.duration_str.specs.declared.cause.Expected.{Expected}
-use Rattle.duration_str.specs.Text.{byte_len}
+use Rattle.duration_str.specs.Text.{Characters, byte_len}
 use Rattle.duration_str.specs.Grammar.{Terminal, IsSentence, IsSentenceOf, number}
 use Rattle.duration_str.specs.Tokens.{tokens_of}
 use Rattle.duration_str.specs.Place.{IsFront, CanFollow, start_after, terminals_of}
@@ -12,8 +12,8 @@ use Rattle.duration_str.specs.Value.{Term, term_fault, sum_of, fits, or_else, un
 use Rattle.duration_str.specs.Value.{written_terms, value_of, evaluation_fault, Evaluates}
 
 -- A sentence spells the text, evaluates, and has this value in nanoseconds.
-pub record IsRead (o : Options) (text : List ℕ) (nanos : ℕ) : Type 0 where
-  pub lexemes : List (List ℕ)
+pub record IsRead (o : Options) (text : Characters) (nanos : ℕ) : Type 0 where
+  pub lexemes : List Characters
   pub spells : IsSentenceOf o lexemes text
   pub evaluates : Evaluates (written_terms o lexemes)
   pub value : value_of (written_terms o lexemes) ≡ Some nanos
@@ -73,7 +73,7 @@ pub data IsRefusedAt (no_calc : Bool) (place : ℕ) (front rest : List Terminal)
       → IsRefusedAt no_calc place front rest cause
 
 -- The text is refused for this cause: the empty text as `Empty`, any other by its front and the rest after it.
-abbrev pub IsRefused : Options → List ℕ → Cause → Type 0
+abbrev pub IsRefused : Options → Characters → Cause → Type 0
 IsRefused o [] cause = cause ≡ Empty
 IsRefused o (c ∷ text) cause =
     (front : List Terminal) × (rest : List Terminal) × IsFront o.no_calc (terminals_of o (c ∷ text)) front rest

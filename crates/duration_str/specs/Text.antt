@@ -1,13 +1,19 @@
 -- Texts as lists of character codes, the classes of characters, and the numbers that digits write.
 use Rattle.std.specs.Prelude.{ℕ, ◌+◌, ◌*◌, ◌-◌, ◌<◌, Bool, ◌&&◌, ◌||◌, List, [], ◌∷◌, nat_le, ◌==◌}
-use Rattle.std.specs.Prelude.{IsTrue, Option, Some, None, length, drop, if◌then◌else◌}
+use Rattle.std.specs.Prelude.{IsTrue, Option, Some, None, length, drop, if◌then◌else◌, chars, codes}
 use Rattle.std.specs.Char.{is_ascii_digit, is_ascii_alphabetic, len_utf8}
 use Rattle.std.specs.List.{list_any, list_all}
-use Rattle.std.specs.Str.{chars}
-use lib.Chars.{codes}
 use Rattle.duration_str.specs.declared.options.Options.{Options}
 use Rattle.duration_str.specs.declared.operator.CondUnit.{CondUnit}
 use Rattle.duration_str.specs.declared.operator.CondUnit.TheVariants.{Plus, Star}
+
+-- characters, each by its code
+abbrev pub Characters : Type 0
+Characters = List ℕ
+
+-- bytes, such as a text in UTF-8
+abbrev pub Bytes : Type 0
+Bytes = List ℕ
 
 -- space, tab, carriage return, line feed
 abbrev pub is_blank : ℕ → Bool
@@ -18,7 +24,7 @@ abbrev pub is_digit : ℕ → Bool
 is_digit c = is_ascii_digit c
 
 -- the characters that the option `cn_unit` adds to the unit letters
-abbrev pub chinese_letters : List ℕ
+abbrev pub chinese_letters : Characters
 chinese_letters = codes "年月周日天时分秒毫微纳"
 
 -- whether `cn_unit` adds this character to the unit letters
@@ -34,20 +40,20 @@ abbrev pub operator_of : ℕ → Option CondUnit
 operator_of c = if c == 43 then Some Plus else if c == 42 then Some Star else None
 
 -- Every character is a blank.
-abbrev pub IsBlank : List ℕ → Type 0
+abbrev pub IsBlank : Characters → Type 0
 IsBlank text = IsTrue (list_all is_blank text)
 
 -- A nonempty run of digits.
-abbrev pub IsNumber : List ℕ → Type 0
+abbrev pub IsNumber : Characters → Type 0
 IsNumber text = (0 < length text) × IsTrue (list_all is_digit text)
 
 -- the decimal number with the digits of n and then these
-abbrev pub number_after : ℕ → List ℕ → ℕ
+abbrev pub number_after : ℕ → Characters → ℕ
 number_after n [] = n
 number_after n (c ∷ digits) = number_after (n * 10 + (c - 48)) digits
 
 -- the decimal number with these digits
-abbrev pub number_of : List ℕ → ℕ
+abbrev pub number_of : Characters → ℕ
 number_of digits = number_after 0 digits
 
 -- the length of a character in UTF-8, in bytes; a number that is not a character counts as four
@@ -55,10 +61,10 @@ abbrev pub width : ℕ → ℕ
 width c = if nat_le 0xD800 c && nat_le c 0xDFFF then 4 else len_utf8 c
 
 -- the length of a text in UTF-8, in bytes
-abbrev pub byte_len : List ℕ → ℕ
+abbrev pub byte_len : Characters → ℕ
 byte_len [] = 0
 byte_len (c ∷ text) = width c + byte_len text
 
 -- the characters of these bytes from byte `place` on
-abbrev pub ahead : List ℕ → ℕ → List ℕ
+abbrev pub ahead : Bytes → ℕ → Characters
 ahead text place = chars (drop place text)

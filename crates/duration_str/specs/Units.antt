@@ -1,13 +1,12 @@
 -- The units: their lengths, the names that are printed, and the names that are read.
-use Rattle.std.specs.Prelude.{ℕ, Bool, false, ◌&&◌, ◌||◌, List, [], ◌∷◌, Option, if◌then◌else◌, map}
+use Rattle.std.specs.Prelude.{ℕ, Bool, false, ◌&&◌, ◌||◌, List, [], ◌∷◌, Option, if◌then◌else◌, map, bytes_eq, codes}
 use Rattle.std.specs.Char.{to_ascii_lowercase}
 use Rattle.std.specs.List.{list_any, find}
-use Rattle.std.specs.Str.{bytes_eq}
-use lib.Chars.{codes}
 use Rattle.duration_str.specs.declared.options.Options.{Options}
 use Rattle.duration_str.specs.declared.unit.TimeUnit.{TimeUnit}
 use Rattle.duration_str.specs.declared.unit.TimeUnit.TheVariants.{Year, Quarter, Month, Week, Day, Hour, Minute, Second}
 use Rattle.duration_str.specs.declared.unit.TimeUnit.TheVariants.{MilliSecond, MicroSecond, NanoSecond}
+use Rattle.duration_str.specs.Text.{Characters}
 
 -- all options off
 abbrev pub off : Options
@@ -16,9 +15,9 @@ off = record { no_calc = false; lowercase = false; cn_unit = false }
 -- a unit's length in nanoseconds, the name that is printed, the names that are read, and those read only with `cn_unit`
 pub record UnitRow : Type 0 where
   pub nanos : ℕ
-  pub printed : List ℕ
-  pub names : List (List ℕ)
-  pub chinese : List (List ℕ)
+  pub printed : Characters
+  pub names : List Characters
+  pub chinese : List Characters
 
 -- The table of units, from which everything else about units follows.
 abbrev pub row_of : TimeUnit → UnitRow
@@ -47,19 +46,19 @@ abbrev pub unit_lengths : List ℕ
 unit_lengths = map nanos_of units
 
 -- the word as compared with the names: its ASCII capitals become small letters, unless `lowercase` is on
-abbrev pub comparison_form : Options → List ℕ → List ℕ
+abbrev pub comparison_form : Options → Characters → Characters
 comparison_form o word = if o.lowercase then word else map to_ascii_lowercase word
 
 -- whether the word is a name in the row
-abbrev pub is_in_row : Options → List ℕ → UnitRow → Bool
+abbrev pub is_in_row : Options → Characters → UnitRow → Bool
 is_in_row o word row =
     list_any (bytes_eq (comparison_form o word)) row.names
     || (o.cn_unit && list_any (bytes_eq (comparison_form o word)) row.chinese)
 
 -- whether the word is a name of the unit
-abbrev pub is_named : Options → List ℕ → TimeUnit → Bool
+abbrev pub is_named : Options → Characters → TimeUnit → Bool
 is_named o word u = is_in_row o word (row_of u)
 
 -- the unit that a word names
-abbrev pub unit_of_word : Options → List ℕ → Option TimeUnit
+abbrev pub unit_of_word : Options → Characters → Option TimeUnit
 unit_of_word o word = find (is_named o word) units

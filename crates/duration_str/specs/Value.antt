@@ -9,6 +9,7 @@ use Rattle.duration_str.specs.declared.operator.CondUnit.{CondUnit}
 use Rattle.duration_str.specs.declared.operator.CondUnit.TheVariants.{Plus, Star}
 use Rattle.duration_str.specs.declared.cause.Cause.{Cause}
 use Rattle.duration_str.specs.declared.cause.Cause.TheVariants.{NumberTooLarge, Overflow, Mixed}
+use Rattle.duration_str.specs.Text.{Characters}
 use Rattle.duration_str.specs.Units.{nanos_of}
 use Rattle.duration_str.specs.Grammar.{Terminal, number, word, operator, terminal_of}
 
@@ -26,8 +27,7 @@ value_of_term t = t.number * t.length
 abbrev pub second : ℕ
 second = nanos_of Second
 
--- the terms after the operator `op`, with these lengths of the units; an operator that is left out is plus, and a unit
--- that is left out is the second
+-- the terms after `op`, with these lengths of the units; an operator left out is plus, and a unit left out the second
 abbrev pub terms_by : (TimeUnit → ℕ) → CondUnit → List Terminal → List Term
 terms_by length_of op (number n ∷ word (Some u) ∷ more) =
     record { operator = op; number = n; length = length_of u } ∷ terms_by length_of Plus more
@@ -45,7 +45,7 @@ abbrev pub terms_of : List Terminal → List Term
 terms_of terminals = terms_after Plus terminals
 
 -- the terms that the lexemes of a sentence write
-abbrev pub written_terms : Options → List (List ℕ) → List Term
+abbrev pub written_terms : Options → List Characters → List Term
 written_terms o lexemes = terms_of (map (terminal_of o) lexemes)
 
 -- Every operator that is written is plus.

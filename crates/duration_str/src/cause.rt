@@ -40,7 +40,6 @@ impl Expected {
         }
     }
 
-    /// What can follow a number.
     #[inline(always)]
     pub(crate) fn after_number(no_calc: bool) -> Expected
         ensures { result ≡ expected_after_number no_calc }
@@ -53,7 +52,6 @@ impl Expected {
         }
     }
 
-    /// What can follow a unit.
     #[inline(always)]
     pub(crate) fn after_unit(no_calc: bool) -> Expected
         ensures { result ≡ expected_after_unit no_calc }
@@ -133,7 +131,6 @@ impl Cause {
         }
     }
 
-    /// The syntax fault at a place where one of these could stand.
     #[inline(always)]
     pub(crate) fn syntax(place: usize, expected: Expected) -> Cause
         ensures { result ≡ Cause.Syntax place expected }

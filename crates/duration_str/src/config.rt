@@ -35,7 +35,6 @@ pub trait DeserializeDuration<'de>: Sized {
         ensures { gives (view value.now) result };
 }
 
-/// The fault of a value that is not a text.
 fn not_text<'a>(optional: bool) -> Fault<'a>
     ensures text { result.text.now ≡ [] }
     ensures cause { result.cause ≡ NotText optional }
@@ -152,11 +151,7 @@ pub fn deserialize_duration_time<'de>(value: &'de Value) -> Result<SignedDuratio
 /// What `deserialize_duration` returns for an `Option<Duration>`.
 ///
 /// ```text
-/// // a field that may be missing
-/// match config.get("keep_alive") {
-///     Some(value) => deserialize_option_duration(value),
-///     None => Ok(None),
-/// }
+/// config.get("keep_alive").map_or(Ok(None), deserialize_option_duration) // a field that may be missing
 /// ```
 pub fn deserialize_option_duration<'de>(value: &'de Value) -> Result<Option<Duration>, Fault<'de>>
     ensures { IsOptional (λ d. pos (as_nanos d)) (view value.now) result }

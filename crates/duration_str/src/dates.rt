@@ -68,46 +68,33 @@ pub fn after_naive_date(moment: Timestamp, input: &str) -> Result<Date, Fault<'_
     }
 }
 
-/// The date and time this long before the moment; `None` if out of range.
 fn earlier(moment: Timestamp, length: Duration) -> Option<DateTime>
     ensures shown { IfSome result (IsCivil (moment.nanosecond -ℤ pos (as_nanos length))) }
     ensures within { IsSome result ↔ IsInRange (moment.nanosecond -ℤ pos (as_nanos length)) }
 {
-    match moment.checked_sub(length) {
-        Ok(earlier) => Some(at_utc(earlier)),
-        Err(_) => None,
-    }
+    Some(at_utc(moment.checked_sub(length).ok()?))
 }
 
-/// The date and time this long after the moment; `None` if out of range.
 fn later(moment: Timestamp, length: Duration) -> Option<DateTime>
     ensures shown { IfSome result (IsCivil (moment.nanosecond +ℤ pos (as_nanos length))) }
     ensures within { IsSome result ↔ IsInRange (moment.nanosecond +ℤ pos (as_nanos length)) }
 {
-    match moment.checked_add(length) {
-        Ok(later) => Some(at_utc(later)),
-        Err(_) => None,
-    }
+    Some(at_utc(moment.checked_add(length).ok()?))
 }
 
-/// The date and time of a moment in UTC.
 fn at_utc(moment: Timestamp) -> DateTime
     ensures { IsCivil moment.nanosecond result }
 {
     Offset::UTC.to_datetime(moment)
 }
 
-/// The date and time, or `OutOfRange` if there is none.
 fn in_range<'a>(at: Option<DateTime>, input: &'a str) -> Result<DateTime, Fault<'a>>
     ensures some { IfSome at (λ shown. result ≡ Ok shown) }
     ensures none { IfNone at (IsErrAnd result (λ fault.
         (fault.text.now ≡ input.now) × (fault.cause ≡ OutOfRange))) }
 {
-    match at {
-        Some(at) => Ok(at),
-        None => Err(Fault {
-            text: input,
-            cause: Cause::OutOfRange,
-        }),
-    }
+    at.ok_or(Fault {
+        text: input,
+        cause: Cause::OutOfRange,
+    })
 }

@@ -17,7 +17,6 @@ pub(crate) struct Eye<'a> {
 }
 
 impl<'a> Eye<'a> {
-    /// The start of the text, before any look.
     #[inline(always)]
     pub(crate) fn new(text: &'a str) -> Eye<'a>
         ensures text { result.text.now ≡ text.now }
@@ -31,7 +30,6 @@ impl<'a> Eye<'a> {
         }
     }
 
-    /// The byte up to which the text is cut.
     #[inline(always)]
     pub(crate) fn place(&self) -> usize
         ensures { result ≡ self.now.place }
@@ -39,7 +37,6 @@ impl<'a> Eye<'a> {
         self.place
     }
 
-    /// How many times a character was looked at.
     #[inline(always)]
     pub(crate) fn looks(&self) -> u64
         ensures { result ≡ self.now.looks }
@@ -73,7 +70,6 @@ impl<'a> Eye<'a> {
         self.place += looked_at.len_utf8();
     }
 
-    /// The text from an earlier place to the present one.
     #[inline(always)]
     pub(crate) fn since(&self, start: usize) -> &'a str
         requires order { start ≤ self.now.place }
@@ -95,7 +91,6 @@ impl<'a> Eye<'a> {
     }
 }
 
-/// The character at a place, and `None` at the end of the text.
 #[inline]
 fn character_at(text: &str, place: usize) -> Option<char>
     requires { IsCharBoundary text.now place }
@@ -110,7 +105,6 @@ fn character_at(text: &str, place: usize) -> Option<char>
     }
 }
 
-/// The character at a place, of any width.
 #[tactic(auto, using(crate::proofs::Characters::TextLemmas::stands_char))]
 #[cold]
 #[inline(never)]

@@ -67,9 +67,8 @@ impl Format {
     /// use duration_str::{Format, STYLED_BUFFER_SIZE, TimeUnit, write_within};
     /// use std::time::Duration;
     ///
-    /// let mut buffer = [0; STYLED_BUFFER_SIZE];
     /// let minutes = Format::whole().largest(TimeUnit::Minute);
-    /// assert_eq!(write_within(&Duration::new(5_430, 0), minutes, &mut buffer), "90min 30s");
+    /// assert_eq!(write_within(&Duration::new(5_430, 0), minutes, &mut [0; STYLED_BUFFER_SIZE]), "90min 30s");
     /// ```
     #[inline]
     #[must_use]
@@ -104,9 +103,8 @@ impl Format {
     /// use duration_str::{Format, STYLED_BUFFER_SIZE, write_within};
     /// use std::time::Duration;
     ///
-    /// let mut buffer = [0; STYLED_BUFFER_SIZE];
     /// let one_part = Format::whole().parts(1);
-    /// assert_eq!(write_within(&Duration::new(5_430, 0), one_part, &mut buffer), "1h");
+    /// assert_eq!(write_within(&Duration::new(5_430, 0), one_part, &mut [0; STYLED_BUFFER_SIZE]), "1h");
     /// ```
     #[inline]
     #[must_use]
@@ -122,9 +120,8 @@ impl Format {
     /// use duration_str::{Format, STYLED_BUFFER_SIZE, Style, write_within};
     /// use std::time::Duration;
     ///
-    /// let mut buffer = [0; STYLED_BUFFER_SIZE];
     /// let long = Format::whole().style(Style::Long);
-    /// assert_eq!(write_within(&Duration::new(5_430, 0), long, &mut buffer), "1 hour 30 minutes 30 seconds");
+    /// assert_eq!(write_within(&Duration::new(5_400, 0), long, &mut [0; STYLED_BUFFER_SIZE]), "1 hour 30 minutes");
     /// ```
     #[inline]
     #[must_use]
@@ -134,7 +131,7 @@ impl Format {
         Format { style, ..self }
     }
 
-    /// The units from the largest to the smallest.
+    #[inline(always)]
     pub(crate) fn units(self) -> &'static [Printed]
         ensures units { units_in result.now ≡ units_within self }
         ensures right { AreRight result.now }

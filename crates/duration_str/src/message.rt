@@ -53,7 +53,6 @@ impl Fault<'_> {
         layout.put(buffer, self.text, line)
     }
 
-    /// How its message is laid out.
     pub(crate) fn layout(&self) -> Layout
         ensures { laid_out result self.now.text.now (encode_utf8_all (line_of self.now.cause))
             ≡ message_of self.now.text.now self.now.cause }
@@ -111,7 +110,6 @@ pub(crate) enum Layout {
 }
 
 impl Layout {
-    /// The length in bytes of a message with this layout; `usize::MAX` if it is greater than that.
     fn len(self, text: &str, line: &str) -> usize
         ensures { result ≡ min (length (laid_out self text.now line.now)) (2 ^ 64 - 1) }
     {
@@ -125,7 +123,6 @@ impl Layout {
         }
     }
 
-    /// Writes a message with this layout in parts.
     fn write<W: fmt::Write>(self, f: &mut fmt::Formatter<W>, text: &str, line: &str) -> fmt::Result
         ensures { DisplaysOnOk W.write_str_gives f.old result
             (Some (laid_out self text.now line.now)) f.new }
@@ -140,7 +137,6 @@ impl Layout {
         }
     }
 
-    /// The message with this layout, at the start of the buffer; `None` if there is no room.
     fn message<'b>(self, buffer: &'b mut [u8], text: &str, line: &str) -> Option<&'b str>
         ensures text { IfSome result
             (λ message. message.now ≡ laid_out self text.now line.now) }
@@ -154,7 +150,6 @@ impl Layout {
         }
     }
 
-    /// Writes a message with this layout, and returns where it ends; `None` if there is no room.
     fn put(self, buffer: &mut [u8], text: &str, line: &str) -> Option<usize>
         ensures bytes { IsInFront (laid_out self text.now line.now) result buffer.new }
         ensures utf8 { IfSome result (λ end. IsUtf8 (take end buffer.new)) }
@@ -167,22 +162,15 @@ impl Layout {
     }
 }
 
-/// The number of characters before the place. In ASCII it is that of the bytes, which takes less time.
 #[inline(never)]
 pub(crate) fn chars_before(text: &str, place: usize) -> usize
     requires { IsCharBoundary text.now place }
     ensures count { result ≡ chars_before text.now place }
     ensures small { result < 2 ^ 63 }
 {
-    let before = &text[..place];
-    if before.is_ascii() {
-        before.len()
-    } else {
-        before.chars().count()
-    }
+    text[..place].chars().count()
 }
 
-/// Writes the place as a number, and the line.
 fn put_byte(buffer: &mut [u8], place: usize, line: &str) -> Option<usize>
     ensures bytes { IsInFront (byte_text place line.now) result buffer.new }
     ensures utf8 { IfSome result (λ end. IsUtf8 (take end buffer.new)) }
@@ -193,7 +181,6 @@ fn put_byte(buffer: &mut [u8], place: usize, line: &str) -> Option<usize>
     put(buffer, colon, line.as_bytes())
 }
 
-/// Writes the text, a caret after this many spaces, and the line.
 fn put_caret(buffer: &mut [u8], text: &str, spaces: usize, line: &str) -> Option<usize>
     ensures bytes { IsInFront (caret_text text.now spaces line.now) result buffer.new }
     ensures utf8 { IfSome result (λ end. IsUtf8 (take end buffer.new)) }
@@ -218,7 +205,6 @@ pub(crate) fn put(buffer: &mut [u8], at: usize, part: &[u8]) -> Option<usize>
     Some(end)
 }
 
-/// Writes this many spaces, as `put` does.
 fn put_spaces(buffer: &mut [u8], at: usize, count: usize) -> Option<usize>
     requires { at ≤ length buffer.old }
     ensures { IsInFront (take at buffer.old ++ replicate count 32) result buffer.new }
@@ -231,7 +217,6 @@ fn put_spaces(buffer: &mut [u8], at: usize, count: usize) -> Option<usize>
     Some(end)
 }
 
-/// Writes a number in decimal as `put` does.
 #[tactic(auto, using(crate::proofs::Printer::DigitLemmas::short_decimal, std::proofs::lemmas::Fmt::decimal_digit))]
 pub(crate) fn put_decimal(buffer: &mut [u8], at: usize, number: usize) -> Option<usize>
     requires { at ≤ length buffer.old }
@@ -245,7 +230,6 @@ pub(crate) fn put_decimal(buffer: &mut [u8], at: usize, number: usize) -> Option
     put(buffer, at, &digits[..end])
 }
 
-/// The number of decimal digits.
 #[tactic(auto, using(crate::proofs::Printer::DigitLemmas::short_decimal))]
 fn decimal_len(number: usize) -> usize
     ensures digits { result ≡ length (decimal number) }
@@ -272,7 +256,6 @@ impl fmt::Display for Spaces {
     }
 }
 
-/// This many spaces, at most 64.
 fn short_run(count: usize) -> &'static str
     requires { count ≤ 64 }
     ensures { result.now ≡ replicate count 32 }

@@ -68,7 +68,6 @@ impl Fault<'_> {
     }
 }
 
-/// Writes the line.
 fn put_line(buffer: &mut [u8], text: &str, cause: Cause) -> Option<usize>
     requires { ForSome (place_of cause) (IsCharBoundary text.now) }
     ensures { IsInFront (one_line_of text.now cause) result buffer.new }
@@ -83,7 +82,6 @@ fn put_line(buffer: &mut [u8], text: &str, cause: Cause) -> Option<usize>
     }
 }
 
-/// Writes the line of a syntax fault.
 fn put_syntax(buffer: &mut [u8], text: &str, place: usize, expected: Expected) -> Option<usize>
     requires { IsCharBoundary text.now place }
     ensures { IsInFront (syntax_line text.now place expected (first_piece (ahead text.now place)))
@@ -99,7 +97,6 @@ fn put_syntax(buffer: &mut [u8], text: &str, place: usize, expected: Expected) -
     }
 }
 
-/// Writes that the word is no unit, its column, and the help.
 fn put_unknown(buffer: &mut [u8], column: usize, word: &str, help: &str) -> Option<usize>
     ensures { IsInFront (unknown_line column (chars word.now) help.now) result buffer.new }
 {
@@ -109,7 +106,6 @@ fn put_unknown(buffer: &mut [u8], column: usize, word: &str, help: &str) -> Opti
     put_text(buffer, number, help)
 }
 
-/// Writes what was expected, the column, what stands there, and the help.
 fn put_found(
     buffer: &mut [u8],
     words: &str,
@@ -125,7 +121,6 @@ fn put_found(
     put_text(buffer, end, help)
 }
 
-/// Writes what stands at a place.
 fn put_words(buffer: &mut [u8], at: usize, piece: &str) -> Option<usize>
     requires { at ≤ length buffer.old }
     ensures { IsInFront (take at buffer.old ++ found_words (chars piece.now)) result buffer.new }
@@ -137,7 +132,6 @@ fn put_words(buffer: &mut [u8], at: usize, piece: &str) -> Option<usize>
     put_quoted(buffer, found, piece)
 }
 
-/// Writes that the duration, or a step to it, is too large.
 fn put_overflow(buffer: &mut [u8], text: &str) -> Option<usize>
     ensures { IsInFront (overflow_line text.now) result buffer.new }
 {
@@ -151,7 +145,6 @@ fn put_overflow(buffer: &mut [u8], text: &str) -> Option<usize>
     }
 }
 
-/// Writes what is wrong, the text, and the help.
 fn put_text_line(buffer: &mut [u8], problem: &str, text: &str, help: &str) -> Option<usize>
     ensures { IsInFront (text_line problem.now text.now help.now) result buffer.new }
 {
@@ -161,7 +154,6 @@ fn put_text_line(buffer: &mut [u8], problem: &str, text: &str, help: &str) -> Op
     put_text(buffer, end, help)
 }
 
-/// Writes the column.
 #[inline(never)]
 fn put_column(buffer: &mut [u8], at: usize, column: usize) -> Option<usize>
     requires { at ≤ length buffer.old }
@@ -171,7 +163,6 @@ fn put_column(buffer: &mut [u8], at: usize, column: usize) -> Option<usize>
     put_decimal(buffer, number, column)
 }
 
-/// Writes a text as it is; often there is none.
 fn put_text(buffer: &mut [u8], at: usize, text: &str) -> Option<usize>
     requires { at ≤ length buffer.old }
     ensures { IsInFront (take at buffer.old ++ text.now) result buffer.new }
@@ -215,7 +206,6 @@ fn are_clear(bytes: &[u8]) -> bool
         .all(|b| matches!(b, b' '..=b'~') && *b != b'"' && *b != b'\\')
 }
 
-/// How many characters show a character in a quote.
 fn shown_len(c: char) -> usize
     ensures { result ≡ length (shown c) }
 {
@@ -226,7 +216,6 @@ fn shown_len(c: char) -> usize
     }
 }
 
-/// Writes a character of a quote.
 fn put_shown(buffer: &mut [u8], at: usize, c: char) -> Option<usize>
     requires { at ≤ length buffer.old }
     ensures { IsInFront (take at buffer.old ++ encode_utf8_all (shown c)) result buffer.new }
@@ -238,8 +227,7 @@ fn put_shown(buffer: &mut [u8], at: usize, c: char) -> Option<usize>
     }
 }
 
-/// Writes a character as its escape.
-#[inline(never)]
+#[inline(always)]
 fn put_escaped(buffer: &mut [u8], at: usize, c: char) -> Option<usize>
     requires { at ≤ length buffer.old }
     ensures { IsInFront (take at buffer.old ++ encode_utf8_all (escape_default c))
@@ -272,14 +260,12 @@ fn first_piece(text: &str) -> &str
     &text[..text.len() - rest.len()]
 }
 
-/// Whether both are digits, or both are letters.
 fn is_like(first: char, c: char) -> bool
     ensures { result ≡ is_like first c }
 {
     c.is_ascii_digit() && first.is_ascii_digit() || is_letter(c) && is_letter(first)
 }
 
-/// Whether a text begins with a letter.
 fn begins_with_letter(text: &str) -> bool
     ensures { result ≡ begins_with_letter (chars text.now) }
 {
@@ -290,15 +276,18 @@ fn begins_with_letter(text: &str) -> bool
 }
 
 /// An ASCII letter, or a plain character beyond ASCII that is no sign.
+#[inline(never)]
 fn is_letter(c: char) -> bool
     ensures { result ≡ is_letter c }
 {
+    if c.is_ascii() {
+        return c.is_ascii_alphabetic();
+    }
     let is_sign = matches!(c, '\u{a1}'..='\u{b4}' | '\u{b6}'..='\u{bf}' | '×' | '÷')
         || matches!(c, '\u{2010}'..='\u{2bff}' | '\u{3001}'..='\u{303f}' | '\u{ff00}'..='\u{ff20}');
-    c.is_ascii_alphabetic() || c >= '\u{80}' && is_plain(c) && !is_sign
+    is_plain(c) && !is_sign
 }
 
-/// Whether a character is quoted as it is.
 fn is_clear(c: char) -> bool
     ensures { result ≡ is_clear c }
 {
@@ -330,7 +319,6 @@ fn is_hidden(c: char) -> bool
         || matches!(c, '\u{1d173}'..='\u{1d17a}' | '\u{e0000}'..='\u{e0fff}')
 }
 
-/// What was expected.
 fn expected_words(expected: Expected) -> &'static str
     ensures { result.now ≡ expected_words expected }
 {
@@ -449,14 +437,12 @@ fn notation_help(before: &[u8], last: u8, piece: &str) -> &'static str
     }
 }
 
-/// Whether all of these bytes are blanks.
 fn are_blank(bytes: &[u8]) -> bool
     ensures { result ≡ list_all is_blank bytes.now }
 {
     bytes.iter().all(|b| is_blank(char::from(*b)))
 }
 
-/// Whether all of these bytes are digits or blanks.
 fn is_number(bytes: &[u8]) -> bool
     ensures { result ≡ list_all (λ b. is_digit b || is_blank b) bytes.now }
 {
@@ -465,12 +451,8 @@ fn is_number(bytes: &[u8]) -> bool
         .all(|b| b.is_ascii_digit() || is_blank(char::from(*b)))
 }
 
-/// The last of these bytes, 0 if there are none.
 fn last_byte(bytes: &[u8]) -> u8
     ensures { result ≡ slice_index bytes.now (length bytes.now - 1) }
 {
-    match bytes.last() {
-        Some(b) => *b,
-        None => 0,
-    }
+    bytes.last().copied().unwrap_or(0)
 }

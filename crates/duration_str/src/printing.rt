@@ -3,18 +3,19 @@
 //! The text has the greatest possible count of the largest unit, then the greatest count of the next in what is left,
 //! and so on down to the smallest unit, until there are so many parts. Counts of 0 are left out, and what is left then
 //! is too. The duration 0 is `0s`.
+//!
+//! A function that writes begins after the first `at` bytes of the buffer, and returns where its part ends.
 ghost use Rattle.std.specs.Prelude.{ℕ, List, ◌≡◌, ◌+◌, ◌<◌, ◌≤◌, ◌++◌, ◌^◌, [], take, length, decimal, encode_utf8_all};
 ghost use Rattle.std.specs.Prelude.{chars, IsUtf8, map};
 ghost use Rattle.std.specs.Duration.{as_nanos};
 ghost use Rattle.duration_str.specs.declared.format.Style.{Style};
-ghost use Rattle.duration_str.specs.declared.format.Style.TheVariants.{Short};
+ghost use Rattle.duration_str.specs.declared.format.Style.TheVariants.{Long, Short};
 ghost use Rattle.duration_str.specs.declared.printing.TheConstants.{MAX_PRINTED_LEN};
 ghost use Rattle.duration_str.specs.Units.{nanos_of, row_of};
 ghost use Rattle.duration_str.specs.Printing.{IsPrinted};
 ghost use Rattle.duration_str.specs.Limits.{IsPrintedWithin, counts_within, lengths_within, most_len, text_within};
 ghost use Rattle.duration_str.specs.Limits.{units_within, zero_unit};
-ghost use Rattle.duration_str.specs.Internal.PrintedBytes.{long_part, name_part, part_bytes, with_counts, with_gap};
-ghost use Rattle.duration_str.specs.Internal.PrintedBytes.{with_part};
+ghost use Rattle.duration_str.specs.Internal.PrintedBytes.{name_part, part_bytes, with_counts, with_gap, with_part};
 ghost use Rattle.duration_str.specs.Internal.UnitTable.{AreRight, printed_row, units_in};
 
 use crate::format::{Format, Style};
@@ -100,7 +101,6 @@ pub fn write_within<'b>(
     printed(buffer, end)
 }
 
-/// Writes a digit at `at`, and returns where it ends.
 #[inline(always)]
 #[tactic(auto, using(crate::proofs::Printer::DigitLemmas::put_steps))]
 fn put_digit(buffer: &mut [u8], at: usize, digit: u64) -> usize
@@ -113,7 +113,6 @@ fn put_digit(buffer: &mut [u8], at: usize, digit: u64) -> usize
     at + 1
 }
 
-/// Writes the digits of `n` from `at` on, and returns where they end.
 #[tactic(auto, using(crate::proofs::Printer::DigitLemmas::put_steps))]
 pub(crate) fn put_number(buffer: &mut [u8], at: usize, n: u64) -> usize
     requires room { at + length (decimal n) ≤ length buffer.old }
@@ -127,8 +126,7 @@ pub(crate) fn put_number(buffer: &mut [u8], at: usize, n: u64) -> usize
     put_digit(buffer, end, n % 10)
 }
 
-/// Writes a number of one or two digits from `at` on, and returns where they end. Without a branch, since nobody can
-/// foresee which it is: of a single digit the place is written twice.
+/// Without a branch, since nobody can foresee whether there are two digits: of one alone the place is written twice.
 #[inline(always)]
 #[tactic(auto, using(crate::proofs::Printer::DigitLemmas::put_steps))]
 fn put_tens(buffer: &mut [u8], at: usize, n: u64) -> usize
@@ -143,7 +141,7 @@ fn put_tens(buffer: &mut [u8], at: usize, n: u64) -> usize
     put_digit(buffer, last, n - 10 * tens)
 }
 
-/// Writes a count as `put_number` does. Most counts have up to three digits, which need no call.
+/// Most counts have up to three digits, which need no call.
 #[inline(always)]
 #[tactic(auto, using(crate::proofs::Printer::DigitLemmas::put_steps))]
 fn put_count(buffer: &mut [u8], at: usize, n: u64) -> usize
@@ -162,7 +160,6 @@ fn put_count(buffer: &mut [u8], at: usize, n: u64) -> usize
     put_number(buffer, at, n)
 }
 
-/// Writes a text from `at` on, and returns where it ends.
 #[inline(always)]
 fn put_str(buffer: &mut [u8], at: usize, text: &str) -> usize
     requires room { at + length text.now ≤ length buffer.old }
@@ -174,7 +171,7 @@ fn put_str(buffer: &mut [u8], at: usize, text: &str) -> usize
     end
 }
 
-/// Writes what stands between two parts after the first `at` bytes unless `at` is 0, and returns where it ends.
+/// Writes what stands between two parts, unless there is none before.
 #[inline(always)]
 fn put_gap(buffer: &mut [u8], at: usize, style: Style) -> usize
     requires room { at < length buffer.old }
@@ -188,7 +185,6 @@ fn put_gap(buffer: &mut [u8], at: usize, style: Style) -> usize
     put_str(buffer, at, " ")
 }
 
-/// Writes the digits of a number of up to 128 bits from `at` on, and returns where they end.
 #[tactic(auto, using(crate::proofs::Printer::DigitLemmas::put_steps))]
 fn put_wide(buffer: &mut [u8], at: usize, n: u128) -> usize
     requires room { at + length (decimal n) ≤ length buffer.old }
@@ -202,8 +198,7 @@ fn put_wide(buffer: &mut [u8], at: usize, n: u128) -> usize
     put_digit(buffer, end, (n % 10) as u64)
 }
 
-/// Writes a unit's name from `at` on, and returns where it ends. All names are copied with what follows them in four
-/// bytes, so that no call and no branch copies them.
+/// Copies each name with what follows it in four bytes, which takes no call and no branch.
 #[tactic(auto, using(crate::proofs::Printer::RowLemmas::name_copied))]
 #[inline(always)]
 fn put_name(buffer: &mut [u8], at: usize, row: &Printed) -> usize
@@ -217,13 +212,12 @@ fn put_name(buffer: &mut [u8], at: usize, row: &Printed) -> usize
     at + usize::from(row.width)
 }
 
-/// Writes a unit's long name after its count from `at` on, and returns where it ends.
 #[inline(never)]
 fn put_long_name(buffer: &mut [u8], at: usize, unit: TimeUnit, one: bool) -> usize
-    requires room { at + length (encode_utf8_all (long_part one unit)) ≤ length buffer.old }
+    requires room { at + length (encode_utf8_all (name_part Long one unit)) ≤ length buffer.old }
     ensures text { take result buffer.new
-        ≡ take at buffer.old ++ encode_utf8_all (long_part one unit) }
-    ensures end { result ≡ at + length (encode_utf8_all (long_part one unit)) }
+        ≡ take at buffer.old ++ encode_utf8_all (name_part Long one unit) }
+    ensures end { result ≡ at + length (encode_utf8_all (name_part Long one unit)) }
 {
     let start = put_str(buffer, at, " ");
     let end = put_str(buffer, start, unit.long_name());
@@ -233,7 +227,6 @@ fn put_long_name(buffer: &mut [u8], at: usize, unit: TimeUnit, one: bool) -> usi
     put_str(buffer, end, "s")
 }
 
-/// Writes what follows a count: its unit's name.
 #[inline(always)]
 fn put_name_in(buffer: &mut [u8], at: usize, row: &Printed, one: bool, style: Style) -> usize
     requires right { row.now ≡ printed_row row.now.unit }
@@ -249,7 +242,6 @@ fn put_name_in(buffer: &mut [u8], at: usize, row: &Printed, one: bool, style: St
     }
 }
 
-/// Writes a unit's part after the first `at` bytes, and returns where it ends.
 #[inline(always)]
 fn put_part(buffer: &mut [u8], at: usize, count: u64, row: &Printed, style: Style) -> usize
     requires right { row.now ≡ printed_row row.now.unit }
@@ -266,8 +258,7 @@ fn put_part(buffer: &mut [u8], at: usize, count: u64, row: &Printed, style: Styl
     put_name_in(buffer, end, row, count == 1, style)
 }
 
-/// Writes at most `most` parts of so many nanoseconds in these units after the first `at` bytes, and returns where they
-/// end.
+/// Writes at most `most` parts of so many nanoseconds in these units.
 #[inline(never)]
 fn put_parts(
     buffer: &mut [u8],
@@ -306,7 +297,7 @@ fn put_parts(
     end
 }
 
-/// Writes the first part to the start of the buffer, whose count may be above 64 bits, and returns where it ends.
+/// Writes the first part, whose count may be above 64 bits.
 #[inline(always)]
 fn put_first(buffer: &mut [u8], count: u128, row: &Printed, style: Style) -> usize
     requires right { row.now ≡ printed_row row.now.unit }
@@ -319,7 +310,7 @@ fn put_first(buffer: &mut [u8], count: u128, row: &Printed, style: Style) -> usi
     put_name_in(buffer, end, row, count == 1, style)
 }
 
-/// The same for a duration of 2^64 nanoseconds or more, into which each unit goes, and leaves less.
+/// Writes the parts of 2^64 nanoseconds or more, into which each unit goes, and leaves less than that.
 #[inline(never)]
 fn put_long(buffer: &mut [u8], rows: &[Printed], most: usize, nanos: u128, style: Style) -> usize
     requires right { AreRight rows.now }
@@ -338,17 +329,10 @@ fn put_long(buffer: &mut [u8], rows: &[Printed], most: usize, nanos: u128, style
     }
     let length = u128::from(row.nanos);
     let end = put_first(buffer, nanos / length, row, style);
-    put_parts(
-        buffer,
-        end,
-        shorter,
-        most - 1,
-        (nanos % length) as u64,
-        style,
-    )
+    let rest = (nanos % length) as u64;
+    put_parts(buffer, end, shorter, most - 1, rest, style)
 }
 
-/// Writes the parts of so many nanoseconds to the start of the buffer, and returns where they end.
 #[tactic(auto, using(crate::proofs::Printer::LimitsLemmas::with_nothing))]
 #[inline(always)]
 fn put_within(buffer: &mut [u8], format: Format, nanos: u128) -> usize
@@ -369,7 +353,7 @@ fn put_within(buffer: &mut [u8], format: Format, nanos: u128) -> usize
     }
 }
 
-/// Writes the zero that is printed if there are no parts, and returns where it ends.
+#[inline(always)]
 fn put_zero(buffer: &mut [u8], smallest: TimeUnit, style: Style) -> usize
     requires room { length (part_bytes style 0 (zero_unit smallest)) + 4 ≤ length buffer.old }
     ensures text { take result buffer.new ≡ part_bytes style 0 (zero_unit smallest) }
@@ -384,7 +368,6 @@ fn put_zero(buffer: &mut [u8], smallest: TimeUnit, style: Style) -> usize
     put_name_in(buffer, end, unit.printed(), false, style)
 }
 
-/// Writes the printed text to the start of the buffer, and returns its length.
 #[inline(always)]
 #[tactic(auto, unfolding(crate::specs::Internal::PrintedBytes::digits))]
 fn fill(d: Duration, format: Format, buffer: &mut [u8]) -> usize
@@ -401,7 +384,6 @@ fn fill(d: Duration, format: Format, buffer: &mut [u8]) -> usize
     end
 }
 
-/// The printed text, the first bytes of a buffer.
 #[inline(always)]
 fn printed(buffer: &[u8], end: usize) -> &str
     requires inside { end ≤ length buffer.now }

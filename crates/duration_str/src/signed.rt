@@ -24,7 +24,6 @@ impl HumanFormat for SignedDuration {
     }
 }
 
-/// The same length as a signed duration.
 fn to_signed(length: Duration) -> SignedDuration
     requires { as_nanos length < 2 ^ 64 }
     ensures { signed_nanos result ≡ pos (as_nanos length) }

@@ -70,7 +70,6 @@ pub(crate) enum TokenStart {
 impl TokenStart {
     ghost use Rattle.duration_str.specs.Internal.Steps.{sort_at};
 
-    /// The sort of a token that starts with this character.
     #[inline(always)]
     fn at(first: char, o: Options) -> TokenStart
         ensures { result ≡ sort_at o first }
@@ -164,7 +163,6 @@ impl<'a> Tokens<'a> {
         self.eye.looks()
     }
 
-    /// The byte up to which the text is cut.
     #[inline(always)]
     pub(crate) fn place(&self) -> usize
         ensures { result ≡ cut_place self.now }
@@ -187,7 +185,6 @@ impl<'a> Tokens<'a> {
         }
     }
 
-    /// Moves past the blanks.
     #[inline(always)]
     fn skip_blanks(&mut self)
         ensures kept { KeepsInput self.old self.new }
@@ -271,7 +268,6 @@ impl<'a> Tokens<'a> {
         }
     }
 
-    /// Takes the word ahead, and returns the unit that it names.
     #[inline(always)]
     pub(crate) fn take_word(&mut self) -> Option<TimeUnit>
         requires { IsAhead self.old (Some a_word) }
@@ -288,7 +284,6 @@ impl<'a> Tokens<'a> {
         unit_of_packed(letters.packed)
     }
 
-    /// Takes the token ahead, which is of this sort.
     #[inline(always)]
     fn take_token(&mut self, sort: TokenStart) -> What
         requires { IsAhead self.old (Some sort) }
@@ -374,7 +369,6 @@ const MOST_DIGITS: usize = 19;
 /// The most bytes of a name. The packed number of as many letters fits into a `u64`.
 const MOST_BYTES: usize = 12;
 
-/// Whether a character is a unit letter under these options.
 #[inline]
 fn is_unit_letter(c: char, o: Options) -> bool
     ensures { result ≡ is_unit_letter o c }
@@ -470,7 +464,6 @@ fn fits(digits: &[u8], low: u64) -> bool
         && (first == b'0' || first == b'1' && low >= 10_000_000_000_000_000_000)
 }
 
-/// Whether all digits are zero.
 fn are_zeros(digits: &[u8]) -> bool
     ensures { result ≡ list_all (λ digit. digit == 48) digits.now }
 {

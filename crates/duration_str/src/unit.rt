@@ -74,7 +74,6 @@ impl TimeUnit {
         self.row().nanos
     }
 
-    /// The printed name.
     #[inline(always)]
     pub(crate) fn name(self) -> &'static str
         ensures { result.now ≡ encode_utf8_all (row_of self).printed }
@@ -82,7 +81,7 @@ impl TimeUnit {
         self.row().printed
     }
 
-    /// The long name of one of the unit.
+    #[inline(always)]
     pub(crate) const fn long_name(self) -> &'static str
         ensures { result.now ≡ encode_utf8_all (long_name (row_of self)) }
     {
@@ -97,7 +96,6 @@ impl TimeUnit {
         self as usize
     }
 
-    /// The unit's row of the table.
     #[tactic(auto, unfolding(std::specs::Prelude::encode_utf8))]
     #[inline(always)]
     const fn row(self) -> Row
@@ -193,7 +191,6 @@ impl TimeUnit {
         }
     }
 
-    /// What is printed of the unit.
     #[inline(always)]
     pub(crate) fn printed(self) -> &'static Printed
         ensures { result.now ≡ printed_row self }
@@ -246,7 +243,6 @@ impl TimeUnit {
         n.checked_mul(self.nanos()).ok_or(Cause::Overflow { place })
     }
 
-    /// Whether a word is a name of the unit.
     #[tactic(auto, using(crate::proofs::Characters::UnitLemmas::by_name, crate::proofs::Characters::UnitLemmas::by_chinese))]
     fn is_named(self, word: &str, o: Options) -> bool
         ensures { result ≡ is_named o (chars word.now) self }
@@ -294,9 +290,7 @@ const YEAR: u64 = 365 * DAY;
 /// A row of the table of units.
 #[derive(Clone, Copy)]
 struct Row {
-    /// The length in nanoseconds.
     nanos: u64,
-    /// The printed name.
     printed: &'static str,
     /// The long name of one of the unit.
     long: &'static str,
@@ -309,9 +303,7 @@ struct Row {
 /// What is printed of a unit.
 #[derive(Clone, Copy)]
 pub(crate) struct Printed {
-    /// The unit.
     pub(crate) unit: TimeUnit,
-    /// The length in nanoseconds.
     pub(crate) nanos: u64,
     /// The greatest `u64` divided by the length.
     reciprocal: u64,
@@ -443,7 +435,6 @@ pub static UNITS: [TimeUnit; 11] = [
     TimeUnit::NanoSecond,
 ];
 
-/// Whether a word is one of these names.
 fn is_any(names: &[&str], word: &str, o: Options) -> bool
     ensures { result ≡ list_any (λ name.
         bytes_eq (comparison_form o word.now) (comparison_form o name.now)) names.now }
@@ -451,7 +442,6 @@ fn is_any(names: &[&str], word: &str, o: Options) -> bool
     names.iter().any(|name| is_name(name, word, o))
 }
 
-/// Whether a word is this name under these options.
 fn is_name(name: &str, word: &str, o: Options) -> bool
     ensures { result ≡ bytes_eq (comparison_form o word.now) (comparison_form o name.now) }
 {

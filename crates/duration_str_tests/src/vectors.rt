@@ -14,22 +14,19 @@ pub const OFF: Options = Options {
 /// Only `no_calc`.
 pub const NO_CALC: Options = Options {
     no_calc: true,
-    lowercase: false,
-    cn_unit: false,
+    ..OFF
 };
 
 /// Only `lowercase`.
 pub const LOWERCASE: Options = Options {
-    no_calc: false,
     lowercase: true,
-    cn_unit: false,
+    ..OFF
 };
 
 /// Only `cn_unit`.
 pub const CN_UNIT: Options = Options {
-    no_calc: false,
-    lowercase: false,
     cn_unit: true,
+    ..OFF
 };
 
 /// What can stand at the start and after an operator.

@@ -1,6 +1,6 @@
 """Durations as people write them: `3m + 13s + 29ms` is read, or refused
 with an error that points at its place, and a duration is printed as
-`3min 13s 29ms`. All answers are those of a library that is proved.
+`3min 13s 29ms`. A proved library reads and prints.
 
 >>> import duration_str
 >>> duration_str.parse("3m + 13s + 29ms")
@@ -10,9 +10,9 @@ datetime.timedelta(seconds=193, microseconds=29000)
 
 A text is terms, each a number and a unit, joined by `+` or by `*`, or
 following one another, which adds them. A product multiplies its terms in
-seconds. After a number the unit may be left out before an operator and at
-the end, and is seconds. Blanks may stand anywhere but inside a number or a
-unit. Numbers stay below 2**64, and values below 2**64 nanoseconds.
+seconds. A number without a unit counts seconds, and must be last or before
+an operator. Blanks may be anywhere except inside a number or a unit.
+Numbers stay below 2**64, and values below 2**64 nanoseconds.
 
 The units:
 
@@ -40,9 +40,8 @@ leaves the builtin function:
 
 format(value, /, *, parts=11, largest="y", smallest="ns", style="short")
 
-`parse_many` reads a column of texts by few calls, `parse_buffers` one that
-stands in buffers, `to_timedelta` one for NumPy or pandas, and `format_many`
-prints a column. `Duration` is a field of pydantic's models;
+`parse_many` reads a column of texts, `parse_buffers` one in buffers,
+`to_timedelta` one for NumPy or pandas, and `format_many` prints a column. `Duration` is a field of pydantic's models;
 `duration_str.click.DURATION` is a type of Click's options, and
 `duration_str.argparse.DURATION` one of argparse's. `Unit` and `Style` are
 the types of what `format` takes by name.

@@ -106,16 +106,8 @@ def to_timedelta(
 ) -> None: ...
 @overload
 def to_timedelta(
-    values: str, *, errors: Errors = ..., no_calc: bool = ..., lowercase: bool = ..., cn_unit: bool = ...
-) -> Any: ...
-@overload
-def to_timedelta(
-    values: list[Any] | tuple[Any, ...] | NDArray[Any],
-    *,
-    errors: Errors = ...,
-    no_calc: bool = ...,
-    lowercase: bool = ...,
-    cn_unit: bool = ...,
+    values: list[Any] | tuple[Any, ...] | NDArray[Any], *,
+    errors: Errors = ..., no_calc: bool = ..., lowercase: bool = ..., cn_unit: bool = ...,
 ) -> NDArray[numpy.timedelta64]: ...
 @overload
 def to_timedelta(

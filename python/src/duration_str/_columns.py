@@ -77,11 +77,11 @@ def parse_buffers(
 def parse_buffers(
     data: Any, offsets: Any, *, errors: Errors = "raise", no_calc: bool = False, lowercase: bool = False, cn_unit: bool = False
 ) -> array[int] | tuple[array[int], array[int]]:
-    """As `parse_many`, of texts in UTF-8 that stand in a buffer: text `k`
+    """As `parse_many`, of texts in UTF-8 in a buffer: text `k`
     is `data[offsets[k] : offsets[k + 1]]`, so there is one offset more than
     there are texts. `data` is any contiguous buffer, and `offsets` one of
     integers of 8 bytes or of 4. The bytes must not change during a call, or
-    any text may be read for what stood there for a moment. `bytes` are read
+    any text may be read as what was there for a moment. `bytes` are read
     in place, while other threads run; of any other buffer, read-only or
     not, small pieces are copied. A file that is mapped must not become
     shorter meanwhile, which ends the process.

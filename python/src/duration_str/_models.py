@@ -1,4 +1,4 @@
-"""A field of pydantic's models. pydantic is imported by who uses it, and not here."""
+"""A field of pydantic's models. Users import pydantic, not this module."""
 
 from __future__ import annotations
 

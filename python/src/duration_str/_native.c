@@ -103,12 +103,9 @@ static int read_str(struct state *state, PyObject *given, uint32_t options, uint
     PyObject *line = raises ? line_of(text, options, &answer) : NULL;
     if (!raises)
         duration_str_parse_with(text.bytes, text.length, options, &answer);
-    if (answer.cause == DURATION_STR_READ) {
-        *nanos = answer.nanos;
-        return 1;
-    }
-    if (!raises)
-        return 0;
+    *nanos = answer.nanos;
+    if (answer.cause == DURATION_STR_READ || !raises)
+        return answer.cause == DURATION_STR_READ;
     raise_error(state, line, PyUnicode_FromObject(given), &answer, text.bytes, index);
     return -1;
 }
@@ -268,7 +265,7 @@ static int take_limits(struct state *state, PyObject *const *values, PyObject *k
 }
 
 /* The text of a duration; without limits the call that has none is the faster one. */
-static PyObject *printed(uint64_t secs, uint32_t nanos, const struct limits *limits) {
+static PyObject *text_of(uint64_t secs, uint32_t nanos, const struct limits *limits) {
     char buffer[DURATION_STR_STYLED_BUFFER_SIZE];
     const bool is_whole = !memcmp(limits, &no_limits, sizeof *limits);
     const size_t length = is_whole && secs < UINT64_MAX / SECOND
@@ -278,8 +275,7 @@ static PyObject *printed(uint64_t secs, uint32_t nanos, const struct limits *lim
     return PyUnicode_FromStringAndSize(buffer, (Py_ssize_t)length);
 }
 
-/* The text of an int of nanoseconds. */
-static PyObject *printed_int(struct state *state, PyObject *nanos, const struct limits *limits) {
+static PyObject *text_of_int(struct state *state, PyObject *nanos, const struct limits *limits) {
     int overflow;
     const long long few = PyLong_AsLongLongAndOverflow(nanos, &overflow);
     /* Python prints no int of more than some thousand digits. */
@@ -288,7 +284,7 @@ static PyObject *printed_int(struct state *state, PyObject *nanos, const struct 
     if (!overflow && few < 0)
         return PyErr_Format(PyExc_ValueError, "a negative duration has no text: %R", nanos);
     if (!overflow)
-        return printed((uint64_t)few / SECOND, (uint32_t)((uint64_t)few % SECOND), limits);
+        return text_of((uint64_t)few / SECOND, (uint32_t)((uint64_t)few % SECOND), limits);
     PyObject *both = PyNumber_Divmod(nanos, state->kept[A_SECOND]);
     if (!both)
         return NULL;
@@ -297,7 +293,7 @@ static PyObject *printed_int(struct state *state, PyObject *nanos, const struct 
     Py_DECREF(both);
     if (PyErr_Occurred())
         return PyErr_Format(PyExc_OverflowError, "a duration of 2**64 seconds or more has no text");
-    return printed(secs, rest, limits);
+    return text_of(secs, rest, limits);
 }
 
 /* The days, seconds and microseconds of an exact timedelta. Returns -1 with an error if there is no memory. */
@@ -310,25 +306,24 @@ static int parts_of(struct state *state, PyObject *value, long *parts) {
     return PyErr_Occurred() ? -1 : 0;
 }
 
-/* The text of an exact timedelta. */
-static PyObject *printed_timedelta(struct state *state, PyObject *value, const struct limits *limits) {
+static PyObject *text_of_timedelta(struct state *state, PyObject *value, const struct limits *limits) {
     long parts[3];
     if (parts_of(state, value, parts))
         return NULL;
     if (parts[0] < 0)
         return PyErr_Format(PyExc_ValueError, "a negative duration has no text: %R", value);
-    return printed((uint64_t)parts[0] * 86400 + (uint64_t)parts[1], (uint32_t)parts[2] * 1000, limits);
+    return text_of((uint64_t)parts[0] * 86400 + (uint64_t)parts[1], (uint32_t)parts[2] * 1000, limits);
 }
 
 /* The text of a duration, or None where the function, which takes what is neither int nor timedelta, says that it is
  * missing. */
-static PyObject *printed_value(struct state *state, PyObject *value, PyObject *function, const struct limits *limits) {
+static PyObject *text_of_value(struct state *state, PyObject *value, PyObject *function, const struct limits *limits) {
     if (PyLong_CheckExact(value))
-        return printed_int(state, value, limits);
+        return text_of_int(state, value, limits);
     if (Py_IS_TYPE(value, (PyTypeObject *)state->kept[TIMEDELTA]))
-        return printed_timedelta(state, value, limits);
+        return text_of_timedelta(state, value, limits);
     PyObject *nanos = PyObject_CallFunctionObjArgs(function, value, NULL);
-    PyObject *text = !nanos ? NULL : Py_IsNone(nanos) ? Py_NewRef(nanos) : printed_int(state, nanos, limits);
+    PyObject *text = !nanos ? NULL : Py_IsNone(nanos) ? Py_NewRef(nanos) : text_of_int(state, nanos, limits);
     Py_XDECREF(nanos);
     return text;
 }
@@ -340,7 +335,7 @@ static PyObject *format(PyObject *self, PyObject *const *arguments, Py_ssize_t c
         return NULL;
     if (take_limits(state, arguments + 1, keywords, &limits))
         return NULL;
-    return printed_value(state, arguments[0], state->kept[NANOS_OF], &limits);
+    return text_of_value(state, arguments[0], state->kept[NANOS_OF], &limits);
 }
 
 /* limits(*, parts, largest, smallest, style): the limits as format_list takes them */
@@ -361,7 +356,7 @@ static PyObject *format_list(PyObject *self, PyObject *arguments) {
         return NULL;
     for (Py_ssize_t at = 0; at < PyList_Size(values); at++) {
         PyObject *value = Py_NewRef(PyList_GetItem(values, at));
-        PyObject *text = printed_value(PyModule_GetState(self), value, function, &limits);
+        PyObject *text = text_of_value(PyModule_GetState(self), value, function, &limits);
         const int failed = !text || PyList_Append(texts, text);
         Py_DECREF(value);
         Py_XDECREF(text);
@@ -520,7 +515,6 @@ static bool is_within(const size_t *offsets, Py_ssize_t length) {
     return offsets[0] <= offsets[1] && offsets[1] <= (size_t)length;
 }
 
-/* Raises why the text between two offsets is refused. */
 static void raise_between(struct state *state, const Py_buffer *data, const size_t *offsets, int are_signed,
                           uint32_t options, Py_ssize_t index) {
     const size_t start = offsets[0], end = offsets[1];

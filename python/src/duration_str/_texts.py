@@ -74,13 +74,13 @@ class DurationError(ValueError):
     cause: Cause
     """Why it is refused."""
     place: int | None
-    """Where the fault stands, as a byte of the text in UTF-8, or None where it has no place."""
+    """The byte at which the fault is, of the text in UTF-8, or None if it has no place."""
     pos: int | None
     """The same as a count of characters from 0, where the line counts from 1: `text[pos:]` begins with `found`."""
     expected: Expected
     """What could stand at the place of a syntax fault; for other faults no flag is set."""
     found: str | None
-    """The token that stands at the place of a syntax fault, or None at the end and for other faults."""
+    """The token at the place of a syntax fault, or None at the end and for other faults."""
     index: int | None
     """The position of the text in the column that was read, or None where it was read by itself."""
 
@@ -95,8 +95,8 @@ class DurationError(ValueError):
 
     @property
     def report(self) -> str:
-        """For a terminal: the text, a caret below the place of a syntax fault, and the line. It is the line alone for other
-        faults, for a text of more than 80 characters, and for one with something in it that the line would escape."""
+        """For a terminal: the text, a caret below the place of a syntax fault, and the line; or the line alone for other
+        faults, for a text of more than 80 characters, and for one with characters that the line would escape."""
         if self.cause is not Cause.SYNTAX or len(self.text) > 80 or not _is_clear(self.text):
             return str(self)
         return f"{self.text}\n{' ' * (self.pos or 0)}^\n{self}"

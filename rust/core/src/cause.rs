@@ -36,7 +36,6 @@ impl Expected {
         }
     }
 
-    /// What can follow a number.
     #[inline(always)]
     pub(crate) fn after_number(no_calc: bool) -> Expected {
         Expected {
@@ -47,7 +46,6 @@ impl Expected {
         }
     }
 
-    /// What can follow a unit.
     #[inline(always)]
     pub(crate) fn after_unit(no_calc: bool) -> Expected {
         Expected {
@@ -125,7 +123,6 @@ impl Cause {
         }
     }
 
-    /// The syntax fault at a place where one of these could stand.
     #[inline(always)]
     pub(crate) fn syntax(place: usize, expected: Expected) -> Cause {
         Cause::Syntax { place, expected }

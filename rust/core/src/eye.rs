@@ -9,7 +9,6 @@ pub(crate) struct Eye<'a> {
 }
 
 impl<'a> Eye<'a> {
-    /// The start of the text, before any look.
     #[inline(always)]
     pub(crate) fn new(text: &'a str) -> Eye<'a> {
         Eye {
@@ -19,13 +18,11 @@ impl<'a> Eye<'a> {
         }
     }
 
-    /// The byte up to which the text is cut.
     #[inline(always)]
     pub(crate) fn place(&self) -> usize {
         self.place
     }
 
-    /// How many times a character was looked at.
     #[inline(always)]
     pub(crate) fn looks(&self) -> u64 {
         self.looks
@@ -45,7 +42,6 @@ impl<'a> Eye<'a> {
         self.place += looked_at.len_utf8();
     }
 
-    /// The text from an earlier place to the present one.
     #[inline(always)]
     pub(crate) fn since(&self, start: usize) -> &'a str {
         &self.text[start..self.place]
@@ -58,7 +54,6 @@ impl<'a> Eye<'a> {
     }
 }
 
-/// The character at a place, and `None` at the end of the text.
 #[inline]
 fn character_at(text: &str, place: usize) -> Option<char> {
     let byte = *text.as_bytes().get(place)?;
@@ -69,7 +64,6 @@ fn character_at(text: &str, place: usize) -> Option<char> {
     }
 }
 
-/// The character at a place, of any width.
 #[cold]
 #[inline(never)]
 fn decoded_at(text: &str, place: usize) -> char {

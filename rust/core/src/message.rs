@@ -42,7 +42,6 @@ impl Fault<'_> {
         layout.put(buffer, self.text, line)
     }
 
-    /// How its message is laid out.
     pub(crate) fn layout(&self) -> Layout {
         let Some(place) = self.cause.place() else {
             return Layout::Line;
@@ -91,7 +90,6 @@ pub(crate) enum Layout {
 }
 
 impl Layout {
-    /// The length in bytes of a message with this layout; `usize::MAX` if it is greater than that.
     fn len(self, text: &str, line: &str) -> usize {
         match self {
             Layout::Line => line.len(),
@@ -103,7 +101,6 @@ impl Layout {
         }
     }
 
-    /// Writes a message with this layout in parts.
     fn write(self, f: &mut fmt::Formatter<'_>, text: &str, line: &str) -> fmt::Result {
         match self {
             Layout::Line => f.write_str(line),
@@ -115,7 +112,6 @@ impl Layout {
         }
     }
 
-    /// The message with this layout, at the start of the buffer; `None` if there is no room.
     fn message<'b>(self, buffer: &'b mut [u8], text: &str, line: &str) -> Option<&'b str> {
         match self.put(buffer, text, line) {
             // SAFETY: `put` writes UTF-8 up to `end`, by its clause `utf8`.
@@ -124,7 +120,6 @@ impl Layout {
         }
     }
 
-    /// Writes a message with this layout, and returns where it ends; `None` if there is no room.
     fn put(self, buffer: &mut [u8], text: &str, line: &str) -> Option<usize> {
         match self {
             Layout::Line => put(buffer, 0, line.as_bytes()),
@@ -134,18 +129,11 @@ impl Layout {
     }
 }
 
-/// The number of characters before the place. In ASCII it is that of the bytes, which takes less time.
 #[inline(never)]
 pub(crate) fn chars_before(text: &str, place: usize) -> usize {
-    let before = &text[..place];
-    if before.is_ascii() {
-        before.len()
-    } else {
-        before.chars().count()
-    }
+    text[..place].chars().count()
 }
 
-/// Writes the place as a number, and the line.
 fn put_byte(buffer: &mut [u8], place: usize, line: &str) -> Option<usize> {
     let word = put(buffer, 0, b"byte ")?;
     let number = put_decimal(buffer, word, place)?;
@@ -153,7 +141,6 @@ fn put_byte(buffer: &mut [u8], place: usize, line: &str) -> Option<usize> {
     put(buffer, colon, line.as_bytes())
 }
 
-/// Writes the text, a caret after this many spaces, and the line.
 fn put_caret(buffer: &mut [u8], text: &str, spaces: usize, line: &str) -> Option<usize> {
     let above = put(buffer, 0, text.as_bytes())?;
     let below = put(buffer, above, b"\n")?;
@@ -172,7 +159,6 @@ pub(crate) fn put(buffer: &mut [u8], at: usize, part: &[u8]) -> Option<usize> {
     Some(end)
 }
 
-/// Writes this many spaces, as `put` does.
 fn put_spaces(buffer: &mut [u8], at: usize, count: usize) -> Option<usize> {
     if count > buffer.len() - at {
         return None;
@@ -182,7 +168,6 @@ fn put_spaces(buffer: &mut [u8], at: usize, count: usize) -> Option<usize> {
     Some(end)
 }
 
-/// Writes a number in decimal as `put` does.
 pub(crate) fn put_decimal(buffer: &mut [u8], at: usize, number: usize) -> Option<usize> {
     if number < 10 {
         return put(buffer, at, &[b'0' + number as u8]);
@@ -192,7 +177,6 @@ pub(crate) fn put_decimal(buffer: &mut [u8], at: usize, number: usize) -> Option
     put(buffer, at, &digits[..end])
 }
 
-/// The number of decimal digits.
 fn decimal_len(number: usize) -> usize {
     let mut digits = [0; 64];
     put_number(&mut digits, 0, number as u64)
@@ -213,7 +197,6 @@ impl fmt::Display for Spaces {
     }
 }
 
-/// This many spaces, at most 64.
 fn short_run(count: usize) -> &'static str {
     &SPACES[..count]
 }

@@ -50,7 +50,6 @@ impl Fault<'_> {
     }
 }
 
-/// Writes the line.
 fn put_line(buffer: &mut [u8], text: &str, cause: Cause) -> Option<usize> {
     match cause {
         Cause::Empty => put(buffer, 0, b"empty text"),
@@ -62,7 +61,6 @@ fn put_line(buffer: &mut [u8], text: &str, cause: Cause) -> Option<usize> {
     }
 }
 
-/// Writes the line of a syntax fault.
 fn put_syntax(buffer: &mut [u8], text: &str, place: usize, expected: Expected) -> Option<usize> {
     let piece = first_piece(&text[place..]);
     let column = chars_before(text, place) + 1;
@@ -74,7 +72,6 @@ fn put_syntax(buffer: &mut [u8], text: &str, place: usize, expected: Expected) -
     }
 }
 
-/// Writes that the word is no unit, its column, and the help.
 fn put_unknown(buffer: &mut [u8], column: usize, word: &str, help: &str) -> Option<usize> {
     let start = put(buffer, 0, b"unknown unit ")?;
     let end = put_quoted(buffer, start, word)?;
@@ -82,7 +79,6 @@ fn put_unknown(buffer: &mut [u8], column: usize, word: &str, help: &str) -> Opti
     put_text(buffer, number, help)
 }
 
-/// Writes what was expected, the column, what stands there, and the help.
 fn put_found(
     buffer: &mut [u8],
     words: &str,
@@ -96,7 +92,6 @@ fn put_found(
     put_text(buffer, end, help)
 }
 
-/// Writes what stands at a place.
 fn put_words(buffer: &mut [u8], at: usize, piece: &str) -> Option<usize> {
     if piece.is_empty() {
         return put(buffer, at, b", found the end");
@@ -105,7 +100,6 @@ fn put_words(buffer: &mut [u8], at: usize, piece: &str) -> Option<usize> {
     put_quoted(buffer, found, piece)
 }
 
-/// Writes that the duration, or a step to it, is too large.
 fn put_overflow(buffer: &mut [u8], text: &str) -> Option<usize> {
     if text.as_bytes().contains(&b'*') {
         put_text_line(buffer, "step of over 584 years", text, "")
@@ -117,7 +111,6 @@ fn put_overflow(buffer: &mut [u8], text: &str) -> Option<usize> {
     }
 }
 
-/// Writes what is wrong, the text, and the help.
 fn put_text_line(buffer: &mut [u8], problem: &str, text: &str, help: &str) -> Option<usize> {
     let start = put_text(buffer, 0, problem)?;
     let before = put(buffer, start, b" in ")?;
@@ -125,14 +118,12 @@ fn put_text_line(buffer: &mut [u8], problem: &str, text: &str, help: &str) -> Op
     put_text(buffer, end, help)
 }
 
-/// Writes the column.
 #[inline(never)]
 fn put_column(buffer: &mut [u8], at: usize, column: usize) -> Option<usize> {
     let number = put(buffer, at, b" at column ")?;
     put_decimal(buffer, number, column)
 }
 
-/// Writes a text as it is; often there is none.
 fn put_text(buffer: &mut [u8], at: usize, text: &str) -> Option<usize> {
     if text.is_empty() {
         return Some(at);
@@ -168,7 +159,6 @@ fn are_clear(bytes: &[u8]) -> bool {
         .all(|b| matches!(b, b' '..=b'~') && *b != b'"' && *b != b'\\')
 }
 
-/// How many characters show a character in a quote.
 fn shown_len(c: char) -> usize {
     if is_clear(c) {
         1
@@ -177,7 +167,6 @@ fn shown_len(c: char) -> usize {
     }
 }
 
-/// Writes a character of a quote.
 fn put_shown(buffer: &mut [u8], at: usize, c: char) -> Option<usize> {
     if is_clear(c) {
         put_text(buffer, at, c.encode_utf8(&mut [0; 4]))
@@ -186,8 +175,7 @@ fn put_shown(buffer: &mut [u8], at: usize, c: char) -> Option<usize> {
     }
 }
 
-/// Writes a character as its escape.
-#[inline(never)]
+#[inline(always)]
 fn put_escaped(buffer: &mut [u8], at: usize, c: char) -> Option<usize> {
     let mut end = at;
     for part in c.escape_default() {
@@ -214,12 +202,10 @@ fn first_piece(text: &str) -> &str {
     &text[..text.len() - rest.len()]
 }
 
-/// Whether both are digits, or both are letters.
 fn is_like(first: char, c: char) -> bool {
     c.is_ascii_digit() && first.is_ascii_digit() || is_letter(c) && is_letter(first)
 }
 
-/// Whether a text begins with a letter.
 fn begins_with_letter(text: &str) -> bool {
     match text.chars().next() {
         Some(c) => is_letter(c),
@@ -228,13 +214,16 @@ fn begins_with_letter(text: &str) -> bool {
 }
 
 /// An ASCII letter, or a plain character beyond ASCII that is no sign.
+#[inline(never)]
 fn is_letter(c: char) -> bool {
+    if c.is_ascii() {
+        return c.is_ascii_alphabetic();
+    }
     let is_sign = matches!(c, '\u{a1}'..='\u{b4}' | '\u{b6}'..='\u{bf}' | '×' | '÷')
         || matches!(c, '\u{2010}'..='\u{2bff}' | '\u{3001}'..='\u{303f}' | '\u{ff00}'..='\u{ff20}');
-    c.is_ascii_alphabetic() || c >= '\u{80}' && is_plain(c) && !is_sign
+    is_plain(c) && !is_sign
 }
 
-/// Whether a character is quoted as it is.
 fn is_clear(c: char) -> bool {
     is_plain(c) && c != '"' && c != '\\'
 }
@@ -259,7 +248,6 @@ fn is_hidden(c: char) -> bool {
         || matches!(c, '\u{1d173}'..='\u{1d17a}' | '\u{e0000}'..='\u{e0fff}')
 }
 
-/// What was expected.
 fn expected_words(expected: Expected) -> &'static str {
     if expected.unit_word {
         if expected.operator {
@@ -365,22 +353,16 @@ fn notation_help(before: &[u8], last: u8, piece: &str) -> &'static str {
     }
 }
 
-/// Whether all of these bytes are blanks.
 fn are_blank(bytes: &[u8]) -> bool {
     bytes.iter().all(|b| is_blank(char::from(*b)))
 }
 
-/// Whether all of these bytes are digits or blanks.
 fn is_number(bytes: &[u8]) -> bool {
     bytes
         .iter()
         .all(|b| b.is_ascii_digit() || is_blank(char::from(*b)))
 }
 
-/// The last of these bytes, 0 if there are none.
 fn last_byte(bytes: &[u8]) -> u8 {
-    match bytes.last() {
-        Some(b) => *b,
-        None => 0,
-    }
+    bytes.last().copied().unwrap_or(0)
 }

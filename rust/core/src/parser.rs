@@ -71,7 +71,6 @@ pub fn parse_with(input: &str, o: Options) -> Result<Duration, Fault<'_>> {
     parse_chosen(input, o)
 }
 
-/// What `parse_with` returns where an option is on.
 #[inline(never)]
 fn parse_chosen(input: &str, o: Options) -> Result<Duration, Fault<'_>> {
     parse_nanos(input, o).map(Duration::from_nanos)
@@ -104,7 +103,6 @@ pub fn parse_looked(input: &str, o: Options) -> (Result<Duration, Fault<'_>>, u6
     (answer.map(Duration::from_nanos), looks)
 }
 
-/// What `parse_nanos` returns, and how many times a character of the text was looked at.
 #[inline(always)]
 fn read_text(input: &str, o: Options) -> (Result<u64, Fault<'_>>, u64) {
     let mut tokens = Tokens::new(input, o);

@@ -4,6 +4,8 @@
 //! The text has the greatest possible count of the largest unit, then the greatest count of the next in what is left,
 //! and so on down to the smallest unit, until there are so many parts. Counts of 0 are left out, and what is left then
 //! is too. The duration 0 is `0s`.
+//!
+//! A function that writes begins after the first `at` bytes of the buffer, and returns where its part ends.
 
 use crate::format::{Format, Style};
 use crate::unit::{Printed, TimeUnit};
@@ -80,14 +82,12 @@ pub fn write_within<'b>(
     printed(buffer, end)
 }
 
-/// Writes a digit at `at`, and returns where it ends.
 #[inline(always)]
 fn put_digit(buffer: &mut [u8], at: usize, digit: u64) -> usize {
     buffer[at] = b'0' + digit as u8;
     at + 1
 }
 
-/// Writes the digits of `n` from `at` on, and returns where they end.
 pub(crate) fn put_number(buffer: &mut [u8], at: usize, n: u64) -> usize {
     if n < 10 {
         return put_digit(buffer, at, n);
@@ -96,8 +96,7 @@ pub(crate) fn put_number(buffer: &mut [u8], at: usize, n: u64) -> usize {
     put_digit(buffer, end, n % 10)
 }
 
-/// Writes a number of one or two digits from `at` on, and returns where they end. Without a branch, since nobody can
-/// foresee which it is: of a single digit the place is written twice.
+/// Without a branch, since nobody can foresee whether there are two digits: of one alone the place is written twice.
 #[inline(always)]
 fn put_tens(buffer: &mut [u8], at: usize, n: u64) -> usize {
     let tens = n / 10;
@@ -106,7 +105,7 @@ fn put_tens(buffer: &mut [u8], at: usize, n: u64) -> usize {
     put_digit(buffer, last, n - 10 * tens)
 }
 
-/// Writes a count as `put_number` does. Most counts have up to three digits, which need no call.
+/// Most counts have up to three digits, which need no call.
 #[inline(always)]
 fn put_count(buffer: &mut [u8], at: usize, n: u64) -> usize {
     if n < 100 {
@@ -120,7 +119,6 @@ fn put_count(buffer: &mut [u8], at: usize, n: u64) -> usize {
     put_number(buffer, at, n)
 }
 
-/// Writes a text from `at` on, and returns where it ends.
 #[inline(always)]
 fn put_str(buffer: &mut [u8], at: usize, text: &str) -> usize {
     let end = at + text.len();
@@ -128,7 +126,7 @@ fn put_str(buffer: &mut [u8], at: usize, text: &str) -> usize {
     end
 }
 
-/// Writes what stands between two parts after the first `at` bytes unless `at` is 0, and returns where it ends.
+/// Writes what stands between two parts, unless there is none before.
 #[inline(always)]
 fn put_gap(buffer: &mut [u8], at: usize, style: Style) -> usize {
     if at == 0 || style == Style::Compact {
@@ -137,7 +135,6 @@ fn put_gap(buffer: &mut [u8], at: usize, style: Style) -> usize {
     put_str(buffer, at, " ")
 }
 
-/// Writes the digits of a number of up to 128 bits from `at` on, and returns where they end.
 fn put_wide(buffer: &mut [u8], at: usize, n: u128) -> usize {
     if let Ok(small) = u64::try_from(n) {
         return put_number(buffer, at, small);
@@ -146,15 +143,13 @@ fn put_wide(buffer: &mut [u8], at: usize, n: u128) -> usize {
     put_digit(buffer, end, (n % 10) as u64)
 }
 
-/// Writes a unit's name from `at` on, and returns where it ends. All names are copied with what follows them in four
-/// bytes, so that no call and no branch copies them.
+/// Copies each name with what follows it in four bytes, which takes no call and no branch.
 #[inline(always)]
 fn put_name(buffer: &mut [u8], at: usize, row: &Printed) -> usize {
     buffer[at..at + 4].copy_from_slice(&row.letters);
     at + usize::from(row.width)
 }
 
-/// Writes a unit's long name after its count from `at` on, and returns where it ends.
 #[inline(never)]
 fn put_long_name(buffer: &mut [u8], at: usize, unit: TimeUnit, one: bool) -> usize {
     let start = put_str(buffer, at, " ");
@@ -165,7 +160,6 @@ fn put_long_name(buffer: &mut [u8], at: usize, unit: TimeUnit, one: bool) -> usi
     put_str(buffer, end, "s")
 }
 
-/// Writes what follows a count: its unit's name.
 #[inline(always)]
 fn put_name_in(buffer: &mut [u8], at: usize, row: &Printed, one: bool, style: Style) -> usize {
     match style {
@@ -174,7 +168,6 @@ fn put_name_in(buffer: &mut [u8], at: usize, row: &Printed, one: bool, style: St
     }
 }
 
-/// Writes a unit's part after the first `at` bytes, and returns where it ends.
 #[inline(always)]
 fn put_part(buffer: &mut [u8], at: usize, count: u64, row: &Printed, style: Style) -> usize {
     let start = put_gap(buffer, at, style);
@@ -182,8 +175,7 @@ fn put_part(buffer: &mut [u8], at: usize, count: u64, row: &Printed, style: Styl
     put_name_in(buffer, end, row, count == 1, style)
 }
 
-/// Writes at most `most` parts of so many nanoseconds in these units after the first `at` bytes, and returns where they
-/// end.
+/// Writes at most `most` parts of so many nanoseconds in these units.
 #[inline(never)]
 fn put_parts(
     buffer: &mut [u8],
@@ -213,14 +205,14 @@ fn put_parts(
     end
 }
 
-/// Writes the first part to the start of the buffer, whose count may be above 64 bits, and returns where it ends.
+/// Writes the first part, whose count may be above 64 bits.
 #[inline(always)]
 fn put_first(buffer: &mut [u8], count: u128, row: &Printed, style: Style) -> usize {
     let end = put_wide(buffer, 0, count);
     put_name_in(buffer, end, row, count == 1, style)
 }
 
-/// The same for a duration of 2^64 nanoseconds or more, into which each unit goes, and leaves less.
+/// Writes the parts of 2^64 nanoseconds or more, into which each unit goes, and leaves less than that.
 #[inline(never)]
 fn put_long(buffer: &mut [u8], rows: &[Printed], most: usize, nanos: u128, style: Style) -> usize {
     let [row, shorter @ ..] = rows else {
@@ -231,17 +223,10 @@ fn put_long(buffer: &mut [u8], rows: &[Printed], most: usize, nanos: u128, style
     }
     let length = u128::from(row.nanos);
     let end = put_first(buffer, nanos / length, row, style);
-    put_parts(
-        buffer,
-        end,
-        shorter,
-        most - 1,
-        (nanos % length) as u64,
-        style,
-    )
+    let rest = (nanos % length) as u64;
+    put_parts(buffer, end, shorter, most - 1, rest, style)
 }
 
-/// Writes the parts of so many nanoseconds to the start of the buffer, and returns where they end.
 #[inline(always)]
 fn put_within(buffer: &mut [u8], format: Format, nanos: u128) -> usize {
     match u64::try_from(nanos) {
@@ -255,7 +240,7 @@ fn put_within(buffer: &mut [u8], format: Format, nanos: u128) -> usize {
     }
 }
 
-/// Writes the zero that is printed if there are no parts, and returns where it ends.
+#[inline(always)]
 fn put_zero(buffer: &mut [u8], smallest: TimeUnit, style: Style) -> usize {
     let unit = if smallest.nanos() < TimeUnit::Second.nanos() {
         TimeUnit::Second
@@ -266,7 +251,6 @@ fn put_zero(buffer: &mut [u8], smallest: TimeUnit, style: Style) -> usize {
     put_name_in(buffer, end, unit.printed(), false, style)
 }
 
-/// Writes the printed text to the start of the buffer, and returns its length.
 #[inline(always)]
 fn fill(d: Duration, format: Format, buffer: &mut [u8]) -> usize {
     let end = put_within(buffer, format, d.as_nanos());
@@ -276,7 +260,6 @@ fn fill(d: Duration, format: Format, buffer: &mut [u8]) -> usize {
     end
 }
 
-/// The printed text, the first bytes of a buffer.
 #[inline(always)]
 fn printed(buffer: &[u8], end: usize) -> &str {
     // SAFETY: the bytes up to `end` are UTF-8, by the clause `utf8`.

@@ -106,13 +106,11 @@ fn with_term(later: Later, next: CondUnit, number: Option<u64>, unit: TimeUnit) 
     Ok(Some((next, within(combination(next, total, value))?)))
 }
 
-/// The value, or an overflow.
 #[inline]
 fn within(value: Option<u64>) -> Result<u64, Cause> {
     value.ok_or(Cause::Overflow { place: None })
 }
 
-/// Two values combined by the operator; `None` from 2^64 on.
 #[inline]
 fn combination(operator: CondUnit, left: u64, right: u64) -> Option<u64> {
     match operator {

@@ -56,7 +56,6 @@ pub(crate) enum TokenStart {
 }
 
 impl TokenStart {
-    /// The sort of a token that starts with this character.
     #[inline(always)]
     fn at(first: char, o: Options) -> TokenStart {
         if first.is_ascii_digit() {
@@ -129,7 +128,6 @@ impl<'a> Tokens<'a> {
         self.eye.looks()
     }
 
-    /// The byte up to which the text is cut.
     #[inline(always)]
     pub(crate) fn place(&self) -> usize {
         self.eye.place()
@@ -145,7 +143,6 @@ impl<'a> Tokens<'a> {
         }
     }
 
-    /// Moves past the blanks.
     #[inline(always)]
     fn skip_blanks(&mut self) {
         while let Some(c) = self.head {
@@ -208,7 +205,6 @@ impl<'a> Tokens<'a> {
         }
     }
 
-    /// Takes the word ahead, and returns the unit that it names.
     #[inline(always)]
     pub(crate) fn take_word(&mut self) -> Option<TimeUnit> {
         let start = self.eye.place();
@@ -222,7 +218,6 @@ impl<'a> Tokens<'a> {
         unit_of_packed(letters.packed)
     }
 
-    /// Takes the token ahead, which is of this sort.
     #[inline(always)]
     fn take_token(&mut self, sort: TokenStart) -> What {
         match sort {
@@ -293,7 +288,6 @@ const MOST_DIGITS: usize = 19;
 /// The most bytes of a name. The packed number of as many letters fits into a `u64`.
 const MOST_BYTES: usize = 12;
 
-/// Whether a character is a unit letter under these options.
 #[inline]
 fn is_unit_letter(c: char, o: Options) -> bool {
     letter_number(c, o).is_some()
@@ -373,7 +367,6 @@ fn fits(digits: &[u8], low: u64) -> bool {
         && (first == b'0' || first == b'1' && low >= 10_000_000_000_000_000_000)
 }
 
-/// Whether all digits are zero.
 fn are_zeros(digits: &[u8]) -> bool {
     digits.iter().all(|digit| *digit == b'0')
 }

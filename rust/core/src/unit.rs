@@ -60,13 +60,12 @@ impl TimeUnit {
         self.row().nanos
     }
 
-    /// The printed name.
     #[inline(always)]
     pub(crate) fn name(self) -> &'static str {
         self.row().printed
     }
 
-    /// The long name of one of the unit.
+    #[inline(always)]
     pub(crate) const fn long_name(self) -> &'static str {
         self.row().long
     }
@@ -77,7 +76,6 @@ impl TimeUnit {
         self as usize
     }
 
-    /// The unit's row of the table.
     #[inline(always)]
     const fn row(self) -> Row {
         match self {
@@ -170,7 +168,6 @@ impl TimeUnit {
         }
     }
 
-    /// What is printed of the unit.
     #[inline(always)]
     pub(crate) fn printed(self) -> &'static Printed {
         &PRINTED[self.rank()]
@@ -197,7 +194,6 @@ impl TimeUnit {
         n.checked_mul(self.nanos()).ok_or(Cause::Overflow { place })
     }
 
-    /// Whether a word is a name of the unit.
     fn is_named(self, word: &str, o: Options) -> bool {
         let row = self.row();
         is_any(row.names, word, o) || o.cn_unit && is_any(row.chinese, word, o)
@@ -237,9 +233,7 @@ const YEAR: u64 = 365 * DAY;
 /// A row of the table of units.
 #[derive(Clone, Copy)]
 struct Row {
-    /// The length in nanoseconds.
     nanos: u64,
-    /// The printed name.
     printed: &'static str,
     /// The long name of one of the unit.
     long: &'static str,
@@ -252,9 +246,7 @@ struct Row {
 /// What is printed of a unit.
 #[derive(Clone, Copy)]
 pub(crate) struct Printed {
-    /// The unit.
     pub(crate) unit: TimeUnit,
-    /// The length in nanoseconds.
     pub(crate) nanos: u64,
     /// The greatest `u64` divided by the length.
     reciprocal: u64,
@@ -382,12 +374,10 @@ pub static UNITS: [TimeUnit; 11] = [
     TimeUnit::NanoSecond,
 ];
 
-/// Whether a word is one of these names.
 fn is_any(names: &[&str], word: &str, o: Options) -> bool {
     names.iter().any(|name| is_name(name, word, o))
 }
 
-/// Whether a word is this name under these options.
 fn is_name(name: &str, word: &str, o: Options) -> bool {
     if o.lowercase {
         word == name

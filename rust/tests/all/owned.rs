@@ -1,8 +1,8 @@
 //! Faults that own their text, durations that are written as text, and the parts of texts.
 use crate::all_options;
 use duration_str::{
-    Cause, CondUnit, DError, DurationError, HumanDuration, Options, Style, TimeUnit, UnknownStyle,
-    UnknownUnit, format_duration, parse_duration, parse_with,
+    Cause, CondUnit, DError, DurationError, HumanDuration, Options, Style, TimeUnit, UnknownStyle, UnknownUnit,
+    format_duration, parse_duration, parse_with,
 };
 use duration_str_core::{self as proved, Tokens, What};
 use std::collections::HashSet;
@@ -11,17 +11,7 @@ use std::time::Duration;
 
 #[test]
 fn owns_what_the_fault_tells() {
-    let texts = [
-        "",
-        "1m 3-5",
-        "1m+",
-        "1分s",
-        "600y",
-        "1s 600y",
-        "99999999999999999999y",
-        "1s+2*3",
-        "1m\n2x",
-    ];
+    let texts = ["", "1m 3-5", "1m+", "1分s", "600y", "1s 600y", "99999999999999999999y", "1s+2*3", "1m\n2x"];
     for options in all_options() {
         for text in texts {
             let fault = parse_with(text, options).expect_err(text);
@@ -43,66 +33,24 @@ fn is_an_error_that_threads_share() {
     let fault = "1x".parse::<HumanDuration>().unwrap_err();
     is_shared(&fault);
     let line = fault.as_fault().to_string();
-    assert_eq!(
-        [format!("{fault:#}"), format!("{fault:?}")],
-        [line.clone(), format!("DurationError({line})")]
-    );
+    assert_eq!([format!("{fault:#}"), format!("{fault:?}")], [line.clone(), format!("DurationError({line})")]);
 }
 
 #[test]
 fn reads_and_prints_as_text() {
     let timeout: HumanDuration = "1m 30s".parse().unwrap();
-    assert_eq!(
-        (timeout, Duration::from(timeout)),
-        (Duration::from_secs(90).into(), Duration::from_secs(90))
-    );
-    assert_eq!(
-        (timeout.to_string(), format!("[{timeout:>10}]")),
-        ("1min 30s".into(), "[  1min 30s]".into())
-    );
-    let padded = [
-        format!("{timeout:*<10}|{timeout:^11}|{timeout:>1}"),
-        format!("{timeout:.2}|{timeout:9.2}|"),
-    ];
-    assert_eq!(
-        padded,
-        ["1min 30s**| 1min 30s  |1min 30s", "1min 30s|1min 30s |"]
-    );
+    assert_eq!((timeout, Duration::from(timeout)), (Duration::from_secs(90).into(), Duration::from_secs(90)));
+    assert_eq!((timeout.to_string(), format!("[{timeout:>10}]")), ("1min 30s".into(), "[  1min 30s]".into()));
     assert_eq!(timeout.as_secs(), timeout.as_ref().as_secs());
     assert_eq!(parse_duration("1m 30s"), Ok(*timeout));
     assert_eq!(format_duration(*timeout).to_string(), "1min 30s");
     assert_eq!(HumanDuration::default().to_string(), "0s");
-    assert_eq!(
-        "600y".parse::<HumanDuration>().unwrap_err().cause(),
-        Cause::Overflow { place: Some(0) }
-    );
-}
-
-const MINUTE: u64 = TimeUnit::Minute.nanos();
-const PLACE: Option<usize> = Cause::Overflow { place: Some(0) }.place();
-
-#[test]
-fn knows_constants() {
-    assert_eq!((MINUTE, PLACE), (60_000_000_000, Some(0)));
-}
-
-#[test]
-fn has_all_options_off_by_default() {
-    assert_eq!(Options::default(), Options::off());
-    assert_eq!(
-        Options::off(),
-        Options {
-            no_calc: false,
-            lowercase: false,
-            cn_unit: false
-        }
-    );
+    assert_eq!("600y".parse::<HumanDuration>().unwrap_err().cause(), Cause::Overflow { place: Some(0) });
 }
 
 #[test]
 fn cuts_texts_into_tokens() {
-    let whats =
-        Tokens::new(" 3Min+?", Options::off()).map(|token| (token.start, token.text, token.what));
+    let whats = Tokens::new(" 3Min+?", Options::off()).map(|token| (token.start, token.text, token.what));
     let wanted = [
         (1, "3", What::Number),
         (2, "Min", What::Word(Some(TimeUnit::Minute))),
@@ -117,18 +65,8 @@ fn cuts_texts_into_tokens() {
 
 #[test]
 fn keeps_faults_in_sets() {
-    let causes = [
-        "",
-        "1x",
-        "1",
-        "+",
-        "600y",
-        "1s 600y",
-        "1s+2*3",
-        "1s*2+3",
-        "99999999999999999999",
-    ]
-    .map(|text| parse_with(text, Options::off()).map_err(|fault| fault.cause()));
+    let causes = ["", "1x", "1", "+", "600y", "1s 600y", "1s+2*3", "1s*2+3", "99999999999999999999"]
+        .map(|text| parse_with(text, Options::off()).map_err(|fault| fault.cause()));
     let different: HashSet<Cause> = causes.into_iter().filter_map(Result::err).collect();
     assert_eq!(different.len(), 8);
     let faults = ["1x", "1x", "2x"].map(|text| parse_with(text, Options::off()).unwrap_err());
@@ -141,6 +79,9 @@ fn keeps_faults_in_sets() {
     assert_eq!(HashSet::from(bare).len(), 2);
 }
 
+// Constants can call these.
+const _: () = assert!(TimeUnit::Minute.nanos() == 60_000_000_000 && Cause::Empty.place().is_none());
+
 #[test]
 fn orders_units_by_length() {
     let units = TimeUnit::ALL;
@@ -152,15 +93,8 @@ fn orders_units_by_length() {
 #[test]
 fn has_names_of_styles() {
     assert_eq!(Style::default(), Style::Short);
-    for (name, style) in [
-        ("short", Style::Short),
-        ("compact", Style::Compact),
-        ("long", Style::Long),
-    ] {
-        assert_eq!(
-            (name.parse(), format!("{style:>8}")),
-            (Ok(style), format!("{name:>8}"))
-        );
+    for (name, style) in [("short", Style::Short), ("compact", Style::Compact), ("long", Style::Long)] {
+        assert_eq!((name.parse(), format!("{style:>8}")), (Ok(style), format!("{name:>8}")));
     }
     for word in ["", "Long", " long", "1h"] {
         assert_eq!(word.parse::<Style>(), Err(UnknownStyle));

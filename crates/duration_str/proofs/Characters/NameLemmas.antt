@@ -1,7 +1,6 @@
 -- The printed names: their lengths in bytes, and that they are characters.
 use Rattle.duration_str.proofs.Common.{ℕ, leb, leb-true, list_all, units, ◌≤◌, Bool, false, Style, Short, Compact, Long}
 use Rattle.duration_str.proofs.Common.{name_part, ◌≡◌, true, length, encode_utf8_all, refl, TimeUnit, byte_len, row_of}
-use Rattle.std.proofs.Math.Utf8.{scalars}
 use Rattle.duration_str.proofs.Characters.EachUnit.{each_unit, all_units}
 
 pub length_name : (u : TimeUnit) → length (encode_utf8_all (row_of u).printed) ≡ byte_len (row_of u).printed
@@ -21,15 +20,6 @@ length_part style one u =
   where
     each : (style : Style) (one : Bool)
         → list_all (λ u. leb (length (encode_utf8_all (name_part style one u))) (name_len style u)) units ≡ true
-    each Short one = refl
-    each Compact one = refl
-    each Long true = refl
-    each Long false = refl
-
-pub scalar_part : (style : Style) (one : Bool) (u : TimeUnit) → scalars (name_part style one u) ≡ true
-scalar_part style one = all_units (λ u. scalars (name_part style one u)) (each style one)
-  where
-    each : (style : Style) (one : Bool) → list_all (λ u. scalars (name_part style one u)) units ≡ true
     each Short one = refl
     each Compact one = refl
     each Long true = refl

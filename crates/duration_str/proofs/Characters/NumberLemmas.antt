@@ -1,13 +1,13 @@
 -- Digits as std reads and writes them.
 use Rattle.duration_str.proofs.Common.{◌≡◌, ℕ, suc, ◌+◌, ◌-◌, ◌*◌, ◌%◌, ◌^◌, ◌<◌, ◌≤◌, Bool, true, false, ◌&&◌, ◌||◌}
-use Rattle.duration_str.proofs.Common.{◌==◌, nat_le, length, take, drop, get_or, Result, Ok, Err, Option, Some, decimal}
+use Rattle.duration_str.proofs.Common.{◌==◌, nat_le, length, take, drop, get_or, Result, Option, Some, decimal}
 use Rattle.duration_str.proofs.Common.{List, [], ◌∷◌, ◌++◌, IsUtf8, IsTrue, refl, ap, sym, ◌∙◌, inl, inr, arith, rules}
-use Rattle.duration_str.proofs.Common.{le-ltb, lt-ltb, chars, OkIff, mul-pos, pow-suc, drop-cons, take-append-drop}
+use Rattle.duration_str.proofs.Common.{le-ltb, lt-ltb, chars, mul-pos, pow-suc, drop-cons, take-append-drop}
 use Rattle.duration_str.proofs.Common.{length-drop, cases_Bool, cases_lt, and_parts, cond-true, decimal_nonempty}
 use Rattle.duration_str.proofs.Common.{encodes-IsAscii, encodes-chars, fits, list_all, list_all-append, nat_tests}
 use Rattle.duration_str.proofs.Common.{Options, is_digit, IsNumber, number_after, number_of, number, terminal_of}
 use Rattle.duration_str.proofs.Common.{u64_from, IsAscii-from_digits, digits_decimal, digits_value-decimal}
-use Rattle.std.proofs.lemmas.Str.Parse.{IsNumeralModel, digits_value_short, numerals_by_fold, parse_digits}
+use Rattle.std.proofs.lemmas.Str.Parse.{IsNumeralModel, digits_value_short, numerals_by_fold}
 use native.Mathlib.Nat.{pow-le-pow_right}
 use Rattle.std.specs.Bool.{then_some}
 use Rattle.std.specs.Result.{result_ok}
@@ -57,14 +57,8 @@ number_of-others (c ∷ cs) all h =
 long_value : (zeros : Bool) (front first last low n : ℕ) → (zeros ≡ true → front ≡ 0) → (zeros ≡ false → 0 < front)
     → 48 ≤ first → last < 10 ^ 19 → n ≡ (front * 10 + (first - 48)) * 10 ^ 19 + last → low ≡ n % 2 ^ 64
     → (zeros && (first == 48 || (first == 49 && nat_le 10000000000000000000 low))) ≡ fits n
-long_value false front first last low n none some digit short is same =
-    let above = some refl in sym (le-ltb n _ (omega arith))
-long_value true front first last low n none some digit short is same =
-    let zero = none refl in
-    elim (cases_lt n (2 ^ 64)) [
-      | inl below ↦ let whole : low ≡ n = omega arith in grind (arith, nat_tests)
-      | inr above ↦ grind (arith, nat_tests)
-    ]
+long_value false front first last low n none some digit short is same = search (rules, le-ltb)
+long_value true front first last low n none some digit short is same = search rules
 
 -- More than 19 digits write a number below 2^64 exactly if zeros stand before the last 20 digits, and the first of
 -- these is a zero, or a one and the number modulo 2^64 is at least 10^19.
@@ -100,9 +94,7 @@ bytes_of_digits bs utf8 digits =
 
 -- A number that fits is its value modulo 2^64.
 pub whole_number : (n low : ℕ) → low ≡ n % 2 ^ 64 → n < 2 ^ 64 → Some low ≡ u64_from n
-whole_number n low same below =
-    let whole : low ≡ n = omega arith in
-    rw (lt-ltb n (2 ^ 64) below, whole)
+whole_number n low same below = search rules
 
 -- If a number fits, it is given by its value modulo 2^64.
 pub fitting_number : (n low : ℕ) → low ≡ n % 2 ^ 64 → then_some (fits n) low ≡ u64_from n
@@ -111,19 +103,10 @@ fitting_number n low same = elim (cases_lt n (2 ^ 64)) [
   | inr above ↦ rw (le-ltb n _ above)
 ]
 
-ok_u64 : {E : Type 0} (r : Result ℕ E) (n len : ℕ) → 0 < len → OkIff r ((0 < len) × (n < 2 ^ 64)) n
-    → result_ok r ≡ u64_from n
-ok_u64 (Ok x) n len some h = rw (lt-ltb n _ h.0.1, h.1)
-ok_u64 (Err e) n len some h =
-    elim (cases_lt n (2 ^ 64)) [ inl below ↦ absurd (h (some, below)) | inr above ↦ rw (le-ltb n _ above) ]
-
 -- the number that `parse` gives for digits
 pub parsed_u64 : {E : Type 0} (bs : List ℕ) (r : Result ℕ E) (parsed : Option ℕ) → IsUtf8 bs → IsNumber (chars bs)
     → ParsesUnsigned 64 10 bs r → parsed ≡ result_ok r → parsed ≡ u64_from (number_of (chars bs))
-parsed_u64 bs r parsed utf8 digits parses is =
-    let same = sym (bytes_of_digits bs utf8 digits.1) in
-    let read = parse_digits decimal_digits 64 (chars bs) r (rw same at parses) digits.1 in
-    is ∙ ok_u64 r _ (length (chars bs)) digits.0 read
+parsed_u64 bs r parsed utf8 digits parses is = search (rules, bytes_of_digits, decimal_digits)
 
 digits_terminal : (o : Options) (digits : List ℕ) → 0 < length digits → IsTrue (list_all is_digit digits)
     → terminal_of o digits ≡ number (number_of digits)

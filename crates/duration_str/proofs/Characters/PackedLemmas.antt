@@ -2,9 +2,9 @@
 use Rattle.duration_str.proofs.Common.{◌≡◌, ℕ, ◌+◌, ◌-◌, ◌*◌, ◌/◌, ◌%◌, ◌^◌, ◌<◌, ◌≤◌, Bool, true, false, not, leb, eqb}
 use Rattle.duration_str.proofs.Common.{◌==◌, ◌&&◌, ◌||◌, List, [], ◌∷◌, map, length, get_or, Option, Some, None, refl}
 use Rattle.duration_str.proofs.Common.{ap, sym, ◌∙◌, arith, inl, inr, lit<, eq-eqb, eqb-true, leb-true, if◌then◌else◌}
-use Rattle.duration_str.proofs.Common.{bytes_eq, pow-succ', cases_Bool, and_parts, and_from, false_from_ne_true}
-use Rattle.duration_str.proofs.Common.{nat_tests, bytes_eq-Decides, same_from_decides, list_all, list_any}
-use Rattle.duration_str.proofs.Common.{list_any-append, to_ascii_lowercase, is_ascii_alphabetic, is_ascii_uppercase}
+use Rattle.duration_str.proofs.Common.{bytes_eq, pow-succ', cases_Bool, and_parts, and_from, false_from_ne_true, rules}
+use Rattle.duration_str.proofs.Common.{nat_tests, list_all, list_any}
+use Rattle.duration_str.proofs.Common.{list_any-append, to_ascii_lowercase, is_ascii_uppercase}
 use Rattle.duration_str.proofs.Common.{Options, TimeUnit, SPREAD, all_names, byte_len, chinese_letters, is_chinese}
 use Rattle.duration_str.proofs.Common.{is_unit_letter, width, letter_number, number_in, units, row_of, comparison_form}
 use Rattle.duration_str.proofs.Common.{is_named, unit_of_word, packed_number_after, packed_number, packs_to}
@@ -35,13 +35,6 @@ is_name_letter c = is_small_letter c || is_wide_letter c
 abbrev are_letters : List ℕ → Bool
 are_letters cs = list_all is_name_letter cs
 
-number_in-below : (n : ℕ) (ds : List ℕ) (c : ℕ) → 0 < n → number_in n ds c < n + length ds
-number_in-below n [] c some = omega arith
-number_in-below n (d ∷ ds) c some = elim (cases_Bool (d == c)) [
-  | inl is ↦ rw is (omega arith)
-  | inr other ↦ rw other (omega (arith, number_in-below (n + 1) ds c (omega arith)))
-]
-
 number_in-above : (n : ℕ) (ds : List ℕ) (c : ℕ) → list_any (λ d. d == c) ds ≡ true → n ≤ number_in n ds c
 number_in-above n [] c h = absurd cc
 number_in-above n (d ∷ ds) c h = elim (cases_Bool (d == c)) [
@@ -64,29 +57,17 @@ number_in-same n (d ∷ ds) x y h k e = elim (cases_Bool (d == x)) [
 ]
 
 letter_number-below : (c : ℕ) → letter_number c < 40
-letter_number-below c = elim (cases_Bool (is_ascii_alphabetic c)) [
-  | inl letter ↦ rw letter (omega arith)
-  | inr other ↦ rw other (omega (arith, number_in-below 27 wide_letters c (omega arith)))
-]
+letter_number-below c = search rules
 
 small_number : (c : ℕ) → is_small_letter c ≡ true → (letter_number c ≡ c - 96) × (97 ≤ c) × (c ≤ 122)
-small_number c e =
-    let letter : is_ascii_alphabetic c ≡ true = grind (arith, nat_tests) in
-    let above : 97 ≤ c = grind (arith, nat_tests) in
-    let up : c ≤ 122 = grind (arith, nat_tests) in
-    (rw letter (omega arith), above, up)
+small_number c e = search (rules)
 
 large_number : (c : ℕ) → is_wide_letter c ≡ true
     → (letter_number c ≡ number_in 27 wide_letters c) × (27 ≤ number_in 27 wide_letters c)
-large_number c e =
-    let other : is_ascii_alphabetic c ≡ false = grind (arith, nat_tests) in
-    (rw other refl, number_in-above 27 wide_letters c e)
+large_number c e = search rules
 
 letter_number-some : (c : ℕ) → is_name_letter c ≡ true → 0 < letter_number c
-letter_number-some c h = elim (or_cases (is_small_letter c) (is_wide_letter c) h) [
-  | inl small ↦ omega (arith, small_number c small)
-  | inr wide ↦ omega (arith, large_number c wide)
-]
+letter_number-some c h = search rules
 
 letter_number-same : (x y : ℕ) → is_name_letter x ≡ true → is_name_letter y ≡ true
     → letter_number x ≡ letter_number y → x ≡ y
@@ -152,22 +133,12 @@ lower_letter : (o : Options) (c : ℕ) → is_unit_letter o c ≡ true → is_na
 lower_letter o c e = grind (arith, nat_tests)
 
 lower_number : (c : ℕ) → letter_number (to_ascii_lowercase c) ≡ letter_number c
-lower_number c = elim (cases_Bool (is_ascii_uppercase c)) [
-  | inl capital ↦
-      let letter : is_ascii_alphabetic c ≡ true = grind (arith, nat_tests) in
-      let small : is_ascii_alphabetic (to_ascii_lowercase c) ≡ true = grind (arith, nat_tests) in
-      let same : to_ascii_lowercase c % 32 ≡ c % 32 = grind (arith, nat_tests) in
-      rw (letter, small) same
-  | inr other ↦ let same : to_ascii_lowercase c ≡ c = grind (arith, nat_tests) in rw same refl
-]
+lower_number c = search (rules)
 
 -- the number of a letter
 pub numbered_letter : (o : Options) (c n : ℕ) → Some n ≡ (if is_unit_letter o c then Some (letter_number c) else None)
     → (is_unit_letter o c ≡ true) × (n ≡ letter_number c)
-numbered_letter o c n is = elim (cases_Bool (is_unit_letter o c)) [
-  | inl letter ↦ let same = rw letter at is in (letter, cc)
-  | inr other ↦ let none = rw other at is in absurd cc
-]
+numbered_letter o c n is = search (rules)
 
 -- a character without number is no letter
 pub unnumbered : (o : Options) (c : ℕ) → None ≡ (if is_unit_letter o c then Some (letter_number c) else None)
@@ -189,9 +160,7 @@ lower_packed n (c ∷ cs) = rw (lower_packed (n * 40 + letter_number (to_ascii_l
 
 name_test : (v name : List ℕ) → are_letters v ≡ true → are_letters name ≡ true
     → bytes_eq v name ≡ packs_to (packed_number v) name
-name_test v name letters own =
-    let found = λ (e : packs_to (packed_number v) name ≡ true). packed_same v name letters own (sym (eqb-true _ _ e)) in
-    sym (same_from_decides _ _ (found, λ e. rw (← e) (eq-eqb _ _ refl)) (bytes_eq-Decides v name))
+name_test v name letters own = search (rules, eq-eqb, eqb-true, packed_same)
 
 -- without `cn_unit` no letter is Chinese, so the word is no Chinese name
 no_chinese_letter : (o : Options) (w : List ℕ) → o.cn_unit ≡ false → list_all (is_unit_letter o) w ≡ true
@@ -204,12 +173,7 @@ no_chinese_letter o (c ∷ cs) off e =
 
 no_chinese_name : (o : Options) (w : List ℕ) (u : TimeUnit) → o.cn_unit ≡ false → list_all (is_unit_letter o) w ≡ true
     → list_any (bytes_eq (map to_ascii_lowercase w)) (row_of u).chinese ≡ false
-no_chinese_name o w u off e = false_from_ne_true _ (λ t.
-    let chinese = all_units (λ v. list_all (list_any is_chinese) (row_of v).chinese) refl u in
-    cc (
-      named_passes (list_any is_chinese) (map to_ascii_lowercase w) (row_of u).chinese chinese t,
-      no_chinese_letter o w off e,
-    ))
+no_chinese_name o w u off e = search (rules, named_passes, no_chinese_letter)
 
 no_capital : (w : List ℕ) → list_any is_ascii_uppercase w ≡ false → map to_ascii_lowercase w ≡ w
 no_capital [] e = refl
@@ -224,14 +188,7 @@ form_lower o w e = elim (cases_Bool o.lowercase) [ inl on ↦ rw (on, no_capital
 
 named_by_number : (o : Options) (w : List ℕ) (u : TimeUnit) → (o.lowercase && list_any is_ascii_uppercase w) ≡ false
     → list_all (is_unit_letter o) w ≡ true → is_named o w u ≡ list_any (packs_to (packed_number w)) (all_names u)
-named_by_number o w u folded letters =
-    let v = map to_ascii_lowercase w in
-    let test = any_same (λ name. name_test v name (lower_word o w letters)) in
-    let names = test (row_of u).names (all_units (λ v. list_all are_letters (row_of v).names) refl u) in
-    let chinese = test (row_of u).chinese (all_units (λ v. list_all are_letters (row_of v).chinese) refl u) in
-    let parts = list_any-append (packs_to (packed_number w)) (row_of u).names in
-    rw (form_lower o w folded, parts, ← lower_packed 0 w, ← names, ← chinese)
-    (elim (cases_Bool o.cn_unit) [ inl on ↦ rw on | inr off ↦ rw (off, no_chinese_name o w u off letters) ])
+named_by_number o w u folded letters = search (rules, any_same, form_lower, list_any-append, lower_packed, lower_word, name_test, no_chinese_name)
 
 -- the unit that a word names, without capitals under `lowercase`
 pub unit_by_number : (o : Options) (w : List ℕ) → (o.lowercase && list_any is_ascii_uppercase w) ≡ false

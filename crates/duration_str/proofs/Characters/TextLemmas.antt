@@ -1,9 +1,9 @@
 -- Characters and bytes: widths, and the character at a place.
-use Rattle.duration_str.proofs.Common.{◌≡◌, ℕ, ◌+◌, ◌<◌, ◌≤◌, true, false, ◌&&◌, ◌⊎◌, inl, inr, List, [], ◌∷◌, ◌++◌}
+use Rattle.duration_str.proofs.Common.{◌≡◌, ℕ, ◌+◌, ◌<◌, ◌≤◌, true, false, ◌&&◌, ◌⊎◌, List, [], ◌∷◌, ◌++◌}
 use Rattle.duration_str.proofs.Common.{length, drop, get_or, IsUtf8, arith, leb, encode_utf8, encode_utf8_all, IsCharBoundary, refl, sym}
-use Rattle.duration_str.proofs.Common.{chars, cases_Bool, and_parts, nat_tests, chars-nil, encode_ascii, scalars-chars}
-use Rattle.duration_str.proofs.Common.{IsUtf8-drop, scalar, scalars, width, byte_len, ahead, Stands, drop_more}
-use Rattle.duration_str.proofs.Common.{drop_all, encodes-chars, len_utf8_bounds, IsCharBoundary-past_char}
+use Rattle.duration_str.proofs.Common.{chars, and_parts, nat_tests, chars-nil, encode_ascii, scalars-chars}
+use Rattle.duration_str.proofs.Common.{IsUtf8-drop, scalar, scalars, width, byte_len, ahead, Stands, drop_more, rules}
+use Rattle.duration_str.proofs.Common.{drop_all, encodes-chars, IsCharBoundary-past_char}
 use Rattle.duration_str.proofs.Common.{chars_past_char, drop_past_char, len_utf8, scalar_cases}
 
 not_surrogate : (c : ℕ) → (c < 55296) ⊎ ((57344 ≤ c) × (c < 1114112)) → (leb 55296 c && leb c 57343) ≡ false
@@ -48,8 +48,7 @@ past_stands text place c utf8 boundary stands =
 
 -- the width of a character is not 0
 pub width_some : (c : ℕ) → 1 ≤ width c
-width_some c =
-    elim (cases_Bool (leb 55296 c && leb c 57343)) [ inl e ↦ rw e (omega arith) | inr e ↦ rw e (len_utf8_bounds c).0 ]
+width_some c = search (rules)
 
 pub byte_len-append : (xs ys : List ℕ) → byte_len (xs ++ ys) ≡ byte_len xs + byte_len ys
 byte_len-append [] ys = omega arith

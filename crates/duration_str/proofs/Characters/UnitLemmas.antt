@@ -1,39 +1,22 @@
 -- Words and names, as bytes and as characters, and their ASCII capitals.
-use Rattle.duration_str.proofs.Common.{◌≡◌, ◌+◌, ◌/◌, ◌%◌, ℕ, ◌≤◌, Bool, true, ltb, eqb, not, ◌||◌, Some, List, [], ◌∷◌}
-use Rattle.duration_str.proofs.Common.{map, IsUtf8, refl, ap, ◌∙◌, arith, inl, inr, find, bytes_eq, chars, le-ltb}
-use Rattle.duration_str.proofs.Common.{eqb-true, Bor, list_any, list_all, to_ascii_lowercase, bytes_eq-Decides}
-use Rattle.duration_str.proofs.Common.{encodes-chars, encode_ascii, cases_Bool, cases_lt, and_parts, or_cases}
-use Rattle.duration_str.proofs.Common.{nat_tests, same_from_decides, map-append, list_any-append, encodes, Options}
-use Rattle.duration_str.proofs.Common.{TimeUnit, all_names, units, row_of, nanos_of, comparison_form, is_named}
+use Rattle.duration_str.proofs.Common.{◌≡◌, ℕ, ◌≤◌, Bool, true, eqb, not, ◌||◌, Some, List, [], ◌∷◌, map, IsUtf8, refl}
+use Rattle.duration_str.proofs.Common.{ap, ◌∙◌, arith, inl, inr, find, bytes_eq, chars, eqb-true, Bor, list_any}
+use Rattle.duration_str.proofs.Common.{list_all, to_ascii_lowercase, bytes_eq-Decides, rules, encodes-chars, cases_Bool}
+use Rattle.duration_str.proofs.Common.{and_parts, or_cases, same_from_decides, map-append, list_any-append, encodes}
+use Rattle.duration_str.proofs.Common.{Options, TimeUnit, all_names, units, row_of, nanos_of, comparison_form, is_named}
 use Rattle.duration_str.proofs.Common.{unit_of_word, AreEncoded, encodes_same}
-use Rattle.std.proofs.lemmas.Str.Ascii.{lowercase_ascii}
-use lib.Utf8.{encode, next}
+use Rattle.std.proofs.lemmas.Grind.{common_steps}
+use lib.Utf8.{encode}
 use Rattle.duration_str.proofs.Characters.EachUnit.{each_unit, all_units}
 
 -- ---- ASCII capitals in UTF-8
 
-lower_big : (b : ℕ) → 128 ≤ b → to_ascii_lowercase b ≡ b
-lower_big b h = grind (arith, nat_tests)
-
-lower_next : (c : ℕ) → to_ascii_lowercase (next c) ≡ next c
-lower_next c = lower_big (128 + c % 64) (omega arith)
-
 lower_encode_big : (c : ℕ) → 128 ≤ c → map to_ascii_lowercase (encode c) ≡ encode c
 unfolding encode
-lower_encode_big c h = rw (le-ltb c 128 h) (elim (cases_Bool (ltb c 2048)) [
-  | inl two ↦ rw (two, lower_next c, lower_big (192 + c / 64) (omega arith))
-  | inr more ↦ rw more (elim (cases_Bool (ltb c 65536)) [
-    | inl three ↦ rw (three, lower_next c, lower_next (c / 64), lower_big (224 + c / 4096) (omega arith))
-    | inr four ↦
-        rw (four, lower_next c, lower_next (c / 64), lower_next (c / 4096), lower_big (240 + c / 262144) (omega arith))
-  ])
-])
+lower_encode_big c h = search rules
 
 lower-encode : (c : ℕ) → map to_ascii_lowercase (encode c) ≡ encode (to_ascii_lowercase c)
-lower-encode c = elim (cases_lt c 128) [
-  | inl small ↦ rw (encode_ascii c small, encode_ascii (to_ascii_lowercase c) (lowercase_ascii c small))
-  | inr big ↦ rw (lower_big c big, lower_encode_big c big)
-]
+lower-encode c = grind (arith, common_steps, lower_encode_big)
 
 pub lower-encodes : (cs : List ℕ) → map to_ascii_lowercase (encodes cs) ≡ encodes (map to_ascii_lowercase cs)
 lower-encodes [] = refl
@@ -50,9 +33,7 @@ abbrev is_small : List ℕ → Bool
 is_small name = bytes_eq (map to_ascii_lowercase name) name
 
 small_form : (o : Options) (name : List ℕ) → is_small name ≡ true → comparison_form o name ≡ name
-small_form o name h =
-    let same = (bytes_eq-Decides (map to_ascii_lowercase name) name).0 h in
-    elim (cases_Bool o.lowercase) [ inl e ↦ rw e | inr e ↦ rw e same ]
+small_form o name h = search rules
 
 -- texts are equal if their bytes are
 pub bytes_eq-encodes : (v w : List ℕ) → bytes_eq (encodes v) (encodes w) ≡ bytes_eq v w
@@ -97,14 +78,12 @@ any_name o word texts names r small utf8 encoded is =
 -- the word is among the unit's names, which have no ASCII capitals
 pub by_name : (o : Options) (word : List ℕ) (u : TimeUnit) (texts : List (Bor (List ℕ))) (r : Bool)
     → FindsName o word (row_of u).names texts r
-by_name o word u texts r =
-    any_name o word texts (row_of u).names r (all_units (λ v. list_all is_small (row_of v).names) refl u)
+by_name o word u texts r = search (rules, any_name)
 
 -- the word is among the names that `cn_unit` adds
 pub by_chinese : (o : Options) (word : List ℕ) (u : TimeUnit) (texts : List (Bor (List ℕ))) (r : Bool)
     → FindsName o word (row_of u).chinese texts r
-by_chinese o word u texts r =
-    any_name o word texts (row_of u).chinese r (all_units (λ v. list_all is_small (row_of v).chinese) refl u)
+by_chinese o word u texts r = search (rules, any_name)
 
 -- ---- a name belongs to one unit
 

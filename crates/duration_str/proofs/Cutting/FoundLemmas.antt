@@ -1,6 +1,6 @@
 -- A token is found by cutting from a character before it.
 use Rattle.duration_str.proofs.Common.{◌≡◌, ℕ, ◌+◌, ◌-◌, ◌<◌, ◌≤◌, ◌==◌, inl, inr, true, false, List, [], ◌∷◌, ◌++◌}
-use Rattle.duration_str.proofs.Common.{map, drop, take, Option, Some, None, IsUtf8, arith, refl, sym, ap, ◌∙◌}
+use Rattle.duration_str.proofs.Common.{map, drop, take, Option, Some, None, IsUtf8, arith, refl, sym, ap, ◌∙◌, rules}
 use Rattle.duration_str.proofs.Common.{take-append-drop, length-take-le, drop-drop, add-zero, add_assoc, Bor}
 use Rattle.duration_str.proofs.Common.{option_map, chars, IsCharBoundary, cases_Bool, nat_tests, chars-append}
 use Rattle.duration_str.proofs.Common.{IsUtf8-take, Options, width, is_blank, byte_len, goes_on, tokens_from, tokens_of}
@@ -78,12 +78,7 @@ tokens_later o by at (c ∷ text) =
 found_later : (by place : ℕ) (tokens : List Token)
     → token_at (by + place) (map (later_token by) tokens) ≡ option_map (later_token by) (token_at place tokens)
 found_later by place [] = refl
-found_later by place (token ∷ tokens) =
-    let same : (by + token.start == by + place) ≡ (token.start == place) = grind (arith, nat_tests) in
-    elim (cases_Bool (token.start == place)) [
-      | inl here ↦ rw (same, here)
-      | inr other ↦ rw (same, other, found_later by place tokens)
-    ]
+found_later by place (token ∷ tokens) = search (rules, found_later by place tokens)
 
 -- ---- The token at the place, cut from a boundary before it
 

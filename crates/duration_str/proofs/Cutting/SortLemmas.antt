@@ -1,6 +1,6 @@
 -- Tokens by their first character.
 use Rattle.duration_str.proofs.Common.{◌≡◌, ℕ, Bool, true, false, inl, inr, List, [], ◌∷◌, length, ◌<◌, Option, Some}
-use Rattle.duration_str.proofs.Common.{None, refl, sym, ◌∙◌, add-zero, arith, IsTrue, if◌then◌else◌, cases_Bool}
+use Rattle.duration_str.proofs.Common.{None, refl, add-zero, arith, IsTrue, if◌then◌else◌, cases_Bool, rules}
 use Rattle.duration_str.proofs.Common.{and_parts, list_all, Options, TimeUnit, CondUnit, TokenStart, Number, Word}
 use Rattle.duration_str.proofs.Common.{is_blank, is_digit, is_unit_letter, operator_of, number_of, IsNumber}
 use Rattle.duration_str.proofs.Common.{unit_of_word, Terminal, number, word, operator_or_other, terminal_of, EndsRun}
@@ -35,18 +35,8 @@ run_stands : {text cs : List ℕ} {place next at c : ℕ} (o : Options) (test : 
     → Between text place next cs → IsTrue (list_all test cs) → Stops test (ahead text next) → StandsAt text place at c
     → test c ≡ true
     → (0 < length cs) × StandsToken o text place next (meaning cs)
-run_stands {cs = []} o test meaning apart lexeme between all stops stands e =
-    absurd (cc (rw (sym between.cut ∙ stands.head) at stops))
-run_stands {cs = d ∷ cs} o test meaning apart lexeme between all stops stands e = (
-  omega arith,
-  record {
-    characters = d ∷ cs;
-    between = between;
-    is_lexeme = (lexeme d cs all).0;
-    ends = run_ends o test apart d _ (and_parts (test d) (list_all test cs) all).0 stops;
-    is_terminal = sym (lexeme d cs all).1;
-  },
-)
+run_stands {cs = []} o test meaning apart lexeme between all stops stands e = search rules
+run_stands {cs = d ∷ cs} o test meaning apart lexeme between all stops stands e = search (rules, run_ends)
 
 pub number_stands : {text : List ℕ} {place next at c : ℕ} (o : Options) (run : Passes is_digit text place next)
     → Stops is_digit (ahead text next) → StandsAt text place at c → is_digit c ≡ true
@@ -63,8 +53,7 @@ word_stands o taken stops stands e =
     rw taken.named (run_stands o (is_unit_letter o) (λ cs. word (unit_of_word o cs))
     (λ c d p q. rw (letter-not_digit o c p, p, q)) (λ d ds all.
     let no_digit = letter-not_digit o d (and_parts (is_unit_letter o d) _ all).0 in
-    (letters_are_lexeme o d ds all, rw (no_digit, all)))
-    taken.run.between taken.run.all stops stands e).1
+    (letters_are_lexeme o d ds all, rw (no_digit, all))) taken.run.between taken.run.all stops stands e).1
 
 -- an operator, or a character of no other class
 pub sign_stands : {text : List ℕ} {place next c : ℕ} (o : Options) → StandsAt text place next c → is_blank c ≡ false

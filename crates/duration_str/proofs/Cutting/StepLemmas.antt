@@ -2,7 +2,7 @@
 use Rattle.duration_str.proofs.Common.{◌≡◌, ℕ, ◌+◌, ◌-◌, ◌<◌, ◌≤◌, drop, length-drop, arith, true, List, [], ◌∷◌, length}
 use Rattle.duration_str.proofs.Common.{Option, Some, None, IsUtf8, refl, ap, sym, ◌∙◌, slice_range, IsCharBoundary}
 use Rattle.duration_str.proofs.Common.{length-take-le, ForSome, IsUtf8-had, TimeUnit, CondUnit, TokenStart, Number}
-use Rattle.duration_str.proofs.Common.{Word}
+use Rattle.duration_str.proofs.Common.{Word, rules}
 use Rattle.duration_str.proofs.Common.{Operator, Other, Tokens, Terminal, word, operator, other, operator_or_other}
 use Rattle.duration_str.proofs.Common.{terminal_of, is_blank, is_digit, is_unit_letter, operator_of, number_of}
 use Rattle.duration_str.proofs.Common.{tokens_from, ahead, width, Stands, StandsAt, Passes, Stops, TakesDigits}
@@ -43,9 +43,7 @@ looks_ahead {s} sort kept blanks ahead =
     record { kept = kept; same_left = rw (left_same kept, blanks_passed (options_of s) blanks); ahead = ahead }
 
 pub none_left : (s : Tokens) → IsAhead s None → (tokens_left s ≡ []) × (cut_place s ≡ length (source s))
-none_left s end =
-    let utf8 = IsUtf8-had s.eye.text.now s.eye.utf8 in
-    (rw (s.none end), place_at_end (source s) (cut_place s) utf8 s.eye.at_place (s.none end))
+none_left s end = search (rules, IsUtf8-had, place_at_end)
 
 -- The first token that is left starts at the place, and its terminal has the sort ahead.
 pub first_left : (s : Tokens) (sort : TokenStart) → IsAhead s (Some sort)
@@ -60,9 +58,7 @@ first_left s sort h =
 -- a word starts with a unit letter
 pub letter_ahead : (s : Tokens) (c : ℕ) → IsAhead s (Some Word) → s.head ≡ Some c
     → is_unit_letter (options_of s) c ≡ true
-letter_ahead s c h is =
-    let same : h.character ≡ c = cc (h.is_head) in
-    rw (← same) (letter_of_sort (options_of s) h.character h.is_sort)
+letter_ahead s c h is = search (rules)
 
 -- ---- the next token
 

@@ -1,7 +1,7 @@
 -- The counts by quotients and remainders are the greatest breakdown, and the only one.
 use Rattle.duration_str.proofs.Common.{◌≡◌, ℕ, ◌+◌, ◌*◌, ◌/◌, ◌%◌, ◌≤◌, ◌⊎◌, inl, inr, List, [], ◌∷◌, length, arith}
-use Rattle.duration_str.proofs.Common.{refl, sym, le-div_iff_mul-le, div-add-mod', cases_lt, unit_lengths, weighted_sum}
-use Rattle.duration_str.proofs.Common.{IsBefore, IsGreatestBreakdown, counts_of, GreatestBreakdown}
+use Rattle.duration_str.proofs.Common.{refl, div-add-mod', cases_lt, unit_lengths, weighted_sum}
+use Rattle.duration_str.proofs.Common.{IsBefore, IsGreatestBreakdown, counts_of, GreatestBreakdown, rules}
 
 -- Each length is above 0, and the last is 1.
 abbrev pub EndInOne : List ℕ → Type 0
@@ -23,8 +23,7 @@ counts_each (l ∷ lengths) nanos = rw (counts_each lengths (nanos % l))
 
 -- No breakdown has a greater first count than the quotient.
 first_within : (m l rest nanos : ℕ) → 1 ≤ l → m * l + rest ≡ nanos → m ≤ nanos / l
-first_within m l rest nanos h e =
-    let product : m * l ≤ nanos = omega arith in (le-div_iff_mul-le h).1 product
+first_within m l rest nanos h e = search rules
 
 -- If the first count is the quotient, the others total the remainder.
 rest_same : (m l rest nanos : ℕ) → m * l + rest ≡ nanos → m ≡ nanos / l → rest ≡ nanos % l
@@ -59,10 +58,7 @@ units_end_in_one = omega arith
 
 pub breakdown_of : (lengths : List ℕ) (nanos : ℕ) → EndInOne lengths
     → IsGreatestBreakdown lengths nanos (counts_of lengths nanos)
-breakdown_of lengths nanos h = record {
-  breakdown = record { one_each = counts_each lengths nanos; whole = counts_whole lengths nanos h };
-  greatest = λ others b. counts_greatest lengths nanos others h b.one_each b.whole;
-}
+breakdown_of lengths nanos h = search (rules, counts_each, counts_greatest, counts_whole)
 
 pub greatest_breakdown_holds : GreatestBreakdown
 greatest_breakdown_holds nanos = breakdown_of unit_lengths nanos units_end_in_one
@@ -78,11 +74,4 @@ not_before_each_other (m ∷ ms) (n ∷ ns) (inr h) (inr k) = not_before_each_ot
 -- A duration has only one greatest breakdown.
 pub one_greatest : (lengths : List ℕ) (nanos : ℕ) (a b : List ℕ) → IsGreatestBreakdown lengths nanos a
     → IsGreatestBreakdown lengths nanos b → a ≡ b
-one_greatest lengths nanos a b h k = elim (k.greatest a h.breakdown) [
-  | inl same ↦ same
-  | inr before ↦
-      elim (h.greatest b k.breakdown) [
-        | inl same ↦ sym same
-        | inr after ↦ absurd (not_before_each_other a b before after)
-      ]
-]
+one_greatest lengths nanos a b h k = search (rules, not_before_each_other)

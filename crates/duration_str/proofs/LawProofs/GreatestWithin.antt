@@ -1,9 +1,8 @@
 -- The counts within limits by quotients and remainders are the greatest.
 use Rattle.duration_str.proofs.Common.{◌≡◌, ℕ, ◌+◌, ◌-◌, ◌*◌, ◌/◌, ◌%◌, ◌≤◌, ◌<◌, ◌⊎◌, inl, inr, false, List, [], ◌∷◌}
 use Rattle.duration_str.proofs.Common.{length, arith, refl, sym, ⊤, ◌==◌, cases_Bool, le-div_iff_mul-le, div-add-mod'}
-use Rattle.duration_str.proofs.Common.{cases_lt, leb, leb-true, map, TimeUnit, nanos_of, Format, units_within}
-use Rattle.duration_str.proofs.Common.{lengths_within, weighted_sum, IsBefore, part_count, IsGreatestWithin}
-use Rattle.duration_str.proofs.Common.{counts_within, nat_tests}
+use Rattle.duration_str.proofs.Common.{cases_lt, leb, leb-true, map, TimeUnit, nanos_of, Format, rules, lengths_within}
+use Rattle.duration_str.proofs.Common.{weighted_sum, IsBefore, part_count, IsGreatestWithin, counts_within, nat_tests}
 use Rattle.duration_str.proofs.Characters.EachUnit.{all_units}
 use Rattle.duration_str.proofs.LawProofs.GreatestBreakdown.{not_before_each_other}
 
@@ -13,39 +12,21 @@ ArePositive (l ∷ lengths) = (1 ≤ l) × ArePositive lengths
 
 pub within_each : (lengths : List ℕ) (most nanos : ℕ) → length (counts_within lengths most nanos) ≡ length lengths
 within_each [] most nanos = refl
-within_each (l ∷ lengths) most nanos = elim (cases_Bool (most == 0)) [
-  | inl none ↦ rw none (omega (arith, within_each lengths most nanos))
-  | inr some ↦ elim (cases_Bool (nanos / l == 0)) [
-    | inl zero ↦ rw (some, zero) (omega (arith, within_each lengths most nanos))
-    | inr count ↦ rw (some, count) (omega (arith, within_each lengths (most - 1) (nanos % l)))
-  ]
-]
+within_each (l ∷ lengths) most nanos =
+    search (rules, within_each lengths most nanos, within_each lengths (most - 1) (nanos % l))
 
 pub within_few : (lengths : List ℕ) (most nanos : ℕ) → part_count (counts_within lengths most nanos) ≤ most
 within_few [] most nanos = omega arith
-within_few (l ∷ lengths) most nanos = elim (cases_Bool (most == 0)) [
-  | inl none ↦ rw none (within_few lengths most nanos)
-  | inr some ↦ elim (cases_Bool (nanos / l == 0)) [
-    | inl zero ↦ rw (some, zero) (within_few lengths most nanos)
-    | inr count ↦
-        let positive : 1 ≤ most = grind (arith, nat_tests) in
-        rw (some, count) (rw count (omega (arith, within_few lengths (most - 1) (nanos % l))))
-  ]
-]
+within_few (l ∷ lengths) most nanos =
+    search (rules, within_few lengths most nanos, within_few lengths (most - 1) (nanos % l))
 
 pub within_sum : (lengths : List ℕ) (most nanos : ℕ) → weighted_sum lengths (counts_within lengths most nanos) ≤ nanos
 within_sum [] most nanos = omega arith
-within_sum (l ∷ lengths) most nanos = elim (cases_Bool (most == 0)) [
-  | inl none ↦ rw none (omega (arith, within_sum lengths most nanos))
-  | inr some ↦ elim (cases_Bool (nanos / l == 0)) [
-    | inl zero ↦ rw (some, zero) (omega (arith, within_sum lengths most nanos))
-    | inr count ↦ rw (some, count) (omega (arith, div-add-mod' nanos l, within_sum lengths (most - 1) (nanos % l)))
-  ]
-]
+within_sum (l ∷ lengths) most nanos =
+    search (rules, div-add-mod', within_sum lengths most nanos, within_sum lengths (most - 1) (nanos % l))
 
 first_at_most : (m l rest nanos : ℕ) → 1 ≤ l → m * l + rest ≤ nanos → m ≤ nanos / l
-first_at_most m l rest nanos h e =
-    let product : m * l ≤ nanos = omega arith in (le-div_iff_mul-le h).1 product
+first_at_most m l rest nanos h e = search rules
 
 rest_at_most : (m l rest nanos : ℕ) → m * l + rest ≤ nanos → m ≡ nanos / l → rest ≤ nanos % l
 rest_at_most m l rest nanos e s = let product = rw s at e in omega (arith, div-add-mod' nanos l)
@@ -117,18 +98,7 @@ lengths_positive (u ∷ us) = (some_length u, lengths_positive us)
 pub greatest_within : (format : Format) (nanos : ℕ)
     → IsGreatestWithin (lengths_within format) format.parts nanos
     (counts_within (lengths_within format) format.parts nanos)
-greatest_within format nanos =
-    let lengths : List ℕ = lengths_within format in
-    record {
-      within = record {
-        one_each = within_each lengths format.parts nanos;
-        few = within_few lengths format.parts nanos;
-        no_more = within_sum lengths format.parts nanos;
-      };
-      greatest = λ others o.
-          within_greatest lengths format.parts nanos others
-          (lengths_positive (units_within format)) o.one_each o.few o.no_more;
-    }
+greatest_within format nanos = search (rules, lengths_positive, within_each, within_few, within_greatest, within_sum)
 
 -- The counts within limits are those by quotients and remainders.
 pub one_greatest_within : (format : Format) (nanos : ℕ) (counts : List ℕ)

@@ -2,7 +2,7 @@
 use Rattle.duration_str.proofs.Common.{◌≡◌, ◌∙◌, ℕ, Bool, true, not, List, [], ◌∷◌, Some, refl, sym, map, find, Option, false, if◌then◌else◌}
 use Rattle.duration_str.proofs.Common.{bytes_eq, cases_Bool, inl, inr, list_any, list_all, Options, codes, TimeUnit, Month}
 use Rattle.duration_str.proofs.Common.{MicroSecond, to_ascii_lowercase, comparison_form, encode_utf8_all, units, row_of}
-use Rattle.duration_str.proofs.Common.{unit_of_word, all_names, nat_tests, arith, ap}
+use Rattle.duration_str.proofs.Common.{unit_of_word, all_names, arith, ap, rules}
 use Rattle.std.specs.Option.{option_map}
 use Rattle.duration_str.specs.Laws.{NearWords, IsAdvised}
 use Rattle.duration_str.specs.OneLine.{near_words, small_words, us_words, is_among}
@@ -12,9 +12,7 @@ use Rattle.duration_str.proofs.Characters.PackedLemmas.{no_name}
 
 lower_twice : (word : List ℕ) → map to_ascii_lowercase (map to_ascii_lowercase word) ≡ map to_ascii_lowercase word
 lower_twice [] = refl
-lower_twice (c ∷ word) =
-    let same : to_ascii_lowercase (to_ascii_lowercase c) ≡ to_ascii_lowercase c = grind (arith, nat_tests) in
-    rw (same, lower_twice word) refl
+lower_twice (c ∷ word) = search (rules, lower_twice word)
 
 lower_form : (o : Options) (word : List ℕ)
     → map to_ascii_lowercase (comparison_form o word) ≡ map to_ascii_lowercase word

@@ -1,8 +1,8 @@
 -- What is printed within limits is the greatest duration whose own breakdown keeps within them.
-use Rattle.duration_str.proofs.Common.{◌≡◌, ℕ, ◌+◌, ◌-◌, ◌*◌, ◌/◌, ◌%◌, ◌^◌, ◌≤◌, ◌<◌, ◌==◌, ◌∙◌, inl, inr, true, false}
+use Rattle.duration_str.proofs.Common.{◌≡◌, ℕ, ◌+◌, ◌-◌, ◌*◌, ◌/◌, ◌%◌, ◌^◌, ◌≤◌, ◌<◌, ◌==◌, ◌∙◌, inl, inr, false}
 use Rattle.duration_str.proofs.Common.{List, [], ◌∷◌, ◌++◌, length, map, if◌then◌else◌, arith, refl, sym, ap, subst}
 use Rattle.duration_str.proofs.Common.{cases_Bool, cases_lt, nat_tests, le-div_iff_mul-le, div-add-mod', map-append}
-use Rattle.duration_str.proofs.Common.{Options, TimeUnit, Year, nanos_of, units, nat_lt, Format, units_within}
+use Rattle.duration_str.proofs.Common.{Options, TimeUnit, Year, nanos_of, units, nat_lt, Format, units_within, rules}
 use Rattle.duration_str.proofs.Common.{units_from, units_down_to, lengths_within, zero_unit, counts_within, text_within}
 use Rattle.duration_str.proofs.Common.{part_count, IsRead, IsGreatestBreakdown, counts_of, weighted_sum, terminal_of}
 use Rattle.duration_str.proofs.Common.{NeverMore}
@@ -24,24 +24,16 @@ shown lengths most nanos = weighted_sum lengths (counts_within lengths most nano
 
 -- What is below the length stays as the remainder.
 divided : (c l rest : ℕ) → rest < l → ((c * l + rest) / l ≡ c) × ((c * l + rest) % l ≡ rest)
-divided c l rest h =
-    let next : (c + 1) * l ≡ c * l + l = omega arith in
-    let quotient : (c * l + rest) / l ≡ c = div-eq_of_lt-le l (omega arith) (omega arith) in
-    let whole = rw quotient at (div-add-mod' (c * l + rest) l) in
-    (quotient, omega arith)
+divided c l rest h = search (rules, div-eq_of_lt-le)
 
 own_step : (c l rest : ℕ) (lengths more counts : List ℕ) → rest < l
     → counts_of (lengths ++ more) rest ≡ counts ++ counts_of more 0
     → counts_of (l ∷ lengths ++ more) (c * l + rest) ≡ c ∷ counts ++ counts_of more 0
-own_step c l rest lengths more counts below own =
-    let quotient : (c * l + rest) / l ≡ c = (divided c l rest below).0 in
-    let left : (c * l + rest) % l ≡ rest = (divided c l rest below).1 in
-    rw (quotient, left, own)
+own_step c l rest lengths more counts below own = search (rules, divided)
 
 none_shown : (lengths : List ℕ) (most nanos : ℕ) → most ≡ 0 → shown lengths most nanos ≡ 0
 none_shown [] most nanos none = refl
-none_shown (l ∷ lengths) most nanos none =
-    let no : (most == 0) ≡ true = grind (arith, nat_tests) in rw no (omega (arith, none_shown lengths most nanos none))
+none_shown (l ∷ lengths) most nanos none = search (rules, none_shown lengths most nanos none)
 
 -- Its own counts are those that are printed, and then only 0.
 own_counts : (lengths more : List ℕ) (most nanos : ℕ) → ArePositive lengths
@@ -71,36 +63,21 @@ own_counts (l ∷ lengths) more most nanos h = elim (cases_Bool (most == 0)) [
 within_again : (lengths : List ℕ) (most nanos : ℕ) → ArePositive lengths
     → counts_within lengths most (shown lengths most nanos) ≡ counts_within lengths most nanos
 within_again [] most nanos h = refl
-within_again (l ∷ lengths) most nanos h = elim (cases_Bool (most == 0)) [
-  | inl none ↦
-      let rest : ℕ = shown lengths most nanos in
-      let alone : 0 * l + rest ≡ rest = omega arith in
-      rw none (rw (alone, within_again lengths most nanos h.1))
-  | inr some ↦ elim (cases_Bool (nanos / l == 0)) [
-    | inl nothing ↦
-        let rest : ℕ = shown lengths most nanos in
-        let alone : 0 * l + rest ≡ rest = omega arith in
-        let none : nanos / l ≡ 0 = grind (arith, nat_tests) in
-        let below : rest < l = omega (arith, below_length nanos l h.0 none, within_sum lengths most nanos) in
-        let quotient : rest / l ≡ 0 = div-eq_of_lt below in
-        rw (some, nothing) (rw (alone, quotient, within_again lengths most nanos h.1))
-    | inr count ↦
-        let rest : ℕ = shown lengths (most - 1) (nanos % l) in
-        let positive : 0 < l = h.0 in
-        let below : rest < l = omega (arith, within_sum lengths (most - 1) (nanos % l)) in
-        let quotient : (nanos / l * l + rest) / l ≡ nanos / l = (divided (nanos / l) l rest below).0 in
-        let left : (nanos / l * l + rest) % l ≡ rest = (divided (nanos / l) l rest below).1 in
-        rw (some, count) (rw (quotient, left, count, within_again lengths (most - 1) (nanos % l) h.1))
-  ]
-]
+within_again (l ∷ lengths) most nanos h =
+    search (
+      rules,
+      below_length,
+      div-eq_of_lt,
+      divided,
+      within_sum,
+      within_again lengths most nanos h.1,
+      within_again lengths (most - 1) (nanos % l) h.1,
+    )
 
 no_more_parts : (counts more : List ℕ) → part_count (counts ++ counts_of more 0) ≡ part_count counts
 no_more_parts [] [] = refl
 no_more_parts [] (l ∷ more) = rw (zero-div l, left_whole 0 l (zero-div l)) (no_more_parts [] more)
-no_more_parts (n ∷ counts) more = elim (cases_Bool (n == 0)) [
-  | inl e ↦ rw e (no_more_parts counts more)
-  | inr e ↦ rw e (omega (arith, no_more_parts counts more))
-]
+no_more_parts (n ∷ counts) more = search (rules, no_more_parts counts more)
 
 sum_of_front : (lengths counts others : List ℕ) → length counts ≡ length lengths
     → weighted_sum lengths (counts ++ others) ≡ weighted_sum lengths counts
@@ -172,10 +149,7 @@ after smallest (u ∷ us) = if nat_lt (nanos_of u) (nanos_of smallest) then u �
 
 then_after : (smallest : TimeUnit) (us : List TimeUnit) → us ≡ units_down_to smallest us ++ after smallest us
 then_after smallest [] = refl
-then_after smallest (u ∷ us) = elim (cases_Bool (nat_lt (nanos_of u) (nanos_of smallest))) [
-  | inl e ↦ rw e
-  | inr e ↦ rw e (ap (λ (vs : List TimeUnit). u ∷ vs) (then_after smallest us))
-]
+then_after smallest (u ∷ us) = search (rules, then_after smallest us)
 
 from_end_in_one : (l : TimeUnit) → EndInOne (map nanos_of (units_from l units))
 from_end_in_one Year = omega arith

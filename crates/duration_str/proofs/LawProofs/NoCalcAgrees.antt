@@ -1,6 +1,6 @@
 -- Without operators `no_calc` changes neither what is accepted nor its value.
-use Rattle.duration_str.proofs.Common.{ℕ, Bool, true, false, not, List, [], ◌∷◌, map, Some, ⊤, and_parts, Options}
-use Rattle.duration_str.proofs.Common.{Terminal, number, word, operator, terminal_of, IsSentence, NoCalcAgrees}
+use Rattle.duration_str.proofs.Common.{ℕ, Bool, not, List, [], ◌∷◌, map, Some, ⊤, and_parts, Options}
+use Rattle.duration_str.proofs.Common.{Terminal, number, word, operator, terminal_of, IsSentence, NoCalcAgrees, rules}
 use Rattle.duration_str.proofs.Common.{HasNoOperator, is_operator, IsRead}
 use Rattle.duration_str.proofs.Cutting.TerminalLemmas.{terminal_cases}
 use Rattle.duration_str.proofs.Sentences.SpellingLemmas.{EachPasses, lexemes_pass}
@@ -29,16 +29,7 @@ sentence_for a b _ h s = absurd assumption
 
 read_under : (o : Options) (a b : Bool) (text : List ℕ) (nanos : ℕ) → HasNoOperator text
     → IsRead (record o { no_calc = a }) text nanos → IsRead (record o { no_calc = b }) text nanos
-read_under o a b text nanos plain r =
-    let passes = lexemes_pass (λ c. not (is_operator c)) r.lexemes text plain r.spells.1 in
-    let none = no_operator_terminals o r.lexemes passes in
-    record {
-      lexemes = r.lexemes;
-      spells = (sentence_for a b (map (terminal_of o) r.lexemes) none r.spells.0, r.spells.1);
-      evaluates = r.evaluates;
-      value = r.value;
-    }
+read_under o a b text nanos plain r = search (rules, lexemes_pass, no_operator_terminals, sentence_for)
 
 pub no_calc_agrees_holds : NoCalcAgrees
-no_calc_agrees_holds o text nanos plain =
-    (read_under o true false text nanos plain, read_under o false true text nanos plain)
+no_calc_agrees_holds o text nanos plain = search (rules, read_under)

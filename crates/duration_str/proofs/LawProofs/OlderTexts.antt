@@ -1,15 +1,13 @@
 -- The law `older_texts`: a sentence over the units without the quarter is a sentence over all units.
 use Rattle.duration_str.proofs.Common.{◌≡◌, ℕ, Bool, true, false, List, [], ◌∷◌, map, Option, Some, None, IsTrue, refl}
-use Rattle.duration_str.proofs.Common.{sym, ap, ap₂, ◌∙◌, append-nil, ◌⊎◌, inl, inr, true≢false, find, ⊤, and_parts}
-use Rattle.duration_str.proofs.Common.{cases_Bool, list_all, Options, CondUnit, Plus, TimeUnit, Quarter, Cause}
-use Rattle.duration_str.proofs.Common.{is_digit, is_unit_letter, operator_of, UnitRow, row_of, nanos_of, is_named}
-use Rattle.duration_str.proofs.Common.{unit_of_word, Terminal, number, word, operator, operator_or_other, sign_terminal}
-use Rattle.duration_str.proofs.Common.{terminal_by, terminal_of, IsSentence, IsSentenceOf, expected_after, allows}
-use Rattle.duration_str.proofs.Common.{terms_by, terms_of, or_else, evaluation_fault, IsRead, IsRefusedAt, IsRefused}
-use Rattle.duration_str.proofs.Common.{first_fault, early, late, older_row_of, older_units, was_named, older_nanos_of}
-use Rattle.duration_str.proofs.Common.{older_unit_of_word, older_terminals, older_terms, WasSentenceOf, WasRead}
-use Rattle.duration_str.proofs.Common.{WasRefused, sentence_fault, OlderTexts}
-use Rattle.duration_str.proofs.Characters.UnitLemmas.{named_unit}
+use Rattle.duration_str.proofs.Common.{ap, ap₂, ◌∙◌, append-nil, ◌⊎◌, inl, inr, find, ⊤, cases_Bool, list_all, Options}
+use Rattle.duration_str.proofs.Common.{CondUnit, Plus, TimeUnit, Quarter, Cause, rules, is_digit, is_unit_letter}
+use Rattle.duration_str.proofs.Common.{UnitRow, row_of, nanos_of, is_named, unit_of_word, Terminal, number, word}
+use Rattle.duration_str.proofs.Common.{operator, sign_terminal, terminal_by, terminal_of, IsSentence, IsSentenceOf}
+use Rattle.duration_str.proofs.Common.{expected_after, allows, terms_by, terms_of, IsRead, IsRefusedAt, IsRefused}
+use Rattle.duration_str.proofs.Common.{early, older_row_of, was_named, older_nanos_of, older_unit_of_word}
+use Rattle.duration_str.proofs.Common.{older_terminals, older_terms, WasSentenceOf, WasRead, WasRefused, sentence_fault}
+use Rattle.duration_str.proofs.Common.{OlderTexts}
 use Rattle.duration_str.proofs.Sentences.AnswerLemmas.{sentence_refused}
 use Rattle.duration_str.proofs.Sentences.FrontLemmas.{AreAllowed, sentence_allowed}
 
@@ -26,8 +24,7 @@ same_row u row e = elim (kept u) [ inl none ↦ cc | inr same ↦ cc ]
 -- A name of a unit is still its name, and the unit has its length.
 still_named : (o : Options) (w : List ℕ) (u : TimeUnit) → was_named o w u ≡ true
     → (is_named o w u ≡ true) × (older_nanos_of u ≡ nanos_of u)
-still_named o w u named =
-    elim (kept u) [ inl none ↦ cc (rw none at named) | inr same ↦ (rw same at named, rw same refl) ]
+still_named o w u named = search rules
 
 -- A unit found among these is named by the word.
 found_named : (o : Options) (w : List ℕ) (us : List TimeUnit) (u : TimeUnit) → find (was_named o w) us ≡ Some u
@@ -50,15 +47,12 @@ same_word : (o : Options) (last : Option Terminal) (w : List ℕ) (found : Optio
     → older_unit_of_word o w ≡ found → IsTrue (allows (expected_after o.no_calc last) (word found))
     → KeepLengths terminals
     → (word found ≡ word (unit_of_word o w)) × KeepLengths (word found ∷ terminals)
-same_word o last w (Some u) terminals e a k =
-    let named = still_named o w u (found_named o w older_units u e) in (rw (named_unit o w u named.0), (named.1, k))
-same_word o last w None terminals e a k =
-    absurd (true≢false (sym (and_parts (expected_after o.no_calc last).unit_word false a).1))
+same_word o last w (Some u) terminals e a k = search (rules, found_named, still_named)
+same_word o last w None terminals e a k = search rules
 
 sign_keeps : (w : List ℕ) (terminals : List Terminal) → KeepLengths terminals
     → KeepLengths (sign_terminal w ∷ terminals)
-sign_keeps (c ∷ []) terminals k =
-    elim (operator_of c) as (λ op. KeepLengths (operator_or_other op ∷ terminals)) [ None ↦ k | Some op ↦ k ]
+sign_keeps (c ∷ []) terminals k = search rules
 sign_keeps _ terminals k = k
 
 -- A lexeme that the table allows where it is has the same terminal as before, with a unit of the same length.
@@ -116,12 +110,7 @@ older_value o text nanos was =
 refused_at : (no_calc : Bool) (place : ℕ) (terminals : List Terminal) (cause : Cause) → IsSentence no_calc terminals
     → sentence_fault no_calc (terms_of terminals) ≡ Some cause → IsRefusedAt no_calc place terminals [] cause
 refused_at true place terminals cause s e = early e
-refused_at false place terminals cause s e =
-    elim (first_fault (terms_of terminals)) as (λ first. first_fault (terms_of terminals) ≡ first
-    → or_else first (evaluation_fault (terms_of terminals)) ≡ Some cause → IsRefusedAt false place terminals [] cause) [
-      | Some c ↦ λ f e. early (f ∙ e)
-      | None ↦ λ f e. late f (rw append-nil s) (rw append-nil e)
-    ] refl e
+refused_at false place terminals cause s e = search (rules, append-nil)
 
 older_cause : (o : Options) (text : List ℕ) (cause : Cause) → WasRefused o text cause → IsRefused o text cause
 older_cause o text cause was =

@@ -1,12 +1,10 @@
 -- `lowercase` changes nothing without ASCII capitals, and `cn_unit` nothing without Chinese characters.
-use Rattle.duration_str.proofs.Common.{◌≡◌, ℕ, ◌+◌, Bool, true, false, not, ◌||◌, List, [], ◌∷◌, map, IsTrue}
-use Rattle.duration_str.proofs.Common.{if◌then◌else◌, bytes_eq, arith, refl, sym, find, false_from_ne_true, and_parts}
-use Rattle.duration_str.proofs.Common.{and_from, not-true, nat_tests, is_ascii_uppercase, to_ascii_lowercase, list_all}
-use Rattle.duration_str.proofs.Common.{list_any, Options, TimeUnit, Cause, width, is_unit_letter, is_chinese, row_of}
-use Rattle.duration_str.proofs.Common.{units, comparison_form, unit_of_word, terminal_of, goes_on, tokens_from}
-use Rattle.duration_str.proofs.Common.{tokens_of, terminals_of, IsRead, IsRefused, OptionsIdle, HasNoCapital}
-use Rattle.duration_str.proofs.Common.{HasNoChinese, IsIdle}
-use Rattle.duration_str.proofs.Characters.EachUnit.{all_units}
+use Rattle.duration_str.proofs.Common.{◌≡◌, ℕ, ◌+◌, Bool, true, false, not, List, [], ◌∷◌, map, IsTrue, rules}
+use Rattle.duration_str.proofs.Common.{if◌then◌else◌, bytes_eq, arith, refl, and_parts, and_from, not-true, nat_tests}
+use Rattle.duration_str.proofs.Common.{is_ascii_uppercase, to_ascii_lowercase, list_all, list_any, Options, Cause}
+use Rattle.duration_str.proofs.Common.{width, is_unit_letter, is_chinese, unit_of_word, terminal_of, goes_on}
+use Rattle.duration_str.proofs.Common.{tokens_from, tokens_of, terminals_of, IsRead, IsRefused, OptionsIdle}
+use Rattle.duration_str.proofs.Common.{HasNoCapital, HasNoChinese, IsIdle}
 use Rattle.duration_str.proofs.Characters.UnitLemmas.{named_passes}
 use Rattle.duration_str.proofs.Sentences.SpellingLemmas.{tokens_spell, EachPasses, lexemes_pass}
 use Rattle.duration_str.proofs.Sentences.AnswerLemmas.{read_terminals, terminals_read}
@@ -29,13 +27,7 @@ refused_alike [] cause h r = r
 refused_alike (c ∷ text) cause h r = (r.0, r.1, rw (h.grammar, h.terminals) at r.2, rw (h.grammar, h.tokens) at r.3)
 
 idle : (choice : Bool → Options) (text : List ℕ) → AreAlike (choice true) (choice false) text → IsIdle choice text
-idle choice text h =
-    let back : AreAlike (choice false) (choice true) text =
-    record { grammar = sym h.grammar; tokens = sym h.tokens; terminals = sym h.terminals } in
-    record {
-      value = λ nanos. (read_alike nanos h, read_alike nanos back);
-      cause = λ cause. (refused_alike text cause h, refused_alike text cause back);
-    }
+idle choice text h = search (rules, read_alike, refused_alike)
 
 -- ---- Options that agree on characters and words give the same tokens and terminals
 
@@ -112,17 +104,11 @@ has_chinese name = not (list_all (λ c. not (is_chinese c)) name)
 -- A name with a Chinese character is not a word without them.
 other_names : (w : List ℕ) (names : List (List ℕ)) → HasNoChinese w → IsTrue (list_all has_chinese names)
     → list_any (bytes_eq w) names ≡ false
-other_names w names h k = false_from_ne_true (list_any (bytes_eq w) names) (λ e.
-    cc (not-true _ (named_passes has_chinese w names k e), h))
+other_names w names h k = search (rules, named_passes)
 
 cn_unit_unit : (o : Options) (w : List ℕ) → HasNoChinese w
     → unit_of_word (record o { cn_unit = true }) w ≡ unit_of_word (record o { cn_unit = false }) w
-cn_unit_unit o w h =
-    let form = comparison_form o w in
-    let none : (u : TimeUnit) → list_any (bytes_eq form) (row_of u).chinese ≡ false =
-    λ u. other_names form _ (form_not_chinese o.lowercase w h)
-    (all_units (λ v. list_all has_chinese (row_of v).chinese) refl u) in
-    λ i. find (λ u. list_any (bytes_eq form) (row_of u).names || none u i) units
+cn_unit_unit o w h = search (rules, form_not_chinese, other_names)
 
 -- ---- The law
 

@@ -1,7 +1,7 @@
 -- A printed text is read back below 2^64 nanoseconds, and otherwise overflows.
-use Rattle.duration_str.proofs.Common.{◌≡◌, ℕ, ◌+◌, ◌*◌, ◌/◌, ◌^◌, ◌≤◌, ◌<◌, Bool, true, false, ◌==◌, List, [], ◌∷◌}
-use Rattle.duration_str.proofs.Common.{map, drop, Some, None, arith, sym, ne_eqb, lt-ltb, le-ltb, FitsDuration, Options}
-use Rattle.duration_str.proofs.Common.{Year, Overflow, units, nanos_of, unit_lengths, Terminal, number, word}
+use Rattle.duration_str.proofs.Common.{◌≡◌, ℕ, ◌+◌, ◌*◌, ◌/◌, ◌^◌, ◌≤◌, ◌<◌, Bool, true, false, List, [], ◌∷◌}
+use Rattle.duration_str.proofs.Common.{map, drop, Some, None, arith, sym, lt-ltb, le-ltb, FitsDuration, Options}
+use Rattle.duration_str.proofs.Common.{Year, Overflow, units, nanos_of, unit_lengths, Terminal, number, word, rules}
 use Rattle.duration_str.proofs.Common.{terminal_of, sum_of, terms_of, early_fault, IsRead, early, IsRefused, Style}
 use Rattle.duration_str.proofs.Common.{IsPrintedIn, counts_of, ReadsBack}
 use Rattle.duration_str.proofs.Sentences.AnswerLemmas.{sentence_refused}
@@ -19,9 +19,7 @@ after_years nanos = terminals (kept (drop 1 units) (drop 1 (counts_of unit_lengt
 
 years_first : (o : Options) (style : Style) (nanos : ℕ) → FitsDuration nanos → nanos_of Year ≤ nanos
     → map (terminal_of o) (duration_lexemes style nanos) ≡ number (years nanos) ∷ word (Some Year) ∷ after_years nanos
-years_first o style nanos h low =
-    let some : years nanos == 0 ≡ false = ne_eqb (years nanos) 0 (λ (e : years nanos ≡ 0). omega arith) in
-    rw (terminals_of_duration o style nanos h, some)
+years_first o style nanos h low = search (rules, terminals_of_duration)
 
 reads_below : (o : Options) (style : Style) (nanos : ℕ) (text : List ℕ) → nanos < 2 ^ 64
     → IsPrintedIn style nanos text → IsRead o text nanos

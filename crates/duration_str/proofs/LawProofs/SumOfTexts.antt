@@ -1,6 +1,6 @@
 -- Two accepted texts without `*`, joined by a plus, have the sum of their values, or overflow.
 use Rattle.duration_str.proofs.Common.{◌≡◌, ℕ, inl, inr, ◌+◌, true, false, not, ◌==◌, List, [], ◌∷◌, ◌++◌, map, Some}
-use Rattle.duration_str.proofs.Common.{codes, arith, refl, ◌∙◌, append_assoc, cases_Bool, and_parts, and_from}
+use Rattle.duration_str.proofs.Common.{codes, arith, refl, ◌∙◌, append_assoc, cases_Bool, and_parts, and_from, rules}
 use Rattle.duration_str.proofs.Common.{nat_tests, map-append, list_all-append, Options, CondUnit, Plus, IsBlank}
 use Rattle.duration_str.proofs.Common.{operator_of, Terminal, number, word, operator, terminal_of, IsSentence, Spells}
 use Rattle.duration_str.proofs.Common.{AllPlus, Term, sum_of, terms_of, terms_after, IsRead, SumOfTexts, HasNoStar}
@@ -105,8 +105,7 @@ joined_is_sum {o} {a} {b} {lexemes} {others} calc s t =
 
 joined_terms : (o : Options) (lexemes others : List (List ℕ)) → IsSentence false (map (terminal_of o) lexemes)
     → terms_of_lexemes o (joined_lexemes lexemes others) ≡ terms_of_lexemes o lexemes ++ terms_of_lexemes o others
-joined_terms o lexemes others s =
-    rw (joined_terminals o lexemes others) (both_terms Plus (map (terminal_of o) lexemes) _ s)
+joined_terms o lexemes others s = search (rules, both_terms, joined_terminals)
 
 -- What is known of the joined text of two texts that are read.
 record IsJoined (o : Options) (text : List ℕ) (nanos : ℕ) : Type 0 where

@@ -1,9 +1,9 @@
 -- Combining the later terms one by one gives their faults in the order of the whole list.
 use Rattle.duration_str.proofs.Common.{◌≡◌, ℕ, ◌+◌, ◌^◌, ◌<◌, Bool, true, false, inl, inr, List, [], ◌∷◌, ◌++◌, Option}
 use Rattle.duration_str.proofs.Common.{Some, None, Result, Ok, Err, IsTrue, if◌then◌else◌, unwrap_or, refl, ap, ◌∙◌}
-use Rattle.duration_str.proofs.Common.{arith, mul_comm, mul-div_cancel, second, append_assoc, append-nil, ok_or, lt-ltb}
+use Rattle.duration_str.proofs.Common.{arith, append_assoc, append-nil, ok_or, lt-ltb}
 use Rattle.duration_str.proofs.Common.{cases_Bool, CondUnit, Plus, Star, Cause, Overflow, Term, value_of_term, sum_of}
-use Rattle.duration_str.proofs.Common.{later_total, combination, value_of, fits, or_else, unless, term_fault}
+use Rattle.duration_str.proofs.Common.{later_total, combination, value_of, fits, or_else, unless, term_fault, rules}
 use Rattle.duration_str.proofs.Common.{fault_of_terms, evaluation_fault, u64_from, checked_term, first_fault}
 use Rattle.duration_str.proofs.Common.{running_fault, fault_or, checked_combination, total_with}
 use Rattle.std.proofs.lemmas.List.Sums.{fold-append}
@@ -63,10 +63,7 @@ value_by op later = fault_or (fault_of_terms op [] later) (Ok (later_total op la
 -- The value of a term, or its fault, as `checked_term` gives it.
 pub checked_term_is : (place : Option ℕ) (t : Term)
     → checked_term place (u64_from t.number) t.length ≡ fault_or (term_fault place t) (Ok (value_of_term t))
-checked_term_is place t = elim (cases_Bool (fits t.number)) [
-  | inl e ↦ rw e (elim (cases_Bool (fits (value_of_term t))) [ inl f ↦ rw f | inr f ↦ rw f ])
-  | inr e ↦ rw e
-]
+checked_term_is place t = search (rules)
 
 together-push : (op : CondUnit) (before : List Term) (t : Term)
     → combination op (later_total op before) (value_of_term t) ≡ later_total op (before ++ t ∷ [])
@@ -76,21 +73,7 @@ together-push Star before t = rw fold-append
 one_more : (op : CondUnit) (before : List Term) (t : Term) → fault_of_terms op [] before ≡ None
     → total_with (Some (op, later_total op before)) t.operator (u64_from t.number) t.length
     ≡ value_by op (before ++ t ∷ [])
-one_more op before t none =
-    simp (fault_order, checked_term_is None t, later_append op [] before (t ∷ []), none, together-push op before t)
-
-total_of_one : (op : CondUnit) (t : Term) → later_total op (t ∷ []) ≡ value_of_term t
-total_of_one Plus t = omega arith
-total_of_one Star t = rw mul_comm (mul-div_cancel (value_of_term t) {n = second} (omega arith))
-
--- The first of the later terms has the value or the fault of its own.
-first_later : (t : Term) → checked_term None (u64_from t.number) t.length ≡ value_by t.operator (t ∷ [])
-first_later t =
-    rw (checked_term_is None t, total_of_one t.operator t, (is_same_operator-true t.operator t.operator).1 refl)
-    (elim (cases_Bool (fits t.number)) [
-      | inl e ↦ rw e (elim (cases_Bool (fits (value_of_term t))) [ inl f ↦ rw f | inr f ↦ rw f ])
-      | inr e ↦ rw e
-    ])
+one_more op before t none = search (rules, later_append, together-push)
 
 -- ---- All terms, one by one
 
@@ -148,14 +131,7 @@ default_left first op before (t ∷ later) syntax none =
 default_first : (first : ℕ) (u : Term) (later : List Term) (syntax : Option Cause)
     → answer_with false first None (u ∷ later) syntax
     ≡ fault_or syntax (checked_combination u.operator first (value_by u.operator (u ∷ later)))
-default_first first u later syntax =
-    let op = u.operator in
-    let parts = later_append op [] (u ∷ []) later in
-    rw (first_later u, parts)
-    (after_fault op first (later_total op (u ∷ []))
-    (λ total. answer_with false first (Some (op, total)) later syntax) syntax
-    (fault_of_terms op [] (u ∷ [])) (fault_of_terms op (u ∷ []) later) (Ok (later_total op (u ∷ later)))
-    (λ e. rw (← parts, default_left first op (u ∷ []) later syntax e)))
+default_first first u later syntax = search (rules, after_fault, default_left, later_append)
 
 -- Results after a fault are equal if they are without it.
 unless_fault : {x y : Result ℕ Cause} (fault : Option Cause) → (fault ≡ None → x ≡ y)
@@ -167,11 +143,7 @@ unless_fault (Some cause) h = refl
 one_added : (f : Term) (before : List Term) (t : Term) → t.operator ≡ Plus
     → total_with (Some (Plus, sum_of (f ∷ before))) t.operator (u64_from t.number) t.length
     ≡ fault_or (running_fault (f ∷ before) (t ∷ [])) (Ok (sum_of (f ∷ (before ++ t ∷ []))))
-one_added f before t plus =
-    let same = (is_same_operator-true Plus t.operator).1 plus in
-    let sum : sum_of (f ∷ before) + value_of_term t ≡ sum_of (f ∷ (before ++ t ∷ [])) =
-    omega (arith, sum-append before (t ∷ [])) in
-    simp (fault_order, checked_term_is None t, same, sum)
+one_added f before t plus = search (rules, is_same_operator-true, sum-append)
 
 reported : (total : ℕ) (more : ℕ → Result ℕ Cause) (syntax a : Option Cause)
     → after_term true syntax more (fault_or a (Ok total)) ≡ fault_or a (more total)
@@ -182,8 +154,7 @@ no_calc_left : (f : Term) (before later : List Term) (syntax : Option Cause) →
     → AreAdded later
     → answer_with true 0 (Some (Plus, sum_of (f ∷ before))) later syntax
     ≡ fault_or (running_fault (f ∷ before) later) (fault_or syntax (Ok (sum_of (f ∷ (before ++ later)))))
-no_calc_left f before [] syntax h a =
-    rw (append-nil before) (ap (fault_or syntax) (nothing_added (sum_of (f ∷ before)) h))
+no_calc_left f before [] syntax h a = search (rules, append-nil, nothing_added)
 no_calc_left f before (t ∷ later) syntax h a =
     let next = before ++ t ∷ [] in
     let fault = running_fault (f ∷ before) (t ∷ []) in
@@ -201,10 +172,7 @@ no_calc_left f before (t ∷ later) syntax h a =
 whole_value : (f u : Term) (later : List Term)
     → checked_combination u.operator (value_of_term f) (value_by u.operator (u ∷ later))
     ≡ fault_or (evaluation_fault (f ∷ u ∷ later)) (Ok (unwrap_or (value_of (f ∷ u ∷ later)) 0))
-whole_value f u later =
-    let fault = fault_of_terms u.operator [] (u ∷ later) in
-    rw (checked_combination-fault u.operator (value_of_term f) fault, ok_or-fits, fault_or-or_else fault)
-    (unless_fault fault (λ e. rw (later_value f u later e)))
+whole_value f u later = search (rules, fault_or-or_else, later_value, ok_or-fits, unless_fault)
 
 -- The answer to terms is the answer of reading them one by one.
 pub one_by_one : (no_calc : Bool) (f : Term) (later : List Term) (syntax : Option Cause)
@@ -212,8 +180,7 @@ pub one_by_one : (no_calc : Bool) (f : Term) (later : List Term) (syntax : Optio
     → answer_of no_calc (f ∷ later) syntax
     ≡ fault_or (term_fault (Some 0) f) (answer_after_first no_calc (value_of_term f) later syntax)
 one_by_one false f [] syntax added = refl
-one_by_one false f (u ∷ later) syntax added =
-    rw (default_first (value_of_term f) u later syntax, whole_value f u later)
+one_by_one false f (u ∷ later) syntax added = rw (default_first (value_of_term f) u later syntax, whole_value f u later)
 one_by_one true f later syntax added =
     rw (fault_or-or_else (term_fault (Some 0) f)) (unless_fault (term_fault (Some 0) f) (λ e.
     let below = simp no_fault at e in

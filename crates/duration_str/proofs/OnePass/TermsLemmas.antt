@@ -2,7 +2,7 @@
 use Rattle.duration_str.proofs.Common.{◌≡◌, ◌<◌, ℕ, arith, Bool, true, false, List, [], ◌∷◌, ◌++◌, length, take, drop}
 use Rattle.duration_str.proofs.Common.{false, Option, Some, None, Result, Ok, Err, if◌then◌else◌, IsTrue, refl, sym, ap}
 use Rattle.duration_str.proofs.Common.{subst, ◌∙◌, TimeUnit, CondUnit, Plus, Cause, Expected, Syntax, Tokens, nanos_of}
-use Rattle.duration_str.proofs.Common.{Terminal, number, operator, AllPlus, Term, terms_of, terms_after, unless}
+use Rattle.duration_str.proofs.Common.{Terminal, number, operator, AllPlus, Term, terms_of, terms_after, unless, rules}
 use Rattle.duration_str.proofs.Common.{checked_term, term_of, without_last_number, complete_terminals, late_answer}
 use Rattle.duration_str.proofs.Common.{answer_at, expected_after, last_of, front_of, TakesNumber, Rest, terminal_at}
 use Rattle.duration_str.proofs.Common.{rest_of, start_left, terminals_in, ReadItem, leaving, unit_read, operator_read}
@@ -71,16 +71,11 @@ pulled ts front (terminal ∷ rest) e = e
 -- The terms from a number on are determined by the unit and the operator read after it.
 terms_read : (no_calc : Bool) (op : CondUnit) (at n : ℕ) (rest : Rest)
     → left_after no_calc op (terminal_at at (number n) rest) ≡ after_number no_calc op n (unit_read no_calc rest)
-terms_read no_calc op at n (terminal_at p (word (Some u)) (terminal_at q (number m) rest)) =
-    let here = terminal_at q (number m) rest in
-    rw (pulled (number n ∷ word (Some u) ∷ []) (front_in no_calc here) (after_in no_calc here) refl)
+terms_read no_calc op at n (terminal_at p (word (Some u)) (terminal_at q (number m) rest)) = search (rules, pulled)
 terms_read false op at n (terminal_at p (word (Some u)) (terminal_at q (operator next)
     (terminal_at r (number m) rest))) =
-    let here = terminal_at r (number m) rest in
-    rw (pulled (number n ∷ word (Some u) ∷ operator next ∷ []) (front_in false here) (after_in false here) refl)
-terms_read false op at n (terminal_at p (operator next) (terminal_at q (number m) rest)) =
-    let here = terminal_at q (number m) rest in
-    rw (pulled (number n ∷ operator next ∷ []) (front_in false here) (after_in false here) refl)
+    search (rules, pulled)
+terms_read false op at n (terminal_at p (operator next) (terminal_at q (number m) rest)) = search (rules, pulled)
 terms_read no_calc op at n rest = refl
 
 -- A number is taken, and r is the result of reading the unit after it.
@@ -192,10 +187,7 @@ by_first-fault no_calc (Some cause) first left = refl
 
 from_start : (no_calc : Bool) (rest : Rest) (left : Ended) → left_after no_calc Plus rest ≡ left
     → answer_of no_calc left.terms left.fault ≡ answer_left no_calc rest
-from_start no_calc rest left is =
-    ap (λ (l : Ended). answer_of no_calc l.terms l.fault) (sym is)
-    ∙ in_order no_calc (start_left (front_of no_calc (terminals_in rest)) rest) (front_in no_calc rest)
-    (after_in no_calc rest)
+from_start no_calc rest left is = search rules
 
 -- The first unit cannot be read.
 pub first_unread : {m a : Tokens} {s : Rest} {n : Option ℕ} {cause : Cause} (no_calc : Bool) → rest_of m ≡ s

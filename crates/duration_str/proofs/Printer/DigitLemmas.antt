@@ -1,7 +1,7 @@
 -- The steps of writing a number in decimal, and its length.
 use Rattle.duration_str.proofs.Common.{◌≡◌, ℕ, suc, ◌+◌, ◌/◌, ◌%◌, ◌^◌, ◌<◌, ◌≤◌, ◌++◌, List, [], ◌∷◌, length, decimal}
 use Rattle.duration_str.proofs.Common.{arith, append_assoc, ap, ◌∙◌, length-append, decimal_digit, pow-succ', lit<}
-use Rattle.duration_str.proofs.Common.{take, drop, sym, length-take-le}
+use Rattle.duration_str.proofs.Common.{take, drop, sym, length-take-le, rules}
 use Rattle.std.proofs.Math.Seq.{take-add, take-append_seam}
 use Rattle.duration_str.proofs.Common.{decimal_step_wide, decimal_by_steps_wide, length-decimal-le_wide, take_more_set}
 
@@ -45,9 +45,7 @@ below_power = decimal_by_steps_wide (λ n ds. n < 10 ^ length ds) (λ n small. o
 
 -- A smaller number has no more digits.
 pub length_smaller : (m n : ℕ) → m ≤ n → n < 10 ^ 64 → length (decimal m) ≤ length (decimal n)
-length_smaller m n h small =
-    length-decimal-le_wide (length (decimal n)) m (some_decimal n small) (omega (arith, below_power n small))
-    (omega arith)
+length_smaller m n h small = search (rules, below_power, length-decimal-le_wide, some_decimal)
 
 -- A number of 64 bits has at most 20 digits.
 pub short_decimal : (n : ℕ) → n < 2 ^ 64 → length (decimal n) ≤ 20

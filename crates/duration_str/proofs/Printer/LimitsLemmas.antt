@@ -1,13 +1,12 @@
 -- The steps of printing within limits, and the most bytes that it takes.
-use Rattle.duration_str.proofs.Common.{◌≡◌, ℕ, ◌+◌, ◌-◌, ◌*◌, ◌/◌, ◌%◌, ◌^◌, ◌<◌, ◌≤◌, ◌==◌, ◌++◌, false, inl, inr}
-use Rattle.duration_str.proofs.Common.{List, [], ◌∷◌, length, map, decimal, encode_utf8_all, arith, refl, leb, leb-true}
-use Rattle.duration_str.proofs.Common.{ltb, ltb-true, length-append, IsUtf8, cases_Bool, nat_tests, list_all}
+use Rattle.duration_str.proofs.Common.{◌≡◌, ℕ, ◌+◌, ◌-◌, ◌*◌, ◌/◌, ◌%◌, ◌^◌, ◌<◌, ◌≤◌, ◌==◌, ◌++◌, inl, inr, List, []}
+use Rattle.duration_str.proofs.Common.{◌∷◌, length, map, decimal, encode_utf8_all, arith, refl, leb, leb-true, ltb}
+use Rattle.duration_str.proofs.Common.{ltb-true, length-append, IsUtf8, cases_Bool, nat_tests, list_all, rules}
 use Rattle.duration_str.proofs.Common.{le-div_iff_mul-le, div-le_self, mod-le, TimeUnit, Year, Quarter, Month, Week}
 use Rattle.duration_str.proofs.Common.{Day, Hour, units, Bool, and_parts, take, units_from, units_down_to, nanos_of}
 use Rattle.duration_str.proofs.Common.{Format, units_within, lengths_within, zero_unit, counts_within, with_part}
 use Rattle.duration_str.proofs.Common.{with_counts, true, ap, sym, chars, chars_from_encodes, Style, Short, Compact}
-use Rattle.duration_str.proofs.Common.{Long, between, with_gap, part_bytes, name_part, most_len, text_within}
-use Rattle.duration_str.proofs.Common.{IsPrintedWithin}
+use Rattle.duration_str.proofs.Common.{Long, between, with_gap, part_bytes, most_len, text_within, IsPrintedWithin}
 use Rattle.duration_str.proofs.Characters.EachUnit.{Each, each_unit, all_units}
 use Rattle.duration_str.proofs.Characters.NameLemmas.{length_part, name_len}
 use Rattle.duration_str.proofs.Printer.DigitLemmas.{length_smaller}
@@ -27,8 +26,7 @@ slice_each parts style Year = assumption
 slice_each parts style l = assumption
 
 pub slice_within : (format : Format)
-    → mid_of (rank_of format.largest) (rank_of format.smallest + 1 - rank_of format.largest) units
-    ≡ units_within format
+    → mid_of (rank_of format.largest) (rank_of format.smallest + 1 - rank_of format.largest) units ≡ units_within format
 slice_within format =
     each_unit (λ s. mid_of (rank_of format.largest) (rank_of s + 1 - rank_of format.largest) units
     ≡ units_within (record { largest = format.largest; smallest = s; parts = format.parts; style = format.style }))
@@ -59,9 +57,7 @@ abbrev is_days : TimeUnit → Bool
 is_days u = leb (nanos_of Day) (nanos_of u)
 
 all_days : (l s : TimeUnit) → list_all is_days (days l s) ≡ true
-all_days l s =
-    all_units (λ s. list_all is_days (days l s)) (all_units (λ l. list_all (λ s. list_all is_days (days l s)) units)
-    refl l) s
+all_days l s = search rules
 
 -- Units that are longer than the duration print nothing.
 without_days : (style : Style) (longer shorter : List TimeUnit) (bytes : List ℕ) (most nanos : ℕ)
@@ -72,8 +68,7 @@ without_days style [] shorter bytes most nanos long h = refl
 without_days style (u ∷ longer) shorter bytes most nanos long h =
     let parts = and_parts (is_days u) (list_all is_days longer) long in
     let more = without_days style longer shorter bytes most nanos parts.1 h in
-    let none : nanos / nanos_of u ≡ 0 =
-    div-eq_of_lt (omega (arith, leb-true (nanos_of Day) (nanos_of u) parts.0)) in
+    let none : nanos / nanos_of u ≡ 0 = div-eq_of_lt (omega (arith, leb-true (nanos_of Day) (nanos_of u) parts.0)) in
     elim (cases_Bool (most == 0)) [
       | inl done ↦ rw done more
       | inr some ↦ rw (some, none) more
@@ -101,18 +96,8 @@ pub with_none : (style : Style) (us : List TimeUnit) (bytes : List ℕ) (most na
 with_none style [] bytes most nanos none = refl
 with_none style (u ∷ us) bytes most nanos none = rw none (with_none style us bytes 0 nanos refl)
 
-gap_grows : (style : Style) (bytes : List ℕ) → length bytes ≤ length (with_gap style bytes)
-gap_grows Compact bytes = omega arith
-gap_grows style [] = omega arith
-gap_grows Short (b ∷ bytes) = simp length-append (omega arith)
-gap_grows Long (b ∷ bytes) = simp length-append (omega arith)
-
 part_grows : (style : Style) (bytes : List ℕ) (u : TimeUnit) (n : ℕ) → length bytes ≤ length (with_part style bytes u n)
-part_grows style bytes u n = elim (cases_Bool (n == 0)) [
-  | inl e ↦ rw e (omega arith)
-  | inr e ↦
-      rw e (omega (arith, gap_grows style bytes, length-append (with_gap style bytes) (part_bytes style n u)))
-]
+part_grows style bytes u n = search (rules, length-append)
 
 counts_grow : (style : Style) (us : List TimeUnit) (bytes counts : List ℕ)
     → length bytes ≤ length (with_counts style bytes us counts)
@@ -124,47 +109,22 @@ counts_grow style _ bytes _ = omega arith
 pub with_nothing : (style : Style) (us : List TimeUnit) (bytes : List ℕ) (most nanos : ℕ) → nanos ≡ 0
     → bytes ≡ with_counts style bytes us (counts_within (map nanos_of us) most nanos)
 with_nothing style [] bytes most nanos none = refl
-with_nothing style (u ∷ us) bytes most nanos none = elim (cases_Bool (most == 0)) [
-  | inl done ↦ rw done (with_nothing style us bytes most nanos none)
-  | inr some ↦
-      let count : nanos / nanos_of u ≡ 0 = rw (none, zero-div (nanos_of u)) in
-      rw (some, count) (with_nothing style us bytes most nanos none)
-]
-
--- The first unit goes into the duration: its part, then those of what it leaves.
-first_part : (style : Style) (u : TimeUnit) (us : List TimeUnit) (bytes : List ℕ) (most nanos : ℕ) → 1 ≤ most
-    → nanos_of u ≤ nanos
-    → with_counts style bytes (u ∷ us) (counts_within (map nanos_of (u ∷ us)) most nanos)
-    ≡ with_counts style (with_part style bytes u (nanos / nanos_of u)) us
-    (counts_within (map nanos_of us) (most - 1) (nanos % nanos_of u))
-first_part style u us bytes most nanos left h =
-    let whole_one : 1 * nanos_of u ≤ nanos = omega arith in
-    let one : 1 ≤ nanos / nanos_of u = (le-div_iff_mul-le (some_length u)).1 whole_one in
-    let parts : (most == 0) ≡ false = grind (arith, nat_tests) in
-    let count : (nanos / nanos_of u == 0) ≡ false = grind (arith, nat_tests) in rw (parts, count, count)
+with_nothing style (u ∷ us) bytes most nanos none =
+    search (rules, zero-div, with_nothing style us bytes most nanos none)
 
 -- It fits if all parts do.
 pub first_room : (style : Style) (u : TimeUnit) (us : List TimeUnit) (bytes : List ℕ) (most nanos room : ℕ)
     → 1 ≤ most → nanos_of u ≤ nanos
     → length (with_counts style bytes (u ∷ us) (counts_within (map nanos_of (u ∷ us)) most nanos)) ≤ room
     → length (with_part style bytes u (nanos / nanos_of u)) ≤ room
-first_room style u us bytes most nanos room left h fits =
-    let whole = rw (first_part style u us bytes most nanos left h) at fits in
-    omega (
-      arith,
-      counts_grow style us (with_part style bytes u (nanos / nanos_of u))
-          (counts_within (map nanos_of us) (most - 1) (nanos % nanos_of u)),
-      whole,
-    )
+first_room style u us bytes most nanos room left h fits = search (rules, counts_grow)
 
 -- It is the only part if it leaves nothing.
 pub only_part : (style : Style) (u : TimeUnit) (us : List TimeUnit) (bytes : List ℕ) (most nanos : ℕ)
     → 1 ≤ most → nanos_of u ≤ nanos → nanos % nanos_of u ≡ 0
     → with_part style bytes u (nanos / nanos_of u)
     ≡ with_counts style bytes (u ∷ us) (counts_within (map nanos_of (u ∷ us)) most nanos)
-only_part style u us bytes most nanos left h nothing =
-    rw (first_part style u us bytes most nanos left h)
-    (with_nothing style us _ (most - 1) (nanos % nanos_of u) nothing)
+only_part style u us bytes most nanos left h nothing = search (rules, with_nothing)
 
 -- ---- The most bytes
 
@@ -184,18 +144,7 @@ gap_more Long (b ∷ bytes) = simp length-append (omega arith)
 part_more : (style : Style) (bytes : List ℕ) (u : TimeUnit) (n most : ℕ) → n ≤ most → most < 10 ^ 64
     → length (with_gap style (with_part style bytes u n))
     ≤ length (with_gap style bytes) + (length (decimal most) + name_len style u + length (between style))
-part_more style bytes u n most h small = elim (cases_Bool (n == 0)) [
-  | inl e ↦ rw e (omega arith)
-  | inr e ↦
-      rw e (omega (
-        arith,
-        gap_more style (with_gap style bytes ++ part_bytes style n u),
-        length-append (with_gap style bytes) (part_bytes style n u),
-        length-append (decimal n) (encode_utf8_all (name_part style (n == 1) u)),
-        length_part style (n == 1) u,
-        length_smaller n most h small,
-      ))
-]
+part_more style bytes u n most h small = search (rules, gap_more, length-append, length_part, length_smaller)
 
 short_length : (u : TimeUnit) → nanos_of u < 10 ^ 64
 short_length u = ltb-true (nanos_of u) (10 ^ 64) (all_units (λ v. ltb (nanos_of v) (10 ^ 64)) refl u)
@@ -293,15 +242,11 @@ pub within_ended : (format : Format) (nanos : ℕ) → nanos < 10 ^ 64
     → ended (part_bytes format.style 0 (zero_unit format.smallest))
     (with_counts format.style [] (units_within format) (counts_within (lengths_within format) format.parts nanos))
     ≡ encode_utf8_all (text_within format (counts_within (lengths_within format) format.parts nanos))
-within_ended format nanos h =
-    ended_parts format.style (zero_unit format.smallest) (units_within format) _
-    (within_short (lengths_within format) format.parts nanos h)
+within_ended format nanos h = search (rules, ended_parts, within_short)
 
 pub within_utf8 : (format : Format) (nanos : ℕ) → nanos < 10 ^ 64
     → IsUtf8 (encode_utf8_all (text_within format (counts_within (lengths_within format) format.parts nanos)))
-within_utf8 format nanos h =
-    IsUtf8-joined format.style (zero_unit format.smallest) (units_within format) _
-    (within_short (lengths_within format) format.parts nanos h)
+within_utf8 format nanos h = search (rules, IsUtf8-joined, within_short)
 
 -- The bytes of such a text print the duration.
 pub printed_within : (format : Format) (nanos : ℕ) (bytes : List ℕ) → IsUtf8 bytes

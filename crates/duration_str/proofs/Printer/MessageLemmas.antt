@@ -1,14 +1,12 @@
 -- The text of a fault is UTF-8, and its last byte is no line feed.
 use Rattle.duration_str.proofs.Common.{rules, ◌≡◌, ◌≢◌, ℕ, ◌<◌, ◌^◌, ◌==◌, true, false, List, [], ◌∷◌, ◌++◌, Option}
-use Rattle.duration_str.proofs.Common.{Some, None, IsUtf8, decimal, encode_utf8_all, replicate, take, inl, inr, refl}
-use Rattle.duration_str.proofs.Common.{lit<, IfSome, codes, cases_Bool, Plus, Star, Cause, Syntax, Mixed, NotText}
-use Rattle.duration_str.proofs.Common.{IsAscii-decimal, IsUtf8-append, IsUtf8-from_ascii, EndsInsideLine, byte_text}
-use Rattle.duration_str.proofs.Common.{caret_text, has_line_feed, placed_text, line_of}
+use Rattle.duration_str.proofs.Common.{Some, None, IsUtf8, encode_utf8_all, replicate, take, refl, lit<, IfSome, codes}
+use Rattle.duration_str.proofs.Common.{Plus, Star, Cause, Syntax, Mixed, NotText, IsAscii-decimal, IsUtf8-append}
+use Rattle.duration_str.proofs.Common.{IsUtf8-from_ascii, EndsInsideLine, byte_text, caret_text, placed_text, line_of}
 use Rattle.std.proofs.lemmas.List.Elements.{All-replicate}
 use Rattle.std.proofs.lemmas.Str.Ascii.{IsAscii-from_all}
 use Rattle.std.specs.List.{last_or}
 use Rattle.duration_str.specs.Buffers.{IsInFront}
-use Rattle.duration_str.specs.Faults.{place_of}
 use Rattle.duration_str.specs.Laws.{LastLine}
 
 -- What holds of the bytes holds of the front of the buffer, if they are there.
@@ -20,10 +18,7 @@ front_has P bytes (Some end) buffer h there = rw there.1 h
 -- ---- UTF-8
 
 pub byte_text_utf8 : (place : ℕ) (line : List ℕ) → place < 2 ^ 64 → IsUtf8 line → IsUtf8 (byte_text place line)
-byte_text_utf8 place line small utf8 =
-    IsUtf8-append (codes "byte ") _ (IsUtf8-from_ascii (codes "byte ") (search rules))
-    (IsUtf8-append (decimal place) _ (IsUtf8-from_ascii (decimal place) (IsAscii-decimal place small))
-    (IsUtf8-append (codes ": ") line (IsUtf8-from_ascii (codes ": ") (search rules)) utf8))
+byte_text_utf8 place line small utf8 = search (rules, IsAscii-decimal, IsUtf8-append, IsUtf8-from_ascii)
 
 pub caret_text_utf8 : (text : List ℕ) (spaces : ℕ) (line : List ℕ) → IsUtf8 text → IsUtf8 line
     → IsUtf8 (caret_text text spaces line)
@@ -47,13 +42,7 @@ not_line_feed n other e = let same : n ≡ 10 = cc in cc (rw same at other)
 -- Whatever stands before a line, its last byte is no line feed.
 line_last : (cause : Cause) (o : Option ℕ) → last_or o (encode_utf8_all (line_of cause)) ≢ Some 10
 unfolding lib.Utf8.encode
-line_last (Syntax place expected) o = elim (cases_Bool expected.unit_word) [
-  | inl unit ↦ rw unit (not_line_feed _ refl)
-  | inr no_unit ↦ elim (cases_Bool expected.operator) [
-    | inl operator ↦ rw (no_unit, operator) (not_line_feed _ refl)
-    | inr no_operator ↦ rw (no_unit, no_operator) (not_line_feed _ refl)
-  ]
-]
+line_last (Syntax place expected) o = search (rules, not_line_feed)
 line_last (Mixed Plus Plus) o = not_line_feed _ refl
 line_last (Mixed Star Plus) o = not_line_feed _ refl
 line_last (NotText true) o = not_line_feed _ refl
@@ -62,13 +51,7 @@ line_last _ o = not_line_feed _ refl
 placed_ends : (text : List ℕ) (cause : Cause) (place : Option ℕ)
     → EndsInsideLine (placed_text text place (encode_utf8_all (line_of cause)))
 placed_ends text cause None = line_last cause None
-placed_ends text cause (Some place) = elim (cases_Bool (has_line_feed text)) [
-  | inl more ↦ rw more (simp last_or-append (line_last cause _))
-  | inr one ↦ rw one (simp last_or-append (line_last cause _))
-]
+placed_ends text cause (Some place) = search (rules, last_or-append, line_last)
 
 pub last_line_holds : LastLine
-last_line_holds = record {
-  line = λ cause. line_last cause None;
-  text = λ text cause. placed_ends text cause (place_of cause);
-}
+last_line_holds = search (rules, line_last, placed_ends)

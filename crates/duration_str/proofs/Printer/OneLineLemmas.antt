@@ -1,18 +1,16 @@
 -- A fault in one line.
-use Rattle.duration_str.proofs.Common.{rules, ◌≡◌, ◌≢◌, ◌∙◌, ℕ, ◌+◌, ◌-◌, ◌*◌, ◌%◌, ◌<◌, ◌≤◌, ◌^◌, ◌==◌, ◌||◌}
-use Rattle.duration_str.proofs.Common.{◌&&◌}
+use Rattle.duration_str.proofs.Common.{rules, ◌≡◌, ◌≢◌, ◌∙◌, ℕ, ◌+◌, ◌-◌, ◌*◌, ◌%◌, ◌<◌, ◌≤◌, ◌^◌, ◌==◌, ◌||◌, ◌&&◌}
 use Rattle.duration_str.proofs.Common.{true, false, List, [], ◌∷◌, ◌++◌, Some, None, zero, suc, Bool, inl, inr}
-use Rattle.duration_str.proofs.Common.{nat_tests}
-use Rattle.duration_str.proofs.Common.{IsUtf8, IsCharBoundary, chars, encode_utf8, encode_utf8_all, length, take, drop}
-use Rattle.duration_str.proofs.Common.{sym, refl, ap, arith, append_assoc, append-nil, encodes-append, encodes-chars}
-use Rattle.duration_str.proofs.Common.{length-le-encodes, length-append, IsUtf8-take, chars_past_char}
-use Rattle.duration_str.proofs.Common.{chars_from_encodes}
-use Rattle.duration_str.proofs.Common.{length-take-le, chars-nil, lit<, codes}
-use Rattle.duration_str.proofs.Common.{length-decimal-le, scalar, scalars, and_parts, scalars-chars}
-use Rattle.duration_str.proofs.Common.{length-encode, len_utf8_bounds, cases_Bool, decimal, ahead, IsUtf8-drop, ForSome}
-use Rattle.duration_str.proofs.Common.{Cause, Empty, Syntax, NumberTooLarge, Overflow, Mixed, NotText}
-use Rattle.duration_str.proofs.Common.{Expected, IsCharBoundary-at_seam, list_all, ltb-true, slice_range, eqb-true}
-use Rattle.duration_str.proofs.Common.{true≢false}
+use Rattle.duration_str.proofs.Common.{nat_tests, IsUtf8, IsCharBoundary, chars, encode_utf8, encode_utf8_all, length}
+use Rattle.duration_str.proofs.Common.{take, drop, sym, refl, ap, arith, append_assoc, append-nil, encodes-append}
+use Rattle.duration_str.proofs.Common.{encodes-chars, length-le-encodes, length-append, IsUtf8-take, chars_past_char}
+use Rattle.duration_str.proofs.Common.{chars_from_encodes, chars-nil, lit<, codes, length-decimal-le}
+use Rattle.duration_str.proofs.Common.{scalar, scalars, and_parts, scalars-chars, length-encode, len_utf8_bounds}
+use Rattle.duration_str.proofs.Common.{cases_Bool, decimal, ahead, IsUtf8-drop, ForSome, Cause, Empty, Syntax}
+use Rattle.duration_str.proofs.Common.{NumberTooLarge, Overflow, Mixed, NotText, Expected, IsCharBoundary-at_seam}
+use Rattle.duration_str.proofs.Common.{list_all, ltb-true, slice_range, eqb-true, true≢false, TimeUnit, row_of, Option}
+use Rattle.duration_str.proofs.Common.{leb-true, nat_le, map, to_ascii_lowercase, find, units, if◌then◌else◌}
+use Rattle.duration_str.proofs.Common.{list_all-append, decimal_by_steps, encode_ascii, IsTrue}
 use Rattle.std.proofs.Common.{lit≤, nat_lt}
 use Rattle.std.proofs.lemmas.Bool.{le-leb, lt-leb}
 use Rattle.std.proofs.lemmas.List.{nil_from_length, length-take}
@@ -22,21 +20,14 @@ use Rattle.std.proofs.lemmas.List.Sums.{take_while-cons}
 use Rattle.duration_str.specs.declared.cause.Cause.TheVariants.{OutOfRange}
 use Rattle.duration_str.specs.Faults.{place_of}
 use Rattle.duration_str.specs.Messages.{chars_before, line_of}
-use Rattle.duration_str.proofs.Common.{TimeUnit, row_of, Option}
-use Rattle.duration_str.proofs.Common.{leb-true, nat_le}
-use Rattle.duration_str.proofs.Characters.EachUnit.{all_units}
 use Rattle.duration_str.specs.OneLine.{near_name, unit_help, first_piece, quoted_end, shown, quoted, is_plain, is_clear, is_like}
 use Rattle.duration_str.specs.OneLine.{found_words, found_line, at_column, expected_words}
 use Rattle.duration_str.specs.OneLine.{syntax_line, text_line, overflow_line, one_line_of, help_at, is_among, near_words, small_words, us_words}
 use Rattle.std.specs.Char.Escape.{escape_default, escape_unicode, short_escape, hex_digit_at}
-use Rattle.std.specs.Prelude.{not}
+use Rattle.std.specs.Prelude.{not, cond}
 use Rattle.std.specs.Int.{is_in_range}
-use Rattle.std.specs.Prelude.{cond}
 use Rattle.std.specs.Option.{option_map}
-use Rattle.duration_str.proofs.Common.{map, to_ascii_lowercase, find, units}
 use Rattle.duration_str.specs.OneLine.{begins_with_letter}
-use Rattle.duration_str.proofs.Common.{if◌then◌else◌}
-use Rattle.duration_str.proofs.Common.{list_all-append, decimal_by_steps, encode_ascii, IsTrue}
 use Rattle.std.proofs.Math.Utf8.{low_scalar}
 use Rattle.std.proofs.lemmas.Str.{chars-encodes}
 
@@ -52,14 +43,7 @@ found_chars (c ∷ cs) bytes is some = refl
 -- There are at most as many characters before a place as bytes.
 pub chars_before_le : (text : List ℕ) (place : ℕ) → IsUtf8 text → IsCharBoundary text place
     → chars_before text place ≤ place
-chars_before_le text place utf8 boundary =
-    let before = take place text in
-    omega (
-      arith,
-      length-le-encodes (chars before),
-      ap length (encodes-chars before (IsUtf8-take text place utf8 boundary)),
-      length-take-le place text boundary.0,
-    )
+chars_before_le text place utf8 boundary = search (rules, IsUtf8-take, encodes-chars, length-le-encodes)
 
 -- ---- Plain characters, and how many bytes
 
@@ -86,9 +70,7 @@ pub short_utf8 : (most : ℕ) (bytes : List ℕ) → IsShort most bytes → IsUt
 short_utf8 most bytes is = (is.characters, ((good_parts is.characters is.good).0, is.spells))
 
 pub short_plain : (most : ℕ) (bytes : List ℕ) → IsShort most bytes → IsTrue (list_all is_plain (chars bytes))
-short_plain most bytes is =
-    let parts = good_parts is.characters is.good in
-    rw (← is.spells, chars-encodes is.characters parts.0, parts.1) refl
+short_plain most bytes is = search (rules, chars-encodes, good_parts)
 
 less : {m n : ℕ} {bytes : List ℕ} → m ≤ n → IsShort m bytes → IsShort n bytes
 less h is = record { characters = is.characters; good = is.good; spells = is.spells; short = omega (arith, h, is.short) }
@@ -105,13 +87,6 @@ chosen : {most : ℕ} (b : Bool) {xs ys : List ℕ} → IsShort most xs → IsSh
     → IsShort most (if b then xs else ys)
 chosen true first second = first
 chosen false first second = second
-
--- Plain characters, in at most so many bytes.
-spelled : (most : ℕ) (cs : List ℕ) → (list_all is_good cs && nat_le (length (encode_utf8_all cs)) most) ≡ true
-    → IsShort most (encode_utf8_all cs)
-spelled most cs e =
-    let both = and_parts (list_all is_good cs) (nat_le (length (encode_utf8_all cs)) most) e in
-    record { characters = cs; good = both.0; spells = refl; short = leb-true _ _ both.1 }
 
 -- whether a byte is a plain character of ASCII
 abbrev is_plain_byte : ℕ → Bool
@@ -255,9 +230,7 @@ help_short expected text place piece = search (chosen, literal) depth 30
 
 name_short : (u : TimeUnit) → IsShort 3 (encode_utf8_all (row_of u).printed)
 unfolding lib.Utf8.encode
-name_short u =
-    spelled 3 (row_of u).printed
-    (all_units (λ u. list_all is_good (row_of u).printed && nat_le (length (encode_utf8_all (row_of u).printed)) 3) refl u)
+name_short u = search rules
 
 near_short : (name : List ℕ) → IsShort 3 (encode_utf8_all name) → IsShort 50 (unit_help (Some name))
 near_short name is =
@@ -306,27 +279,21 @@ none_short : IsShort 41 []
 none_short = literal 41 [] refl
 
 overflow_short : (text : List ℕ) → IsUtf8 text → IsShort 294 (overflow_line text)
-overflow_short text utf8 =
-    let over = literal 26 (codes "duration of over 584 years") refl in
-    chosen _ (text_short _ text [] utf8 (literal 26 (codes "step of over 584 years") refl) none_short)
-    (chosen _ (text_short _ text _ utf8 over (literal 41 (codes " (a number without a unit is in seconds)") refl))
-    (text_short _ text [] utf8 over none_short))
+overflow_short text utf8 = search (rules, chosen, literal, text_short)
 
 -- The line has plain characters alone, and at most 294 bytes.
 pub one_line_short : (text : List ℕ) (cause : Cause) → IsUtf8 text → length text < 2 ^ 63
     → ForSome (place_of cause) (IsCharBoundary text) → IsShort 294 (one_line_of text cause)
 unfolding lib.Utf8.encode
-one_line_short text Empty utf8 small placed = literal 294 (codes "empty text") refl
-one_line_short text (Syntax place expected) utf8 small placed =
-    syntax_short text place expected (record { utf8 = utf8; small = small; boundary = placed place refl })
-one_line_short text (NumberTooLarge place) utf8 small placed =
-    text_short _ text [] utf8 (literal 26 (codes "number of 2^64 or more") refl) none_short
+one_line_short text Empty utf8 small placed = literal 294 _ refl
+one_line_short text (Syntax place expected) utf8 small placed = search (rules, syntax_short)
+one_line_short text (NumberTooLarge place) utf8 small placed = search (rules, literal, none_short, text_short)
 one_line_short text (Overflow place) utf8 small placed = overflow_short text utf8
 one_line_short text (Mixed first later) utf8 small placed =
     text_short _ text [] utf8 (literal 26 (codes "sum and product mixed") refl) none_short
-one_line_short text OutOfRange utf8 small placed = literal 294 (encode_utf8_all (line_of OutOfRange)) refl
-one_line_short text (NotText true) utf8 small placed = literal 294 (encode_utf8_all (line_of (NotText true))) refl
-one_line_short text (NotText false) utf8 small placed = literal 294 (encode_utf8_all (line_of (NotText false))) refl
+one_line_short text OutOfRange utf8 small placed = literal 294 _ refl
+one_line_short text (NotText true) utf8 small placed = literal 294 _ refl
+one_line_short text (NotText false) utf8 small placed = literal 294 _ refl
 
 -- No word stands where a unit could.
 pub no_unit_word : (text : List ℕ) (place : ℕ) (expected : Expected) (piece : List ℕ)

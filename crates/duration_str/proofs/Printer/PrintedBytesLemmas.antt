@@ -1,13 +1,11 @@
 -- The bytes built unit by unit are the UTF-8 of the printed text.
-use Rattle.duration_str.proofs.Common.{rules, ◌≡◌, ◌∙◌, ℕ, ◌^◌, ◌<◌, ◌≤◌, ◌==◌, List, [], ◌∷◌, ◌++◌, length, take}
+use Rattle.duration_str.proofs.Common.{rules, ◌≡◌, ℕ, ◌^◌, ◌<◌, ◌≤◌, ◌==◌, List, [], ◌∷◌, ◌++◌, length, take}
 use Rattle.duration_str.proofs.Common.{decimal, encode_utf8_all, refl, sym, inl, inr, arith, length-append}
 use Rattle.duration_str.proofs.Common.{append_assoc, append-nil, flat_map, codes, IsUtf8, length-take-le, cases_Bool}
 use Rattle.duration_str.proofs.Common.{encodes-append, encodes-IsAscii, TimeUnit, ⊤, printed_parts, with_counts}
 use Rattle.duration_str.proofs.Common.{IsAscii-decimal_wide, IsUtf8-append, IsUtf8-from_ascii, IsUtf8-nil, Style, Short}
 use Rattle.duration_str.proofs.Common.{Compact, Long, between, printed_part, part_bytes, joined_parts, with_gap}
-use Rattle.duration_str.proofs.Common.{name_part}
 use Rattle.duration_str.proofs.Printer.DigitLemmas.{some_decimal}
-use Rattle.duration_str.proofs.Characters.NameLemmas.{scalar_part}
 
 pub encode_part : (style : Style) (n : ℕ) (u : TimeUnit) → n < 10 ^ 64
     → encode_utf8_all (printed_part style n u) ≡ part_bytes style n u
@@ -33,14 +31,7 @@ AreShort (n ∷ counts) = (n < 10 ^ 64) × AreShort counts
 
 some_part : (style : Style) (bytes : List ℕ) (n : ℕ) (u : TimeUnit) → n < 10 ^ 64
     → 0 < length (bytes ++ part_bytes style n u)
-some_part style bytes n u h =
-    omega (
-      arith,
-      length-append bytes (part_bytes style n u),
-      length-append (decimal n)
-          (encode_utf8_all (name_part style (n == 1) u)),
-      some_decimal n h,
-    )
+some_part style bytes n u h = search (rules, length-append, some_decimal)
 
 -- After some bytes, each part follows what stands between two.
 parts_after : (style : Style) (us : List TimeUnit) (bytes counts : List ℕ) → 0 < length bytes → AreShort counts
@@ -73,15 +64,17 @@ pub ended_parts : (style : Style) (zero : TimeUnit) (us : List TimeUnit) (counts
     → ended (part_bytes style 0 zero) (with_counts style [] us counts)
     ≡ encode_utf8_all (joined_parts style zero (printed_parts style us counts))
 ended_parts style zero (u ∷ us) (n ∷ counts) short =
-    let first = part_bytes style n u in
-    let some : 0 < length first = some_part style [] n u short.0 in
-    elim (cases_Bool (n == 0)) [
-      | inl e ↦ rw e (ended_parts style zero us counts short.1)
-      | inr e ↦
-          rw (e, no_gap style, parts_after style us first counts some short.1)
-          (ended_some (part_bytes style 0 zero) (first ++ _) (omega (arith, length-append {A = ℕ}, some))
-          ∙ rw (encodes-append (printed_part style n u), encode_part style n u short.0))
-    ]
+    search (
+      rules,
+      encode_part,
+      encodes-append,
+      ended_some,
+      length-append,
+      no_gap,
+      parts_after,
+      some_part,
+      ended_parts style zero us counts short.1,
+    )
 ended_parts style zero _ _ short = sym (encode_part style 0 zero (omega arith))
 
 pub ended_take : (zero : List ℕ) (end : ℕ) (buffer : List ℕ) → 0 < end → end ≤ length buffer
@@ -95,18 +88,20 @@ utf8_gap Short (b ∷ bytes) utf8 = IsUtf8-append (b ∷ bytes) _ utf8 (IsUtf8-f
 utf8_gap Long (b ∷ bytes) utf8 = IsUtf8-append (b ∷ bytes) _ utf8 (IsUtf8-from_ascii (codes " ") (search rules))
 
 pub utf8_part : (style : Style) (n : ℕ) (u : TimeUnit) → n < 10 ^ 64 → IsUtf8 (part_bytes style n u)
-utf8_part style n u h =
-    IsUtf8-append (decimal n) _ (IsUtf8-from_ascii (decimal n) (IsAscii-decimal_wide n h))
-    (name_part style (n == 1) u, (scalar_part style (n == 1) u, refl))
+utf8_part style n u h = search (rules, IsAscii-decimal_wide, IsUtf8-append, IsUtf8-from_ascii)
 
 utf8_parts : (style : Style) (us : List TimeUnit) (bytes counts : List ℕ) → IsUtf8 bytes → AreShort counts
     → IsUtf8 (with_counts style bytes us counts)
-utf8_parts style (u ∷ us) bytes (n ∷ counts) utf8 short = elim (cases_Bool (n == 0)) [
-  | inl e ↦ rw e (utf8_parts style us bytes counts utf8 short.1)
-  | inr e ↦
-      rw e (utf8_parts style us _ counts
-      (IsUtf8-append (with_gap style bytes) _ (utf8_gap style bytes utf8) (utf8_part style n u short.0)) short.1)
-]
+utf8_parts style (u ∷ us) bytes (n ∷ counts) utf8 short =
+    search (
+      rules,
+      IsUtf8-append,
+      utf8_gap,
+      utf8_part,
+      utf8_parts style us bytes counts utf8 short.1,
+      utf8_parts style us _ counts
+          (IsUtf8-append (with_gap style bytes) _ (utf8_gap style bytes utf8) (utf8_part style n u short.0)) short.1,
+    )
 utf8_parts style _ bytes _ utf8 short = utf8
 
 utf8_ended : (zero bytes : List ℕ) → IsUtf8 zero → IsUtf8 bytes → IsUtf8 (ended zero bytes)

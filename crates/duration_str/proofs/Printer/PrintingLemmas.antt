@@ -1,15 +1,15 @@
 -- A printed text is spelled by a sum whose total is the duration.
-use Rattle.duration_str.proofs.Common.{◌≡◌, ℕ, ◌%◌, ◌^◌, ◌<◌, inl, inr, Bool, true, false, ◌==◌, List, [], ◌∷◌, ◌++◌}
-use Rattle.duration_str.proofs.Common.{map, drop, Some, if◌then◌else◌, decimal, arith, refl, append_assoc, append-nil}
-use Rattle.duration_str.proofs.Common.{eqb-true, flat_map, ⊤, cases_Bool, FitsDuration, Options, TimeUnit, Year, Second}
+use Rattle.std.proofs.lemmas.Grind.{common_steps}
+use Rattle.duration_str.proofs.Common.{◌≡◌, ℕ, ◌%◌, ◌^◌, ◌<◌, Bool, true, false, ◌==◌, List, [], ◌∷◌, ◌++◌}
+use Rattle.duration_str.proofs.Common.{map, drop, Some, if◌then◌else◌, decimal, arith, refl, append-nil}
+use Rattle.duration_str.proofs.Common.{eqb-true, flat_map, ⊤, FitsDuration, Options, TimeUnit, Year, Second}
 use Rattle.duration_str.proofs.Common.{row_of, units, nanos_of, unit_lengths, Terminal, number, word, terminal_of}
-use Rattle.duration_str.proofs.Common.{IsSentence, Spells, AllPlus, sum_of, terms_of, weighted_sum, IsPrintedIn}
-use Rattle.duration_str.proofs.Common.{counts_of, printed_parts, joined_parts, Style, Short, Compact, Long, IsBlank, ap}
-use Rattle.duration_str.proofs.Common.{between, before_name, name_in, printed_part, printed_counts}
+use Rattle.duration_str.proofs.Common.{IsSentence, Spells, AllPlus, sum_of, terms_of, weighted_sum, IsPrintedIn, rules}
+use Rattle.duration_str.proofs.Common.{counts_of, printed_parts, joined_parts, Style, Short, Compact, Long, IsBlank}
+use Rattle.duration_str.proofs.Common.{between, name_in, printed_part, printed_counts}
 use Rattle.duration_str.proofs.Characters.NumberLemmas.{decimal_terminal}
 use Rattle.duration_str.proofs.LawProofs.GreatestBreakdown.{one_greatest, greatest_breakdown_holds}
 use Rattle.duration_str.proofs.Sentences.SumReadings.{IsSumOf, terms_of_lexemes}
-use Rattle.duration_str.proofs.Sentences.SpellingLemmas.{begins_with}
 
 -- the nonzero counts, each with its unit
 abbrev pub kept : List TimeUnit → List ℕ → List (ℕ × TimeUnit)
@@ -44,10 +44,7 @@ part style p = printed_part style p.0 p.1
 
 pub parts_kept : (style : Style) (us : List TimeUnit) (counts : List ℕ)
     → printed_parts style us counts ≡ map (part style) (kept us counts)
-parts_kept style (u ∷ us) (n ∷ counts) = elim (cases_Bool (n == 0)) [
-  | inl e ↦ rw e (parts_kept style us counts)
-  | inr e ↦ rw (e, parts_kept style us counts)
-]
+parts_kept style (u ∷ us) (n ∷ counts) = search (rules, parts_kept style us counts)
 parts_kept style _ _ = refl
 
 blank_between : (style : Style) → IsBlank (between style)
@@ -55,28 +52,18 @@ blank_between Short = refl
 blank_between Compact = refl
 blank_between Long = refl
 
-blank_before : (style : Style) → IsBlank (before_name style)
-blank_before Short = refl
-blank_before Compact = refl
-blank_before Long = refl
-
 -- A part and what follows it.
 part_spelled : (style : Style) (blanks rest : List ℕ) (p : ℕ × TimeUnit) (ps : List (ℕ × TimeUnit)) → IsBlank blanks
     → Spells (lexemes style ps) rest → Spells (lexemes style (p ∷ ps)) (blanks ++ (part style p ++ rest))
-part_spelled style blanks rest p ps blank more =
-    begins_with blanks _ blank (ap (λ bytes. blanks ++ bytes) (append_assoc (decimal p.0) _ rest))
-    (begins_with (before_name style) rest (blank_before style) (append_assoc (before_name style) _ rest) more)
+part_spelled style blanks rest p ps blank more = grind (arith, common_steps)
 
 later_spelled : (style : Style) (ps : List (ℕ × TimeUnit))
     → Spells (lexemes style ps) (flat_map (λ part. between style ++ part) (map (part style) ps))
 later_spelled style [] = refl
-later_spelled style (p ∷ ps) =
-    rw (append_assoc (between style))
-    (part_spelled style (between style) _ p ps (blank_between style) (later_spelled style ps))
+later_spelled style (p ∷ ps) = grind (arith, common_steps, blank_between, part_spelled, later_spelled style ps)
 
 pub all_spelled : (style : Style) (u : TimeUnit) (ps : List (ℕ × TimeUnit))
-    → Spells (lexemes style (or_zero u ps))
-    (joined_parts style u (map (part style) ps))
+    → Spells (lexemes style (or_zero u ps)) (joined_parts style u (map (part style) ps))
 all_spelled style u [] = rw append-nil at (part_spelled style [] [] (0, u) [] refl refl)
 all_spelled style u (p ∷ ps) = part_spelled style [] _ p ps refl (later_spelled style ps)
 
@@ -123,15 +110,8 @@ EachBelow (n ∷ counts) = (n < 2 ^ 64) × EachBelow counts
 
 pub terminals_kept : (o : Options) (style : Style) (us : List TimeUnit) (counts : List ℕ) → EachBelow counts
     → map (terminal_of o) (lexemes style (kept us counts)) ≡ terminals (kept us counts)
-terminals_kept o style (u ∷ us) (n ∷ counts) small = elim (cases_Bool (n == 0)) [
-  | inl e ↦ rw e (terminals_kept o style us counts small.1)
-  | inr e ↦ rw (
-    e,
-    decimal_terminal o n small.0,
-    printed_terminal o style (n == 1) u,
-    terminals_kept o style us counts small.1,
-  )
-]
+terminals_kept o style (u ∷ us) (n ∷ counts) small =
+    search (rules, decimal_terminal, printed_terminal, terminals_kept o style us counts small.1)
 terminals_kept o style _ _ small = refl
 
 pub terminals_or_zero : (o : Options) (style : Style) (u : TimeUnit) (ps : List (ℕ × TimeUnit))
@@ -185,10 +165,7 @@ printed_is_sum o style nanos text h p =
 
 pub sum_kept : (us : List TimeUnit) (counts : List ℕ)
     → sum_of (terms_of (terminals (kept us counts))) ≡ weighted_sum (map nanos_of us) counts
-sum_kept (u ∷ us) (n ∷ counts) = elim (cases_Bool (n == 0)) [
-  | inl e ↦ let none = eqb-true n 0 e in rw (e, none) (omega (arith, sum_kept us counts))
-  | inr e ↦ rw (e, sum_kept us counts)
-]
+sum_kept (u ∷ us) (n ∷ counts) = search (rules, eqb-true, sum_kept us counts)
 sum_kept _ _ = refl
 
 pub sum_or_zero : (u : TimeUnit) (ps : List (ℕ × TimeUnit))

@@ -1,11 +1,11 @@
 -- The table of what is printed of each unit.
-use Rattle.duration_str.proofs.Common.{◌≡◌, ℕ, ◌+◌, ◌≤◌, ◌++◌, ◌∙◌, List, [], ◌∷◌, length, map, take, drop, ap, sym, refl}
-use Rattle.duration_str.proofs.Common.{leb, leb-true, encode_utf8_all, length-take-le, byte_len}
-use Rattle.duration_str.proofs.Common.{TimeUnit, Year, units, row_of}
+use Rattle.duration_str.proofs.Common.{◌≡◌, ℕ, ◌+◌, ◌≤◌, ◌++◌, List, [], ◌∷◌, length, map, take, drop, ap, refl}
+use Rattle.duration_str.proofs.Common.{leb, leb-true, encode_utf8_all, byte_len, rules}
+use Rattle.duration_str.proofs.Common.{TimeUnit, Year, units, row_of, nanos_of, drop_more, ◌<◌}
 use Rattle.std.specs.Prelude.{All, slice_index_or}
 use Rattle.std.proofs.Math.Seq.{take-append-add}
 use Rattle.std.proofs.lemmas.List.{take-append-le, take-map, drop-map}
-use Rattle.std.proofs.lemmas.List.Elements.{All-take, All-drop, All-cons, All-nil}
+use Rattle.std.proofs.lemmas.List.Elements.{All-take, All-drop, All-cons, All-nil, All-get_or}
 use Rattle.duration_str.proofs.Characters.EachUnit.{each_unit, all_units}
 use Rattle.duration_str.proofs.Characters.NameLemmas.{length_name}
 use Rattle.duration_str.specs.declared.unit.Printed.{Printed}
@@ -27,9 +27,14 @@ pub part_right : (a k : ℕ) → All IsRight (mid_of a k (map printed_row units)
 part_right a k = All-take IsRight k _ (All-drop IsRight a _ (rows_right units))
 
 pub part_units : (a k : ℕ) (rows : List Printed) → units_in (mid_of a k rows) ≡ mid_of a k (units_in rows)
-part_units a k rows =
-    sym (take-map (λ (row : Printed). row.unit) k (drop a rows))
-    ∙ ap (take k) (sym (drop-map (λ (row : Printed). row.unit) a rows))
+part_units a k rows = search (rules, drop-map, take-map)
+
+-- The row at a position, those from there on, and its length.
+pub row_from : (rows : List Printed) (at : ℕ) → at < length rows → All IsRight rows
+    → (drop at rows ≡ slice_index_or rows at beyond ∷ drop (at + 1) rows)
+    × ((slice_index_or rows at beyond).nanos ≡ nanos_of (slice_index_or rows at beyond).unit)
+row_from rows at inside right =
+    (drop_more rows at beyond inside, ap (λ (r : Printed). r.nanos) (All-get_or IsRight rows at beyond inside right))
 
 pub row_at : (u : TimeUnit) → slice_index_or (map printed_row units) (rank_of u) beyond ≡ printed_row u
 row_at = each_unit (λ u. slice_index_or (map printed_row units) (rank_of u) beyond ≡ printed_row u) assumption
@@ -40,8 +45,7 @@ name_short u = rw (length_name u) (leb-true _ 4 (all_units (λ u. leb (byte_len 
 name_first : (u : TimeUnit)
     → take (length (encode_utf8_all (row_of u).printed)) (printed_row u).letters ≡ encode_utf8_all (row_of u).printed
 unfolding lib.Utf8.encode
-name_first = each_unit (λ u. take (length (encode_utf8_all (row_of u).printed)) (printed_row u).letters
-    ≡ encode_utf8_all (row_of u).printed) assumption
+name_first = search rules
 
 letters_len : (u : TimeUnit) → length (printed_row u).letters ≡ 4
 unfolding lib.Utf8.encode
@@ -51,10 +55,4 @@ letters_len = each_unit (λ u. length (printed_row u).letters ≡ 4) assumption
 pub name_copied : (at k : ℕ) (bytes : List ℕ) (u : TimeUnit) → at ≤ length bytes
     → take (at + length (encode_utf8_all (row_of u).printed)) (put_mid at k bytes (printed_row u).letters)
     ≡ take at bytes ++ encode_utf8_all (row_of u).printed
-name_copied at k bytes u inside =
-    let name : ℕ = length (encode_utf8_all (row_of u).printed) in
-    let letters : List ℕ = (printed_row u).letters in
-    let whole = take-append-add (take at bytes) (letters ++ drop k (drop at bytes)) name in
-    rw (length-take-le at bytes inside) at whole
-    ∙ ap (λ (more : List ℕ). take at bytes ++ more)
-    (take-append-le name letters (drop k (drop at bytes)) (rw (letters_len u) (name_short u)) ∙ name_first u)
+name_copied at k bytes u inside = search (rules, letters_len, name_first, name_short, take-append-add, take-append-le)

@@ -1,7 +1,7 @@
 -- A text is read or refused, not both, and the computed answer says which.
 use Rattle.duration_str.proofs.Common.{◌≡◌, ℕ, ◌^◌, ◌<◌, ◌≤◌, Bool, true, false, ◌⊎◌, ◌↔◌, inl, inr, List, [], ◌∷◌}
 use Rattle.duration_str.proofs.Common.{◌++◌, map, length, Option, Some, None, Result, Ok, Err, if◌then◌else◌, arith}
-use Rattle.duration_str.proofs.Common.{refl, sym, ap, ◌∙◌, append-nil, and_parts, cond-true, list_all, Options}
+use Rattle.duration_str.proofs.Common.{refl, sym, ap, ◌∙◌, append-nil, list_all, Options, rules}
 use Rattle.duration_str.proofs.Common.{CondUnit, Cause, Syntax, byte_len, Terminal, number, word, operator, other}
 use Rattle.duration_str.proofs.Common.{terminal_of, IsSentence, IsSentenceOf, tokens_of, lexemes_of, IsFront}
 use Rattle.duration_str.proofs.Common.{start_after, terminals_of, AllPlus, Term, value_of_term, combination}
@@ -31,8 +31,7 @@ allowed_plus last (other ∷ terminals) h = cc h.0
 evaluates_by_faults : (terms : List Term) → 1 ≤ length terms
     → (Evaluates terms ↔ (first_fault terms ≡ None) × (evaluation_fault terms ≡ None))
 evaluates_by_faults [] l = absurd (omega arith)
-evaluates_by_faults (t ∷ terms) l =
-    (λ e. (simp no_fault (simp no_fault at e.0), e.1), λ f. (simp no_fault (simp no_fault at f.0), f.1))
+evaluates_by_faults (t ∷ terms) l = search rules
 
 -- A sentence evaluates exactly if it has neither an early nor a late fault.
 evaluates_by : (no_calc : Bool) (terminals : List Terminal) → IsSentence no_calc terminals
@@ -57,8 +56,7 @@ same_later op before (t ∷ later) h =
 
 pub later_value : (t u : Term) (later : List Term) → fault_of_terms u.operator [] (u ∷ later) ≡ None
     → value_of (t ∷ u ∷ later) ≡ Some (combination u.operator (value_of_term t) (later_total u.operator (u ∷ later)))
-later_value t u later h =
-    cond-true _ _ _ (and_parts (is_same_operator u.operator u.operator) _ (same_later u.operator [] (u ∷ later) h)).1
+later_value t u later h = search (rules, same_later)
 
 has_value_below : (terms : List Term) → Evaluates terms → (n : ℕ) × (value_of terms ≡ Some n) × (n < 2 ^ 64)
 has_value_below [] e = absurd e
@@ -71,11 +69,7 @@ has_value_below (t ∷ u ∷ later) e =
 
 sentence_front : (no_calc : Bool) (terminals : List Terminal) → IsSentence no_calc terminals
     → IsFront no_calc terminals terminals []
-sentence_front no_calc terminals s = record {
-  parts = sym (append-nil terminals);
-  begins = ([], rw append-nil s);
-  longest = λ n l _. l;
-}
+sentence_front no_calc terminals s = search rules
 
 -- These terminals are a sentence, evaluate, and have this value.
 pub record EvaluatesTo (no_calc : Bool) (terminals : List Terminal) (nanos : ℕ) : Type 0 where
@@ -128,9 +122,7 @@ evaluates_not_refused : {no_calc : Bool} {place : ℕ} (terminals : List Termina
     → IsSentence no_calc terminals → Evaluates (terms_of terminals) → IsRefusedAt no_calc place terminals [] cause → ⊥
 evaluates_not_refused {no_calc} terminals cause s e (early k) = cc ((evaluates_by no_calc terminals s).0 e).0
 evaluates_not_refused terminals cause s e (syntax_fault x k n f c) = n (rw append-nil s)
-evaluates_not_refused {no_calc} terminals cause s e (late k n f) =
-    let none = ((evaluates_by no_calc terminals s).0 e).1 in
-    cc (rw append-nil at f)
+evaluates_not_refused {no_calc} terminals cause s e (late k n f) = search (rules, append-nil, evaluates_by)
 
 -- A sentence has no syntax fault, so its refusal does not depend on the place of the rest.
 place_free : {no_calc : Bool} {p : ℕ} (q : ℕ) {terminals : List Terminal} {cause : Cause} → IsSentence no_calc terminals

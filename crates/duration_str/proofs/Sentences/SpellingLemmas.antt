@@ -1,6 +1,6 @@
 -- A sentence spells a text exactly if its lexemes are those of the text's tokens.
 use Rattle.duration_str.proofs.Common.{◌≡◌, ℕ, ◌+◌, Bool, true, false, List, [], ◌∷◌, ◌++◌, map, Option, Some, None}
-use Rattle.duration_str.proofs.Common.{IsTrue, refl, sym, ◌∙◌, ⊤, and_parts, false_from_ne_true, list_all-append}
+use Rattle.duration_str.proofs.Common.{IsTrue, refl, sym, ◌∙◌, ⊤, and_parts, false_from_ne_true, list_all-append, rules}
 use Rattle.duration_str.proofs.Common.{list_all, Options, Expected, is_blank, IsBlank, byte_len, Terminal, number, word}
 use Rattle.duration_str.proofs.Common.{operator, other, terminal_of, IsSentenceOf, BeginsWith, Spells, are_of_one_run}
 use Rattle.duration_str.proofs.Common.{goes_on, IsLexeme, EndsRun, AreTokens, tokens_of, lexemes_of, terminals_of}
@@ -13,8 +13,7 @@ use Rattle.duration_str.proofs.Sentences.FrontLemmas.{AreAllowed, sentence_allow
 
 pub begins_with : {lexeme text : List ℕ} {IsRest : List ℕ → Type 0} (blanks rest : List ℕ) → IsBlank blanks
     → text ≡ blanks ++ (lexeme ++ rest) → IsRest rest → BeginsWith lexeme IsRest text
-begins_with blanks rest blank parts is_rest =
-    record { blanks = blanks; rest = rest; blank = blank; parts = parts; is_rest = is_rest }
+begins_with blanks rest blank parts is_rest = search (rules)
 
 -- Characters whose terminal is of an expected kind are a lexeme.
 allowed_is_lexeme : (o : Options) (expected : Expected) (w : List ℕ) → IsTrue (allows expected (terminal_of o w))

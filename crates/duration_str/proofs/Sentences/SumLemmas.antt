@@ -1,11 +1,11 @@
 -- Terms that are added evaluate exactly if their sum is below 2^64, and the sum is their value.
 use Rattle.duration_str.proofs.Common.{ℕ, ◌≡◌, ◌+◌, ◌^◌, ◌≤◌, ◌<◌, inl, inr, lt-ltb, le-ltb, Option, Bool, true, leb}
-use Rattle.duration_str.proofs.Common.{List, [], ◌∷◌, ◌++◌, length, Some, None, arith, refl, ap, append_assoc}
-use Rattle.duration_str.proofs.Common.{append-nil, leb-true, ⊤, cases_lt, cases_Bool, Cause, first_fault, list_all}
+use Rattle.duration_str.proofs.Common.{List, [], ◌∷◌, ◌++◌, length, Some, None, arith, refl, ap, append_assoc, rules}
+use Rattle.duration_str.proofs.Common.{append-nil, leb-true, ⊤, cases_lt, Cause, first_fault, list_all}
 use Rattle.duration_str.proofs.Common.{TimeUnit, CondUnit, Plus, Overflow, nanos_of, Terminal, number, word, operator}
 use Rattle.duration_str.proofs.Common.{IsSentence, AllPlus, Term, value_of_term, combination, sum_of, later_total}
 use Rattle.duration_str.proofs.Common.{value_of, terms_of, terms_after, fits, unless, or_else, fault_of_terms}
-use Rattle.duration_str.proofs.Common.{evaluation_fault, is_same_operator, Evaluates, running_fault, place_after}
+use Rattle.duration_str.proofs.Common.{evaluation_fault, is_same_operator, Evaluates, running_fault}
 use Rattle.duration_str.proofs.Sentences.FaultLemmas.{no_fault, is_same_operator-true, term_below_no_fault}
 use Rattle.duration_str.proofs.Characters.EachUnit.{all_units}
 
@@ -60,21 +60,21 @@ overflow_grows m n h = elim (cases_lt m (2 ^ 64)) [
 pub running_overflow : (before terms : List Term) → AreAdded terms → EachFits terms
     → (or_else (overflow (sum_of before)) (running_fault before terms) ≡ overflow (sum_of (before ++ terms)))
     × (or_else (overflow (sum_of before)) (fault_of_terms Plus before terms) ≡ overflow (sum_of (before ++ terms)))
-running_overflow before [] a f =
-    rw append-nil (elim (cases_Bool (fits (sum_of before))) [ inl e ↦ rw e (refl, refl) | inr e ↦ rw e (refl, refl) ])
+running_overflow before [] a f = search (rules, append-nil)
 running_overflow before (t ∷ later) a f =
-    let rest = rw append_assoc at (running_overflow (before ++ t ∷ []) later a.2 f.1) in
-    let same = (is_same_operator-true Plus t.operator).1 a.0 in
-    let grows = overflow_grows (sum_of before) (sum_of (before ++ t ∷ later))
-    (omega (arith, sum-append before (t ∷ later))) in
-    rw (same, term_below_no_fault None t a.1 f.0, term_below_no_fault (place_after before) t a.1 f.0, rest.0, rest.1)
-    (grows, grows)
+    search (
+      rules,
+      is_same_operator-true,
+      overflow_grows,
+      sum-append,
+      term_below_no_fault,
+      running_overflow (before ++ t ∷ []) later a.2 f.1,
+    )
 
 pub added_overflow : (terms : List Term) → AreAdded terms → EachFits terms
     → (first_fault terms ≡ None) × (evaluation_fault terms ≡ overflow (sum_of terms))
 added_overflow [] a f = (refl, refl)
-added_overflow (t ∷ []) a f =
-    (term_below_no_fault (Some 0) t a.1 f.0, rw (lt-ltb (sum_of (t ∷ [])) (2 ^ 64) (omega (arith, f.0))))
+added_overflow (t ∷ []) a f = search (rules, lt-ltb, term_below_no_fault)
 added_overflow (t ∷ u ∷ later) a f =
     let plus = ap (λ op. or_else (fault_of_terms op [] (u ∷ later))
     (unless (fits (combination op (value_of_term t) (later_total op (u ∷ later)))) (Overflow None))) a.2.0 in (

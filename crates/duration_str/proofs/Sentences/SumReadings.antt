@@ -1,8 +1,8 @@
 -- A text that a sum spells is read as the sum if it is below 2^64, and otherwise refused as an overflow.
 use Rattle.duration_str.proofs.Common.{length, ◌≡◌, ℕ, ◌^◌, ◌≤◌, ◌<◌, Bool, true, false, List, [], map, Some, None, ap}
 use Rattle.duration_str.proofs.Common.{◌∙◌, append-nil, le-ltb, Options, Overflow, Terminal, terminal_of, IsSentence}
-use Rattle.duration_str.proofs.Common.{IsSentenceOf, AllPlus, Term, terms_of, sum_of, IsRead, IsRefusedAt, early, late}
-use Rattle.duration_str.proofs.Common.{IsRefused}
+use Rattle.duration_str.proofs.Common.{IsSentenceOf, AllPlus, Term, terms_of, sum_of, IsRead, IsRefusedAt}
+use Rattle.duration_str.proofs.Common.{IsRefused, rules}
 use Rattle.duration_str.proofs.Sentences.SumLemmas.{AreAdded, terms_added, has_terms, running_overflow, added_overflow}
 use Rattle.duration_str.proofs.Sentences.SumLemmas.{below_evaluate, value_is_sum}
 pub use Rattle.duration_str.proofs.Sentences.SumLemmas.{EachFits, sum_fits_each}
@@ -46,11 +46,8 @@ read_sum {o} {lexemes} s r =
 terminals_overflow : (no_calc : Bool) (place : ℕ) (terminals : List Terminal) → IsSentence no_calc terminals
     → AreAdded (terms_of terminals) → EachFits (terms_of terminals) → 2 ^ 64 ≤ sum_of (terms_of terminals)
     → IsRefusedAt no_calc place terminals [] (Overflow None)
-terminals_overflow false place terminals s a f h =
-    let (first, later) = added_overflow (terms_of terminals) a f in
-    late first (rw append-nil s) (rw (append-nil, later, le-ltb _ _ h))
-terminals_overflow true place terminals s a f h =
-    early (rw ((running_overflow [] (terms_of terminals) a f).0, le-ltb _ _ h))
+terminals_overflow false place terminals s a f h = search (rules, added_overflow, append-nil, le-ltb)
+terminals_overflow true place terminals s a f h = search (rules, le-ltb, running_overflow)
 
 pub sum_overflows : {o : Options} {lexemes : List (List ℕ)} {text : List ℕ} → IsSumOf o lexemes text
     → EachFits (terms_of_lexemes o lexemes) → 2 ^ 64 ≤ sum_of (terms_of_lexemes o lexemes)

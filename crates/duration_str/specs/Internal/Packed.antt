@@ -2,15 +2,16 @@
 use Rattle.std.specs.Prelude.{ℕ, Bool, ◌==◌, List, ◌++◌, Option}
 use Rattle.std.specs.List.{list_any, find}
 use Rattle.duration_str.specs.declared.unit.TimeUnit.{TimeUnit}
+use Rattle.duration_str.specs.Text.{Characters}
 use Rattle.duration_str.specs.Units.{units, row_of}
 use Rattle.duration_str.specs.Internal.Positions.{packed_number}
 
 -- all names of a unit
-abbrev pub all_names : TimeUnit → List (List ℕ)
+abbrev pub all_names : TimeUnit → List Characters
 all_names u = (row_of u).names ++ (row_of u).chinese
 
 -- whether a name packs to n
-abbrev pub packs_to : ℕ → List ℕ → Bool
+abbrev pub packs_to : ℕ → Characters → Bool
 packs_to n name = packed_number name == n
 
 -- the unit with a name that packs to n

@@ -1,38 +1,38 @@
 -- Positions in a text: the character at a byte, and the characters between two bytes.
-use Rattle.std.specs.Prelude.{◌≡◌, ℕ, ◌+◌, ◌*◌, ◌%◌, ◌^◌, Bool, false, List, [], ◌∷◌}
-use Rattle.std.specs.Prelude.{◌++◌, IsTrue, ⊤, ◌==◌, if◌then◌else◌}
+use Rattle.std.specs.Prelude.{◌≡◌, ℕ, ◌+◌, ◌*◌, ◌%◌, ◌^◌, Bool, false, [], ◌∷◌, ◌++◌, IsTrue, ⊤, ◌==◌, if◌then◌else◌}
 use Rattle.std.specs.List.{list_any, list_all}
 use Rattle.std.specs.Char.{is_ascii_alphabetic, is_ascii_uppercase}
-use Rattle.duration_str.specs.Text.{ahead, width, byte_len, chinese_letters, is_digit, is_unit_letter, number_of}
+use Rattle.duration_str.specs.Text.{Bytes, Characters, ahead, width, byte_len, chinese_letters}
+use Rattle.duration_str.specs.Text.{is_digit, is_unit_letter, number_of}
 use Rattle.duration_str.specs.declared.options.Options.{Options}
 
 -- The character c is at byte `place`, and `next` is the byte after it.
-pub record StandsAt (text : List ℕ) (place next c : ℕ) : Type 0 where
+pub record StandsAt (text : Bytes) (place next c : ℕ) : Type 0 where
   pub head : ahead text place ≡ c ∷ ahead text next
   pub bytes : next ≡ place + width c
 
 -- The character c is at byte `place`.
-abbrev pub Stands : List ℕ → ℕ → ℕ → Type 0
+abbrev pub Stands : Bytes → ℕ → ℕ → Type 0
 Stands text place c = StandsAt text place (place + width c) c
 
 -- These are the characters from byte `place` to byte `next`.
-pub record Between (text : List ℕ) (place next : ℕ) (characters : List ℕ) : Type 0 where
+pub record Between (text : Bytes) (place next : ℕ) (characters : Characters) : Type 0 where
   pub cut : ahead text place ≡ characters ++ ahead text next
   pub bytes : next ≡ place + byte_len characters
 
 -- The text is at its end, or its first character fails the test.
-abbrev pub Stops : (ℕ → Bool) → List ℕ → Type 0
+abbrev pub Stops : (ℕ → Bool) → Characters → Type 0
 Stops test [] = ⊤
 Stops test (c ∷ _) = test c ≡ false
 
 -- The characters from `place` to `next` all pass the test.
-pub record Passes (test : ℕ → Bool) (text : List ℕ) (place next : ℕ) : Type 0 where
-  pub characters : List ℕ
+pub record Passes (test : ℕ → Bool) (text : Bytes) (place next : ℕ) : Type 0 where
+  pub characters : Characters
   pub between : Between text place next characters
   pub all : IsTrue (list_all test characters)
 
 -- the number of a character by its place in a list, whose first one has the number n; 0 if it is not there
-abbrev pub number_in : ℕ → List ℕ → ℕ → ℕ
+abbrev pub number_in : ℕ → Characters → ℕ → ℕ
 number_in n [] c = 0
 number_in n (d ∷ letters) c = if d == c then n else number_in (n + 1) letters c
 
@@ -45,22 +45,21 @@ abbrev pub letter_number : ℕ → ℕ
 letter_number c = if is_ascii_alphabetic c then c % 32 else wide_number c
 
 -- the packed number n with these unit letters after it, as digits to the base 40
-abbrev pub packed_number_after : ℕ → List ℕ → ℕ
+abbrev pub packed_number_after : ℕ → Characters → ℕ
 packed_number_after n [] = n
 packed_number_after n (c ∷ letters) = packed_number_after (n * 40 + letter_number c) letters
 
 -- unit letters packed into a number, ignoring case
-abbrev pub packed_number : List ℕ → ℕ
+abbrev pub packed_number : Characters → ℕ
 packed_number letters = packed_number_after 0 letters
 
 -- The characters from `place` to `next` are digits, and `value` is their number modulo 2^64.
-pub record TakesDigits (text : List ℕ) (place next value : ℕ) : Type 0 where
+pub record TakesDigits (text : Bytes) (place next value : ℕ) : Type 0 where
   pub run : Passes is_digit text place next
   pub number : value ≡ number_of run.characters % 2 ^ 64
 
--- The characters from `place` to `next` are unit letters, `value` is their packed number modulo 2^64, and `has_capital`
--- is whether one of them is a capital.
-pub record TakesLetters (o : Options) (text : List ℕ) (place next value : ℕ) (has_capital : Bool) : Type 0 where
+-- They are unit letters, `value` is their packed number modulo 2^64, and `has_capital` whether one is a capital.
+pub record TakesLetters (o : Options) (text : Bytes) (place next value : ℕ) (has_capital : Bool) : Type 0 where
   pub run : Passes (is_unit_letter o) text place next
   pub number : value ≡ packed_number run.characters % 2 ^ 64
   pub capital : has_capital ≡ list_any is_ascii_uppercase run.characters

@@ -3,31 +3,29 @@ use Rattle.std.specs.Prelude.{ℕ, Bool, List, [], ◌∷◌, ◌++◌, if◌the
 unfoldable pub use Rattle.std.specs.Fmt.{digits}
 use Rattle.duration_str.specs.declared.unit.TimeUnit.{TimeUnit}
 use Rattle.duration_str.specs.declared.format.Style.{Style}
-use Rattle.duration_str.specs.declared.format.Style.TheVariants.{Compact, Long}
+use Rattle.duration_str.specs.declared.format.Style.TheVariants.{Compact}
+use Rattle.duration_str.specs.Text.{Bytes, Characters}
 use Rattle.duration_str.specs.Printing.{before_name, name_in}
 
 -- the bytes followed by what stands between two parts, unless they are empty
-abbrev pub with_gap : Style → List ℕ → List ℕ
+abbrev pub with_gap : Style → Bytes → Bytes
 with_gap Compact bytes = bytes
 with_gap style [] = []
 with_gap style (b ∷ bytes) = (b ∷ bytes) ++ 32 ∷ []
 
 -- what follows a count
-abbrev pub name_part : Style → Bool → TimeUnit → List ℕ
+abbrev pub name_part : Style → Bool → TimeUnit → Characters
 name_part style one u = before_name style ++ name_in style one u
 
-abbrev pub long_part : Bool → TimeUnit → List ℕ
-long_part one u = name_part Long one u
-
 -- the bytes of a count and its unit's name
-abbrev pub part_bytes : Style → ℕ → TimeUnit → List ℕ
+abbrev pub part_bytes : Style → ℕ → TimeUnit → Bytes
 part_bytes style n u = decimal n ++ encode_utf8_all (name_part style (n == 1) u)
 
 -- the bytes followed by one more part, unless its count is 0
-abbrev pub with_part : Style → List ℕ → TimeUnit → ℕ → List ℕ
+abbrev pub with_part : Style → Bytes → TimeUnit → ℕ → Bytes
 with_part style bytes u n = if n == 0 then bytes else with_gap style bytes ++ part_bytes style n u
 
 -- the bytes followed by a part for each of these counts of these units
-abbrev pub with_counts : Style → List ℕ → List TimeUnit → List ℕ → List ℕ
+abbrev pub with_counts : Style → Bytes → List TimeUnit → List ℕ → Bytes
 with_counts style bytes (u ∷ us) (n ∷ counts) = with_counts style (with_part style bytes u n) us counts
 with_counts style bytes _ _ = bytes

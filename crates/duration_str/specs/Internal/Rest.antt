@@ -108,8 +108,7 @@ abbrev pub checked_combination : CondUnit → ℕ → Result ℕ Cause → Resul
 checked_combination op x (Ok y) = ok_or (u64_from (combination op x y)) (Overflow None)
 checked_combination op x (Err cause) = Err cause
 
--- the total of the later terms with one more, or its fault: `later` is the operator between them with their total so
--- far, and the operator `next` stands before this one
+-- the later terms' total with one more, or its fault: `later` has their operator and total so far, `next` precedes it
 abbrev pub total_with : Option (CondUnit × ℕ) → CondUnit → Option ℕ → ℕ → Result ℕ Cause
 total_with None next n length = checked_term None n length
 total_with (Some (op, total)) next n length =

@@ -1,11 +1,11 @@
 -- What the private calls of `Tokens` do: they look ahead, and take the token ahead.
-use Rattle.std.specs.Prelude.{◌≡◌, ℕ, Bool, true, false, List, ◌∷◌, Option, Some, None, ⊤, if◌then◌else◌}
+use Rattle.std.specs.Prelude.{◌≡◌, ℕ, Bool, true, false, ◌∷◌, Option, Some, None, ⊤, if◌then◌else◌}
 use Rattle.duration_str.specs.declared.options.Options.{Options}
 use Rattle.duration_str.specs.declared.operator.CondUnit.{CondUnit}
 use Rattle.duration_str.specs.declared.token.TokenStart.{TokenStart}
 use Rattle.duration_str.specs.declared.token.TokenStart.TheVariants as sorts
 use Rattle.duration_str.specs.declared.token.Tokens.{Tokens}
-use Rattle.duration_str.specs.Text.{is_blank, is_digit, is_unit_letter, operator_of}
+use Rattle.duration_str.specs.Text.{Characters, is_blank, is_digit, is_unit_letter, operator_of}
 use Rattle.duration_str.specs.Grammar.{Terminal, number, word, operator, other, terminal_of}
 use Rattle.duration_str.specs.Iteration.{source, options_of, cut_place, tokens_left, KeepsInput}
 use Rattle.duration_str.specs.Internal.Numbers.{u64_from}
@@ -43,8 +43,7 @@ abbrev pub IsAhead : Tokens → Option TokenStart → Type 0
 IsAhead s None = s.head ≡ None
 IsAhead s (Some sort) = StartsToken s sort
 
--- Blanks are skipped, so the same tokens are left, and the character ahead starts a token of this sort; `None` at the
--- end.
+-- Blanks are skipped, so the same tokens are left, and a token of this sort is ahead; `None` at the end.
 pub record LooksAhead (old new : Tokens) (sort : Option TokenStart) : Type 0 where
   pub kept : KeepsInput old new
   pub same_left : tokens_left new ≡ tokens_left old
@@ -71,7 +70,7 @@ IsSign _ = ⊤
 
 -- The first token that is left is taken; it starts at the place and stands for this terminal.
 pub record TakesToken (old new : Tokens) (terminal : Terminal) : Type 0 where
-  pub characters : List ℕ
+  pub characters : Characters
   pub kept : KeepsInput old new
   pub first : tokens_left old ≡ record { start = cut_place old; characters = characters } ∷ tokens_left new
   pub between : Between (source old) (cut_place old) (cut_place new) characters

@@ -5,11 +5,12 @@ use Rattle.std.specs.Prelude.{All, List, take, length, ◌++◌, ◌∷◌, []}
 use Rattle.duration_str.specs.declared.unit.Row.{Row}
 use Rattle.duration_str.specs.declared.unit.Printed.{Printed}
 use Rattle.duration_str.specs.declared.unit.TimeUnit.{TimeUnit}
+use Rattle.duration_str.specs.Text.{Bytes, Characters}
 use Rattle.duration_str.specs.Units.{UnitRow, row_of, units, nanos_of}
 use Rattle.duration_str.specs.Printing.{long_name}
 
 -- The texts are the names in UTF-8.
-abbrev pub AreEncoded : List (Bor (List ℕ)) → List (List ℕ) → Type 0
+abbrev pub AreEncoded : List (Bor Bytes) → List Characters → Type 0
 AreEncoded texts names = map (λ text. text.now) texts ≡ map encode_utf8_all names
 
 -- The code's row has the contents of this row.

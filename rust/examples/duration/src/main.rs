@@ -1,11 +1,11 @@
 //! duration EXPRESSION: the expression's nanoseconds, what they print as, and the moment so long after
 //! 2000-01-01T00:00:00Z in seconds since 1970; or what is wrong with it.
 use chrono::{TimeZone, Utc};
-use duration_str::{moment_after, parse_with, Fault, HumanFormat, Options};
+use duration_str::{Fault, HumanFormat, Options, moment_after, parse_with};
 use std::process::ExitCode;
 
 /// The line that tells of an expression.
-fn told(expression: &str) -> Result<String, Fault<'_>> {
+fn line_of(expression: &str) -> Result<String, Fault<'_>> {
     let off = Options::off();
     let start = Utc.with_ymd_and_hms(2000, 1, 1, 0, 0, 0).unwrap().naive_utc();
     let length = parse_with(expression, off)?;
@@ -24,7 +24,7 @@ fn main() -> ExitCode {
         println!("no UTF-8");
         return ExitCode::FAILURE;
     };
-    match told(expression) {
+    match line_of(expression) {
         Ok(line) => {
             println!("{line}");
             ExitCode::SUCCESS

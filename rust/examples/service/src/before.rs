@@ -14,7 +14,7 @@ const IS_BEFORE: bool = true;
 /// Stands in for the crate humantime-serde, which Debian does not have.
 mod humantime_serde {
     use crate::humantime::{format_duration, parse_duration};
-    use serde::{de::Error, Deserialize, Deserializer, Serializer};
+    use serde::{Deserialize, Deserializer, Serializer, de::Error};
     use std::time::Duration;
 
     pub fn serialize<S: Serializer>(length: &Duration, serializer: S) -> Result<S::Ok, S::Error> {
@@ -32,16 +32,11 @@ mod humantime_serde {
         #[derive(Deserialize, Serialize)]
         struct Part(#[serde(with = "super")] Duration);
 
-        pub fn serialize<S: Serializer>(
-            length: &Option<Duration>,
-            serializer: S,
-        ) -> Result<S::Ok, S::Error> {
+        pub fn serialize<S: Serializer>(length: &Option<Duration>, serializer: S) -> Result<S::Ok, S::Error> {
             length.map(Part).serialize(serializer)
         }
 
-        pub fn deserialize<'de, D: Deserializer<'de>>(
-            deserializer: D,
-        ) -> Result<Option<Duration>, D::Error> {
+        pub fn deserialize<'de, D: Deserializer<'de>>(deserializer: D) -> Result<Option<Duration>, D::Error> {
             let part = Option::deserialize(deserializer)?;
             Ok(part.map(|Part(length)| length))
         }

@@ -15,11 +15,11 @@ const IS_BEFORE: bool = false;
 #[cfg(test)]
 mod tests {
     use crate::humantime::parse_duration;
-    use crate::service::{settings, Arguments};
+    use crate::service::{Arguments, settings};
     use clap::Parser;
 
     /// What the program prints for these arguments and this configuration.
-    fn told(arguments: &[&str], config: &str) -> Result<String, String> {
+    fn output(arguments: &[&str], config: &str) -> Result<String, String> {
         let name = (std::process::id(), std::thread::current().id());
         let file = std::env::temp_dir().join(format!("service-{name:?}"));
         std::fs::write(&file, config).unwrap();
@@ -35,19 +35,11 @@ mod tests {
     #[test]
     fn reads_arguments_and_configurations() {
         assert_eq!(
-            told(
-                &[],
-                r#"{ "timeout": "60s", "keep_alive": "90s", "idle": "1h" }"#
-            )
-            .unwrap(),
+            output(&[], r#"{ "timeout": "60s", "keep_alive": "90s", "idle": "1h" }"#).unwrap(),
             r#"{"timeout":"1min","keep_alive":"1min 30s","idle":"1h"} pause 1s 500ms total 3min 3s"#
         );
         assert_eq!(
-            told(
-                &["--timeout", "2m", "--pause", "1m"],
-                r#"{ "timeout": "60s" }"#
-            )
-            .unwrap(),
+            output(&["--timeout", "2m", "--pause", "1m"], r#"{ "timeout": "60s" }"#).unwrap(),
             r#"{"timeout":"2min","keep_alive":null} pause 1min total 8min"#
         );
     }
@@ -56,13 +48,13 @@ mod tests {
     fn tells_what_is_wrong_in_one_line() {
         let line = |text| parse_duration(text).unwrap_err();
         for (option, text) in [("timeout", "3h 2 hurs"), ("pause", "5 mins"), ("timeout", "-5m")] {
-            let refusal = told(&[&format!("--{option}"), text], "").unwrap_err();
+            let refusal = output(&[&format!("--{option}"), text], "").unwrap_err();
             let name = option.to_uppercase();
             let told = format!("error: Invalid value '{text}' for '--{option} <{name}>': {}", line(text));
             assert_eq!(refusal.lines().next(), Some(&told[..]));
         }
         // A month of humantime.
-        let refusal = told(&[], r#"{ "timeout": "1M" }"#).unwrap_err();
+        let refusal = output(&[], r#"{ "timeout": "1M" }"#).unwrap_err();
         let told = format!("invalid duration: {} at line 1 column 17", line("1M"));
         assert_eq!(refusal, told);
     }

@@ -1,8 +1,7 @@
-use Rattle.duration_str.proofs.Common.{◌≡◌, ◌++◌, ◌-◌, ◌∙◌, append_assoc, sym, chars, encode_utf8_all, take}
+use Rattle.duration_str.proofs.Common.{◌≡◌, ◌++◌, ◌-◌, ◌∙◌, append_assoc, sym, chars, encode_utf8_all, take, codes}
 use Rattle.std.proofs.lemmas.Str.{IsUtf8-past_char}
 use Rattle.std.specs.Str.Iter.{chars_rest}
 use Rattle.duration_str.specs.OneLine.{quoted, quoted_end, shown}
-use Rattle.duration_str.proofs.Common.{codes}
 use Rattle.duration_str.proofs.Printer.OneLineLemmas.{quoted_more, quoted_stops, quoted_cut, quoted_all, quoted_clear, end_inside}
 use Rattle.duration_str.proofs.one_line.put_quoted.Goals as goal
 use Rattle.duration_str.proofs.one_line.put_quoted.Goals.{After-put_shown, After-put_text}
@@ -41,8 +40,7 @@ pub returns-then-width-room : goal.returns-then-width-room
 returns-then-width-room c =
     let held = c.loop-c.invariant in
     rw (quoted_cut _ _ _ _ c.loop-c.room c.in-Some.c (rw c.shown_len-width.ensures at c.if-width-room.true) held.utf8
-    (c.in-Some.ensures {u = tt}).steps.0 held.whole)
-    at c.put-then-width-room.ensures.0
+    (c.in-Some.ensures {u = tt}).steps.0 held.whole) at c.put-then-width-room.ensures.0
 
 pub returns-in_err-end-3 : goal.returns-in_err-end-3
 returns-in_err-end-3 c =

@@ -3,8 +3,7 @@ use Rattle.duration_str.specs.Results.{ReachesPlace}
 use Rattle.duration_str.proofs.parser.parse_looked.Goals as goal
 
 pub returns-clause-parsed : goal.returns-clause-parsed
-returns-clause-parsed c =
-    parses_text c.args.o c.args.input.now _ _ c.map.ensures.cases c.read_text-looks.ensures.reads
+returns-clause-parsed c = parses_text c.args.o c.args.input.now _ _ c.map.ensures.cases c.read_text-looks.ensures.reads
 
 pub returns-clause-reaches : goal.returns-clause-reaches
 returns-clause-reaches c =

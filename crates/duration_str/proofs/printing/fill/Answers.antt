@@ -18,8 +18,7 @@ returns-then-end-eq0-clause-text c =
 
 pub returns-then-end-eq0-clause-utf8 : goal.returns-then-end-eq0-clause-utf8
 returns-then-end-eq0-clause-utf8 c =
-    rw (returns-then-end-eq0-clause-text c)
-    (within_utf8 c.args.format (as_nanos c.args.d) (omega arith))
+    rw (returns-then-end-eq0-clause-text c) (within_utf8 c.args.format (as_nanos c.args.d) (omega arith))
 
 pub returns-clause-text : goal.returns-clause-text
 returns-clause-text c =
@@ -29,8 +28,7 @@ returns-clause-text c =
     ∙ ap (ended zero) parts ∙ within_ended c.args.format (as_nanos c.args.d) (omega arith)
 
 pub returns-clause-utf8 : goal.returns-clause-utf8
-returns-clause-utf8 c =
-    rw (returns-clause-text c) (within_utf8 c.args.format (as_nanos c.args.d) (omega arith))
+returns-clause-utf8 c = rw (returns-clause-text c) (within_utf8 c.args.format (as_nanos c.args.d) (omega arith))
 
 pub returns-clause-short : goal.returns-clause-short
 returns-clause-short c =

@@ -1,10 +1,9 @@
-use Rattle.duration_str.proofs.Common.{arith, ap, length, take, drop, drop_more, ◌∙◌, ◌≤◌, map, nanos_of, with_counts}
-use Rattle.duration_str.proofs.Common.{counts_within, ◌+◌, ◌-◌, ◌∷◌, ◌≡◌}
+use Rattle.duration_str.proofs.Common.{arith, length, take, drop, ◌∙◌, ◌≤◌, map, nanos_of, with_counts}
+use Rattle.duration_str.proofs.Common.{counts_within, ◌+◌, ◌-◌}
 use Rattle.std.specs.Prelude.{slice_index_or}
-use Rattle.std.proofs.lemmas.List.Elements.{All-get_or}
 use Rattle.duration_str.specs.declared.unit.Printed.{Printed}
-use Rattle.duration_str.specs.Internal.UnitTable.{printed_row, units_in}
-use Rattle.duration_str.proofs.Printer.RowLemmas.{beyond}
+use Rattle.duration_str.specs.Internal.UnitTable.{units_in}
+use Rattle.duration_str.proofs.Printer.RowLemmas.{beyond, row_from}
 use Rattle.duration_str.proofs.Printer.LimitsLemmas.{with_none, first_room, only_part}
 use Rattle.duration_str.proofs.printing.put_parts.Goals as goal
 
@@ -19,11 +18,7 @@ put_part-end-requires-clause-room c =
     let row : Printed = slice_index_or c.args.rows.now at beyond in
     let rows = drop (at + 1) c.args.rows.now in
     let bytes = take c.loop-row.end c.loop-row.buffer in
-    let more : drop at c.args.rows.now ≡ row ∷ rows = drop_more c.args.rows.now at beyond c.loop-row-test.true in
-    let right : row ≡ printed_row row.unit =
-    All-get_or (λ (row : Printed). row ≡ printed_row row.unit) c.args.rows.now at beyond c.loop-row-test.true
-    c.requires.right in
-    let long : row.nanos ≡ nanos_of row.unit = ap (λ (row : Printed). row.nanos) right in
+    let (more, long) = row_from c.args.rows.now at c.loop-row-test.true c.requires.right in
     let left : length (with_counts c.args.style (take c.loop-row.end c.loop-row.buffer)
     (units_in (drop c.loop-row.row-index c.args.rows.now)) (counts_within
     (map nanos_of (units_in (drop c.loop-row.row-index c.args.rows.now))) c.loop-row.left c.loop-row.rest)) + 4
@@ -39,11 +34,7 @@ returns-then-rest-eq0-clause-text c =
     let row : Printed = slice_index_or c.args.rows.now at beyond in
     let rows = drop (at + 1) c.args.rows.now in
     let bytes = take c.loop-row.end c.loop-row.buffer in
-    let more : drop at c.args.rows.now ≡ row ∷ rows = drop_more c.args.rows.now at beyond c.loop-row-test.true in
-    let right : row ≡ printed_row row.unit =
-    All-get_or (λ (row : Printed). row ≡ printed_row row.unit) c.args.rows.now at beyond c.loop-row-test.true
-    c.requires.right in
-    let long : row.nanos ≡ nanos_of row.unit = ap (λ (row : Printed). row.nanos) right in
+    let (more, long) = row_from c.args.rows.now at c.loop-row-test.true c.requires.right in
     rw c.division-count.ensures.count at c.put_part-end.ensures.text
     ∙ only_part c.args.style row.unit (units_in rows) bytes c.loop-row.left c.loop-row.rest (omega arith)
     (omega (arith, long, c.if-row-rest.true)) (rw c.division-count.ensures.rest at c.if-rest-eq0.true)
