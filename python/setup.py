@@ -1,9 +1,10 @@
 """Builds the extension module over the library for C: the archive that DURATION_STR_LIB names, or else the one that cargo
 builds of the proved sources without their contracts. Each build is made anew, in a temporary folder, and nothing is written
-beside the sources.
+beside the sources but copies of the licences.
 """
 
 import atexit
+import contextlib
 import importlib.util
 import os
 import pathlib
@@ -97,6 +98,10 @@ if {"bdist_wheel", "dist_info"} & set(sys.argv):
     demand(any(map(importlib.util.find_spec, ["wheel", "setuptools.command.bdist_wheel"])), "wheel, beside setuptools")
 # Interpreters without a lock have no limited API.
 limited = not sysconfig.get_config_var("Py_GIL_DISABLED")
+if IS_CHECKOUT:
+    for name in ["LICENSE", "NOTICE"]:
+        with contextlib.suppress(OSError):  # Where nothing can be written, the package has none.
+            shutil.copyfile(CHECKOUT / name, HERE / name)
 room = tempfile.mkdtemp()
 atexit.register(shutil.rmtree, room, True)
 setup(

@@ -2,12 +2,13 @@
 
 page-texts.json has texts and what is shown of them, worked out by hand from docs/GRAMMAR.md: "values",
 printed and in nanoseconds, milliseconds, seconds and ISO 8601; the rows of their "terms"; "notes" on them; the mark and the
-sentence of "faults"; the answers to "lines"; and what is offered where an option is "switched". "meant" has the values in seconds that people mean
-by texts: several where people use a text with several meanings, null where nothing may be offered. "typed" texts are typed
-character by character; "hostile" ones must be shown, and do nothing else, and "hostile links" must choose nothing. page.js
-runs in the page.
+sentence of "faults", if that is not the library's line; the answers to "lines"; and what is offered where an option is
+"switched". "meant" has the values in seconds that people mean by texts: several where people use a text with several
+meanings, null where nothing may be offered. "typed" texts are typed character by character; "hostile" ones must be shown, and
+do nothing else, and "hostile links" must choose nothing. page.js runs in the page.
 """
 import ast
+import base64
 import decimal
 import json
 import pathlib
@@ -35,7 +36,7 @@ LARGEST = 102_000
 WORDS = 9
 # What the keyboard of a phone of 375 by 667 pixels leaves free
 FREE = 300
-OPTIONS = ("no_calc", "lowercase", "cn_unit")
+OPTIONS = reference_parser.Options._fields
 
 MEGABYTE = 1 << 20
 # Texts of 1 MiB, and what is printed of them, or None; 349,525 s are 4 d 1 h 5 min 25 s.
@@ -102,6 +103,9 @@ class Page:
             if self.find(name).is_selected() != (name in names):
                 self.find(name).click()
 
+    def chosen(self):
+        return [name for name in OPTIONS if self.find(name).is_selected()]
+
     def click(self, selector):
         self.driver.find_element(By.CSS_SELECTOR, selector).click()
 
@@ -125,6 +129,16 @@ class Page:
         return self.run("const e = document.activeElement; return e.id || e.textContent || e.className")
 
 
+def answer_to(text, *options):
+    return reference_parser.answer_of(text, reference_parser.Options(**dict.fromkeys(options, True)))
+
+
+def line_of(text, *options):
+    """The line of a refusal as a sentence, in which what is quoted stands without its quotes."""
+    line = reference_parser.one_line(text, answer_to(text, *options))
+    return re.sub(r'"((?:[^"\\]|\\.)*)"', r"\1", f"{line[0].upper()}{line[1:]}.")
+
+
 def try_values(page):
     page.open()
     for text, options, *expected in TEXTS["values"]:
@@ -145,17 +159,17 @@ def try_values(page):
 
 def try_faults(page):
     page.open()
-    for text, options, *expected in TEXTS["faults"]:
+    for text, options, marked, *sentence in TEXTS["faults"]:
         page.choose(*options)
         page.put(text)
+        expected = [marked, *(sentence or [line_of(text, *options)])]
         page.same(f"{text!r} under {options}", expected, [page.marked_part(), page.text_of("sentence")])
         page.same(f"the value of {text!r}", None, page.text_of("printed"))
     page.choose()
     page.put("1.5h")
     page.same("the library's line, folded away", None, page.text_of("line"))
     page.click("summary")
-    line = "Expected a unit, '+', '*' or the end at column 2, found . (numbers have digits only: write 1h 30m for 1.5h)."
-    page.same("the library's line, unfolded", line, page.text_of("line"))
+    page.same("the library's line, unfolded", line_of("1.5h"), page.text_of("line"))
     page.put("5 mins")
     page.same("no second line", None, page.text_of("line"))
 
@@ -188,8 +202,10 @@ def try_texts(page):
     page.same("texts", True, len(rows) >= 150)
     answers = page.answer_line(f"asked.readOffers({json.dumps([text for text, *_ in rows])})")
     for (text, *meant), (sentence, is_own, buttons) in zip(rows, answers):
-        values = [f"{int(decimal.Decimal(seconds) * 10**9):,}" for seconds in meant if seconds]
-        page.same(f"what is offered for {text!r}", values, [value for *_, value in buttons])
+        values = [int(decimal.Decimal(seconds) * 10**9) for seconds in meant if seconds]
+        # What the text is read as is not offered.
+        expected = [f"{value:,}" for value in values if value != answer_to(text).value]
+        page.same(f"what is offered for {text!r}", expected, [value for *_, value in buttons])
         is_short = not is_own or len(sentence.split()) <= WORDS
         page.same(f"a sentence of at most {WORDS} words for {text!r}: {sentence}", True, is_short)
         for name, words, value in buttons:
@@ -204,8 +220,7 @@ def try_switching(page):
         page.put(text)
         page.same(f"{words} for {text}", [words, meaning], page.words("#offered button > *"))
         page.click("#offered button")
-        chosen = [name for name in OPTIONS if page.find(name).is_selected()]
-        page.same(f"pressed: {words} for {text}", [words, remain], [page.text(), chosen])
+        page.same(f"pressed: {words} for {text}", [words, remain], [page.text(), page.chosen()])
     page.choose()
     page.type("1h, 30m")
     page.click("#offered button")
@@ -346,8 +361,7 @@ def try_link(page):
     link = page.run("return location.hash")
     page.same("the link", "#text=" + urllib.parse.quote("1分 30&no=5%#", safe="") + "&no_calc&cn_unit", link)
     page.open(link)
-    got = [page.text(), *(page.find(name).is_selected() for name in OPTIONS)]
-    page.same("what the link gives", ["1分 30&no=5%#", True, False, True], got)
+    page.same("what the link gives", ["1分 30&no=5%#", ["no_calc", "cn_unit"]], [page.text(), page.chosen()])
     for fragment, text in [("#text=1m+2", "1m+2"), ("#text=%E0%A4%A", ""), ("#", "3m + 13s + 29ms"), ("#other=1", "")]:
         page.open(fragment)
         page.same(f"the text of {fragment}", text, page.text())
@@ -399,8 +413,8 @@ def try_keyboard(page):
     wanted = wanted[wanted.index("text") + 1 :]
     page.same("reached by the tab key", wanted, [page.key(Keys.TAB) for _ in wanted])
     page.click("#text")
-    names = ("no_calc", "lowercase", "cn_unit", "1h 30m1 hour 30 minutes", "1m 30s1 minute 30 seconds")
-    page.same("what follows the text", list(names), [page.key(Keys.TAB) for _ in names])
+    names = [*OPTIONS, "1h 30m1 hour 30 minutes", "1m 30s1 minute 30 seconds"]
+    page.same("what follows the text", names, [page.key(Keys.TAB) for _ in names])
     page.same("after the enter key", "text", page.key(Keys.ENTER))
     page.same("taken by the keyboard", "1m 30s", page.text())
     page.key(" 5")
@@ -425,8 +439,8 @@ def try_readers(page):
     told = {
         "1h\n5 mins\n2h": "2 of 3 lines are read.",
         "1h 30": "1h 30s. 30 has no unit: seconds. Try instead 1h 30m: 1 hour 30 minutes.",
-        "5 mins": "Unknown unit mins at column 3 (did you mean min?). Try instead 5 min: 5 minutes.",
-        "1m+": "Expected a number at column 4, found the end.",
+        "5 mins": f"{line_of('5 mins')} Try instead 5 min: 5 minutes.",
+        "1m+": line_of("1m+"),
     }
     for text, expected in told.items():
         page.put(text)
@@ -543,7 +557,8 @@ def take_pictures(page):
         emulate(page, scheme, 640, 430)
         page.open("#text=1%3A30")
         page.run("document.activeElement.blur()")
-        page.driver.save_screenshot(str(ROOT / f"docs/images/page-{scheme}.png"))
+        taken = page.driver.execute_cdp_cmd("Page.captureScreenshot", {"format": "webp", "quality": 50})
+        (ROOT / f"docs/images/page-{scheme}.webp").write_bytes(base64.b64decode(taken["data"]))
 
 
 def main(file, *words):

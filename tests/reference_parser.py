@@ -371,7 +371,7 @@ def answer_of(text, options):
     """
     folds = options.lowercase and text != text.translate(FOLDED)
     knows = options.cn_unit and any(character in CHINESE for character in text)
-    return computed_answer(text, Options(options.no_calc, folds, knows))
+    return computed_answer(text, options._replace(lowercase=folds, cn_unit=knows))
 
 
 @functools.lru_cache(1 << 16)

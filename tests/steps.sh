@@ -9,6 +9,8 @@ room=$(mktemp -d)
 log=$room/log
 clears() { chmod -R u+w "$room" && rm -rf "$room"; }
 trap clears EXIT
+# What cargo builds for tests alone is built once.
+export CARGO_INCREMENTAL=0 CARGO_PROFILE_DEV_DEBUG=0
 
 # runs WHAT WORDS..: runs the words as a step; the end of what they say, which $log has whole, is shown where they fail
 runs() {

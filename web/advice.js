@@ -11,11 +11,10 @@ import { inWords } from "./values.js";
 const DATE = /[0-9]\s*[日月]/;
 
 /** These options, and then others that read more, those with the fewest changes first. */
-function optionsToTry({ noCalc, lowercase, cnUnit }, text) {
+function optionsToTry(options, text) {
     return (DATE.test(text) ? [0, 1, 2, 3] : [0, 1, 2, 4, 3, 5, 6, 7]).map((changes) => ({
-        noCalc: noCalc && !(changes & 1),
-        lowercase: lowercase && !(changes & 2),
-        cnUnit: cnUnit || changes > 3,
+        ...options,
+        ...(changes & 1 && { noCalc: false }), ...(changes & 2 && { lowercase: false }), ...(changes > 3 && { cnUnit: true }),
     }));
 }
 

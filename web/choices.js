@@ -2,7 +2,10 @@
 import { element } from "./elements.js";
 import { UNITS } from "./units.js";
 
-export const switches = { noCalc: element("no_calc"), lowercase: element("lowercase"), cnUnit: element("cn_unit") };
+const camel = (id) => id.replace(/_(.)/g, (_, letter) => letter.toUpperCase());
+const boxes = Array.from(document.querySelectorAll("[data-switched]"));
+/** The boxes of the options, by the names of these in JavaScript. */
+export const switches = Object.fromEntries(boxes.map((box) => [camel(box.id), box]));
 
 export const printing = {
     style: element("style"), largest: element("largest"), smallest: element("smallest"), parts: element("parts"),

@@ -29,11 +29,11 @@ function byWord(rows) {
     return new Map(Object.entries(rows).flatMap(([name, words]) => words.split(" ").map((word) => [word, name])));
 }
 
-/** Names that people use and the library doesn't have. */
-const COMMON = byWord({
-    y: "yr yrs", q: "qtr qtrs", mon: "mo mos mons mth mths", w: "wk wks", h: "hrs", min: "mins", s: "secs", ms: "millis msecs millisec millisecs",
-    µs: "micros µsecs µseconds usecs microsec microsecs", ns: "nanos nsecs nanosec nanosecs",
-});
+/** Names that people use and the library doesn't have: those near its own, and others. */
+const COMMON = new Map([
+    ...UNITS.flatMap(({ near, printed }) => near.map((word) => [word, printed])),
+    ...byWord({ ms: "millisec millisecs", µs: "microsec microsecs", ns: "nanosec nanosecs" }),
+]);
 /** Whole words for lengths in other languages; not those that are abbreviated, or name a date or an hour of the day too. */
 const FOREIGN = byWord({
     y: "年間", mon: "个月 か月 개월", w: "woche wochen semaine semaines semana semanas 星期 週間", d: "tag tage jour jours día días 日間",

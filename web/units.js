@@ -3,23 +3,24 @@ import { formatNs, parseNs } from "../js/dist/duration-str.js";
 
 // The list is made by tests/repository --write.
 /** All units, the longest first: their lengths in nanoseconds and in words, their printed names, their names, of which the
- * last two are the singular and the plural, and the names that `cn_unit` adds. */
+ * last two are the singular and the plural, the names that `cn_unit` adds, and the words that the library says are near. */
 export const UNITS = [
-    ["y year years", "年"],
-    ["q quarter quarters", ""],
-    ["mon month months", "月"],
-    ["w week weeks", "周"],
-    ["d day days", "日 天"],
-    ["h hr hour hours", "时"],
-    ["m min minute minutes", "分"],
-    ["s sec second seconds", "秒"],
-    ["ms msec millisecond milliseconds", "毫秒"],
-    ["µs µsec µsecond us usec usecond microsecond microseconds", "微秒"],
-    ["ns nsec nanosecond nanoseconds", "纳秒"],
+    ["y year years", "年", "yr yrs"],
+    ["q quarter quarters", "", "qtr qtrs"],
+    ["mon month months", "月", "mons mth mths mo mos"],
+    ["w week weeks", "周", "wk wks"],
+    ["d day days", "日 天", ""],
+    ["h hr hour hours", "时", "hrs"],
+    ["m min minute minutes", "分", "mins"],
+    ["s sec second seconds", "秒", "secs"],
+    ["ms msec millisecond milliseconds", "毫秒", "msecs millis"],
+    ["µs µsec µsecond us usec usecond microsecond microseconds", "微秒", "µsecs µseconds usecs useconds micros"],
+    ["ns nsec nanosecond nanoseconds", "纳秒", "nsecs nanos"],
 ].map((rows) => {
-    const [names, chinese] = rows.map((row) => row.split(" ").filter(Boolean));
+    const [names, chinese, near] = rows.map((row) => row.split(" ").filter(Boolean));
     const nanos = parseNs(`1${names[0]}`);
-    return { names, chinese, nanos, printed: formatNs(nanos).slice(1), length: formatNs(nanos, { largest: "d", style: "long" }) };
+    const length = formatNs(nanos, { largest: "d", style: "long" });
+    return { names, chinese, near, nanos, printed: formatNs(nanos).slice(1), length };
 });
 
 const CHINESE_LETTERS = UNITS.flatMap(({ chinese }) => chinese).join("");

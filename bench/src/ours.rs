@@ -46,7 +46,7 @@ impl Library for Crate {
     }
 
     fn reading_with(text: &str, options: u32) -> Duration {
-        let [no_calc, lowercase, cn_unit] = [1, 2, 4].map(|bit| options & bit != 0);
+        let [no_calc, lowercase, cn_unit] = std::array::from_fn(|bit| options & 1 << bit != 0);
         parse_with(text, Options { no_calc, lowercase, cn_unit }).expect("a text that is read")
     }
 

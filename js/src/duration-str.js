@@ -101,7 +101,7 @@ function output(length) {
 /** Whether a line would escape nothing of a text. A line quotes 40 characters of one that is too large. */
 function isClear(text) {
     const parts = text.match(/.{1,35}/gsu);
-    return parts.every((part) => tryParseNs(`585y ${part}`).fault.message.endsWith(` of over 584 years in "585y ${part}"`));
+    return parts.every((part) => tryParseNs(`585y ${part}`).fault.message.endsWith(` in "585y ${part}"`));
 }
 
 /** The text, a caret below the place and the line, where the text is short and can't do harm in a terminal. */
@@ -233,20 +233,18 @@ function ownOptions(options, defaults, hint = "") {
     return all;
 }
 
-/** The options of reading, each with its bit of `enum duration_str_option`. */
-const BITS = { noCalc: 1, lowercase: 2, cnUnit: 4 };
+/** The options of reading, in the order of their bits in `enum duration_str_option`. */
 const OFF = { noCalc: false, lowercase: false, cnUnit: false };
 
 /** The bits of the options that are on. */
 function bitsOf(options) {
     if (options === undefined) return 0;
-    let bits = 0;
     // Whoever hands a call over, as to `map`, hands in other arguments, too.
-    for (const [name, value] of Object.entries(ownOptions(options, OFF, ": write (text) => parse(text)"))) {
+    const all = Object.entries(ownOptions(options, OFF, ": write (text) => parse(text)"));
+    return all.reduce((bits, [name, value], bit) => {
         if (typeof value !== "boolean") throw new TypeError(`the option ${name} must be a boolean, not ${typeOf(value)}`);
-        if (value) bits |= BITS[name];
-    }
-    return bits;
+        return bits | value << bit;
+    }, 0);
 }
 
 export function tryParseNs(text, options) {

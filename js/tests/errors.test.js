@@ -3,7 +3,7 @@ import test from "node:test";
 import { inspect } from "node:util";
 
 import { DurationError, parseNs, tryParseNs, tryParse } from "duration-str";
-import { OPTIONS, VECTORS } from "./vectors.js";
+import { CHOICES, optionsOf, VECTORS } from "./vectors.js";
 
 const NOTHING = { number: false, unit: false, operator: false, end: false };
 
@@ -18,11 +18,9 @@ function errorOf(text, options) {
     return assert.fail(`${JSON.stringify(text)} is read`);
 }
 
-const NAMES = { no_calc: "noCalc", lowercase: "lowercase", cn_unit: "cnUnit" };
-
 test("tells all of a refusal", () => {
     for (const [text, names, code, byte, found, kinds, line] of VECTORS.refused) {
-        const options = Object.fromEntries(names.map((name) => [NAMES[name], true]));
+        const options = optionsOf(names);
         const error = errorOf(text, options);
         const index = byte === null ? null : Buffer.from(text).subarray(0, byte).toString().length;
         assert.deepEqual([error.code, error.byte, error.index, error.found], [code, byte, index, found], text);
@@ -35,14 +33,10 @@ test("tells all of a refusal", () => {
 
 test("reports with a caret, or by the message alone", () => {
     const long = `1µs ${"x".repeat(75)}x`;
-    const rows = [
-        ["5 mins", 2, 'unknown unit "mins" at column 3 (did you mean "min"?)'],
-        ["1m+", 3, "expected a number at column 4, found the end"],
-        ["1分 2µ…", 1, 'unknown unit "分" at column 2 (write y, q, mon, w, d, h, min, s, ms, us or ns)'],
-        [long, 4, `expected a number, '+', '*' or the end at column 5, found "${"x".repeat(40)}"...`],
-        [`1h ${"😀".repeat(77)}`, 3, `expected a number, '+', '*' or the end at column 4, found "${"😀".repeat(40)}"...`],
-    ];
-    for (const [text, index, line] of rows) assert.equal(errorOf(text).report, `${text}\n${" ".repeat(index)}^\n${line}`);
+    for (const [text, index] of [["5 mins", 2], ["1m+", 3], ["1分 2µ…", 1], [long, 4], [`1h ${"😀".repeat(77)}`, 3]]) {
+        const { message, report } = errorOf(text);
+        assert.equal(report, `${text}\n${" ".repeat(index)}^\n${message}`);
+    }
     for (const text of ["", "600y", "580y*2", "99999999999999999999", "1m+2*3", `${long}x`, '1h "', "1h \\", "1h\n-", "1h \x1b[31m", "1\ud800"]) {
         const { message, report } = errorOf(text);
         assert.equal(report, message);
@@ -71,7 +65,7 @@ test("refuses lone surrogates, wherever they stand", () => {
         [`${"1s".repeat(100_000)}\ud83d`, 200_000],
     ];
     for (const [text, index] of rows) {
-        for (const options of OPTIONS) {
+        for (const options of CHOICES.map(optionsOf)) {
             const error = errorOf(text, options);
             assert.deepEqual([error.code, error.text], ["NOT_TEXT", text]);
             assert.deepEqual([error.index, error.byte, error.found], [index, null, null]);

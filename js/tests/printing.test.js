@@ -79,15 +79,6 @@ test("prints milliseconds", () => {
     assert.equal(format(parse("1m 30s")), "1min 30s");
 });
 
-test("reads back what it prints", () => {
-    let value = 1n;
-    for (let count = 0; count < 2_000; count++) {
-        value = (value * 6_364_136_223_846_793_005n + 1_442_695_040_888_963_407n) % 2n ** 64n;
-        const nanos = value >> BigInt(count % 64);
-        assert.equal(parseNs(formatNs(nanos)), nanos);
-    }
-});
-
 test("refuses what is negative, not finite or too large", () => {
     const rows = [
         [formatNs, [-1n, -(10n ** 1000n)], /^a duration is not negative: -/],

@@ -3,18 +3,16 @@ import { readFileSync } from "node:fs";
 
 export const VECTORS = JSON.parse(readFileSync(new URL("../../rust/vectors.json", import.meta.url), "utf8"));
 
-/** All choices of the options. */
-export const OPTIONS = Array.from({ length: 8 }, (_, bits) => ({
-    noCalc: (bits & 1) !== 0,
-    lowercase: (bits & 2) !== 0,
-    cnUnit: (bits & 4) !== 0,
-}));
+/** The options of which those with these names are on; they are named as in C and on command lines. */
+export function optionsOf(names) {
+    const camel = (name) => name.replace(/_(.)/, (_, letter) => letter.toUpperCase());
+    return Object.fromEntries(VECTORS.options.map((name) => [camel(name), names.includes(name)]));
+}
 
-/** Whether the vectors of this name hold under these options. */
-export const IS_UNDER = {
-    "under all options": () => true,
-    "without no_calc": (options) => !options.noCalc,
-    "under cn_unit": (options) => options.cnUnit,
-    "under cn_unit without no_calc": (options) => options.cnUnit && !options.noCalc,
-    "without lowercase": (options) => !options.lowercase,
-};
+/** All choices of the options, each as the names of those that are on. */
+export const CHOICES = VECTORS.options.reduce((lists, name) => lists.flatMap((names) => [names, [...names, name]]), [[]]);
+
+/** Whether the vectors of this group hold under the options with these names. */
+export function holds({ on, off }, names) {
+    return on.every((name) => names.includes(name)) && !off.some((name) => names.includes(name));
+}

@@ -4,8 +4,7 @@
 use crate::fault::RunFault;
 use duration_str_core::Options;
 
-/// The options with the field of this name on and the others unchanged; `None` if the word is not `no_calc`,
-/// `lowercase` or `cn_unit`.
+/// The options with the field of this name on and the others unchanged; `None` if the word is no option's name.
 ///
 /// ```text
 /// with_word(Options::off(), "no_calc") // Some(Options { no_calc: true, ..Options::off() })

@@ -283,7 +283,3 @@ class Printing(unittest.TestCase):
                     format_many(column)
         with self.assertRaisesRegex(ValueError, "^at index 0: "):
             format_many(pandas.Series([pandas.Timedelta(-1)]))
-
-
-if __name__ == "__main__":
-    unittest.main()

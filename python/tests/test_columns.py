@@ -9,7 +9,7 @@ from itertools import accumulate
 
 import duration_str
 from duration_str import Cause, DurationError, parse_buffers, parse_many, parse_ns
-from tests.vectors import refused_positions, value_columns
+from tests.vectors import error_of, refused_positions, value_columns
 
 SECOND = 10**9
 # 1,024 texts are copied at once.
@@ -19,14 +19,6 @@ LENGTHS = [0, 1, 2, 1_023, 1_024, 1_025, 20_000]
 def buffers_of(encoded, code="q"):
     """The bytes of texts one after the other, and their offsets."""
     return b"".join(encoded), array(code, accumulate(map(len, encoded), initial=0))
-
-
-def error_of(call, *arguments, **words):
-    try:
-        value = call(*arguments, **words)
-    except DurationError as error:
-        return error
-    raise AssertionError(f"it is read as {value}")
 
 
 class Columns(unittest.TestCase):
@@ -190,7 +182,3 @@ class Buffers(unittest.TestCase):
             self.assertEqual((str(error), error.report), ("at index 1: not UTF-8", "at index 1: not UTF-8"))
         # Two texts that are cut within a character
         self.assertEqual(list(parse_buffers("1µs".encode(), array("q", [0, 2, 4]), errors="coerce")[1]), [0, 1])
-
-
-if __name__ == "__main__":
-    unittest.main()

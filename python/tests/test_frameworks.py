@@ -280,7 +280,3 @@ class Retention(unittest.TestCase):
     def test_names_the_folder_whose_period_is_refused(self):
         told = '/keep.yaml: logs: unknown unit "fortnights" at column 3 (write y, q, mon, w, d, h, min, s, ms, us or ns)\n'
         self.assertEqual(self.run_over("logs: 2 fortnights\n"), (1, told))
-
-
-if __name__ == "__main__":
-    unittest.main()

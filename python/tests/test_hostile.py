@@ -180,7 +180,7 @@ class Hostile(unittest.TestCase):
                 duration_str._native.read_list([Odd()], array("Q", [0]), 0, True, 0, lambda value, index: kept)
 
     def test_reads_what_threads_overwrite(self):
-        """For five seconds, in which the bytes are written to without the interpreter's lock."""
+        """For two seconds, in which the bytes are written to without the interpreter's lock."""
         texts = 20_000
         offsets = array("q", range(0, 4 * texts + 1, 4))
         # A character of four bytes, and one that ends a text, begin where others have a number.
@@ -225,8 +225,8 @@ class Hostile(unittest.TestCase):
             self.assertEqual(list(pool.map(serve, range(8))), [None] * 8)
 
     def read_while(self, write, read):
-        """Reads for five seconds, while two threads write."""
-        end = time.monotonic() + 5
+        """Reads for two seconds, while two threads write."""
+        end = time.monotonic() + 2
 
         def write_on():
             while time.monotonic() < end:
@@ -268,7 +268,3 @@ class Hostile(unittest.TestCase):
         all_calls(200_000)
         gc.collect()
         self.assertLess(resident() - before, 5_000_000)
-
-
-if __name__ == "__main__":
-    unittest.main()

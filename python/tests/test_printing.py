@@ -78,7 +78,3 @@ class Printing(unittest.TestCase):
         for value in [None, "1s", 1.0, True, datetime.datetime(2000, 1, 1)]:
             with self.subTest(value=value), self.assertRaisesRegex(TypeError, "must be an int .* not "):
                 format(value)
-
-
-if __name__ == "__main__":
-    unittest.main()

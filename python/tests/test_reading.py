@@ -7,28 +7,22 @@ import unittest
 
 import duration_str
 from duration_str import DurationError, DurationTypeError, parse, parse_ns, parse_seconds
-from tests.vectors import IS_UNDER, OPTIONS, VECTORS
+from tests.vectors import OPTIONS, values_under
 
 
-def is_refused(text, options):
+def value_of(text, options):
     try:
-        parse_ns(text, **options)
+        return parse_ns(text, **options)
     except DurationError:
-        return True
-    return False
+        return None
 
 
 class Reading(unittest.TestCase):
     def test_reads_the_vectors(self):
-        for name, rows in VECTORS["values"].items():
-            for options in OPTIONS:
-                for secs, nanos, texts in rows:
-                    for text in texts:
-                        with self.subTest(text=text, **options):
-                            if IS_UNDER[name](options):
-                                self.assertEqual(parse_ns(text, **options), secs * 10**9 + nanos)
-                            else:
-                                self.assertTrue(is_refused(text, options))
+        for options in OPTIONS:
+            for text, value in values_under(options):
+                with self.subTest(text=text, **options):
+                    self.assertEqual(value_of(text, options), value)
 
     def test_rounds_down_to_microseconds(self):
         self.assertEqual(parse("3m + 13s + 29ms"), datetime.timedelta(minutes=3, seconds=13, milliseconds=29))
@@ -72,7 +66,3 @@ class Reading(unittest.TestCase):
             answers = list(pool.map(read, range(len(values))))
         found = [("x" * (place % 50)) or "!" for place in range(len(values))]
         self.assertEqual(answers, list(zip(values, found)))
-
-
-if __name__ == "__main__":
-    unittest.main()

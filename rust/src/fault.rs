@@ -18,6 +18,7 @@ use duration_str_core::{self as proved, Cause, Expected, Options};
 /// assert_eq!(fault.found(), Some("-"));
 /// assert!(matches!(fault.cause(), Cause::Syntax { expected, .. } if expected.unit_word));
 /// assert_eq!(fault.to_string(), r#"expected a unit, '+', '*' or the end at column 5, found "-""#);
+/// assert_eq!(format!("{fault:?}"), format!("Fault({fault})"));
 /// ```
 ///
 /// It borrows the text; [`Fault::into_owned`] gives an error that outlives it.

@@ -159,16 +159,11 @@ fn read_and_print_without_memory(rt: &impl Abort) {
 /// Moves the first midnight of 1970 by 180 days, to these days.
 fn move_without_memory(rt: &impl Abort, before: Date, after: Date) {
     let start = Timestamp::UNIX_EPOCH;
+    let (first, last) = (before.at(0, 0, 0, 0), after.at(0, 0, 0, 0));
     assert_eq!(rt; after_naive_date(start, "180d"), Ok(after));
     assert_eq!(rt; before_naive_date(start, "180d"), Ok(before));
-    assert_eq!(rt;
-        after_naive_date_time(start, "180d"),
-        Ok(after.at(0, 0, 0, 0))
-    );
-    assert_eq!(rt;
-        before_naive_date_time(start, "180d"),
-        Ok(before.at(0, 0, 0, 0))
-    );
+    assert_eq!(rt; after_naive_date_time(start, "180d"), Ok(last));
+    assert_eq!(rt; before_naive_date_time(start, "180d"), Ok(first));
 }
 
 /// Reads a value of 90 seconds by each function for configurations.
@@ -177,12 +172,10 @@ fn configure_without_memory(rt: &impl Abort, config: &Value) {
     assert_eq!(rt; deserialize_duration::<Duration>(config), Ok(plain));
     assert_eq!(rt; deserialize_duration_chrono(config), Ok(signed));
     assert_eq!(rt; deserialize_duration_time(config), Ok(signed));
+    let some = Ok(Some(signed));
     assert_eq!(rt; deserialize_option_duration(config), Ok(Some(plain)));
-    assert_eq!(rt;
-        deserialize_option_duration_chrono(config),
-        Ok(Some(signed))
-    );
-    assert_eq!(rt; deserialize_option_duration_time(config), Ok(Some(signed)));
+    assert_eq!(rt; deserialize_option_duration_chrono(config), some);
+    assert_eq!(rt; deserialize_option_duration_time(config), some);
 }
 
 #[test]

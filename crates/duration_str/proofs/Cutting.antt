@@ -1,7 +1,6 @@
 -- How a text is cut into tokens.
 pub mod PositionLemmas
 pub mod TokenLemmas
-pub mod TerminalLemmas
 pub mod SortLemmas
 pub mod StepLemmas
 pub mod FoundLemmas

@@ -3,7 +3,6 @@ pub mod MessageLemmas
 pub mod OneLineLemmas
 pub mod PrintingLemmas
 pub mod DigitLemmas
-pub mod RowLemmas
-pub mod SpaceLemmas
 pub mod PrintedBytesLemmas
 pub mod LimitsLemmas
+pub mod NearLemmas

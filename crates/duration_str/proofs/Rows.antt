@@ -1,29 +1,28 @@
 -- Worked examples, computed: what texts are read as, why others are refused, and what durations print as.
-use Rattle.duration_str.proofs.Common.{◌≡◌, ℕ, Bool, true, false, List, [], ◌∷◌, ◌++◌, Some, None, Ok, Err, refl}
-use Rattle.duration_str.proofs.Common.{length, flat_map, map, replicate, encode_utf8_all, codes, Options, TimeUnit, Quarter, Plus}
-use Rattle.duration_str.proofs.Common.{Star, Empty, Syntax, NumberTooLarge, Overflow, Mixed, Expected, off, row_of}
-use Rattle.duration_str.proofs.Common.{units, unit_of_word, unit_lengths, older_units, older_row_of, older_unit_of_word}
-use Rattle.duration_str.proofs.Common.{Style, Compact, Long, Short, MAX_LONG_LEN, printed_counts}
-use Rattle.duration_str.proofs.Common.{counts_of, MAX_PRINTED_LEN, answer, message_of}
+use Rattle.duration_str.proofs.Common.{answer, Bool, codes, Compact, counts_of, Empty, encode_utf8_all, Err, Expected}
+use Rattle.duration_str.proofs.Common.{false, flat_map, length, List, Long, map, MAX_LONG_LEN, MAX_PRINTED_LEN}
+use Rattle.duration_str.proofs.Common.{message_of, Mixed, None, NumberTooLarge, off, Ok, older_row_of}
+use Rattle.duration_str.proofs.Common.{older_unit_of_word, older_units, Options, OutOfRange, Overflow, Plus}
+use Rattle.duration_str.proofs.Common.{printed_counts, Quarter, refl, replicate, row_of, Short, Some, Star, Style}
+use Rattle.duration_str.proofs.Common.{Syntax, TimeUnit, true, unit_lengths, unit_of_word, units, [], ℕ, ◌++◌, ◌∷◌, ◌≡◌}
 use Rattle.duration_str.specs.declared.format.Format.{Format}
 use Rattle.duration_str.specs.declared.unit.TimeUnit.TheVariants.{Day, Hour, Minute}
-use Rattle.duration_str.specs.declared.cause.Cause.TheVariants.{OutOfRange}
-use Rattle.duration_str.specs.Limits.{whole_format, lengths_within, counts_within, text_within}
+use Rattle.duration_str.specs.Limits.{counts_within, lengths_within, text_within, whole_format}
 use Rattle.duration_str.specs.OneLine.{one_line_of}
-use Rattle.duration_str.proofs.Characters.EachUnit.{Each}
+use Rattle.duration_str.proofs.Characters.UnitLemmas.{Each}
 use Rattle.std.specs.Fmt.{digits}
 use Rattle.std.specs.Option.{option_map_or}
 use Rattle.std.specs.Str.{chars}
 use lib.Utf8.{encode}
 
 abbrev with_no_calc : Options
-with_no_calc = record { no_calc = true; lowercase = false; cn_unit = false }
+with_no_calc = record off { no_calc = true }
 
 abbrev with_lowercase : Options
-with_lowercase = record { no_calc = false; lowercase = true; cn_unit = false }
+with_lowercase = record off { lowercase = true }
 
 abbrev with_cn_unit : Options
-with_cn_unit = record { no_calc = false; lowercase = false; cn_unit = true }
+with_cn_unit = record off { cn_unit = true }
 
 -- ---- What can stand at the place of a syntax fault
 
@@ -136,14 +135,14 @@ last_that_reads_back = codes "584y 3q 2mon 1w 3d 23h 34min 33s 709ms 551µs 615n
 abbrev first_that_overflows : List ℕ
 first_that_overflows = codes "584y 3q 2mon 1w 3d 23h 34min 33s 709ms 551µs 616ns"
 
-pub overflows-first : (no_calc lowercase cn_unit : Bool)
-    → answer (record { no_calc = no_calc; lowercase = lowercase; cn_unit = cn_unit }) first_that_overflows
+pub overflows-first : (o : Options) (no_calc lowercase cn_unit : Bool)
+    → answer (record o { no_calc = no_calc; lowercase = lowercase; cn_unit = cn_unit }) first_that_overflows
     ≡ Err (Overflow None)
-overflows-first true true true = refl
-overflows-first true false true = refl
-overflows-first false true true = refl
-overflows-first false false true = refl
-overflows-first _ _ _ = refl
+overflows-first o true true true = refl
+overflows-first o true false true = refl
+overflows-first o false true true = refl
+overflows-first o false false true = refl
+overflows-first _ _ _ _ = refl
 
 -- ---- What faults and durations print
 

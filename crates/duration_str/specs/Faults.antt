@@ -1,25 +1,20 @@
 -- The place of a fault, and the token there.
 use denote.Ref.{Bor}
-use Rattle.std.specs.Prelude.{◌≡◌, ℕ, ◌+◌, ◌==◌, ◌↔◌, List, length, Option, Some, None, IsNone, slice_range, chars}
-use Rattle.std.specs.Prelude.{find}
+use Rattle.std.specs.Prelude.{◌≡◌, ℕ, ◌+◌, ◌==◌, ◌↔◌, List, length, find, Option, Some, None, IsNone, slice_range, chars}
 use Rattle.duration_str.specs.declared.options.Options.{Options}
 use Rattle.duration_str.specs.Text.{Bytes, Characters}
 use Rattle.duration_str.specs.Tokens.{Token, tokens_of}
 use Rattle.duration_str.specs.Reading.{IsRefused}
 use Rattle.duration_str.specs.declared.cause.Expected.{Expected}
 use Rattle.duration_str.specs.declared.cause.Cause.{Cause}
-use Rattle.duration_str.specs.declared.cause.Cause.TheVariants.{Empty, Syntax, NumberTooLarge, Overflow}
-use Rattle.duration_str.specs.declared.cause.Cause.TheVariants.{Mixed, OutOfRange, NotText}
+use Rattle.duration_str.specs.declared.cause.Cause.TheVariants.{NumberTooLarge, Overflow, Syntax}
 
 -- the byte offset of a fault, if it has a place
 abbrev pub place_of : Cause → Option ℕ
-place_of Empty = None
 place_of (Syntax place expected) = Some place
 place_of (NumberTooLarge place) = place
 place_of (Overflow place) = place
-place_of (Mixed first later) = None
-place_of OutOfRange = None
-place_of (NotText optional) = None
+place_of cause = None
 
 -- the token that starts at byte `place`
 abbrev pub token_at : ℕ → List Token → Option Token

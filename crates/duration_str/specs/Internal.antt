@@ -3,6 +3,5 @@ pub mod Numbers
 pub mod UnitTable
 pub mod Positions
 pub mod Steps
-pub mod Packed
 pub mod Rest
 pub mod PrintedBytes

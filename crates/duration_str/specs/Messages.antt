@@ -1,12 +1,14 @@
--- The messages of faults.
+-- The messages of faults, and the error made from a fault.
 use Rattle.std.specs.Prelude.{◌≢◌, ℕ, Bool, ◌++◌, Option, Some, None, if◌then◌else◌, chars, codes}
-use Rattle.std.specs.Prelude.{length, take, replicate, decimal, encode_utf8_all, ◌==◌}
+use Rattle.std.specs.Prelude.{length, take, replicate, decimal, encode_utf8_all, string_bytes, ⊤, ◌≡◌, ◌==◌}
 use Rattle.std.specs.List.{list_any, last_or}
 use Rattle.duration_str.specs.declared.operator.CondUnit.{CondUnit}
 use Rattle.duration_str.specs.declared.operator.CondUnit.TheVariants.{Plus, Star}
 use Rattle.duration_str.specs.declared.cause.Cause.{Cause}
 use Rattle.duration_str.specs.declared.cause.Cause.TheVariants.{Empty, Syntax, NumberTooLarge, Overflow}
 use Rattle.duration_str.specs.declared.cause.Cause.TheVariants.{Mixed, OutOfRange, NotText}
+use Rattle.duration_str.specs.declared.error.DError.{DError}
+use Rattle.duration_str.specs.declared.error.DError.TheVariants.{ParseError, OverflowError}
 use Rattle.duration_str.specs.declared.message.Layout.{Layout}
 use Rattle.duration_str.specs.declared.message.Layout.TheVariants.{Line, Byte, Caret}
 use Rattle.duration_str.specs.Text.{Bytes, Characters}
@@ -72,3 +74,18 @@ abbrev pub laid_out : Layout → Bytes → Bytes → Bytes
 laid_out Line text line = line
 laid_out (Byte place) text line = byte_text place line
 laid_out (Caret spaces) text line = caret_text text spaces line
+
+-- The cause is an overflow.
+abbrev pub IsOverflow : Cause → Type 0
+IsOverflow (Overflow place) = ⊤
+IsOverflow _ = ⊥
+
+-- The error is `ParseError` with these characters.
+abbrev pub IsParseError : {A : Type 0} → Characters → DError A → Type 0
+IsParseError line (ParseError text) = string_bytes text ≡ encode_utf8_all line
+IsParseError line OverflowError = ⊥
+
+-- The error is `OverflowError` for an overflow, otherwise `ParseError` with the line of the cause.
+abbrev pub IsErrorOf : {A : Type 0} → Cause → DError A → Type 0
+IsErrorOf (Overflow place) error = error ≡ OverflowError
+IsErrorOf cause error = IsParseError (line_of cause) error

@@ -8,8 +8,7 @@ use Rattle.std.specs.Int.{is_in_range}
 use Rattle.std.specs.List.{list_any, list_all, find, take_while}
 use Rattle.duration_str.specs.declared.cause.Expected.{Expected}
 use Rattle.duration_str.specs.declared.cause.Cause.{Cause}
-use Rattle.duration_str.specs.declared.cause.Cause.TheVariants.{Empty, Syntax, NumberTooLarge, Overflow}
-use Rattle.duration_str.specs.declared.cause.Cause.TheVariants.{Mixed, OutOfRange, NotText}
+use Rattle.duration_str.specs.declared.cause.Cause.TheVariants.{Empty, Syntax, NumberTooLarge, Overflow, Mixed}
 use Rattle.duration_str.specs.declared.unit.TimeUnit.{TimeUnit}
 use Rattle.duration_str.specs.declared.unit.TimeUnit.TheVariants.{Year, Quarter, Month, Week, Day, Hour, Minute, Second}
 use Rattle.duration_str.specs.declared.unit.TimeUnit.TheVariants.{MilliSecond, MicroSecond, NanoSecond}
@@ -108,9 +107,13 @@ near_name word =
     else if is_among us_words small then Some (codes "us")
     else option_map (λ u. (row_of u).printed) (find (λ u. is_among (near_words u) small) units)
 
+-- the help with a name
+abbrev pub name_help : Bytes → Bytes
+name_help name = codes " (did you mean \"" ++ (name ++ codes "\"?)")
+
 -- the name that is near, or all units
 abbrev pub unit_help : Option Characters → Bytes
-unit_help (Some name) = codes " (did you mean \"" ++ (encode_utf8_all name ++ codes "\"?)")
+unit_help (Some name) = name_help (encode_utf8_all name)
 unit_help None = codes " (write y, q, mon, w, d, h, min, s, ms, us or ns)"
 
 -- the help for a piece before a digit, given the bytes before it, the last of these, and its own: a point; a comma, `_`,
@@ -198,5 +201,4 @@ one_line_of text (Syntax place expected) = syntax_line text place expected (firs
 one_line_of text (NumberTooLarge place) = text_line (codes "number of 2^64 or more") text []
 one_line_of text (Overflow place) = overflow_line text
 one_line_of text (Mixed first later) = text_line (codes "sum and product mixed") text []
-one_line_of text OutOfRange = encode_utf8_all (line_of OutOfRange)
-one_line_of text (NotText optional) = encode_utf8_all (line_of (NotText optional))
+one_line_of text cause = encode_utf8_all (line_of cause)

@@ -1,6 +1,6 @@
 //! Faults as errors that own their text.
 ghost use Rattle.std.specs.Prelude.{IfOk, IsOk};
-ghost use Rattle.duration_str.specs.Errors.{IsErrorOf, IsOverflow};
+ghost use Rattle.duration_str.specs.Messages.{IsErrorOf, IsOverflow};
 
 use crate::cause::Cause;
 use crate::fault::Fault;

@@ -91,6 +91,7 @@ impl<'a> Eye<'a> {
     }
 }
 
+#[tactic(auto, using(crate::proofs::Characters::CharacterLemmas::end_ahead, crate::proofs::Characters::CharacterLemmas::ascii_stands))]
 #[inline]
 fn character_at(text: &str, place: usize) -> Option<char>
     requires { IsCharBoundary text.now place }
@@ -105,7 +106,7 @@ fn character_at(text: &str, place: usize) -> Option<char>
     }
 }
 
-#[tactic(auto, using(crate::proofs::Characters::TextLemmas::stands_char))]
+#[tactic(auto, using(crate::proofs::Characters::CharacterLemmas::stands_char))]
 #[cold]
 #[inline(never)]
 fn decoded_at(text: &str, place: usize) -> char

@@ -162,6 +162,7 @@ impl Layout {
     }
 }
 
+#[tactic(auto, using(std::proofs::lemmas::Str::chars_from_encodes))]
 #[inline(never)]
 pub(crate) fn chars_before(text: &str, place: usize) -> usize
     requires { IsCharBoundary text.now place }

@@ -3,20 +3,22 @@
 //! A function that writes returns where its part ends, and `None` if there is no room: so none needs a bound on what
 //! stands before its part, and that all fits is shown once, of the whole line.
 ghost use Rattle.std.specs.Prelude.{◌≡◌, ◌≤◌, ◌++◌, ◌-◌, ◌&&◌, ◌==◌, not, slice_index, length, take, map, encode_utf8_all, IsTrue, ◌||◌};
+ghost use Rattle.std.specs.Prelude.{None, if◌then◌else◌};
 ghost use Rattle.std.specs.Char.{to_ascii_lowercase};
 ghost use Rattle.std.specs.Char.Escape.{escape_default};
-ghost use Rattle.std.specs.List.{list_all};
+ghost use Rattle.std.specs.List.{find, list_all};
 ghost use Rattle.std.specs.Str.{chars, bytes_eq, IsCharBoundary};
 ghost use Rattle.duration_str.specs.Buffers.{IsInFront};
 ghost use Rattle.duration_str.specs.Text.{ahead, is_blank, is_digit};
 ghost use Rattle.duration_str.specs.Faults.{place_of};
 ghost use Rattle.std.specs.Option.{ForSome};
+ghost use Rattle.duration_str.specs.Internal.UnitTable.{is_megabyte, is_near};
 ghost use Rattle.std.specs.Int.{is_in_range};
 ghost use Rattle.duration_str.specs.OneLine.{one_line_of, is_plain, is_clear, is_letter, is_like, first_piece, shown};
 ghost use Rattle.duration_str.specs.OneLine.{quoted, at_column, found_line, found_words, unknown_line, syntax_line};
-ghost use Rattle.duration_str.specs.OneLine.{text_line, overflow_line, expected_words, begins_with_letter, near_name, unit_help};
+ghost use Rattle.duration_str.specs.OneLine.{text_line, overflow_line, expected_words, begins_with_letter, near_name, name_help, unit_help};
 ghost use Rattle.duration_str.specs.OneLine.{notation_help, help_at};
-ghost use Rattle.duration_str.specs.declared.one_line.TheConstants.{MAX_ONE_LINE_LEN};
+ghost use Rattle.duration_str.specs.declared.one_line.TheConstants.{MAX_ONE_LINE_LEN, NEAR_WORDS};
 
 use crate::cause::{Cause, Expected};
 use crate::fault::Fault;
@@ -90,20 +92,21 @@ fn put_syntax(buffer: &mut [u8], text: &str, place: usize, expected: Expected) -
     let piece = first_piece(&text[place..]);
     let column = chars_before(text, place) + 1;
     if expected.unit_word && begins_with_letter(piece) {
-        put_unknown(buffer, column, piece, unit_help(piece))
+        put_unknown(buffer, column, piece)
     } else {
         let help = help_at(expected, text.as_bytes(), place, piece);
         put_found(buffer, expected_words(expected), column, piece, help)
     }
 }
 
-fn put_unknown(buffer: &mut [u8], column: usize, word: &str, help: &str) -> Option<usize>
-    ensures { IsInFront (unknown_line column (chars word.now) help.now) result buffer.new }
+fn put_unknown(buffer: &mut [u8], column: usize, word: &str) -> Option<usize>
+    ensures { IsInFront (unknown_line column (chars word.now) (unit_help (near_name word.now)))
+        result buffer.new }
 {
     let start = put(buffer, 0, b"unknown unit ")?;
     let end = put_quoted(buffer, start, word)?;
     let number = put_column(buffer, end, column)?;
-    put_text(buffer, number, help)
+    put_unit_help(buffer, number, word)
 }
 
 fn put_found(
@@ -154,7 +157,6 @@ fn put_text_line(buffer: &mut [u8], problem: &str, text: &str, help: &str) -> Op
     put_text(buffer, end, help)
 }
 
-#[inline(never)]
 fn put_column(buffer: &mut [u8], at: usize, column: usize) -> Option<usize>
     requires { at ≤ length buffer.old }
     ensures { IsInFront (take at buffer.old ++ at_column column) result buffer.new }
@@ -337,58 +339,94 @@ fn expected_words(expected: Expected) -> &'static str
     }
 }
 
-/// The help for a word that is no unit: the name that it is near, or all units. `Mo` is a megabyte too; the words after
-/// `micros` have a Greek mu.
-#[tactic(auto, unfolding(std::specs::Prelude::encode_utf8))]
-fn unit_help(word: &str) -> &'static str
-    ensures { result.now ≡ unit_help (near_name word.now) }
+/// The help for a word that is no unit: the name that it is near, or all units.
+fn put_unit_help(buffer: &mut [u8], at: usize, word: &str) -> Option<usize>
+    requires { at ≤ length buffer.old }
+    ensures { IsInFront (take at buffer.old ++ unit_help (near_name word.now)) result buffer.new }
 {
-    if is_word(word, "mo") || is_word(word, "mos") {
-        if word == "mo" || word == "mos" {
-            r#" (did you mean "mon"?)"#
-        } else {
-            ALL_UNITS
-        }
-    } else if is_word(word, "usecs")
-        || is_word(word, "useconds")
-        || is_word(word, "micros")
-        || is_word(word, "μs")
-        || is_word(word, "μsec")
-        || is_word(word, "μsecs")
-        || is_word(word, "μsecond")
-        || is_word(word, "μseconds")
-    {
-        r#" (did you mean "us"?)"#
-    } else if is_word(word, "yr") || is_word(word, "yrs") {
-        r#" (did you mean "y"?)"#
-    } else if is_word(word, "qtr") || is_word(word, "qtrs") {
-        r#" (did you mean "q"?)"#
-    } else if is_word(word, "mons") || is_word(word, "mth") || is_word(word, "mths") {
-        r#" (did you mean "mon"?)"#
-    } else if is_word(word, "wk") || is_word(word, "wks") {
-        r#" (did you mean "w"?)"#
-    } else if is_word(word, "hrs") {
-        r#" (did you mean "h"?)"#
-    } else if is_word(word, "mins") {
-        r#" (did you mean "min"?)"#
-    } else if is_word(word, "secs") {
-        r#" (did you mean "s"?)"#
-    } else if is_word(word, "msecs") || is_word(word, "millis") {
-        r#" (did you mean "ms"?)"#
-    } else if is_word(word, "µsecs") || is_word(word, "µseconds") {
-        r#" (did you mean "µs"?)"#
-    } else if is_word(word, "nsecs") || is_word(word, "nanos") {
-        r#" (did you mean "ns"?)"#
-    } else {
-        ALL_UNITS
+    match near_row(word) {
+        Some(row) => put_name_help(buffer, at, row.1.trim_ascii_end()),
+        None => put(
+            buffer,
+            at,
+            b" (write y, q, mon, w, d, h, min, s, ms, us or ns)",
+        ),
     }
 }
 
-/// The help for a word that is near no name.
-const ALL_UNITS: &str = " (write y, q, mon, w, d, h, min, s, ms, us or ns)";
+fn put_name_help(buffer: &mut [u8], at: usize, name: &[u8]) -> Option<usize>
+    requires { at ≤ length buffer.old }
+    ensures { IsInFront (take at buffer.old ++ name_help name.now) result buffer.new }
+{
+    let start = put(buffer, at, b" (did you mean \"")?;
+    let end = put(buffer, start, name)?;
+    put(buffer, end, b"\"?)")
+}
+
+/// The row of a word for which a name is advised.
+fn near_row(word: &str) -> Option<([u8; 9], [u8; 3])>
+    ensures { result ≡ (if is_megabyte word.now then None
+        else find (λ row. is_near row.0 word.now) NEAR_WORDS) }
+{
+    if is_megabyte(word) {
+        return None;
+    }
+    row_beside(word)
+}
+
+fn row_beside(word: &str) -> Option<([u8; 9], [u8; 3])>
+    ensures { result ≡ find (λ row. is_near row.0 word.now) NEAR_WORDS }
+{
+    NEAR_WORDS.iter().copied().find(|row| is_near(&row.0, word))
+}
+
+/// Whether a word is `mo` or `mos` with a capital: `Mo` is a megabyte too.
+fn is_megabyte(word: &str) -> bool
+    ensures { result ≡ is_megabyte word.now }
+{
+    (is_word(word, "mo") || is_word(word, "mos")) && word != "mo" && word != "mos"
+}
+
+fn is_near(near: &[u8; 9], word: &str) -> bool
+    ensures { result ≡ is_near near.now word.now }
+{
+    word.as_bytes().eq_ignore_ascii_case(near.trim_ascii_end())
+}
+
+/// The words that people write for a unit and that aren't read, each with the name to write, and spaces after both:
+/// texts, which have addresses, would make a program larger. The words after `micros` have a Greek mu.
+static NEAR_WORDS: [([u8; 9], [u8; 3]); 28] = [
+    (*b"usecs    ", *b"us "),
+    (*b"useconds ", *b"us "),
+    (*b"micros   ", *b"us "),
+    (*b"\xCE\xBCs      ", *b"us "),
+    (*b"\xCE\xBCsec    ", *b"us "),
+    (*b"\xCE\xBCsecs   ", *b"us "),
+    (*b"\xCE\xBCsecond ", *b"us "),
+    (*b"\xCE\xBCseconds", *b"us "),
+    (*b"yr       ", *b"y  "),
+    (*b"yrs      ", *b"y  "),
+    (*b"qtr      ", *b"q  "),
+    (*b"qtrs     ", *b"q  "),
+    (*b"mons     ", *b"mon"),
+    (*b"mth      ", *b"mon"),
+    (*b"mths     ", *b"mon"),
+    (*b"mo       ", *b"mon"),
+    (*b"mos      ", *b"mon"),
+    (*b"wk       ", *b"w  "),
+    (*b"wks      ", *b"w  "),
+    (*b"hrs      ", *b"h  "),
+    (*b"mins     ", *b"min"),
+    (*b"secs     ", *b"s  "),
+    (*b"msecs    ", *b"ms "),
+    (*b"millis   ", *b"ms "),
+    (*b"\xC2\xB5secs   ", *b"\xC2\xB5s"),
+    (*b"\xC2\xB5seconds", *b"\xC2\xB5s"),
+    (*b"nsecs    ", *b"ns "),
+    (*b"nanos    ", *b"ns "),
+];
 
 /// Whether a word is this one, apart from ASCII capitals.
-#[inline(never)]
 fn is_word(word: &str, name: &str) -> bool
     ensures { result ≡ bytes_eq (map to_ascii_lowercase word.now)
         (map to_ascii_lowercase name.now) }

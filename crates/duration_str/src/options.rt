@@ -22,7 +22,7 @@ pub struct Options {
 }
 
 impl Options {
-    /// All three options off.
+    /// All options off.
     ///
     /// ```
     /// assert!(!duration_str::Options::off().no_calc);
@@ -38,7 +38,7 @@ impl Options {
         }
     }
 
-    /// Whether all three options are off.
+    /// Whether all options are off.
     ///
     /// ```
     /// assert!(duration_str::Options::off().are_off());

@@ -199,7 +199,7 @@ fn put_wide(buffer: &mut [u8], at: usize, n: u128) -> usize
 }
 
 /// Copies each name with what follows it in four bytes, which takes no call and no branch.
-#[tactic(auto, using(crate::proofs::Printer::RowLemmas::name_copied))]
+#[tactic(auto, using(crate::proofs::Printer::LimitsLemmas::name_copied))]
 #[inline(always)]
 fn put_name(buffer: &mut [u8], at: usize, row: &Printed) -> usize
     requires right { row.now ≡ printed_row row.now.unit }

@@ -2,6 +2,7 @@
 ghost use Rattle.std.specs.Prelude.{◌≡◌, ◌+◌, ◌%◌, ◌^◌, ◌≤◌, ◌<◌, [], ◌&&◌, ◌||◌, ◌==◌, true, length, take};
 ghost use Rattle.std.specs.Prelude.{is_some, Option, IsSome, IsTrue, if◌then◌else◌, false, Some, IsUtf8};
 ghost use Rattle.std.specs.List.{list_all};
+ghost use Rattle.std.specs.Char.{is_ascii_alphabetic};
 ghost use Rattle.std.specs.Option.{ForSome, ForNone};
 ghost use Rattle.std.specs.Str.{chars};
 ghost use Rattle.std.specs.Iterator.{item_count};
@@ -85,13 +86,6 @@ impl TokenStart {
             None => TokenStart::Other,
         }
     }
-}
-
-/// Unit letters: their packed number modulo 2^64, and whether one of them is a capital.
-#[derive(Clone, Copy)]
-struct Letters {
-    packed: u64,
-    has_capital: bool,
 }
 
 /// The tokens of a text, in order. Each character is looked at once, when it is reached.
@@ -236,15 +230,14 @@ impl<'a> Tokens<'a> {
         fits(self.eye.bytes_since(start), low).then_some(low)
     }
 
-    /// Moves past the letters of the word ahead, and returns them packed. Its first character is a unit letter, and
-    /// is handled before the loop, which takes fewer instructions. Of unit letters the capitals alone are below `a`.
+    /// Moves past the letters of the word ahead, and returns their packed number modulo 2^64. Its first character is a
+    /// unit letter, and is handled before the loop, which takes fewer instructions.
     #[inline(always)]
-    fn take_letters(&mut self) -> Letters
+    fn take_letters(&mut self) -> u64
         requires { IsAhead self.old (Some a_word) }
         ensures kept { KeepsInput self.old self.new }
         ensures letters { TakesLetters (options_of self.old)
-            (source self.old) (cut_place self.old) (cut_place self.new)
-            result.packed result.has_capital }
+            (source self.old) (cut_place self.old) (cut_place self.new) result }
         ensures stops { Stops (is_unit_letter (options_of self.old))
             (ahead (source self.new) (cut_place self.new)) }
     {
@@ -252,20 +245,15 @@ impl<'a> Tokens<'a> {
             unreachable!();
         };
         let mut packed = first_number(first, self.options);
-        let mut has_capital = first < 'a';
         self.advance();
         while let Some(c) = self.head {
             let Some(number) = letter_number(c, self.options) else {
                 break;
             };
             packed = ((packed as u128 * 40 + number as u128) % MODULUS) as u64;
-            has_capital |= c < 'a';
             self.advance();
         }
-        Letters {
-            packed,
-            has_capital,
-        }
+        packed
     }
 
     #[inline(always)]
@@ -274,14 +262,11 @@ impl<'a> Tokens<'a> {
         ensures { TakesToken self.old self.new (word result) }
     {
         let start = self.eye.place();
-        let letters = self.take_letters();
-        if self.options.lowercase && letters.has_capital {
-            return None;
-        }
+        let packed = self.take_letters();
         if self.eye.place() - start > MOST_BYTES {
             return None;
         }
-        unit_of_packed(letters.packed)
+        unit_of_packed(packed)
     }
 
     #[inline(always)]
@@ -376,14 +361,13 @@ fn is_unit_letter(c: char, o: Options) -> bool
     letter_number(c, o).is_some()
 }
 
-/// The number of a unit letter under these options, ignoring case: 1 to 26 of an ASCII letter, which is its code modulo
-/// 32; `None` of any other character.
+/// The number of a unit letter under these options; `None` of any other character.
 #[inline(always)]
 fn letter_number(c: char, o: Options) -> Option<u64>
-    ensures { result ≡ (if is_unit_letter o c then Some (letter_number c) else None) }
+    ensures { result ≡ (if is_unit_letter o c then Some (letter_number o c) else None) }
 {
     if c.is_ascii_alphabetic() {
-        return Some(u64::from(c as u32 % 32));
+        return Some(ascii_number(c, o));
     }
     if c.is_ascii() {
         return None;
@@ -394,16 +378,29 @@ fn letter_number(c: char, o: Options) -> Option<u64>
     }
 }
 
-/// The number of a unit letter, ignoring case.
+/// The number of a unit letter.
 #[inline(always)]
 fn first_number(c: char, o: Options) -> u64
     requires { is_unit_letter o c ≡ true }
-    ensures { result ≡ letter_number c }
+    ensures { result ≡ letter_number o c }
 {
     if c.is_ascii() {
-        return u64::from(c as u32 % 32);
+        return ascii_number(c, o);
     }
     wide_number(c, o.cn_unit)
+}
+
+/// The number of an ASCII letter, ignoring case: 1 to 26, its code modulo 32. Under `lowercase` a capital has a number
+/// that no letter of a name has.
+#[inline(always)]
+fn ascii_number(c: char, o: Options) -> u64
+    requires { is_ascii_alphabetic c ≡ true }
+    ensures { result ≡ letter_number o c }
+{
+    if o.lowercase && c < 'a' {
+        return CAPITAL;
+    }
+    u64::from(c as u32 % 32)
 }
 
 /// The number of a unit letter beyond ASCII: `µ`, and those that the option `cn_unit` adds; 0 of any other character.
@@ -432,6 +429,9 @@ fn wide_number(c: char, cn_unit: bool) -> u64
         _ => 0,
     }
 }
+
+/// The number of a capital under `lowercase`.
+const CAPITAL: u64 = 39;
 
 /// Whether each character up to the space is a blank. A table takes fewer instructions than comparisons.
 static BLANKS: [bool; 33] = [

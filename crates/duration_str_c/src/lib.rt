@@ -34,7 +34,7 @@ const CN_UNIT: u32 = 4;
 /// The options whose bits are set. Other bits have no effect.
 pub(crate) fn options_of_bits(bits: u32) -> Options
     ensures options { result ≡ options_of_bits bits }
-    ensures three_bits { result ≡ options_of_bits (bit_and bits 7) }
+    ensures known_bits { result ≡ options_of_bits (bit_and bits 7) }
 {
     Options {
         no_calc: bits & NO_CALC != 0,

@@ -1,6 +1,6 @@
 // What `Debug` prints of each public type.
 use crate::refusal::refusal;
-use crate::vectors::{AFTER_NUMBER, OFF};
+use crate::vectors::{AFTER_NUMBER, OFF, syntax};
 use duration_str::{Cause, CondUnit, DError, TimeUnit, Tokens};
 use std::alloc::{AllocError, Global};
 use std::fmt::Debug;
@@ -41,30 +41,21 @@ fn shows_tokens(rt: HostRuntime) -> Result<(), Fail> {
 
 #[test]
 fn shows_causes(rt: HostRuntime) -> Result<(), Fail> {
-    let (first, later) = (CondUnit::Plus, CondUnit::Star);
-    let expected = AFTER_NUMBER;
-    let syntax =
+    let alloc = rt.alloc();
+    let wanted =
         "Syntax { place: 1, expected: Expected { number: false, unit_word: true, operator: true, text_end: true } }";
-    for (cause, wanted) in [
-        (Cause::Empty, "Empty"),
-        (Cause::Syntax { place: 1, expected }, syntax),
-        (
-            Cause::NumberTooLarge { place: Some(0) },
-            "NumberTooLarge { place: Some(0) }",
-        ),
-        (Cause::Overflow { place: None }, "Overflow { place: None }"),
-        (
-            Cause::Mixed { first, later },
-            "Mixed { first: Plus, later: Star }",
-        ),
-        (Cause::OutOfRange, "OutOfRange"),
-        (
-            Cause::NotText { optional: true },
-            "NotText { optional: true }",
-        ),
-    ] {
-        assert!(rt; shows(rt.alloc(), &cause, wanted)?, "{wanted}");
-    }
+    assert!(rt; shows(alloc, &syntax(1, AFTER_NUMBER), wanted)?);
+    let large = Cause::NumberTooLarge { place: Some(0) };
+    assert!(rt; shows(alloc, &large, "NumberTooLarge { place: Some(0) }")?);
+    let overflow = Cause::Overflow { place: None };
+    assert!(rt; shows(alloc, &overflow, "Overflow { place: None }")?);
+    let (first, later) = (CondUnit::Plus, CondUnit::Star);
+    let mixed = "Mixed { first: Plus, later: Star }";
+    assert!(rt; shows(alloc, &Cause::Mixed { first, later }, mixed)?);
+    let no_text = Cause::NotText { optional: true };
+    assert!(rt; shows(alloc, &no_text, "NotText { optional: true }")?);
+    assert!(rt; shows(alloc, &Cause::Empty, "Empty")?);
+    assert!(rt; shows(alloc, &Cause::OutOfRange, "OutOfRange")?);
     Ok(())
 }
 

@@ -2,7 +2,7 @@
 use crate::refusal::refusal;
 use crate::vectors::{OFF, TOO_LARGE};
 use duration_str::{
-    DError, Fault, after_naive_date, deserialize_duration, deserialize_option_duration, parse,
+    DError, Fault, after_naive_date, deserialize_duration, deserialize_option_duration,
 };
 use jiff::Timestamp;
 use refusing::Refusing;
@@ -32,24 +32,6 @@ fn requests(alloc: Global, fault: Fault<'_>, line: &str) -> Result<Option<u64>, 
     Ok(None)
 }
 
-/// The first of these texts whose fault does not hold its line.
-fn first_unheld<'a>(
-    alloc: Global,
-    rows: &[(&'a str, &str)],
-) -> Result<Option<&'a str>, AllocError> {
-    for (text, line) in rows.iter().copied() {
-        match parse(text) {
-            Ok(_) => return Ok(Some(text)),
-            Err(fault) => {
-                if requests(alloc, fault, line)? != Some(1) {
-                    return Ok(Some(text));
-                }
-            }
-        }
-    }
-    Ok(None)
-}
-
 #[test]
 fn holds_the_line(rt: HostRuntime) -> Result<(), Fail> {
     let rows = [
@@ -59,7 +41,10 @@ fn holds_the_line(rt: HostRuntime) -> Result<(), Fail> {
         ("1s + 18446744073709551616", TOO_LARGE),
         ("1m 2s*3", "not support '+' with '*' calculate"),
     ];
-    assert_eq!(rt; first_unheld(rt.alloc(), &rows)?, None);
+    for (text, line) in rows {
+        let fault = refusal(&rt, text, OFF);
+        assert_eq!(rt; requests(rt.alloc(), fault, line)?, Some(1), "{text}");
+    }
     Ok(())
 }
 
@@ -75,21 +60,15 @@ fn holds_the_line_of_a_date(rt: HostRuntime) -> Result<(), Fail> {
 
 #[test]
 fn holds_the_lines_of_what_is_no_text(rt: HostRuntime) -> Result<(), Fail> {
-    let is_held = match deserialize_duration::<Duration>(&Value::Null) {
-        Ok(_) => false,
-        Err(fault) => requests(rt.alloc(), fault, "expect duration string, e.g: '1min+30'")?
-            == Some(1),
-    };
-    assert!(rt; is_held);
+    let refused = deserialize_duration::<Duration>(&Value::Null).err();
+    let fault = refused.expect(&rt, "a fault");
+    let line = "expect duration string, e.g: '1min+30'";
+    assert_eq!(rt; requests(rt.alloc(), fault, line)?, Some(1));
     let number = json!(in rt.alloc(); 5)?;
-    let is_held = match deserialize_option_duration(&number) {
-        Ok(_) => false,
-        Err(fault) => {
-            let line = "expect duration string, null, or missing field";
-            requests(rt.alloc(), fault, line)? == Some(1)
-        }
-    };
-    assert!(rt; is_held);
+    let refused = deserialize_option_duration(&number).err();
+    let fault = refused.expect(&rt, "a fault");
+    let line = "expect duration string, null, or missing field";
+    assert_eq!(rt; requests(rt.alloc(), fault, line)?, Some(1));
     Ok(())
 }
 

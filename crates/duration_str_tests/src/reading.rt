@@ -10,7 +10,7 @@ use std::test::Fail;
 use std::time::Duration;
 
 /// Texts, between bars, that are read under these options as so many nanoseconds.
-const READ: [(&str, Options, u64); 61] = [
+const READ: [(&str, Options, u64); 65] = [
     ("0|0    |     0    |0m|580y*2*0|1000000000*1ns*1ns", OFF, 0),
     // The last factor would make 2^48 nanoseconds into 2^64 with one more.
     ("0*281474976710656ns*65535", OFF, 0),
@@ -36,24 +36,15 @@ const READ: [(&str, Options, u64); 61] = [
         OFF,
         144_000_000_000,
     ),
-    (
-        "3m + 1s + 29ms +17µs|3 m + 1 s + 29 ms +17µs",
-        OFF,
-        181_029_017_000,
-    ),
+    ("3m + 1s + 29ms +17µs", OFF, 181_029_017_000),
+    ("3 m + 1 s + 29 ms +17µs", OFF, 181_029_017_000),
     ("3m 1s 29ms 17µs|3m1s29ms17us", OFF, 181_029_017_000),
     ("3m + 13s + 29ms|3 m + 13 s + 29 ms", OFF, 193_029_000_000),
-    (
-        "3m+31|3m + 31|3 m+31|3 m + 31|3m31|3m  31",
-        OFF,
-        211_000_000_000,
-    ),
+    ("3m+31|3m + 31|3 m+31|3 m + 31", OFF, 211_000_000_000),
+    ("3m31|3m  31", OFF, 211_000_000_000),
     ("3m31s|3m  31s|3 m  31 s|3m31s0ns", OFF, 211_000_000_000),
-    (
-        "  3m 31s 0ns |3 m31 s0 ns|  3 m 31 s 0 ns ",
-        OFF,
-        211_000_000_000,
-    ),
+    ("  3m 31s 0ns |3 m31 s0 ns", OFF, 211_000_000_000),
+    ("  3 m 31 s 0 ns ", OFF, 211_000_000_000),
     ("1m*10|1m * 10|1 m*10", OFF, 600_000_000_000),
     ("1hr|1m*60|1m * 1m|1 m * 1 m", OFF, 3_600_000_000_000),
     ("123m", OFF, 7_380_000_000_000),
@@ -65,11 +56,8 @@ const READ: [(&str, Options, u64); 61] = [
     ("2 Quarters", OFF, 15_724_800_000_000_000),
     ("1y+30|1 y + 30", OFF, 31_536_030_000_000_000),
     ("580y*1", OFF, 18_290_880_000_000_000_000),
-    (
-        "18446744073709551615ns|0+18446744073709551615ns",
-        OFF,
-        u64::MAX,
-    ),
+    ("18446744073709551615ns", OFF, u64::MAX),
+    ("0+18446744073709551615ns", OFF, u64::MAX),
     ("1m84s |1m84 ", NO_CALC, 144_000_000_000),
     ("1min30", NO_CALC, 90_000_000_000),
     ("1m31|1m31s", NO_CALC, 91_000_000_000),
@@ -128,21 +116,13 @@ fn is_read(text: &str, o: Options, nanos: u64) -> bool {
         && (!has_calls || parse_chrono(text) == signed && parse_time(text) == signed)
 }
 
-/// The first of these texts that is not read as its nanoseconds.
-fn first_misread(rows: &[(&'static str, Options, u64)]) -> Option<&'static str> {
-    for (texts, o, nanos) in rows.iter().copied() {
-        for text in texts.split('|') {
-            if !is_read(text, o, nanos) {
-                return Some(text);
-            }
-        }
-    }
-    None
-}
-
 #[test]
 fn reads_values(rt: HostRuntime) {
-    assert_eq!(rt; first_misread(&READ), None);
+    for (texts, o, nanos) in READ {
+        for text in texts.split('|') {
+            assert!(rt; is_read(text, o, nanos), "{text}");
+        }
+    }
 }
 
 /// Whether the text is read as durations, signed and not, that print so into strings and into a buffer.
@@ -162,21 +142,11 @@ fn prints(alloc: Global, text: &str, printed: &str) -> Result<bool, AllocError> 
     )
 }
 
-/// The first of these texts that is read as something that prints otherwise.
-fn first_misprinted(
-    alloc: Global,
-    rows: &[(&'static str, &'static str)],
-) -> Result<Option<&'static str>, AllocError> {
-    for (text, printed) in rows.iter().copied() {
-        if !prints(alloc, text, printed)? || parse(printed) != parse(text) {
-            return Ok(Some(text));
-        }
-    }
-    Ok(None)
-}
-
 #[test]
 fn prints_what_is_read(rt: HostRuntime) -> Result<(), Fail> {
-    assert_eq!(rt; first_misprinted(rt.alloc(), &PRINTED)?, None);
+    for (text, printed) in PRINTED {
+        assert!(rt; prints(rt.alloc(), text, printed)?, "{text}");
+        assert!(rt; parse(printed) == parse(text), "{text}");
+    }
     Ok(())
 }

@@ -4,7 +4,6 @@ use duration_str::TimeUnit::{
     Day, Hour, MicroSecond, MilliSecond, Minute, Month, NanoSecond, Quarter, Second, Week, Year,
 };
 use duration_str::{CondUnit, TimeUnit, Token, Tokens, What, parse_looked};
-use std::alloc::{AllocError, Global};
 use std::test::Fail;
 
 /// Each unit with its length in nanoseconds and its printed name.
@@ -22,24 +21,12 @@ const TABLE: [(TimeUnit, u64, &str); 11] = [
     (NanoSecond, 1, "ns"),
 ];
 
-/// Whether the unit has this length in nanoseconds, and prints as this name.
-fn is_unit(alloc: Global, unit: TimeUnit, nanos: u64, name: &str) -> Result<bool, AllocError> {
-    Ok(unit.nanos() == nanos && unit.to_string(alloc)?.as_str() == name)
-}
-
-/// The first name whose unit is not so long, or does not print as it.
-fn first_mismeasured(alloc: Global) -> Result<Option<&'static str>, AllocError> {
-    for (unit, nanos, name) in TABLE {
-        if !is_unit(alloc, unit, nanos, name)? {
-            return Ok(Some(name));
-        }
-    }
-    Ok(None)
-}
-
 #[test]
 fn measures_and_prints_units(rt: HostRuntime) -> Result<(), Fail> {
-    assert_eq!(rt; first_mismeasured(rt.alloc())?, None);
+    for (unit, nanos, name) in TABLE {
+        let printed = unit.to_string(rt.alloc())?;
+        assert!(rt; unit.nanos() == nanos && printed.as_str() == name, "{name}");
+    }
     assert!(rt; TimeUnit::default() == TimeUnit::Second);
     Ok(())
 }
@@ -54,11 +41,8 @@ fn pads_units_and_operators(rt: HostRuntime) -> Result<(), Fail> {
 #[test]
 fn knows_and_prints_operators(rt: HostRuntime) -> Result<(), Fail> {
     for (c, operator, sign) in [('+', CondUnit::Plus, "+"), ('*', CondUnit::Star, "*")] {
-        let printed = operator.to_string(rt.alloc())?;
-        assert!(rt;
-            CondUnit::from_char(c) == Some(operator) && printed.as_str() == sign,
-            "{sign}"
-        );
+        assert_eq!(rt; CondUnit::from_char(c), Some(operator), "{sign}");
+        assert_eq!(rt; operator.to_string(rt.alloc())?.as_str(), sign);
     }
     for c in ['-', '/', '1', 'm', ' ', '\u{ff0b}'] {
         assert!(rt; CondUnit::from_char(c).is_none(), "{c}");

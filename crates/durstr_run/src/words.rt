@@ -5,8 +5,7 @@ ghost use Rattle.durstr_run.specs.Ending.{status_of, error_line};
 use crate::fault::RunFault;
 use duration_str::Options;
 
-/// The options with the field of this name on and the others unchanged; `None` if the word is not `no_calc`,
-/// `lowercase` or `cn_unit`.
+/// The options with the field of this name on and the others unchanged; `None` if the word is no option's name.
 ///
 /// ```text
 /// with_word(Options::off(), "no_calc") // Some(Options { no_calc: true, ..Options::off() })
@@ -19,8 +18,10 @@ pub fn with_word(options: Options, word: &str) -> Option<Options>
         → result ≡ Some (record options { lowercase = true }) }
     ensures cn_unit { word.now ≡ codes "cn_unit"
         → result ≡ Some (record options { cn_unit = true }) }
-    ensures unknown { IsNone result ↔ ((word.now ≢ codes "no_calc")
-        × (word.now ≢ codes "lowercase") × (word.now ≢ codes "cn_unit")) }
+    ensures unknown { IsNone result
+        ↔ ((word.now ≢ codes "no_calc")
+        × (word.now ≢ codes "lowercase")
+        × (word.now ≢ codes "cn_unit")) }
 {
     match word {
         "no_calc" => Some(Options {

@@ -1,10 +1,10 @@
 -- The canonical text of a value, and texts compared by their bytes.
-use Rattle.std.proofs.Common.{◌≡◌, ◌↔◌, ℕ, ◌^◌, ◌<◌, Bool, List, IsTrue, IsUtf8, refl, ap, sym, ◌∙◌, chars}
+use Rattle.std.proofs.Common.{ap, Bool, chars, IsTrue, IsUtf8, List, refl, rules, sym, ℕ, ◌<◌, ◌^◌, ◌↔◌, ◌∙◌, ◌≡◌}
 use Rattle.std.specs.Str.{bytes_eq}
-use Rattle.duration_str.proofs.Common.{encodes-chars, bytes_eq-Decides, encodes, FitsDuration, off, unit_lengths}
-use Rattle.duration_str.proofs.Common.{IsRead, IsPrintedIn, counts_of, GreatestBreakdown, EqualTexts, ReadsBack}
+use Rattle.duration_str.proofs.Common.{bytes_eq-Decides, counts_of, encodes, encodes-chars, EqualTexts, FitsDuration}
+use Rattle.duration_str.proofs.Common.{GreatestBreakdown, IsPrintedIn, IsRead, off, ReadsBack, unit_lengths}
 use Rattle.duration_str.specs.declared.format.Style.{Style}
-use Rattle.uses.specs.Cache.{canonical_text, IsKey, IsCanonical}
+use Rattle.uses.specs.Cache.{canonical_text, IsCanonical, IsKey}
 
 -- What a value prints as is its key.
 pub printed_is_key : GreatestBreakdown → EqualTexts → (style : Style) (nanos : ℕ) (key : List ℕ) → FitsDuration nanos
@@ -35,7 +35,4 @@ chars_tell a b ua ub e = sym (encodes-chars a ua) ∙ ap encodes e ∙ encodes-c
 -- If the characters of two texts are equal exactly when two numbers are, so are their bytes.
 pub equal_by_chars : {m n : ℕ} (a b : List ℕ) (equal : Bool) → IsUtf8 a → IsUtf8 b → equal ≡ bytes_eq a b
     → (chars a ≡ chars b ↔ m ≡ n) → (IsTrue equal ↔ m ≡ n)
-equal_by_chars a b equal ua ub is same = (
-  λ h. same.0 (ap chars ((bytes_eq-Decides a b).0 (sym is ∙ h))),
-  λ e. is ∙ (bytes_eq-Decides a b).1 (chars_tell a b ua ub (same.1 e)),
-)
+equal_by_chars a b equal ua ub is same = search (rules, bytes_eq-Decides, chars_tell)

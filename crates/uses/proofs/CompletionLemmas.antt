@@ -1,16 +1,16 @@
 -- What can be typed at the place of a syntax fault.
-use Rattle.std.proofs.Common.{◌≡◌, ℕ, List, [], ◌∷◌, ◌++◌, map, take, length, IsTrue, codes, refl, arith, sym, ap, ◌∙◌}
-use Rattle.std.proofs.Common.{append-nil, append_assoc}
-use Rattle.duration_str.proofs.Common.{map-append, byte_len, Terminal, number, word, operator, other, terminal_of}
-use Rattle.duration_str.proofs.Common.{IsSentence, Spells, IsLexeme, AreTokens, tokens_of, lexemes_of, BeginsSentence}
-use Rattle.duration_str.proofs.Common.{allows, IsRefused, OneSentence, OneCut, PlaceAndKinds}
-use Rattle.uses.proofs.Common.{take-map, Options, Expected, Syntax, Token}
+use Rattle.std.proofs.Common.{ap, append-nil, append_assoc, arith, codes, IsTrue, length, List, map, refl, sym, take}
+use Rattle.std.proofs.Common.{[], ℕ, ◌++◌, ◌∙◌, ◌∷◌, ◌≡◌}
+use Rattle.duration_str.proofs.Common.{allows, AreTokens, BeginsSentence, byte_len, IsLexeme, IsRefused, IsSentence}
+use Rattle.duration_str.proofs.Common.{lexemes_of, map-append, number, OneCut, OneSentence, operator, other}
+use Rattle.duration_str.proofs.Common.{PlaceAndKinds, Spells, Terminal, terminal_of, tokens_of, word}
+use Rattle.uses.proofs.Common.{Expected, Options, Syntax, take-map, Token}
 use Rattle.std.proofs.Math.Seq.{take-append_seam}
-use Rattle.duration_str.proofs.Sentences.SpellingLemmas.{tokens_spell_at, begins_with}
+use Rattle.duration_str.proofs.Sentences.SpellingLemmas.{begins_with, tokens_spell_at}
 use Rattle.duration_str.proofs.LawProofs.SumOfTexts.{spells_both}
 use Rattle.uses.specs.Completion.{BeginsExpression, IsCompletion}
-use Rattle.uses.proofs.FollowLemmas.{follows, ends, zero_ends}
-use Rattle.uses.proofs.CutLemmas.{IsSplit, split_at, typed_lexemes, one_token}
+use Rattle.uses.proofs.FollowLemmas.{ends, follows, zero_ends}
+use Rattle.uses.proofs.CutLemmas.{IsSplit, one_token, split_at, typed_lexemes}
 use Rattle.uses.proofs.SyntaxLemmas.{refused_at}
 
 -- A lexeme is the only token of its text.

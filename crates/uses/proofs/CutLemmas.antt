@@ -1,10 +1,10 @@
 -- How a text is cut that is split at a token, or joined at a blank.
-use Rattle.std.proofs.Common.{◌≡◌, ℕ, zero, suc, ◌+◌, List, [], ◌∷◌, ◌++◌, take, arith, refl, sym, ap, ◌∙◌, append-nil}
-use Rattle.std.proofs.Common.{append_assoc}
-use Rattle.duration_str.proofs.Common.{false_from_ne_true, map-append, byte_len, IsLexeme, EndsRun, AreTokens}
-use Rattle.duration_str.proofs.Common.{tokens_from, tokens_of, lexemes_of, start_after}
-use Rattle.uses.proofs.Common.{Options, Token, run-not_blank}
-use Rattle.duration_str.proofs.Characters.TextLemmas.{byte_len-append}
+use Rattle.std.proofs.Common.{ap, append-nil, append_assoc, arith, List, refl, rules, suc, take, zero, [], ℕ, ◌++◌, ◌+◌}
+use Rattle.std.proofs.Common.{◌∙◌, ◌∷◌, ◌≡◌}
+use Rattle.duration_str.proofs.Common.{AreTokens, byte_len, EndsRun, false_from_ne_true, IsLexeme, lexemes_of}
+use Rattle.duration_str.proofs.Common.{map-append, start_after, tokens_from, tokens_of}
+use Rattle.uses.proofs.Common.{Options, run-not_blank, Token}
+use Rattle.duration_str.proofs.Characters.CharacterLemmas.{byte_len-append}
 use Rattle.duration_str.proofs.Cutting.PositionLemmas.{blanks_no_token}
 use Rattle.duration_str.proofs.Cutting.TokenLemmas.{tokens_step}
 
@@ -33,17 +33,9 @@ module _ (o : Options) where
 
   pub split_at : (at end : ℕ) (text : List ℕ) (tokens : List Token) (n : ℕ) → end ≡ at + byte_len text
       → AreTokens o at text tokens → IsSplit o at end text tokens n
-  split_at at end text [] zero e h =
-      record { front = text; rest = []; parts = sym (append-nil text); place = sym e; are = h }
-  split_at at end text [] (suc n) e h =
-      record { front = text; rest = []; parts = sym (append-nil text); place = sym e; are = h }
-  split_at at end text (token ∷ tokens) zero e (rest, next, are) = record {
-    front = next.blanks;
-    rest = token.characters ++ rest;
-    parts = next.parts;
-    place = sym next.start;
-    are = next.blank;
-  }
+  split_at at end text [] zero e h = search (rules, append-nil)
+  split_at at end text [] (suc n) e h = search (rules, append-nil)
+  split_at at end text (token ∷ tokens) zero e (rest, next, are) = search rules
   split_at at end text (token ∷ tokens) (suc n) e (rest, next, are) =
       let cs = token.characters in
       let len : byte_len text ≡ byte_len next.blanks + (byte_len cs + byte_len rest) =
@@ -76,12 +68,7 @@ module _ (o : Options) where
       → (start : ℕ) × (tokens_from o at (text ++ 32 ∷ more) ≡ tokens ++ tokens_from o start more)
   joined at text more [] h = (at + byte_len text + 1, blanks_no_token o at text (32 ∷ more) h)
   joined at text more (token ∷ tokens) (rest, next, are) =
-      let later = joined (token.start + byte_len token.characters) rest more tokens are in
-      let parts : text ++ 32 ∷ more ≡ next.blanks ++ (token.characters ++ (rest ++ 32 ∷ more)) =
-      rw next.parts (simp append_assoc) in
-      let first = tokens_step o at next.blanks token.characters (rest ++ 32 ∷ more) next.blank next.is_lexeme
-      (ends_at_blank token.characters rest more next.ends) in
-      (later.0, rw parts (rw (← next.start) at first ∙ ap (λ (ts : List Token). token ∷ ts) later.1))
+      search (rules, append_assoc, tokens_step, ends_at_blank, joined (token.start + byte_len token.characters) rest more tokens)
 
   -- The lexemes of a text, a blank, a lexeme, a blank and more.
   pub typed_lexemes : (text w more : List ℕ) (tokens : List Token) → AreTokens o 0 text tokens → IsLexeme o w
@@ -96,8 +83,4 @@ module _ (o : Options) where
   -- A lexeme is one token.
   pub one_token : (w : List ℕ) → IsLexeme o w → AreTokens o 0 w (record { start = 0; characters = w } ∷ [])
   one_token [] h = absurd h
-  one_token (c ∷ cs) h = (
-    [],
-    record { blanks = []; blank = refl; parts = sym (append-nil (c ∷ cs)); start = refl; is_lexeme = h; ends = refl },
-    refl,
-  )
+  one_token (c ∷ cs) h = search (rules, append-nil)

@@ -1,9 +1,9 @@
 -- What a text moves a moment to, from the contract of the calls for dates.
-use Rattle.std.proofs.Common.{ℕ, ℤ, List, inl, inr, Result, Ok, Err, chars}
+use Rattle.std.proofs.Common.{chars, Err, inl, inr, List, Ok, Result, ℕ, ℤ}
 use Rattle.std.specs.Int.Signed.{clash_ℤ}
 use Rattle.duration_str.proofs.Common.{off, OneReading}
 use Rattle.uses.proofs.Common.{Fault}
-use Rattle.duration_str.specs.Dates.{IsInRange, IsOutOfRange, IsDated}
+use Rattle.duration_str.specs.Dates.{IsDated, IsInRange, IsOutOfRange}
 use Rattle.uses.specs.Dates.{MovesTo}
 
 apart : (instant : ℤ) → IsInRange instant → IsOutOfRange instant → ⊥

@@ -1,9 +1,9 @@
 -- What the law `place_and_kinds` says of one more terminal.
-use Rattle.std.proofs.Common.{◌≡◌, ◌≤◌, Bool, inl, inr, ◌↔◌, List, [], ◌∷◌, ◌++◌, Option, Some, None, length, IsTrue}
-use Rattle.std.proofs.Common.{arith, refl, sym, ap, append-nil, length-take, suc-le-suc, le_of_suc-le-suc}
-use Rattle.duration_str.proofs.Common.{cases_Bool, Terminal, number, operator, IsSentence, BeginsSentence}
-use Rattle.duration_str.proofs.Common.{expected_after, allows, last_of, front_after, front_of, PlaceAndKinds}
-use Rattle.uses.proofs.Common.{take_all, CondUnit}
+use Rattle.std.proofs.Common.{append-nil, Bool, IsTrue, le_of_suc-le-suc, length, length-take, List, None, Option, refl}
+use Rattle.std.proofs.Common.{rules, Some, suc-le-suc, [], ◌++◌, ◌↔◌, ◌∷◌, ◌≡◌, ◌≤◌}
+use Rattle.duration_str.proofs.Common.{allows, BeginsSentence, cases_Bool, expected_after, front_after, front_of}
+use Rattle.duration_str.proofs.Common.{IsSentence, last_of, number, operator, PlaceAndKinds, Terminal}
+use Rattle.uses.proofs.Common.{CondUnit, take_all}
 
 last_of_pushed : (last : Option Terminal) (front : List Terminal) (t : Terminal) → last_of last (front ++ t ∷ [])
     ≡ Some t
@@ -13,31 +13,15 @@ last_of_pushed last (s ∷ front) t = last_of_pushed (Some s) front t
 module _ (law : PlaceAndKinds) (no_calc : Bool) where
   -- Terminals begin a sentence exactly if the table's front is all of them.
   begins_whole : (ts : List Terminal) → (BeginsSentence no_calc ts ↔ length ts ≤ front_of no_calc ts)
-  begins_whole ts = (
-    λ b. let same = (law.only no_calc ts ts [] (record {
-      parts = sym
-          (append-nil ts);
-      begins = b;
-      longest = λ n l h. l;
-    })).0 in
-        omega (arith, ap length same, length-take (front_of no_calc ts) ts),
-    λ l. rw (take_all (front_of no_calc ts) ts l) at (law.front no_calc ts).begins,
-  )
+  begins_whole ts = search (rules, append-nil, length-take, take_all)
 
   -- The table finds one more terminal exactly if it allows it after the last.
   pushed : (last : Option Terminal) (front : List Terminal) (t : Terminal)
       → length front ≤ front_after no_calc last front
       → (IsTrue (allows (expected_after no_calc (last_of last front)) t)
       ↔ length (front ++ t ∷ []) ≤ front_after no_calc last (front ++ t ∷ []))
-  pushed last [] t h = elim (cases_Bool (allows (expected_after no_calc last) t)) [
-    | inl e ↦ rw e (λ a. omega arith, λ l. refl)
-    | inr e ↦ rw e (λ a. cc a, λ l. absurd (omega arith))
-  ]
-  pushed last (s ∷ front) t h = elim (cases_Bool (allows (expected_after no_calc last) s)) [
-    | inl e ↦ let rest = pushed (Some s) front t (le_of_suc-le-suc (rw e at h)) in
-        rw e (λ a. suc-le-suc (rest.0 a), λ l. rest.1 (le_of_suc-le-suc l))
-    | inr e ↦ absurd (omega (arith, rw e at h))
-  ]
+  pushed last [] t h = search (rules, cases_Bool)
+  pushed last (s ∷ front) t h = search (rules, cases_Bool, le_of_suc-le-suc, suc-le-suc, pushed (Some s) front t)
 
   -- One more terminal goes on with the beginning of a sentence exactly if the table allows it.
   pub follows : (front : List Terminal) (t : Terminal) → BeginsSentence no_calc front

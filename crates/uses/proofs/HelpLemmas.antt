@@ -1,9 +1,9 @@
 -- The computed answer to a text is its only one, and a word that is near a name is no unit.
-use Rattle.std.proofs.Common.{◌≡◌, ℕ, List, Result, sym, ◌∙◌, Some, encode_utf8_all}
+use Rattle.std.proofs.Common.{encode_utf8_all, List, Result, Some, sym, ℕ, ◌∙◌, ◌≡◌}
 use Rattle.duration_str.specs.Laws.{NearWords}
 use Rattle.duration_str.specs.OneLine.{near_name}
 use Rattle.duration_str.proofs.Common.{answer, AnswerIsReading}
-use Rattle.uses.proofs.Common.{Duration, Options, Cause}
+use Rattle.uses.proofs.Common.{Cause, Duration, Options}
 use Rattle.uses.specs.Help.{in_nanos, IsNoUnit, IsOnlyAnswerTo}
 
 pub computed_is_only : AnswerIsReading → (o : Options) (text : List ℕ) (a : Result Duration Cause)

@@ -1,8 +1,8 @@
 -- Lines and their texts are spelled by the same sentences.
-use Rattle.std.proofs.Common.{append-nil, ◌≡◌, ℕ, ◌+◌, List, [], ◌∷◌, IsUtf8, refl, ap, ◌∙◌, inl, inr}
-use Rattle.duration_str.proofs.Common.{cases_Bool, chars-append, width, Spells, IsSentenceOf, goes_on, tokens_from}
-use Rattle.duration_str.proofs.Common.{lexemes_of, OneSentence, BlanksFree}
-use Rattle.uses.proofs.Common.{true≢false, Options, run-not_blank, with_line_feed, IsReadAsBefore}
+use Rattle.std.proofs.Common.{ap, append-nil, inl, inr, IsUtf8, List, refl, rules, [], ℕ, ◌+◌, ◌∙◌, ◌∷◌, ◌≡◌}
+use Rattle.duration_str.proofs.Common.{BlanksFree, cases_Bool, chars-append, goes_on, IsSentenceOf, lexemes_of}
+use Rattle.duration_str.proofs.Common.{OneSentence, Spells, tokens_from, width}
+use Rattle.uses.proofs.Common.{IsReadAsBefore, Options, run-not_blank, true≢false, with_line_feed}
 use Rattle.std.specs.Str.{chars}
 use Rattle.duration_str.proofs.LawProofs.SumOfTexts.{spells_both}
 
@@ -14,10 +14,7 @@ chars_line bytes utf8 = chars-append bytes (10 ∷ []) utf8
 read_as_before : BlanksFree → (old new : List ℕ)
     → ((o : Options) (lexemes : List (List ℕ)) → IsSentenceOf o lexemes old → Spells lexemes new)
     → IsReadAsBefore old new
-read_as_before free old new spells = record {
-  value = λ o nanos read. free.value o old new read.lexemes nanos read.spells (spells o read.lexemes read.spells) read;
-  cause = λ o lexemes cause s refused. free.cause o old new lexemes cause s (spells o lexemes s) refused;
-}
+read_as_before free old new spells = search rules
 
 -- ---- A line feed more
 
@@ -46,6 +43,4 @@ spells_text law o lexemes text s =
 
 pub text_read : OneSentence → BlanksFree → (bytes : List ℕ) → IsUtf8 bytes
     → IsReadAsBefore (chars (with_line_feed bytes)) (chars bytes)
-text_read law free bytes utf8 =
-    rw (chars_line bytes utf8) (read_as_before free _ (chars bytes)
-    (λ o lexemes s. spells_text law o lexemes (chars bytes) s))
+text_read law free bytes utf8 = search (rules, chars_line, read_as_before, spells_text)

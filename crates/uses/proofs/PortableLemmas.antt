@@ -1,11 +1,11 @@
 -- Texts whose characters mean the same under several choices of options.
-use Rattle.std.proofs.Common.{◌≡◌, ◌↔◌, ◌&&◌, ◌||◌, ℕ, Bool, true, false, not, List, IsTrue, refl, arith, sym, subst}
-use Rattle.duration_str.proofs.Common.{is_ascii_uppercase, list_all, is_operator, is_chinese, IsRead, IsRefused}
-use Rattle.duration_str.proofs.Common.{NoCalcAgrees, OptionsIdle, HasNoOperator, HasNoCapital, HasNoChinese}
+use Rattle.std.proofs.Common.{arith, Bool, false, IsTrue, List, not, refl, subst, sym, true, ℕ, ◌&&◌, ◌||◌, ◌↔◌, ◌≡◌}
+use Rattle.duration_str.proofs.Common.{HasNoCapital, HasNoChinese, HasNoOperator, is_ascii_uppercase, is_operator}
+use Rattle.duration_str.proofs.Common.{IsRead, IsRefused, list_all, NoCalcAgrees, OptionsIdle, rules}
 use Rattle.uses.proofs.Common.{Options}
 use Rattle.std.proofs.Math.Bool.{beq}
 use Rattle.duration_str.proofs.Characters.CharacterLemmas.{all_weaker}
-use Rattle.uses.specs.Portable.{is_unaffected, HasSameValue, HasSameCause}
+use Rattle.uses.specs.Portable.{HasSameCause, HasSameValue, is_unaffected}
 
 -- What holds of one choice of a flag holds of the other, if they are the same or each implies the other.
 either_way : (P : Bool → Type 0) (b d : Bool) → (beq b d ≡ false → (P true ↔ P false)) → (P b ↔ P d)
@@ -26,8 +26,7 @@ module _ (o p : Options) (text : List ℕ) (h : IsTrue (list_all (is_unaffected 
   no_capital differ = all_weaker (is_unaffected o p) (λ c. not (is_ascii_uppercase c)) text (λ c u. grind arith) h
 
   no_chinese : beq o.cn_unit p.cn_unit ≡ false → HasNoChinese text
-  no_chinese differ = all_weaker (is_unaffected o p) (λ c. not (is_chinese c)) text
-      (λ c u. last_passes _ _ _ u differ) h
+  no_chinese differ = search (rules, all_weaker, last_passes)
 
   -- `lowercase` and then `cn_unit` are changed, each where it has to be.
   others_changed : (P : Options → Type 0)

@@ -1,7 +1,7 @@
 -- Texts that multiply two parts, in either order.
-use Rattle.std.proofs.Common.{◌≡◌, ℕ, ◌*◌, ◌/◌, ◌^◌, ◌<◌, ◌↔◌, List, inl, inr, arith, refl, ap, ◌∙◌, mul_comm}
-use Rattle.duration_str.proofs.Common.{nanos_of, second, IsRead, TwoFactors}
-use Rattle.uses.proofs.Common.{Options, Plus, Star, Part, nanos_in, term_of_part, MultipliesInEitherOrder}
+use Rattle.std.proofs.Common.{arith, inl, inr, List, mul_comm, refl, rules, ℕ, ◌*◌, ◌/◌, ◌<◌, ◌^◌, ◌↔◌, ◌≡◌}
+use Rattle.duration_str.proofs.Common.{IsRead, nanos_of, second, TwoFactors}
+use Rattle.uses.proofs.Common.{MultipliesInEitherOrder, nanos_in, Options, Part, Plus, Star, term_of_part}
 use Rattle.duration_str.specs.declared.unit.TimeUnit.{TimeUnit}
 use Rattle.duration_str.specs.declared.unit.TimeUnit.TheVariants.{Year}
 use Rattle.uses.specs.Product.{Multiplies}
@@ -19,12 +19,7 @@ pub record IsProduct (a b nanos : ℕ) : Type 0 where
   pub is : nanos ≡ a * b / second
 
 exchanged : (a b nanos : ℕ) → IsProduct a b nanos → IsProduct b a nanos
-exchanged a b nanos p = record {
-  length = p.other_length;
-  other_length = p.length;
-  product = p.product;
-  is = p.is ∙ ap (λ (n : ℕ). n / second) (mul_comm a b);
-}
+exchanged a b nanos p = search (rules, mul_comm)
 
 in_order : TwoFactors → (o : Options) (text : List ℕ) (a b : Part) (nanos : ℕ) → Multiplies o a b text
     → (IsRead o text nanos ↔ IsProduct (nanos_in a) (nanos_in b) nanos)

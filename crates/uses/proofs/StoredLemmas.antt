@@ -1,8 +1,8 @@
 -- Results of reading, given what the text is read as or refused for.
-use Rattle.std.proofs.Common.{◌≡◌, ℕ, List, Result, Ok, Err, IsOkAnd, IsErrAnd, map, ap, sym, ◌∙◌, chars}
-use Rattle.duration_str.proofs.Common.{as_nanos, IsRead, IsRefused, ParsesText, terminal_of, IsSentenceOf, tokens_of}
-use Rattle.duration_str.proofs.Common.{lexemes_of, older_terminals, WasSentenceOf, OneReading, OneSentence, OlderTexts}
-use Rattle.uses.proofs.Common.{Duration, Options, Cause, Fault, Token}
+use Rattle.std.proofs.Common.{chars, Err, IsErrAnd, IsOkAnd, List, map, Ok, Result, rules, ℕ, ◌≡◌}
+use Rattle.duration_str.proofs.Common.{as_nanos, IsRead, IsRefused, lexemes_of, older_terminals, OlderTexts, OneReading}
+use Rattle.duration_str.proofs.Common.{OneSentence, ParsesText, terminal_of, tokens_of, WasSentenceOf}
+use Rattle.uses.proofs.Common.{Cause, Duration, Fault, Options, Token}
 use Rattle.uses.specs.Stored.{unit_of_first}
 
 module _ (law : OneReading) (o : Options) (bytes : List ℕ) where
@@ -22,7 +22,4 @@ module _ (law : OneReading) (o : Options) (bytes : List ℕ) where
 pub first_kept : OneSentence → OlderTexts → (o : Options) (lexemes : List (List ℕ)) (text : List ℕ)
     (tokens : List Token) → WasSentenceOf o lexemes text → tokens_of o text ≡ tokens
     → unit_of_first (map (terminal_of o) (lexemes_of tokens)) ≡ unit_of_first (older_terminals o lexemes)
-first_kept one older o lexemes text tokens was e =
-    let s : IsSentenceOf o lexemes text = older.sentence o lexemes text was in
-    let cut = (one.tokens o text lexemes s.0).0 s.1 ∙ ap lexemes_of e in
-    sym (ap unit_of_first (older.terminals o lexemes text was ∙ ap (map (terminal_of o)) cut))
+first_kept one older o lexemes text tokens was e = search rules

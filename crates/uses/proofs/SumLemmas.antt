@@ -1,8 +1,8 @@
 -- Sums whose parts are exchanged.
-use Rattle.std.proofs.Common.{◌≡◌, ℕ, ◌==◌, List, [], ◌∷◌, map, if◌then◌else◌, refl, sym}
+use Rattle.std.proofs.Common.{if◌then◌else◌, List, map, refl, rules, [], ℕ, ◌==◌, ◌∷◌, ◌≡◌}
 use Rattle.std.specs.List.{sum_by}
-use Rattle.duration_str.proofs.Common.{value_of_term, times_in, IsRead, Reorder}
-use Rattle.uses.proofs.Common.{IsPermutation, sum_by-IsPermutation, Options, Plus, Part, nanos_in, term_of_part}
+use Rattle.duration_str.proofs.Common.{IsRead, Reorder, times_in, value_of_term}
+use Rattle.uses.proofs.Common.{IsPermutation, nanos_in, Options, Part, Plus, sum_by-IsPermutation, term_of_part}
 use Rattle.std.proofs.lemmas.List.Sums.{sum_by-cons}
 use Rattle.uses.specs.Sum.{Adds}
 
@@ -18,7 +18,4 @@ times_in_parts n (part ∷ parts) = rw (sum_by-cons, ← times_in_parts n parts)
 -- Sums of the same parts in another order are read alike.
 pub permuted_read : Reorder → (o : Options) (xs ys : List Part) (a b : List ℕ) (nanos : ℕ) → IsPermutation xs ys
     → Adds o xs a → Adds o ys b → IsRead o a nanos → IsRead o b nanos
-permuted_read law o xs ys a b nanos p s t =
-    law o a b s.lexemes t.lexemes nanos s.spells t.spells s.plus t.plus
-    (λ n. rw (s.terms, t.terms, times_in_parts n xs, times_in_parts n ys)
-    (sym (sum_by-IsPermutation (is_times n) xs ys p)))
+permuted_read law o xs ys a b nanos p s t = search (rules, times_in_parts, sum_by-IsPermutation)

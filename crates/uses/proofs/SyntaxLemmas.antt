@@ -1,8 +1,8 @@
 -- What is known of a text that is refused for its syntax.
-use Rattle.std.proofs.Common.{◌≡◌, ℕ, Bool, List, ◌++◌, Some, ap, ◌∙◌}
-use Rattle.duration_str.proofs.Common.{Terminal, CanFollow, IsRefusedAt, early, syntax_fault, late}
+use Rattle.std.proofs.Common.{ap, Bool, List, rules, Some, ℕ, ◌++◌, ◌∙◌, ◌≡◌}
+use Rattle.duration_str.proofs.Common.{CanFollow, early, IsRefusedAt, late, syntax_fault, Terminal}
 use Rattle.duration_str.proofs.OnePass.PlaceLemmas.{early_stands, late_stands}
-use Rattle.uses.proofs.Common.{Cause, Syntax, Expected}
+use Rattle.uses.proofs.Common.{Cause, Expected, Syntax}
 
 -- A syntax fault stands after the front, and its kinds are those that can follow. The faults of the evaluation are
 -- none.
@@ -12,9 +12,6 @@ pub refused_at : (no_calc : Bool) (at : ℕ) (front rest : List Terminal) (cause
     → (place ≡ at) × CanFollow no_calc front expected
 refused_at no_calc at front rest cause place expected (early h) e =
     absurd (rw (h ∙ ap Some e) at (early_stands (λ n. ⊥) no_calc front rest))
-refused_at no_calc at front rest cause place expected (syntax_fault other none whole can is) e =
-    let same : place ≡ at = cc in
-    let kinds : other ≡ expected = cc in
-    (same, rw kinds at can)
+refused_at no_calc at front rest cause place expected (syntax_fault other none whole can is) e = search rules
 refused_at no_calc at front rest cause place expected (late none s h) e =
     absurd (rw (h ∙ ap Some e) at (late_stands (λ n. ⊥) no_calc (front ++ rest)))

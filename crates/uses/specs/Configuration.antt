@@ -3,7 +3,7 @@ use Rattle.std.specs.Prelude.{◌≡◌, ℕ, List, Option, Result, Ok, Err, fal
 use Rattle.uses.specs.Common.{Duration, as_nanos, Cause, Overflow, NotText, IsRead, IsRefused, off}
 use Rattle.serde_json.specs.Data.{Data, string}
 use Rattle.duration_str.specs.declared.error.DError.{DError}
-use Rattle.duration_str.specs.Errors.{IsErrorOf}
+use Rattle.duration_str.specs.Messages.{IsErrorOf}
 
 -- The value is a text that is read as the duration, or refused for a cause whose error this is; or it is no text, and
 -- the error says so.

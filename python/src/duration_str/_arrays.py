@@ -102,7 +102,8 @@ def _nanos_of_lengths(values: Any, lengths: Any, raises: bool) -> Any:
 
 @overload
 def to_timedelta(
-    values: None, *, errors: Errors = ..., no_calc: bool = ..., lowercase: bool = ..., cn_unit: bool = ...
+    values: None, *, errors: Errors = ...,
+    no_calc: bool = ..., lowercase: bool = ..., cn_unit: bool = ...,
 ) -> None: ...
 @overload
 def to_timedelta(
@@ -111,10 +112,12 @@ def to_timedelta(
 ) -> NDArray[numpy.timedelta64]: ...
 @overload
 def to_timedelta(
-    values: Any, *, errors: Errors = ..., no_calc: bool = ..., lowercase: bool = ..., cn_unit: bool = ...
+    values: Any, *, errors: Errors = ...,
+    no_calc: bool = ..., lowercase: bool = ..., cn_unit: bool = ...,
 ) -> Any: ...
 def to_timedelta(
-    values: Any, *, errors: Errors = "raise", no_calc: bool = False, lowercase: bool = False, cn_unit: bool = False
+    values: Any, *, errors: Errors = "raise",
+    no_calc: bool = False, lowercase: bool = False, cn_unit: bool = False,
 ) -> Any:
     """As `pandas.to_timedelta`, of texts: of a Series a Series of
     timedelta64[ns] with its index and its name, of an Index an Index, and

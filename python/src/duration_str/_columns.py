@@ -36,14 +36,17 @@ def raises_errors(errors: str) -> bool:
 
 @overload
 def parse_many(
-    texts: Iterable[str], *, errors: Literal["raise"] = ..., no_calc: bool = ..., lowercase: bool = ..., cn_unit: bool = ...
+    texts: Iterable[str], *, errors: Literal["raise"] = ...,
+    no_calc: bool = ..., lowercase: bool = ..., cn_unit: bool = ...,
 ) -> array[int]: ...
 @overload
 def parse_many(
-    texts: Iterable[object], *, errors: Literal["coerce"], no_calc: bool = ..., lowercase: bool = ..., cn_unit: bool = ...
+    texts: Iterable[object], *, errors: Literal["coerce"],
+    no_calc: bool = ..., lowercase: bool = ..., cn_unit: bool = ...,
 ) -> tuple[array[int], array[int]]: ...
 def parse_many(
-    texts: Any, *, errors: Errors = "raise", no_calc: bool = False, lowercase: bool = False, cn_unit: bool = False
+    texts: Any, *, errors: Errors = "raise",
+    no_calc: bool = False, lowercase: bool = False, cn_unit: bool = False,
 ) -> array[int] | tuple[array[int], array[int]]:
     """The values in nanoseconds of texts, any iterable of str, as an
     `array('Q')`. The options are those of `parse_ns`.
@@ -68,14 +71,17 @@ def parse_many(
 
 @overload
 def parse_buffers(
-    data: Any, offsets: Any, *, errors: Literal["raise"] = ..., no_calc: bool = ..., lowercase: bool = ..., cn_unit: bool = ...
+    data: Any, offsets: Any, *, errors: Literal["raise"] = ...,
+    no_calc: bool = ..., lowercase: bool = ..., cn_unit: bool = ...,
 ) -> array[int]: ...
 @overload
 def parse_buffers(
-    data: Any, offsets: Any, *, errors: Literal["coerce"], no_calc: bool = ..., lowercase: bool = ..., cn_unit: bool = ...
+    data: Any, offsets: Any, *, errors: Literal["coerce"],
+    no_calc: bool = ..., lowercase: bool = ..., cn_unit: bool = ...,
 ) -> tuple[array[int], array[int]]: ...
 def parse_buffers(
-    data: Any, offsets: Any, *, errors: Errors = "raise", no_calc: bool = False, lowercase: bool = False, cn_unit: bool = False
+    data: Any, offsets: Any, *, errors: Errors = "raise",
+    no_calc: bool = False, lowercase: bool = False, cn_unit: bool = False,
 ) -> array[int] | tuple[array[int], array[int]]:
     """As `parse_many`, of texts in UTF-8 in a buffer: text `k`
     is `data[offsets[k] : offsets[k + 1]]`, so there is one offset more than

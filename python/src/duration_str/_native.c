@@ -12,11 +12,11 @@
 
 /* What the module keeps of Python: the names of the options, in the order of their bits; of what limits printing; of a
  * timedelta's parts; and what it makes and calls. */
-enum kept { NO_CALC, LOWERCASE, CN_UNIT, OPTIONS, LARGEST = OPTIONS, SMALLEST, PARTS, STYLE, DAYS, SECONDS, MICROSECONDS,
-            ERROR, TYPE_ERROR, NANOS_OF, TIMEDELTA, A_MICROSECOND, A_SECOND, KEPT };
+enum kept { NO_CALC, LOWERCASE, CN_UNIT, OPTIONS, LARGEST = OPTIONS, SMALLEST, PARTS, STYLE,
+            DAYS, SECONDS, MICROSECONDS, ERROR, TYPE_ERROR, NANOS_OF, TIMEDELTA, A_MICROSECOND, A_SECOND, KEPT };
 /* Those before ERROR, in their order */
-static const char *const kept_names[] = {"no_calc", "lowercase", "cn_unit", "largest", "smallest", "parts", "style", "days",
-                                         "seconds", "microseconds"};
+static const char *const kept_names[] = {"no_calc", "lowercase", "cn_unit", "largest", "smallest", "parts",
+                                         "style", "days", "seconds", "microseconds"};
 
 /* timedelta64's NaT, and the days that it can have whatever else is added. */
 #define MISSING ((uint64_t)INT64_MIN)

@@ -112,14 +112,14 @@ def _is_clear(text: str) -> bool:
         try:
             import_module("duration_str._native").parse_ns(quoted)
         except DurationError as error:
-            if not str(error).endswith(f' of over 584 years in "{quoted}"'):
+            if not str(error).endswith(f' in "{quoted}"'):
                 return False
     return True
 
 
 def option_bits(no_calc: bool, lowercase: bool, cn_unit: bool) -> int:
     """The options as the library takes them."""
-    return bool(no_calc) | bool(lowercase) << 1 | bool(cn_unit) << 2
+    return sum(bool(is_on) << bit for bit, is_on in enumerate((no_calc, lowercase, cn_unit)))
 
 
 def nanos_a_step(dtype: Any) -> int:

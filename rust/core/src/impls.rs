@@ -104,7 +104,9 @@ impl FromStr for Style {
 /// ```
 /// use duration_str::{Style, UnknownStyle};
 ///
-/// assert_eq!("long".parse(), Ok(Style::Long));
+/// for (name, style) in [("short", Style::default()), ("compact", Style::Compact), ("long", Style::Long)] {
+///     assert_eq!((name.parse(), format!("{style:>8}")), (Ok(style), format!("{name:>8}")));
+/// }
 /// assert_eq!("Long".parse::<Style>(), Err(UnknownStyle));
 /// assert_eq!(UnknownStyle.to_string(), "no style: write short, compact or long");
 /// ```
@@ -127,6 +129,7 @@ impl TimeUnit {
     ///
     /// let names: Vec<String> = TimeUnit::ALL.iter().map(TimeUnit::to_string).collect();
     /// assert_eq!(names.join(" "), "y q mon w d h min s ms µs ns");
+    /// assert!(TimeUnit::ALL.is_sorted_by(|longer, shorter| longer > shorter));
     /// ```
     pub const ALL: &'static [TimeUnit] = &UNITS;
 }
@@ -158,9 +161,10 @@ impl FromStr for TimeUnit {
 /// ```
 /// use duration_str::{TimeUnit, UnknownUnit};
 ///
-/// assert_eq!("hours".parse(), Ok(TimeUnit::Hour));
-/// assert_eq!("fortnights".parse::<TimeUnit>(), Err(UnknownUnit));
-/// assert_eq!(UnknownUnit.to_string(), "no unit of time such as h or min");
+/// assert_eq!("Hours".parse(), Ok(TimeUnit::Hour));
+/// assert_eq!("分".parse::<TimeUnit>(), Err(UnknownUnit));
+/// let refusal: Box<dyn std::error::Error + Send + Sync> = UnknownUnit.into();
+/// assert_eq!(refusal.to_string(), "no unit of time such as h or min");
 /// ```
 #[derive(Clone, Copy, Debug, PartialEq, Eq, Hash)]
 pub struct UnknownUnit;
@@ -203,6 +207,10 @@ impl fmt::Debug for Tokens<'_> {
 }
 
 /// The last line of a message, as [`Cause::line`] says it.
+///
+/// ```
+/// assert_eq!(format!("{:>16}", duration_str::Cause::Overflow { place: None }), "  overflow error");
+/// ```
 impl fmt::Display for Cause {
     fn fmt(&self, f: &mut fmt::Formatter<'_>) -> fmt::Result {
         f.pad(self.line())

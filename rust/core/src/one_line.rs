@@ -65,18 +65,18 @@ fn put_syntax(buffer: &mut [u8], text: &str, place: usize, expected: Expected) -
     let piece = first_piece(&text[place..]);
     let column = chars_before(text, place) + 1;
     if expected.unit_word && begins_with_letter(piece) {
-        put_unknown(buffer, column, piece, unit_help(piece))
+        put_unknown(buffer, column, piece)
     } else {
         let help = help_at(expected, text.as_bytes(), place, piece);
         put_found(buffer, expected_words(expected), column, piece, help)
     }
 }
 
-fn put_unknown(buffer: &mut [u8], column: usize, word: &str, help: &str) -> Option<usize> {
+fn put_unknown(buffer: &mut [u8], column: usize, word: &str) -> Option<usize> {
     let start = put(buffer, 0, b"unknown unit ")?;
     let end = put_quoted(buffer, start, word)?;
     let number = put_column(buffer, end, column)?;
-    put_text(buffer, number, help)
+    put_unit_help(buffer, number, word)
 }
 
 fn put_found(
@@ -118,7 +118,6 @@ fn put_text_line(buffer: &mut [u8], problem: &str, text: &str, help: &str) -> Op
     put_text(buffer, end, help)
 }
 
-#[inline(never)]
 fn put_column(buffer: &mut [u8], at: usize, column: usize) -> Option<usize> {
     let number = put(buffer, at, b" at column ")?;
     put_decimal(buffer, number, column)
@@ -264,55 +263,79 @@ fn expected_words(expected: Expected) -> &'static str {
     }
 }
 
-/// The help for a word that is no unit: the name that it is near, or all units. `Mo` is a megabyte too; the words after
-/// `micros` have a Greek mu.
-fn unit_help(word: &str) -> &'static str {
-    if is_word(word, "mo") || is_word(word, "mos") {
-        if word == "mo" || word == "mos" {
-            r#" (did you mean "mon"?)"#
-        } else {
-            ALL_UNITS
-        }
-    } else if is_word(word, "usecs")
-        || is_word(word, "useconds")
-        || is_word(word, "micros")
-        || is_word(word, "μs")
-        || is_word(word, "μsec")
-        || is_word(word, "μsecs")
-        || is_word(word, "μsecond")
-        || is_word(word, "μseconds")
-    {
-        r#" (did you mean "us"?)"#
-    } else if is_word(word, "yr") || is_word(word, "yrs") {
-        r#" (did you mean "y"?)"#
-    } else if is_word(word, "qtr") || is_word(word, "qtrs") {
-        r#" (did you mean "q"?)"#
-    } else if is_word(word, "mons") || is_word(word, "mth") || is_word(word, "mths") {
-        r#" (did you mean "mon"?)"#
-    } else if is_word(word, "wk") || is_word(word, "wks") {
-        r#" (did you mean "w"?)"#
-    } else if is_word(word, "hrs") {
-        r#" (did you mean "h"?)"#
-    } else if is_word(word, "mins") {
-        r#" (did you mean "min"?)"#
-    } else if is_word(word, "secs") {
-        r#" (did you mean "s"?)"#
-    } else if is_word(word, "msecs") || is_word(word, "millis") {
-        r#" (did you mean "ms"?)"#
-    } else if is_word(word, "µsecs") || is_word(word, "µseconds") {
-        r#" (did you mean "µs"?)"#
-    } else if is_word(word, "nsecs") || is_word(word, "nanos") {
-        r#" (did you mean "ns"?)"#
-    } else {
-        ALL_UNITS
+/// The help for a word that is no unit: the name that it is near, or all units.
+fn put_unit_help(buffer: &mut [u8], at: usize, word: &str) -> Option<usize> {
+    match near_row(word) {
+        Some(row) => put_name_help(buffer, at, row.1.trim_ascii_end()),
+        None => put(
+            buffer,
+            at,
+            b" (write y, q, mon, w, d, h, min, s, ms, us or ns)",
+        ),
     }
 }
 
-/// The help for a word that is near no name.
-const ALL_UNITS: &str = " (write y, q, mon, w, d, h, min, s, ms, us or ns)";
+fn put_name_help(buffer: &mut [u8], at: usize, name: &[u8]) -> Option<usize> {
+    let start = put(buffer, at, b" (did you mean \"")?;
+    let end = put(buffer, start, name)?;
+    put(buffer, end, b"\"?)")
+}
+
+/// The row of a word for which a name is advised.
+fn near_row(word: &str) -> Option<([u8; 9], [u8; 3])> {
+    if is_megabyte(word) {
+        return None;
+    }
+    row_beside(word)
+}
+
+fn row_beside(word: &str) -> Option<([u8; 9], [u8; 3])> {
+    NEAR_WORDS.iter().copied().find(|row| is_near(&row.0, word))
+}
+
+/// Whether a word is `mo` or `mos` with a capital: `Mo` is a megabyte too.
+fn is_megabyte(word: &str) -> bool {
+    (is_word(word, "mo") || is_word(word, "mos")) && word != "mo" && word != "mos"
+}
+
+fn is_near(near: &[u8; 9], word: &str) -> bool {
+    word.as_bytes().eq_ignore_ascii_case(near.trim_ascii_end())
+}
+
+/// The words that people write for a unit and that aren't read, each with the name to write, and spaces after both:
+/// texts, which have addresses, would make a program larger. The words after `micros` have a Greek mu.
+static NEAR_WORDS: [([u8; 9], [u8; 3]); 28] = [
+    (*b"usecs    ", *b"us "),
+    (*b"useconds ", *b"us "),
+    (*b"micros   ", *b"us "),
+    (*b"\xCE\xBCs      ", *b"us "),
+    (*b"\xCE\xBCsec    ", *b"us "),
+    (*b"\xCE\xBCsecs   ", *b"us "),
+    (*b"\xCE\xBCsecond ", *b"us "),
+    (*b"\xCE\xBCseconds", *b"us "),
+    (*b"yr       ", *b"y  "),
+    (*b"yrs      ", *b"y  "),
+    (*b"qtr      ", *b"q  "),
+    (*b"qtrs     ", *b"q  "),
+    (*b"mons     ", *b"mon"),
+    (*b"mth      ", *b"mon"),
+    (*b"mths     ", *b"mon"),
+    (*b"mo       ", *b"mon"),
+    (*b"mos      ", *b"mon"),
+    (*b"wk       ", *b"w  "),
+    (*b"wks      ", *b"w  "),
+    (*b"hrs      ", *b"h  "),
+    (*b"mins     ", *b"min"),
+    (*b"secs     ", *b"s  "),
+    (*b"msecs    ", *b"ms "),
+    (*b"millis   ", *b"ms "),
+    (*b"\xC2\xB5secs   ", *b"\xC2\xB5s"),
+    (*b"\xC2\xB5seconds", *b"\xC2\xB5s"),
+    (*b"nsecs    ", *b"ns "),
+    (*b"nanos    ", *b"ns "),
+];
 
 /// Whether a word is this one, apart from ASCII capitals.
-#[inline(never)]
 fn is_word(word: &str, name: &str) -> bool {
     word.eq_ignore_ascii_case(name)
 }

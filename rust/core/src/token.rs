@@ -71,13 +71,6 @@ impl TokenStart {
     }
 }
 
-/// Unit letters: their packed number modulo 2^64, and whether one of them is a capital.
-#[derive(Clone, Copy)]
-struct Letters {
-    packed: u64,
-    has_capital: bool,
-}
-
 /// The tokens of a text, in order. Each character is looked at once, when it is reached.
 ///
 /// ```
@@ -181,41 +174,33 @@ impl<'a> Tokens<'a> {
         fits(self.eye.bytes_since(start), low).then_some(low)
     }
 
-    /// Moves past the letters of the word ahead, and returns them packed. Its first character is a unit letter, and
-    /// is handled before the loop, which takes fewer instructions. Of unit letters the capitals alone are below `a`.
+    /// Moves past the letters of the word ahead, and returns their packed number modulo 2^64. Its first character is a
+    /// unit letter, and is handled before the loop, which takes fewer instructions.
     #[inline(always)]
-    fn take_letters(&mut self) -> Letters {
+    fn take_letters(&mut self) -> u64 {
         let Some(first) = self.head else {
             unreachable!();
         };
         let mut packed = first_number(first, self.options);
-        let mut has_capital = first < 'a';
         self.advance();
         while let Some(c) = self.head {
             let Some(number) = letter_number(c, self.options) else {
                 break;
             };
             packed = ((packed as u128 * 40 + number as u128) % MODULUS) as u64;
-            has_capital |= c < 'a';
             self.advance();
         }
-        Letters {
-            packed,
-            has_capital,
-        }
+        packed
     }
 
     #[inline(always)]
     pub(crate) fn take_word(&mut self) -> Option<TimeUnit> {
         let start = self.eye.place();
-        let letters = self.take_letters();
-        if self.options.lowercase && letters.has_capital {
-            return None;
-        }
+        let packed = self.take_letters();
         if self.eye.place() - start > MOST_BYTES {
             return None;
         }
-        unit_of_packed(letters.packed)
+        unit_of_packed(packed)
     }
 
     #[inline(always)]
@@ -293,12 +278,11 @@ fn is_unit_letter(c: char, o: Options) -> bool {
     letter_number(c, o).is_some()
 }
 
-/// The number of a unit letter under these options, ignoring case: 1 to 26 of an ASCII letter, which is its code modulo
-/// 32; `None` of any other character.
+/// The number of a unit letter under these options; `None` of any other character.
 #[inline(always)]
 fn letter_number(c: char, o: Options) -> Option<u64> {
     if c.is_ascii_alphabetic() {
-        return Some(u64::from(c as u32 % 32));
+        return Some(ascii_number(c, o));
     }
     if c.is_ascii() {
         return None;
@@ -309,13 +293,23 @@ fn letter_number(c: char, o: Options) -> Option<u64> {
     }
 }
 
-/// The number of a unit letter, ignoring case.
+/// The number of a unit letter.
 #[inline(always)]
 fn first_number(c: char, o: Options) -> u64 {
     if c.is_ascii() {
-        return u64::from(c as u32 % 32);
+        return ascii_number(c, o);
     }
     wide_number(c, o.cn_unit)
+}
+
+/// The number of an ASCII letter, ignoring case: 1 to 26, its code modulo 32. Under `lowercase` a capital has a number
+/// that no letter of a name has.
+#[inline(always)]
+fn ascii_number(c: char, o: Options) -> u64 {
+    if o.lowercase && c < 'a' {
+        return CAPITAL;
+    }
+    u64::from(c as u32 % 32)
 }
 
 /// The number of a unit letter beyond ASCII: `µ`, and those that the option `cn_unit` adds; 0 of any other character.
@@ -342,6 +336,9 @@ fn wide_number(c: char, cn_unit: bool) -> u64 {
         _ => 0,
     }
 }
+
+/// The number of a capital under `lowercase`.
+const CAPITAL: u64 = 39;
 
 /// Whether each character up to the space is a blank. A table takes fewer instructions than comparisons.
 static BLANKS: [bool; 33] = [

@@ -7,8 +7,8 @@ use proc_macro::{Delimiter, Span, TokenStream, TokenTree};
 /// A duration that is read when the program is compiled: a constant of type [`Duration`](core::time::Duration). A text
 /// that is refused is an error of the compiler, with the fault in one line.
 ///
-/// All options are off, whatever features are on, but for those that are named after the text: `no_calc`, `lowercase`,
-/// `cn_unit`. The text is a literal without escapes.
+/// All options are off, whatever features are on, but for those that are named after the text:
+/// `no_calc`, `lowercase`, `cn_unit`. The text is a literal without escapes.
 ///
 /// ```
 /// use duration_str::duration;

@@ -112,21 +112,16 @@ fn reads_flattened_structs() {
 #[test]
 #[allow(deprecated)]
 fn keeps_the_older_names() {
-    use duration_str::deserialize_option_duration;
-    assert_eq!(deserialize_option_duration(json!("30s")).unwrap(), Some(Duration::from_secs(30)));
-    assert_eq!(deserialize_option_duration(json!(null)).unwrap(), None);
+    macro_rules! reads {
+        ($optional:ident, $wanted:expr $(, $required:ident)?) => {
+            assert_eq!(duration_str::$optional(json!("30s")).unwrap(), Some($wanted));
+            assert_eq!(duration_str::$optional(json!(null)).unwrap(), None);
+            $(assert_eq!(duration_str::$required(json!("30s")).unwrap(), $wanted);)?
+        };
+    }
+    reads!(deserialize_option_duration, Duration::from_secs(30));
     #[cfg(feature = "chrono")]
-    {
-        use duration_str::{deserialize_duration_chrono, deserialize_option_duration_chrono};
-        assert_eq!(deserialize_duration_chrono(json!("30s")).unwrap(), chrono::Duration::seconds(30));
-        assert_eq!(deserialize_option_duration_chrono(json!("30s")).unwrap(), Some(chrono::Duration::seconds(30)));
-        assert_eq!(deserialize_option_duration_chrono(json!(null)).unwrap(), None);
-    }
+    reads!(deserialize_option_duration_chrono, chrono::Duration::seconds(30), deserialize_duration_chrono);
     #[cfg(feature = "time")]
-    {
-        use duration_str::{deserialize_duration_time, deserialize_option_duration_time};
-        assert_eq!(deserialize_duration_time(json!("30s")).unwrap(), time::Duration::seconds(30));
-        assert_eq!(deserialize_option_duration_time(json!("30s")).unwrap(), Some(time::Duration::seconds(30)));
-        assert_eq!(deserialize_option_duration_time(json!(null)).unwrap(), None);
-    }
+    reads!(deserialize_option_duration_time, time::Duration::seconds(30), deserialize_duration_time);
 }

@@ -1,7 +1,7 @@
 //! Texts that are refused, and what their faults tell.
-use crate::{FEATURES, Refused, vectors};
+use crate::{FEATURES, Refused, options_of, vectors};
 use duration_str::{
-    Cause, CondUnit, DError, Expected, Fault, Options, UnitError, parse, parse_duration, parse_with, parse_with_units,
+    Cause, DError, Expected, Fault, Options, UnitError, parse, parse_duration, parse_with, parse_with_units,
 };
 use duration_str_core as proved;
 use std::error::Error;
@@ -47,8 +47,7 @@ fn checks_message(text: &str, options: Options, place: Option<usize>, line: &str
 fn tells_all_of_a_refusal() {
     for row in &vectors().refused {
         let Refused(text, names, cause, place, found, kinds, line) = row;
-        let has = |name: &str| names.iter().any(|each| each == name);
-        let options = Options { no_calc: has("no_calc"), lowercase: has("lowercase"), cn_unit: has("cn_unit") };
+        let options = options_of(names);
         let fault = fault(text, options);
         let told = (fault.place(), fault.found());
         assert_eq!(told, (*place, found.as_deref()), "{text}");
@@ -114,23 +113,6 @@ fn becomes_an_error() {
     let text = String::from("1x");
     let error: Box<dyn Error + '_> = fault(&text, Options::off()).into();
     assert_eq!(error.to_string(), fault(&text, Options::off()).to_string());
-}
-
-#[test]
-fn shows_faults_to_programmers() {
-    let fault = fault("1s+2*3", Options::off());
-    assert_eq!(format!("{fault:?}"), format!("Fault({fault})"));
-    let cause = fault.cause();
-    assert_eq!(format!("{cause:?}"), "Mixed { first: Plus, later: Star }");
-    assert_eq!(format!("{} {}", CondUnit::Plus, CondUnit::Star), "+ *");
-    assert_eq!(format!("{:>16}", Cause::Overflow { place: None }), "  overflow error");
-}
-
-#[test]
-fn tells_of_a_long_text_in_a_short_line() {
-    let word = format!("1{}", "é".repeat(1 << 20));
-    let line = parse_duration(&word).unwrap_err().to_string();
-    assert!(line.len() < 200, "{line}");
 }
 
 #[test]

@@ -15,29 +15,23 @@ fn adds_options_in_any_order() {
     let all = Options::off().with_no_calc().with_lowercase().with_cn_unit();
     assert!(all.no_calc && all.lowercase && all.cn_unit);
     assert_eq!(Options::default(), Options::off());
-    assert_eq!(Options::off().with_cn_unit().with_lowercase().with_no_calc(), all);
+    assert_eq!(all.with_cn_unit().with_lowercase().with_no_calc(), all);
 }
 
 #[test]
 fn reads_by_all_features_as_before() {
     for (text, is_read, _) in TEXTS {
-        let answers = [
-            parse(text).is_ok(),
-            parse_std(text).is_ok(),
-            #[cfg(feature = "time")]
-            duration_str::parse_time(text).is_ok(),
-            #[cfg(feature = "chrono")]
-            duration_str::parse_chrono(text).is_ok(),
-            #[cfg(feature = "chrono")]
-            duration_str::after_naive_date(text).is_ok(),
-            #[cfg(feature = "chrono")]
-            duration_str::after_naive_date_time(text).is_ok(),
-            #[cfg(feature = "chrono")]
-            duration_str::before_naive_date(text).is_ok(),
-            #[cfg(feature = "chrono")]
-            duration_str::before_naive_date_time(text).is_ok(),
-        ];
-        assert!(answers.iter().all(|answer| *answer == is_read), "{text}: {answers:?}");
+        assert_eq!([parse(text).is_ok(), parse_std(text).is_ok()], [is_read; 2], "{text}");
+        #[cfg(feature = "time")]
+        assert_eq!(duration_str::parse_time(text).is_ok(), is_read, "{text}");
+        #[cfg(feature = "chrono")]
+        {
+            use duration_str::{after_naive_date, after_naive_date_time, before_naive_date, before_naive_date_time};
+            let times = [after_naive_date_time(text).is_ok(), before_naive_date_time(text).is_ok()];
+            let dates = [after_naive_date(text).is_ok(), before_naive_date(text).is_ok()];
+            assert_eq!([times, dates], [[is_read; 2]; 2], "{text}");
+            assert_eq!(duration_str::parse_chrono(text).is_ok(), is_read, "{text}");
+        }
     }
 }
 

@@ -14,11 +14,19 @@ mod values;
 
 use duration_str::{Options, humantime};
 use serde::Deserialize;
-use std::collections::BTreeMap;
 
-/// The eight choices of options.
-fn all_options() -> impl Iterator<Item = Options> {
-    (0..8).map(|bits| Options { no_calc: bits & 1 != 0, lowercase: bits & 2 != 0, cn_unit: bits & 4 != 0 })
+/// Options of which those with these names are on.
+fn options_of(names: &[String]) -> Options {
+    let has = |name: &str| names.iter().any(|each| each == name);
+    Options { no_calc: has("no_calc"), lowercase: has("lowercase"), cn_unit: has("cn_unit") }
+}
+
+/// All choices of options, each as the names of those that are on.
+fn choices() -> Vec<Vec<String>> {
+    vectors().options.iter().fold(vec![vec![]], |lists, name| {
+        let with_it = lists.iter().map(|names| [names, std::slice::from_ref(name)].concat());
+        with_it.chain(lists.iter().cloned()).collect()
+    })
 }
 
 /// The options that the features turn on, under which the calls of `duration-str` 0.19.0 read.
@@ -32,11 +40,20 @@ const FEATURES: Options = Options {
 /// read.
 #[derive(Deserialize)]
 struct Vectors {
-    /// Texts of one value, in seconds and nanoseconds, by the options under which they are read.
-    values: BTreeMap<String, Vec<(u64, u32, Vec<String>)>>,
+    /// The names of the options.
+    options: Vec<String>,
+    values: Vec<Group>,
     printed: Vec<Printed>,
     /// Texts that are refused, with all that is told of them.
     refused: Vec<Refused>,
+}
+
+/// Texts of one value, in seconds and nanoseconds, which are read if these options are on and those are off.
+#[derive(Deserialize)]
+struct Group {
+    on: Vec<String>,
+    off: Vec<String>,
+    rows: Vec<(u64, u32, Vec<String>)>,
 }
 
 /// A text, its options, its cause, the byte of its place, what was found and could stand there, and the line.

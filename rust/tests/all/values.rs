@@ -1,5 +1,5 @@
 //! Texts that are read, and their values.
-use crate::{FEATURES, all_options, vectors};
+use crate::{FEATURES, Group, choices, options_of, vectors};
 use duration_str::{Options, parse, parse_std, parse_with};
 use duration_str_core as proved;
 use std::time::Duration;
@@ -18,43 +18,29 @@ fn answers(text: &str) -> Vec<Result<Duration, String>> {
     ])
 }
 
-/// Each text of the rows of this name is read as its row's value under the options that `reads` tells, and refused under
-/// all others.
-fn check(name: &str, reads: impl Fn(Options) -> bool) {
-    for options in all_options() {
-        for (secs, nanos, texts) in &vectors().values[name] {
-            for text in texts {
-                let answer = parse_with(text, options);
-                let wanted = reads(options).then_some(Duration::new(*secs, *nanos));
-                assert_eq!(answer.ok(), wanted, "{text:?} under {options:?}");
-                if options == FEATURES {
-                    let wanted = proved::parse_with(text, options).map_err(|fault| fault.to_string());
-                    assert!(answers(text).iter().all(|answer| *answer == wanted), "{text:?}: {:?}", answers(text));
-                }
+/// Under these options each text of the group is read as its row's value, or refused.
+fn check(group: &Group, options: Options, is_read: bool) {
+    for (secs, nanos, texts) in &group.rows {
+        for text in texts {
+            let answer = parse_with(text, options);
+            let wanted = is_read.then_some(Duration::new(*secs, *nanos));
+            assert_eq!(answer.ok(), wanted, "{text:?} under {options:?}");
+            if options == FEATURES {
+                let wanted = proved::parse_with(text, options).map_err(|fault| fault.to_string());
+                assert!(answers(text).iter().all(|answer| *answer == wanted), "{text:?}: {:?}", answers(text));
             }
         }
     }
 }
 
 #[test]
-fn reads_sums_under_all_options() {
-    check("under all options", |_| true);
-}
-
-#[test]
-fn reads_operators_without_no_calc() {
-    check("without no_calc", |options| !options.no_calc);
-}
-
-#[test]
-fn reads_chinese_names_under_cn_unit() {
-    check("under cn_unit", |options| options.cn_unit);
-    check("under cn_unit without no_calc", |options| options.cn_unit && !options.no_calc);
-}
-
-#[test]
-fn reads_capitals_without_lowercase() {
-    check("without lowercase", |options| !options.lowercase);
+fn reads_the_vectors_and_refuses_them_under_the_other_options() {
+    for names in choices() {
+        for group in &vectors().values {
+            let is_on = |name| names.contains(name);
+            check(group, options_of(&names), group.on.iter().all(is_on) && !group.off.iter().any(is_on));
+        }
+    }
 }
 
 /// The macro `duration!`.

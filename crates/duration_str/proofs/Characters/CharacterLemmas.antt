@@ -1,9 +1,12 @@
--- The classes of characters exclude one another, and a run is of one class.
-use Rattle.duration_str.proofs.Common.{◌≡◌, ℕ, zero, suc, ◌+◌, ◌<◌, ◌≤◌, length, get_or, add-zero, Bool, true, false}
-use Rattle.duration_str.proofs.Common.{◌&&◌, ◌||◌, inl, inr, List, [], ◌∷◌, Some, IsTrue, arith, refl, nat_lt}
-use Rattle.duration_str.proofs.Common.{false_from_ne_true, or_cases, and_parts, and_from, list_all, nat_tests}
-use Rattle.duration_str.proofs.Common.{is_ascii_uppercase, Options, CondUnit, is_blank, is_digit, is_unit_letter}
-use Rattle.duration_str.proofs.Common.{operator_of, are_of_one_run}
+-- Characters: their classes, which exclude one another, their widths and their bytes.
+use Rattle.duration_str.proofs.Common.{add-zero, ahead, and_from, and_parts, are_of_one_run, arith, Bool, byte_len}
+use Rattle.duration_str.proofs.Common.{chars, chars-nil, chars_past_char, CondUnit, drop, drop_all, drop_more}
+use Rattle.duration_str.proofs.Common.{drop_past_char, encode_ascii, encode_utf8, encode_utf8_all, encodes-chars, false}
+use Rattle.duration_str.proofs.Common.{false_from_ne_true, get_or, is_blank, is_digit, is_unit_letter, IsCharBoundary}
+use Rattle.duration_str.proofs.Common.{IsCharBoundary-past_char, IsTrue, IsUtf8, IsUtf8-drop, leb, len_utf8, length}
+use Rattle.duration_str.proofs.Common.{List, list_all, nat_tests, operator_of, Options, or_cases, refl, rules, scalar}
+use Rattle.duration_str.proofs.Common.{scalar_cases, scalars, scalars-chars, Some, Stands, suc, sym, true, width, zero}
+use Rattle.duration_str.proofs.Common.{[], ℕ, ◌&&◌, ◌++◌, ◌+◌, ◌<◌, ◌||◌, ◌∷◌, ◌≡◌, ◌≤◌, ◌⊎◌}
 
 -- Characters that pass a test also pass a weaker one.
 pub all_weaker : (p q : ℕ → Bool) (cs : List ℕ) → ((c : ℕ) → p c ≡ true → q c ≡ true) → IsTrue (list_all p cs)
@@ -30,10 +33,6 @@ digit-not_letter o c e = false_from_ne_true _ (λ t. let above = letter_above o 
 pub letter-not_digit : (o : Options) (c : ℕ) → is_unit_letter o c ≡ true → is_digit c ≡ false
 letter-not_digit o c e = false_from_ne_true _ (λ t. cc (digit-not_letter o c t))
 
--- the letters before `a` are the capitals
-pub capital_below : (o : Options) (c : ℕ) → is_unit_letter o c ≡ true → nat_lt c 97 ≡ is_ascii_uppercase c
-capital_below o c e = grind (arith, nat_tests)
-
 -- The tests a, b, c are for digits and p, q, r for unit letters, at three characters of which the first two are of one
 -- run.
 same_class : (a b c p q r : Bool) → (a ≡ true → p ≡ false) → (b ≡ true → q ≡ false) → ((a && b) || (p && q)) ≡ true
@@ -45,10 +44,7 @@ pub same_run : (o : Options) (c d e : ℕ) → are_of_one_run o c d ≡ true →
 same_run o c d e h = same_class _ _ _ _ _ _ (digit-not_letter o c) (digit-not_letter o d) h
 
 pub run-not_blank : (o : Options) (c d : ℕ) → are_of_one_run o c d ≡ true → is_blank d ≡ false
-run-not_blank o c d h = elim (or_cases (is_digit c && is_digit d) (is_unit_letter o c && is_unit_letter o d) h) [
-  | inl both ↦ digit-not_blank d (and_parts (is_digit c) _ both).1
-  | inr both ↦ letter-not_blank o d (and_parts (is_unit_letter o c) _ both).1
-]
+run-not_blank o c d h = search (arith, or_cases, digit-not_blank, and_parts, letter-not_blank)
 
 -- ---- the table of blanks
 
@@ -61,6 +57,54 @@ pub blank_at : (bs : List Bool) (i j : ℕ) (d : Bool) → j < length bs → bs 
     → get_or bs j d ≡ is_blank (i + j)
 blank_at [] i j d lt right = absurd (omega (arith, lt))
 blank_at (b ∷ bs) i zero d lt right = rw add-zero (cc right)
-blank_at (b ∷ bs) i (suc j) d lt right =
-    let there : i + 1 + j ≡ i + suc j = omega arith in
-    rw (← there) (blank_at bs (i + 1) j d (omega (arith, lt)) (cc right))
+blank_at (b ∷ bs) i (suc j) d lt right = grind (arith, blank_at bs (i + 1) j d)
+
+-- ---- Widths, and the character at a place
+
+not_surrogate : (c : ℕ) → (c < 55296) ⊎ ((57344 ≤ c) × (c < 1114112)) → (leb 55296 c && leb c 57343) ≡ false
+not_surrogate c h = grind (arith, nat_tests)
+
+-- the width of a character is the length of its UTF-8
+pub width-scalar : (c : ℕ) → scalar c ≡ true → width c ≡ len_utf8 c
+width-scalar c e = rw (not_surrogate c (scalar_cases c e))
+
+-- the character whose UTF-8 is at a place
+pub stands_char : (text rest : List ℕ) (place c : ℕ) → IsUtf8 (drop place text)
+    → drop place text ≡ encode_utf8 c ++ rest → Stands text place c
+stands_char text rest place c utf8 begins =
+    let all : ahead text place ≡ c ∷ chars rest = chars_past_char (drop place text) rest c utf8 begins in
+    let are_chars = rw all at (scalars-chars (drop place text) utf8) in
+    let is_char = (and_parts (scalar c) (scalars (chars rest)) are_chars).0 in
+    record { head = rw (width-scalar c is_char, all, drop_past_char text rest place c begins); bytes = refl }
+
+-- nothing is ahead of the end
+pub end_ahead : (text : List ℕ) (place : ℕ) → length text ≤ place → ahead text place ≡ []
+end_ahead text place end = rw (drop_all place text end) chars-nil
+
+-- an ASCII character at a place
+pub ascii_stands : (text : List ℕ) (place b : ℕ) → IsUtf8 text → IsCharBoundary text place → place < length text
+    → b ≡ get_or text place 0 → b < 128 → Stands text place b
+ascii_stands text place b utf8 boundary inside is small =
+    let begins : drop place text ≡ encode_utf8 b ++ drop (place + 1) text =
+    rw (drop_more text place 0 inside, ← is, encode_ascii b small) in
+    stands_char text (drop (place + 1) text) place b (IsUtf8-drop text place utf8 boundary) begins
+
+-- the place after a character, as code finds it
+pub past_stands : (text : List ℕ) (place c : ℕ) → IsUtf8 text → IsCharBoundary text place → Stands text place c
+    → (width c ≡ len_utf8 c) × IsCharBoundary text (place + width c)
+past_stands text place c utf8 boundary stands =
+    let left = IsUtf8-drop text place utf8 boundary in
+    let rest = ahead text (place + width c) in
+    let are_chars : scalars (c ∷ rest) ≡ true = rw stands.head at (scalars-chars (drop place text) left) in
+    let same = width-scalar c (and_parts (scalar c) (scalars rest) are_chars).0 in
+    let begins : drop place text ≡ encode_utf8 c ++ encode_utf8_all rest =
+    sym (rw stands.head at (encodes-chars (drop place text) left)) in
+    (same, rw same (IsCharBoundary-past_char text (encode_utf8_all rest) place c boundary.0 left begins))
+
+-- the width of a character is not 0
+pub width_some : (c : ℕ) → 1 ≤ width c
+width_some c = search (rules)
+
+pub byte_len-append : (xs ys : List ℕ) → byte_len (xs ++ ys) ≡ byte_len xs + byte_len ys
+byte_len-append [] ys = omega arith
+byte_len-append (x ∷ xs) ys = omega (arith, byte_len-append xs ys)

@@ -1,13 +1,13 @@
 -- Digits as std reads and writes them.
-use Rattle.duration_str.proofs.Common.{◌≡◌, ℕ, suc, ◌+◌, ◌-◌, ◌*◌, ◌%◌, ◌^◌, ◌<◌, ◌≤◌, Bool, true, false, ◌&&◌, ◌||◌}
-use Rattle.duration_str.proofs.Common.{◌==◌, nat_le, length, take, drop, get_or, Result, Option, Some, decimal}
-use Rattle.duration_str.proofs.Common.{List, [], ◌∷◌, ◌++◌, IsUtf8, IsTrue, refl, ap, sym, ◌∙◌, inl, inr, arith, rules}
-use Rattle.duration_str.proofs.Common.{le-ltb, lt-ltb, chars, mul-pos, pow-suc, drop-cons, take-append-drop}
-use Rattle.duration_str.proofs.Common.{length-drop, cases_Bool, cases_lt, and_parts, cond-true, decimal_nonempty}
-use Rattle.duration_str.proofs.Common.{encodes-IsAscii, encodes-chars, fits, list_all, list_all-append, nat_tests}
-use Rattle.duration_str.proofs.Common.{Options, is_digit, IsNumber, number_after, number_of, number, terminal_of}
-use Rattle.duration_str.proofs.Common.{u64_from, IsAscii-from_digits, digits_decimal, digits_value-decimal}
-use Rattle.std.proofs.lemmas.Str.Parse.{IsNumeralModel, digits_value_short, numerals_by_fold}
+use Rattle.duration_str.proofs.Common.{and_parts, ap, arith, Bool, cases_Bool, cases_lt, chars, common_steps, cond-true}
+use Rattle.duration_str.proofs.Common.{decimal, decimal_nonempty, digits_decimal, digits_value-decimal, drop, drop-cons}
+use Rattle.duration_str.proofs.Common.{encodes-chars, encodes-IsAscii, false, fits, get_or, inl, inr, is_digit}
+use Rattle.duration_str.proofs.Common.{IsAscii-from_digits, IsNumber, IsTrue, IsUtf8, le-ltb, length, length-drop, List}
+use Rattle.duration_str.proofs.Common.{list_all, list_all-append, lt-ltb, mul-pos, nat_le, nat_tests, number}
+use Rattle.duration_str.proofs.Common.{number_after, number_of, Option, Options, pow-suc, refl, Result, rules, Some}
+use Rattle.duration_str.proofs.Common.{suc, sym, take, take-append-drop, terminal_of, true, u64_from, [], ℕ, ◌%◌, ◌&&◌}
+use Rattle.duration_str.proofs.Common.{◌*◌, ◌++◌, ◌+◌, ◌-◌, ◌<◌, ◌==◌, ◌^◌, ◌||◌, ◌∙◌, ◌∷◌, ◌≡◌, ◌≤◌}
+use Rattle.std.proofs.lemmas.Str.Parse.{digits_value_short, IsNumeralModel, numerals_by_fold}
 use native.Mathlib.Nat.{pow-le-pow_right}
 use Rattle.std.specs.Bool.{then_some}
 use Rattle.std.specs.Result.{result_ok}
@@ -35,10 +35,7 @@ are_zeros = list_all (λ digit. digit == 48)
 
 number_of-zeros : (cs : List ℕ) → are_zeros cs ≡ true → number_of cs ≡ 0
 number_of-zeros [] h = refl
-number_of-zeros (c ∷ cs) h =
-    let parts = and_parts (c == 48) _ h in
-    let is : c ≡ 48 = grind arith in
-    rw is (number_of-zeros cs parts.1)
+number_of-zeros (c ∷ cs) h = search (rules, and_parts, number_of-zeros cs)
 
 number_of-others : (cs : List ℕ) → IsTrue (list_all is_digit cs) → are_zeros cs ≡ false → 0 < number_of cs
 number_of-others [] all h = absurd cc
@@ -57,8 +54,7 @@ number_of-others (c ∷ cs) all h =
 long_value : (zeros : Bool) (front first last low n : ℕ) → (zeros ≡ true → front ≡ 0) → (zeros ≡ false → 0 < front)
     → 48 ≤ first → last < 10 ^ 19 → n ≡ (front * 10 + (first - 48)) * 10 ^ 19 + last → low ≡ n % 2 ^ 64
     → (zeros && (first == 48 || (first == 49 && nat_le 10000000000000000000 low))) ≡ fits n
-long_value false front first last low n none some digit short is same = search (rules, le-ltb)
-long_value true front first last low n none some digit short is same = search rules
+long_value zeros front first last low n none some digit short is same = search (rules, le-ltb)
 
 -- More than 19 digits write a number below 2^64 exactly if zeros stand before the last 20 digits, and the first of
 -- these is a zero, or a one and the number modulo 2^64 is at least 10^19.
@@ -82,9 +78,7 @@ long_number digits low long all same =
     let value : number_of digits ≡ (number_of front * 10 + (first - 48)) * 10 ^ length last + number_of last =
     sym (ap number_of split) ∙ number_after-append 0 front (first ∷ last)
     ∙ number_after-is (number_of front * 10 + (first - 48)) last in
-    long_value (are_zeros front) (number_of front) first (number_of last) low (number_of digits) (number_of-zeros front)
-    (number_of-others front fronts.0) (grind (arith, nat_tests))
-    (digits_value_short decimal_digits last 19 lasts.1 (omega arith)) (rw few at value) same
+    grind (arith, common_steps, long_value, number_of-zeros, number_of-others, digits_value_short, decimal_digits)
 
 -- Digits are ASCII, so their bytes are their characters.
 pub bytes_of_digits : (bs : List ℕ) → IsUtf8 bs → IsTrue (list_all is_digit (chars bs)) → chars bs ≡ bs
@@ -98,10 +92,7 @@ whole_number n low same below = search rules
 
 -- If a number fits, it is given by its value modulo 2^64.
 pub fitting_number : (n low : ℕ) → low ≡ n % 2 ^ 64 → then_some (fits n) low ≡ u64_from n
-fitting_number n low same = elim (cases_lt n (2 ^ 64)) [
-  | inl below ↦ rw (lt-ltb n _ below) (rw (lt-ltb n _ below) at (whole_number n low same below))
-  | inr above ↦ rw (le-ltb n _ above)
-]
+fitting_number n low same = search (rules, cases_lt, lt-ltb, le-ltb)
 
 -- the number that `parse` gives for digits
 pub parsed_u64 : {E : Type 0} (bs : List ℕ) (r : Result ℕ E) (parsed : Option ℕ) → IsUtf8 bs → IsNumber (chars bs)
@@ -110,11 +101,9 @@ parsed_u64 bs r parsed utf8 digits parses is = search (rules, bytes_of_digits, d
 
 digits_terminal : (o : Options) (digits : List ℕ) → 0 < length digits → IsTrue (list_all is_digit digits)
     → terminal_of o digits ≡ number (number_of digits)
-digits_terminal o [] some h = absurd (omega arith)
-digits_terminal o (c ∷ cs) some h = cond-true _ _ _ h
+digits_terminal o digits some h = search (rules, cond-true)
 
 -- The terminal of a number's decimal digits is that number.
 pub decimal_terminal : (o : Options) (n : ℕ) → n < 2 ^ 64 → terminal_of o (decimal n) ≡ number n
 decimal_terminal o n h =
-    let terminal = digits_terminal o _ (decimal_nonempty n h) (digits_decimal decimal_digits n h) in
-    rw (terminal, digits_value-decimal decimal_digits n h)
+    search (rules, digits_terminal, decimal_nonempty, digits_decimal, decimal_digits, digits_value-decimal)

@@ -1,13 +1,42 @@
--- Words and names, as bytes and as characters, and their ASCII capitals.
-use Rattle.duration_str.proofs.Common.{◌≡◌, ℕ, ◌≤◌, Bool, true, eqb, not, ◌||◌, Some, List, [], ◌∷◌, map, IsUtf8, refl}
-use Rattle.duration_str.proofs.Common.{ap, ◌∙◌, arith, inl, inr, find, bytes_eq, chars, eqb-true, Bor, list_any}
-use Rattle.duration_str.proofs.Common.{list_all, to_ascii_lowercase, bytes_eq-Decides, rules, encodes-chars, cases_Bool}
-use Rattle.duration_str.proofs.Common.{and_parts, or_cases, same_from_decides, map-append, list_any-append, encodes}
-use Rattle.duration_str.proofs.Common.{Options, TimeUnit, all_names, units, row_of, nanos_of, comparison_form, is_named}
-use Rattle.duration_str.proofs.Common.{unit_of_word, AreEncoded, encodes_same}
-use Rattle.std.proofs.lemmas.Grind.{common_steps}
+-- Units, and words and names: as bytes and as characters, and their ASCII capitals.
+use Rattle.duration_str.proofs.Common.{all_names, and_parts, AreEncoded, arith, Bool, Bor, byte_len, bytes_eq}
+use Rattle.duration_str.proofs.Common.{bytes_eq-Decides, cases_Bool, chars, common_steps, comparison_form, Day}
+use Rattle.duration_str.proofs.Common.{encode_utf8_all, encodes, encodes-chars, encodes_same, eqb, eqb-true, false}
+use Rattle.duration_str.proofs.Common.{find, Hour, inl, inr, is_named, IsUtf8, leb-true, length, List, list_all}
+use Rattle.duration_str.proofs.Common.{list_any, list_any-append, map, map-append, MicroSecond, MilliSecond, Minute}
+use Rattle.duration_str.proofs.Common.{Month, name_part, nanos_of, NanoSecond, not, Options, or_cases, Quarter, refl}
+use Rattle.duration_str.proofs.Common.{row_of, rules, same_from_decides, Second, Some, Style, TimeUnit}
+use Rattle.duration_str.proofs.Common.{to_ascii_lowercase, true, unit_of_word, units, Week, Year, [], ℕ, ⊤, ◌||◌, ◌∙◌}
+use Rattle.duration_str.proofs.Common.{◌∷◌, ◌≡◌, ◌≤◌}
 use lib.Utf8.{encode}
-use Rattle.duration_str.proofs.Characters.EachUnit.{each_unit, all_units}
+
+-- ---- A property that holds of each unit in the table holds of every unit
+
+abbrev pub Each : (TimeUnit → Type 0) → List TimeUnit → Type 0
+Each P [] = ⊤
+Each P (u ∷ us) = P u × Each P us
+
+pub each_unit : (P : TimeUnit → Type 0) → Each P units → (u : TimeUnit) → P u
+each_unit P each Year = each.0
+each_unit P each Quarter = each.1.0
+each_unit P each Month = each.1.1.0
+each_unit P each Week = each.1.1.1.0
+each_unit P each Day = each.1.1.1.1.0
+each_unit P each Hour = each.1.1.1.1.1.0
+each_unit P each Minute = each.1.1.1.1.1.1.0
+each_unit P each Second = each.1.1.1.1.1.1.1.0
+each_unit P each MilliSecond = each.1.1.1.1.1.1.1.1.0
+each_unit P each MicroSecond = each.1.1.1.1.1.1.1.1.1.0
+each_unit P each NanoSecond = each.1.1.1.1.1.1.1.1.1.1.0
+
+each_passes : (test : TimeUnit → Bool) (us : List TimeUnit) → list_all test us ≡ true → Each (λ u. test u ≡ true) us
+each_passes test [] h = tt
+each_passes test (u ∷ us) h =
+    let parts = and_parts (test u) (list_all test us) h in (parts.0, each_passes test us parts.1)
+
+-- A test passed by each unit of the table is passed by every unit.
+pub all_units : (test : TimeUnit → Bool) → list_all test units ≡ true → (u : TimeUnit) → test u ≡ true
+all_units test h = each_unit (λ u. test u ≡ true) (each_passes test units h)
 
 -- ---- ASCII capitals in UTF-8
 
@@ -37,9 +66,7 @@ small_form o name h = search rules
 
 -- texts are equal if their bytes are
 pub bytes_eq-encodes : (v w : List ℕ) → bytes_eq (encodes v) (encodes w) ≡ bytes_eq v w
-bytes_eq-encodes v w =
-    let bytes = bytes_eq-Decides (encodes v) (encodes w) in
-    same_from_decides _ _ (λ t. encodes_same v w (bytes.0 t), λ e. bytes.1 (ap encodes e)) (bytes_eq-Decides v w)
+bytes_eq-encodes v w = search (rules, bytes_eq-Decides, same_from_decides, encodes_same)
 
 -- a word can be compared with a name by their bytes
 name_test : (o : Options) (word name : List ℕ) → IsUtf8 word → is_small name ≡ true
@@ -54,8 +81,7 @@ name_test o word name utf8 small =
 pub any_same : {A : Type 0} {test p q : A → Bool} → ((x : A) → test x ≡ true → p x ≡ q x) → (xs : List A)
     → list_all test xs ≡ true → list_any p xs ≡ list_any q xs
 any_same same [] all = refl
-any_same {test = test} same (x ∷ xs) all =
-    let parts = and_parts (test x) (list_all test xs) all in rw (same x parts.0, any_same same xs parts.1)
+any_same {test = test} same (x ∷ xs) all = search (rules, and_parts, any_same same xs)
 
 any_map : {A B : Type 0} (test : B → Bool) (f : A → B) (xs : List A)
     → list_any test (map f xs) ≡ list_any (λ x. test (f x)) xs
@@ -108,11 +134,7 @@ pub named_passes : (test : List ℕ → Bool) (w : List ℕ) (names : List (List
     → list_any (bytes_eq w) names ≡ true → test w ≡ true
 named_passes test w [] all h = cc
 named_passes test w (name ∷ names) all h =
-    let parts = and_parts (test name) (list_all test names) all in
-    elim (or_cases (bytes_eq w name) (list_any (bytes_eq w) names) h) [
-      | inl is ↦ rw ((bytes_eq-Decides w name).0 is) parts.0
-      | inr later ↦ named_passes test w names parts.1 later
-    ]
+    search (rules, and_parts, or_cases, bytes_eq-Decides, named_passes test w names)
 
 pub among_all : (o : Options) (w : List ℕ) (u : TimeUnit) → is_named o w u ≡ true
     → list_any (bytes_eq (comparison_form o w)) (all_names u) ≡ true
@@ -143,3 +165,18 @@ module _ (o : Options) where
   pub named_unit : (w : List ℕ) (u : TimeUnit) → is_named o w u ≡ true → unit_of_word o w ≡ Some u
   named_unit w u h =
       found_only w units u h (all_units (λ u. list_any (λ v. eqb (nanos_of v) (nanos_of u)) units) refl u)
+
+-- ---- The printed names: their lengths in bytes, and that they are characters
+
+pub length_name : (u : TimeUnit) → length (encode_utf8_all (row_of u).printed) ≡ byte_len (row_of u).printed
+unfolding lib.Utf8.encode
+length_name = each_unit (λ u. length (encode_utf8_all (row_of u).printed) ≡ byte_len (row_of u).printed) assumption
+
+-- a name in some style, as long as it can be
+abbrev pub name_len : Style → TimeUnit → ℕ
+name_len style u = byte_len (name_part style false u)
+
+pub length_part : (style : Style) (one : Bool) (u : TimeUnit)
+    → length (encode_utf8_all (name_part style one u)) ≤ name_len style u
+unfolding lib.Utf8.encode
+length_part style one u = search (arith, leb-true, all_units)

@@ -1,12 +1,11 @@
 -- A token is found by cutting from a character before it.
-use Rattle.duration_str.proofs.Common.{◌≡◌, ℕ, ◌+◌, ◌-◌, ◌<◌, ◌≤◌, ◌==◌, inl, inr, true, false, List, [], ◌∷◌, ◌++◌}
-use Rattle.duration_str.proofs.Common.{map, drop, take, Option, Some, None, IsUtf8, arith, refl, sym, ap, ◌∙◌, rules}
-use Rattle.duration_str.proofs.Common.{take-append-drop, length-take-le, drop-drop, add-zero, add_assoc, Bor}
-use Rattle.duration_str.proofs.Common.{option_map, chars, IsCharBoundary, cases_Bool, nat_tests, chars-append}
-use Rattle.duration_str.proofs.Common.{IsUtf8-take, Options, width, is_blank, byte_len, goes_on, tokens_from, tokens_of}
-use Rattle.duration_str.proofs.Common.{token_at, IsSliceOf, Token, with_first_character}
-use Rattle.duration_str.proofs.Characters.CharacterLemmas.{run-not_blank}
-use Rattle.duration_str.proofs.Characters.TextLemmas.{width_some}
+use Rattle.duration_str.proofs.Common.{add-zero, add_assoc, ap, arith, Bor, byte_len, cases_Bool, chars, chars-append}
+use Rattle.duration_str.proofs.Common.{common_steps, drop, drop-drop, false, goes_on, IsCharBoundary, IsSliceOf, IsUtf8}
+use Rattle.duration_str.proofs.Common.{IsUtf8-take, length-take-le, List, map, nat_tests, None, Option, option_map}
+use Rattle.duration_str.proofs.Common.{Options, refl, rules, Some, sym, take, take-append-drop, Token, token_at}
+use Rattle.duration_str.proofs.Common.{tokens_from, tokens_of, true, width, with_first_character, [], ℕ, ◌++◌, ◌+◌, ◌-◌}
+use Rattle.duration_str.proofs.Common.{◌<◌, ◌==◌, ◌∙◌, ◌∷◌, ◌≡◌, ◌≤◌}
+use Rattle.duration_str.proofs.Characters.CharacterLemmas.{run-not_blank, width_some}
 use Rattle.duration_str.proofs.OnePass.PlaceLemmas.{byte_count}
 use Rattle.duration_str.proofs.Cutting.SortLemmas.{first_token}
 
@@ -29,14 +28,7 @@ module _ (o : Options) where
   -- The token at the place is found without a character that ends before it.
   without_first : (at place c : ℕ) (text : List ℕ) → at + width c < place
       → token_at place (tokens_from o at (c ∷ text)) ≡ token_at place (tokens_from o (at + width c) text)
-  without_first at place c text before = elim (cases_Bool (is_blank c)) [
-    | inl blank ↦ rw blank
-    | inr solid ↦ elim (cases_Bool (goes_on o c text)) [
-      | inl more ↦ rw (solid, more) (without_joined at place c text before more)
-      | inr alone ↦
-          rw (solid, alone) (elsewhere place at (c ∷ []) (tokens_from o (at + width c) text) (omega (arith, before)))
-    ]
-  ]
+  without_first at place c text before = search (rules, cases_Bool, without_joined)
 
   -- The same for some first characters.
   without_front : (at place : ℕ) (front text : List ℕ) → (0 < byte_len front → at + byte_len front < place)
@@ -56,23 +48,13 @@ later_token by token = record { start = by + token.start; characters = token.cha
 join_later : (by at c : ℕ) (tokens : List Token)
     → with_first_character (by + at) c (map (later_token by) tokens)
     ≡ map (later_token by) (with_first_character at c tokens)
-join_later by at c [] = refl
-join_later by at c (token ∷ tokens) = refl
+join_later by at c tokens = search rules
 
 -- The tokens of a text that starts later.
 tokens_later : (o : Options) (by at : ℕ) (text : List ℕ)
     → tokens_from o (by + at) text ≡ map (later_token by) (tokens_from o at text)
 tokens_later o by at [] = refl
-tokens_later o by at (c ∷ text) =
-    let moved : by + at + width c ≡ by + (at + width c) = omega arith in
-    let rest = rw (← moved) at (tokens_later o by (at + width c) text) in
-    elim (cases_Bool (is_blank c)) [
-      | inl blank ↦ rw (blank, rest)
-      | inr solid ↦ elim (cases_Bool (goes_on o c text)) [
-        | inl more ↦ rw (solid, more, rest, join_later by at c (tokens_from o (at + width c) text))
-        | inr alone ↦ rw (solid, alone, rest)
-      ]
-    ]
+tokens_later o by at (c ∷ text) = search (arith, cases_Bool, join_later, tokens_later o by (at + width c) text)
 
 -- A token is found in the same way among later ones.
 found_later : (by place : ℕ) (tokens : List Token)
@@ -94,10 +76,7 @@ found_after o bs from place utf8 boundary within before =
     let bytes : byte_len front ≡ from = rw (byte_count (take from bs) front_utf8) (length-take-le from bs boundary.0) in
     let there : place ≡ from + (place - from) = omega (arith, within) in
     let start : 0 + byte_len front ≡ from + 0 = omega (arith, bytes) in
-    let later : 0 < byte_len front → 0 + byte_len front < place =
-    λ some. omega (arith, bytes, before (omega (arith, bytes, some))) in
-    rw (parts, without_front o 0 place front text later, start, tokens_later o from 0 text)
-    (rw (← there) at (found_later from (place - from) (tokens_of o text)))
+    grind (arith, common_steps, without_front, tokens_later, found_later)
 
 pub slice_found : (o : Options) (bs : List ℕ) (from place : ℕ) (slice : Option (Bor (List ℕ))) → IsUtf8 bs
     → IsCharBoundary bs from → from ≤ place → (0 < from → from < place)

@@ -1,21 +1,19 @@
 -- The steps of cutting, in terms of a text, the byte up to which it is cut, and the looks.
-use Rattle.duration_str.proofs.Common.{◌≡◌, ℕ, ◌+◌, ◌-◌, ◌*◌, ◌%◌, ◌<◌, ◌≤◌, ◌^◌, Bool, true, false, List, [], ◌∷◌}
-use Rattle.duration_str.proofs.Common.{◌++◌, length, take, drop, Option, Some, None, IsUtf8, refl, ap, sym, ◌∙◌, arith}
-use Rattle.duration_str.proofs.Common.{nat_lt, ◌&&◌, ◌||◌, is_some, slice_range, if◌then◌else◌}
-use Rattle.duration_str.proofs.Common.{IsCharBoundary, chars, take-append-drop, drop-drop, add-zero, length-append}
-use Rattle.duration_str.proofs.Common.{append_assoc, length-drop, is_ascii_uppercase, and_from, list_any-append}
-use Rattle.duration_str.proofs.Common.{list_all-append, ForSome, encodes-chars, chars-append, IsUtf8-take, IsUtf8-drop}
-use Rattle.duration_str.proofs.Common.{Options, TimeUnit, tokens_from, IsLexeme, EndsRun, byte_len, is_blank, is_digit}
-use Rattle.duration_str.proofs.Common.{is_unit_letter, number_after, number_of, unit_of_word, u64_from, unit_of_packed}
-use Rattle.duration_str.proofs.Common.{ahead, width, Stands, StandsAt, Between, Passes, TakesDigits, TakesLetters}
-use Rattle.duration_str.proofs.Common.{letter_number, packed_number_after, length-le-encodes, append_cancel_right}
-use Rattle.std.proofs.Math.Bool.{or-false}
+use Rattle.duration_str.proofs.Common.{add-zero, ahead, and_from, ap, append_assoc, append_cancel_right, arith, Between}
+use Rattle.duration_str.proofs.Common.{Bool, byte_len, chars, chars-append, drop, drop-drop, encodes-chars, EndsRun}
+use Rattle.duration_str.proofs.Common.{ForSome, if◌then◌else◌, is_blank, is_digit, is_some, is_unit_letter}
+use Rattle.duration_str.proofs.Common.{IsCharBoundary, IsLexeme, IsUtf8, IsUtf8-drop, IsUtf8-take, length}
+use Rattle.duration_str.proofs.Common.{length-append, length-drop, length-le-encodes, letter_number, List}
+use Rattle.duration_str.proofs.Common.{list_all-append, None, number_after, number_of, Option, Options}
+use Rattle.duration_str.proofs.Common.{packed_number_after, Passes, refl, slice_range, Some, Stands, StandsAt, sym}
+use Rattle.duration_str.proofs.Common.{take, take-append-drop, TakesDigits, TakesLetters, TimeUnit, tokens_from, true}
+use Rattle.duration_str.proofs.Common.{u64_from, unit_of_packed, unit_of_word, width, [], ℕ, ◌%◌, ◌*◌, ◌++◌, ◌+◌, ◌-◌}
+use Rattle.duration_str.proofs.Common.{◌<◌, ◌^◌, ◌∙◌, ◌∷◌, ◌≡◌, ◌≤◌}
 pub use Rattle.duration_str.proofs.Cutting.TokenLemmas.{blanks_no_token, tokens_step}
-use Rattle.duration_str.proofs.Characters.CharacterLemmas.{capital_below}
-use Rattle.duration_str.proofs.Characters.TextLemmas.{width_some, byte_len-append}
+use Rattle.duration_str.proofs.Characters.CharacterLemmas.{byte_len-append, width_some}
 use Rattle.duration_str.proofs.Characters.NumberLemmas.{decimal_digits, whole_number}
 use Rattle.std.proofs.lemmas.Str.Parse.{digits_value_short}
-use Rattle.duration_str.proofs.Characters.PackedLemmas.{exact, no_capital_name, no_long_name, unit_by_number}
+use Rattle.duration_str.proofs.Characters.PackedLemmas.{exact, no_long_name, unit_by_number}
 
 -- ---- how many times a character was looked at
 
@@ -85,10 +83,10 @@ number_after-push : (n : ℕ) (cs : List ℕ) (c : ℕ) → number_after n (cs +
 number_after-push n [] c = refl
 number_after-push n (d ∷ cs) c = number_after-push (n * 10 + (d - 48)) cs c
 
-packed_after-push : (n : ℕ) (cs : List ℕ) (c : ℕ)
-    → packed_number_after n (cs ++ c ∷ []) ≡ packed_number_after n cs * 40 + letter_number c
-packed_after-push n [] c = refl
-packed_after-push n (d ∷ cs) c = packed_after-push (n * 40 + letter_number d) cs c
+packed_after-push : (o : Options) (n : ℕ) (cs : List ℕ) (c : ℕ)
+    → packed_number_after o n (cs ++ c ∷ []) ≡ packed_number_after o n cs * 40 + letter_number o c
+packed_after-push o n [] c = refl
+packed_after-push o n (d ∷ cs) c = packed_after-push o (n * 40 + letter_number o d) cs c
 
 pub digits_none : {text : List ℕ} {place : ℕ} → TakesDigits text place place 0
 digits_none = record { run = passes_none; number = refl }
@@ -101,18 +99,15 @@ digits_head {c = c} taken stands e more = record {
   number = omega (arith, more, taken.number, number_after-push 0 taken.run.characters c);
 }
 
-pub letters_none : {o : Options} {text : List ℕ} {place : ℕ} → TakesLetters o text place place 0 false
-letters_none = record { run = passes_none; number = refl; capital = refl }
+pub letters_none : {o : Options} {text : List ℕ} {place : ℕ} → TakesLetters o text place place 0
+letters_none = record { run = passes_none; number = refl }
 
-pub letters_head : {o : Options} {text : List ℕ} {place at next c value value' : ℕ} {capital capital' : Bool}
-    → TakesLetters o text place at value capital → StandsAt text at next c → is_unit_letter o c ≡ true
-    → value' ≡ (value * 40 + letter_number c) % 2 ^ 64 → capital' ≡ (capital || nat_lt c 97)
-    → TakesLetters o text place next value' capital'
-letters_head {o} {c = c} taken stands e more or = record {
+pub letters_head : {o : Options} {text : List ℕ} {place at next c value value' : ℕ}
+    → TakesLetters o text place at value → StandsAt text at next c → is_unit_letter o c ≡ true
+    → value' ≡ (value * 40 + letter_number o c) % 2 ^ 64 → TakesLetters o text place next value'
+letters_head {o} {c = c} taken stands e more = record {
   run = passes_head taken.run stands e;
-  number = omega (arith, more, taken.number, packed_after-push 0 taken.run.characters c);
-  capital = rw (list_any-append is_ascii_uppercase taken.run.characters, or-false (is_ascii_uppercase c))
-      (rw (← taken.capital, ← capital_below o c e) or);
+  number = omega (arith, more, taken.number, packed_after-push o 0 taken.run.characters c);
 }
 
 -- ---- the characters between two places
@@ -148,27 +143,17 @@ pub record TakesWord (o : Options) (text : List ℕ) (place next : ℕ) (unit : 
   pub run : Passes (is_unit_letter o) text place next
   pub named : unit ≡ unit_of_word o run.characters
 
--- a word of at most 12 bytes, without capitals under `lowercase`, identified by its packed number
-pub short_word : {o : Options} {text : List ℕ} {place next value : ℕ} {capital : Bool} {unit : Option TimeUnit}
-    → TakesLetters o text place next value capital → (o.lowercase && capital) ≡ false → next - place ≤ 12
-    → unit ≡ unit_of_packed value → TakesWord o text place next unit
-short_word {o} {value = value} taken folded short found =
-    let cs = taken.run.characters in
-    let few : length cs ≤ 12 = omega (arith, length-le-byte_len cs, taken.run.between.bytes, short) in
-    record {
-      run = taken.run;
-      named =
-          rw (found, exact cs value few taken.number, unit_by_number o cs (rw taken.capital at folded) taken.run.all);
-    }
-
-module _ {o : Options} {text : List ℕ} {place next value : ℕ} {capital : Bool}
-    (taken : TakesLetters o text place next value capital) where
-  -- under `lowercase` a word with a capital names no unit
-  pub capital_word : o.lowercase ≡ true → capital ≡ true → TakesWord o text place next None
-  capital_word on is = record {
-    run = taken.run;
-    named = no_capital_name o taken.run.characters on (sym taken.capital ∙ is);
-  }
+module _ {o : Options} {text : List ℕ} {place next value : ℕ} (taken : TakesLetters o text place next value) where
+  -- a word of at most 12 bytes is identified by its packed number
+  pub short_word : {unit : Option TimeUnit} → next - place ≤ 12 → unit ≡ unit_of_packed value
+      → TakesWord o text place next unit
+  short_word short found =
+      let cs = taken.run.characters in
+      let few : length cs ≤ 12 = omega (arith, length-le-byte_len cs, taken.run.between.bytes, short) in
+      record {
+        run = taken.run;
+        named = rw (found, exact o cs value few taken.number, unit_by_number o cs taken.run.all few);
+      }
 
   -- a word of more than 12 bytes names no unit
   pub long_word : 12 < next - place → TakesWord o text place next None
@@ -182,8 +167,7 @@ module _ {o : Options} {text : List ℕ} {place next value : ℕ} {capital : Boo
 -- skipping blanks leaves the same tokens
 pub blanks_passed : {text : List ℕ} {place next : ℕ} (o : Options) → Passes is_blank text place next
     → tokens_from o place (ahead text place) ≡ tokens_from o next (ahead text next)
-blanks_passed {text} {place} {next} o run =
-    rw (run.between.cut, blanks_no_token o place run.characters (ahead text next) run.all, ← run.between.bytes)
+blanks_passed {text} {place} {next} o run = grind (arith, blanks_no_token)
 
 pub token_taken : {text cs : List ℕ} {place next : ℕ} (o : Options) → Between text place next cs → IsLexeme o cs
     → EndsRun o cs (ahead text next)

@@ -1,16 +1,92 @@
--- Tokens by their first character.
-use Rattle.duration_str.proofs.Common.{◌≡◌, ℕ, Bool, true, false, inl, inr, List, [], ◌∷◌, length, ◌<◌, Option, Some}
-use Rattle.duration_str.proofs.Common.{None, refl, add-zero, arith, IsTrue, if◌then◌else◌, cases_Bool, rules}
-use Rattle.duration_str.proofs.Common.{and_parts, list_all, Options, TimeUnit, CondUnit, TokenStart, Number, Word}
-use Rattle.duration_str.proofs.Common.{is_blank, is_digit, is_unit_letter, operator_of, number_of, IsNumber}
-use Rattle.duration_str.proofs.Common.{unit_of_word, Terminal, number, word, operator_or_other, terminal_of, EndsRun}
-use Rattle.duration_str.proofs.Common.{are_of_one_run, goes_on, IsLexeme, AreTokens, tokens_from, ahead, StandsAt}
-use Rattle.duration_str.proofs.Common.{Between, Passes, Stops, sign_sort, sort_at, sort_of, is_number, IsSign, Token}
-use Rattle.duration_str.proofs.Common.{with_first_character}
-use Rattle.duration_str.proofs.Characters.CharacterLemmas.{digit-not_letter, letter-not_digit}
+-- Terminals and their sorts, and tokens by their first character.
+use Rattle.duration_str.proofs.Common.{add-zero, ahead, and_from, and_parts, are_of_one_run, AreTokens, arith, Between}
+use Rattle.duration_str.proofs.Common.{Bool, cases_Bool, common_steps, CondUnit, EndsRun, false, goes_on, if◌then◌else◌}
+use Rattle.duration_str.proofs.Common.{inl, inr, is_blank, is_digit, is_number, is_unit_letter, IsLexeme, IsNumber}
+use Rattle.duration_str.proofs.Common.{IsSign, IsTrue, length, List, list_all, None, Number, number, number_of}
+use Rattle.duration_str.proofs.Common.{operator, operator_of, operator_or_other, Option, Options, or_cases, or_right}
+use Rattle.duration_str.proofs.Common.{other, Passes, refl, rules, sign_sort, sign_terminal, Some, sort_at, sort_of}
+use Rattle.duration_str.proofs.Common.{StandsAt, Stops, Terminal, terminal_of, TimeUnit, Token, tokens_from, TokenStart}
+use Rattle.duration_str.proofs.Common.{true, unit_of_word, with_first_character, Word, word, [], ℕ, ◌<◌, ◌∷◌, ◌≡◌}
+use Rattle.duration_str.proofs.Characters.CharacterLemmas.{all_weaker, digit-not_blank, digit-not_letter}
+use Rattle.duration_str.proofs.Characters.CharacterLemmas.{letter-not_blank, letter-not_digit}
 use Rattle.duration_str.proofs.Cutting.TokenLemmas.{tokens_are}
-use Rattle.duration_str.proofs.Cutting.TerminalLemmas.{digits_are_lexeme, letters_are_lexeme, no_run, lexeme_sort}
 use Rattle.duration_str.proofs.Cutting.PositionLemmas.{TakesWord}
+
+-- ---- The possible terminals of a list of characters
+
+-- A property of characters and their terminal holds if it holds in five cases: no characters, digits, unit letters, an
+-- operator, and anything else.
+pub terminal_cases : (o : Options) (P : List ℕ → Terminal → Type 0) → P [] other
+    → ((c : ℕ) (cs : List ℕ) → IsTrue (list_all is_digit (c ∷ cs)) → P (c ∷ cs) (number (number_of (c ∷ cs))))
+    → ((c : ℕ) (cs : List ℕ) → IsTrue (list_all (is_unit_letter o) (c ∷ cs))
+    → P (c ∷ cs) (word (unit_of_word o (c ∷ cs))))
+    → ((c : ℕ) (op : CondUnit) → list_all is_digit (c ∷ []) ≡ false → list_all (is_unit_letter o) (c ∷ []) ≡ false
+    → operator_of c ≡ Some op → P (c ∷ []) (operator op))
+    → ((c : ℕ) (cs : List ℕ) → list_all is_digit (c ∷ cs) ≡ false → list_all (is_unit_letter o) (c ∷ cs) ≡ false
+    → P (c ∷ cs) other)
+    → (w : List ℕ) → P w (terminal_of o w)
+terminal_cases o P none digits letters sign rest [] = none
+terminal_cases o P none digits letters sign rest (c ∷ cs) = by_tests cs _ _ refl refl
+  where
+    by_operator : (op : Option CondUnit) → operator_of c ≡ op → list_all is_digit (c ∷ []) ≡ false
+        → list_all (is_unit_letter o) (c ∷ []) ≡ false → P (c ∷ []) (operator_or_other op)
+    by_operator (Some op) e d l = sign c op d l e
+    by_operator None e d l = rest c [] d l
+
+    by_tests : (ds : List ℕ) (are_digits are_letters : Bool) → list_all is_digit (c ∷ ds) ≡ are_digits
+        → list_all (is_unit_letter o) (c ∷ ds) ≡ are_letters
+        → P (c ∷ ds) (if are_digits then number (number_of (c ∷ ds))
+        else if are_letters then word (unit_of_word o (c ∷ ds)) else sign_terminal (c ∷ ds))
+    by_tests ds true are_letters d l = digits c ds d
+    by_tests ds false true d l = letters c ds l
+    by_tests [] false false d l = by_operator (operator_of c) refl d l
+    by_tests (e ∷ ds) false false d l = rest c (e ∷ ds) d l
+
+-- ---- Runs of digits and of unit letters
+
+module _ (o : Options) where
+  -- A run of characters that pass a test is a lexeme, if no blank passes it and any two that pass it are of one run.
+  run_is_lexeme : (test : ℕ → Bool) → ((c : ℕ) → test c ≡ true → is_blank c ≡ false)
+      → ((c d : ℕ) → test c ≡ true → test d ≡ true → are_of_one_run o c d ≡ true)
+      → (c : ℕ) (cs : List ℕ) → IsTrue (list_all test (c ∷ cs)) → IsLexeme o (c ∷ cs)
+  run_is_lexeme test solid of_run c cs h = grind (arith, and_parts, all_weaker)
+
+  pub digits_are_lexeme : (c : ℕ) (cs : List ℕ) → IsTrue (list_all is_digit (c ∷ cs)) → IsLexeme o (c ∷ cs)
+  digits_are_lexeme = run_is_lexeme is_digit digit-not_blank (λ c d e f. rw (e, f))
+
+  pub letters_are_lexeme : (c : ℕ) (cs : List ℕ) → IsTrue (list_all (is_unit_letter o) (c ∷ cs)) → IsLexeme o (c ∷ cs)
+  letters_are_lexeme =
+      run_is_lexeme (is_unit_letter o) (letter-not_blank o) (λ c d e f. or_right _ _ (and_from _ _ e f))
+
+-- ---- The sort of a lexeme
+
+pub no_run : (o : Options) (c : ℕ) (rest : List ℕ) → is_digit c ≡ false → is_unit_letter o c ≡ false
+    → goes_on o c rest ≡ false
+no_run o c rest e f = grind arith
+
+pub sign_sorts : (op : Option CondUnit) → sign_sort op ≡ sort_of (operator_or_other op)
+sign_sorts op = grind arith
+
+sign_alone : (o : Options) (c : ℕ) (ds : List ℕ) → is_digit c ≡ false → is_unit_letter o c ≡ false
+    → IsTrue (list_all (are_of_one_run o c) ds) → sort_at o c ≡ sort_of (terminal_of o (c ∷ ds))
+sign_alone o c ds e f all = grind (arith, and_parts)
+
+-- The first character of a lexeme determines the sort of its terminal.
+pub lexeme_sort : (o : Options) (c : ℕ) (cs : List ℕ) → IsLexeme o (c ∷ cs)
+    → sort_at o c ≡ sort_of (terminal_of o (c ∷ cs))
+lexeme_sort o c cs p = elim (cases_Bool (is_digit c)) [
+  | inl e ↦ rw (e, all_weaker _ is_digit cs (λ d h. grind (arith, digit-not_letter o c e)) p.1)
+  | inr e ↦ elim (cases_Bool (is_unit_letter o c)) [
+    | inl f ↦ rw (e, f, all_weaker _ (is_unit_letter o) cs (λ d h. grind arith) p.1)
+    | inr f ↦ sign_alone o c cs e f p.1
+  ]
+]
+
+-- Two characters of one run have one sort.
+pub run_sort : (o : Options) (c d : ℕ) → are_of_one_run o c d ≡ true → sort_at o c ≡ sort_at o d
+run_sort o c d run = grind (arith, or_cases, and_parts, letter-not_digit)
+
+-- ---- Tokens by their first character
 
 -- The characters from `place` to `next` are a token, as long as possible, that stands for this terminal.
 pub record StandsToken (o : Options) (text : List ℕ) (place next : ℕ) (terminal : Terminal) : Type 0 where
@@ -24,8 +100,7 @@ pub record StandsToken (o : Options) (text : List ℕ) (place next : ℕ) (termi
 -- fails it.
 run_ends : (o : Options) (test : ℕ → Bool) → ((c d : ℕ) → test c ≡ true → test d ≡ false → are_of_one_run o c d ≡ false)
     → (c : ℕ) (rest : List ℕ) → test c ≡ true → Stops test rest → goes_on o c rest ≡ false
-run_ends o test apart c [] e stops = refl
-run_ends o test apart c (d ∷ rest) e stops = apart c d e stops
+run_ends o test apart c rest e stops = search rules
 
 -- Such a run is a token, if it is a lexeme that stands for `meaning`.
 run_stands : {text cs : List ℕ} {place next at c : ℕ} (o : Options) (test : ℕ → Bool) (meaning : List ℕ → Terminal)
@@ -35,16 +110,12 @@ run_stands : {text cs : List ℕ} {place next at c : ℕ} (o : Options) (test : 
     → Between text place next cs → IsTrue (list_all test cs) → Stops test (ahead text next) → StandsAt text place at c
     → test c ≡ true
     → (0 < length cs) × StandsToken o text place next (meaning cs)
-run_stands {cs = []} o test meaning apart lexeme between all stops stands e = search rules
-run_stands {cs = d ∷ cs} o test meaning apart lexeme between all stops stands e = search (rules, run_ends)
+run_stands o test meaning apart lexeme between all stops stands e = search (rules, run_ends)
 
 pub number_stands : {text : List ℕ} {place next at c : ℕ} (o : Options) (run : Passes is_digit text place next)
     → Stops is_digit (ahead text next) → StandsAt text place at c → is_digit c ≡ true
     → IsNumber run.characters × StandsToken o text place next (number (number_of run.characters))
-number_stands o run stops stands e =
-    let token = run_stands o is_digit (λ cs. number (number_of cs)) (λ c d p q. rw (p, q, digit-not_letter o c p))
-    (λ d ds all. (digits_are_lexeme o d ds all, rw all)) run.between run.all stops stands e in
-    ((token.0, run.all), token.1)
+number_stands o run stops stands e = grind (arith, common_steps, digits_are_lexeme)
 
 pub word_stands : {text : List ℕ} {place next at c : ℕ} {unit : Option TimeUnit} (o : Options)
     → TakesWord o text place next unit → Stops (is_unit_letter o) (ahead text next) → StandsAt text place at c
@@ -71,10 +142,7 @@ sign_stands {text} {next = next} {c = c} o stands b e f = record {
 
 number_by : (d l : Bool) (op : Option CondUnit)
     → d ≡ is_number (Some (if d then Number else if l then Word else sign_sort op))
-number_by true l op = refl
-number_by false true op = refl
-number_by false false None = refl
-number_by false false (Some op) = refl
+number_by d l op = search rules
 
 module _ (o : Options) where
   -- A token is a number exactly if its first character is a digit.

@@ -1,20 +1,18 @@
 -- The steps of `Tokens`: what is ahead, and the next token.
-use Rattle.duration_str.proofs.Common.{◌≡◌, ℕ, ◌+◌, ◌-◌, ◌<◌, ◌≤◌, drop, length-drop, arith, true, List, [], ◌∷◌, length}
-use Rattle.duration_str.proofs.Common.{Option, Some, None, IsUtf8, refl, ap, sym, ◌∙◌, slice_range, IsCharBoundary}
-use Rattle.duration_str.proofs.Common.{length-take-le, ForSome, IsUtf8-had, TimeUnit, CondUnit, TokenStart, Number}
-use Rattle.duration_str.proofs.Common.{Word, rules}
-use Rattle.duration_str.proofs.Common.{Operator, Other, Tokens, Terminal, word, operator, other, operator_or_other}
-use Rattle.duration_str.proofs.Common.{terminal_of, is_blank, is_digit, is_unit_letter, operator_of, number_of}
-use Rattle.duration_str.proofs.Common.{tokens_from, ahead, width, Stands, StandsAt, Passes, Stops, TakesDigits}
-use Rattle.duration_str.proofs.Common.{sort_of, u64_from, source, options_of, tokens_left, what_of, KeepsInput, YieldsNextToken, IsAhead}
-use Rattle.duration_str.proofs.Common.{LooksAhead, IsSign, TakesToken, TakesTokenWith, TakesNumber, Token, cut_place}
-use Rattle.duration_str.specs.declared.token.Token.{Token as RustToken}
+use Rattle.duration_str.proofs.Common.{ahead, arith, CondUnit, cut_place, ForSome, is_blank, is_digit, is_unit_letter}
+use Rattle.duration_str.proofs.Common.{IsAhead, IsCharBoundary, IsSign, IsUtf8, IsUtf8-had, KeepsInput, length}
+use Rattle.duration_str.proofs.Common.{length-drop, length-take-le, List, LooksAhead, None, Number, number_of, Operator}
+use Rattle.duration_str.proofs.Common.{Option, options_of, Other, other, Passes, refl, rules, slice_range, Some}
+use Rattle.duration_str.proofs.Common.{sort_of, source, Stands, StandsAt, Stops, sym, TakesDigits, TakesNumber}
+use Rattle.duration_str.proofs.Common.{TakesToken, TakesTokenWith, Terminal, terminal_of, TimeUnit, Token, Tokens}
+use Rattle.duration_str.proofs.Common.{tokens_left, TokenStart, true, u64_from, what_of, width, Word, word}
+use Rattle.duration_str.proofs.Common.{YieldsNextToken, [], ℕ, ◌+◌, ◌<◌, ◌∙◌, ◌∷◌, ◌≡◌}
 use Rattle.duration_str.proofs.Characters.NumberLemmas.{bytes_of_digits}
-use Rattle.duration_str.proofs.Cutting.PositionLemmas.{TakesWord, chars_between, blanks_passed, token_taken}
-use Rattle.duration_str.proofs.Cutting.PositionLemmas.{place_at_end}
-use Rattle.duration_str.proofs.Cutting.SortLemmas.{StandsToken, number_stands, word_stands, sign_stands, digit_of_sort}
-use Rattle.duration_str.proofs.Cutting.SortLemmas.{letter_of_sort, sign_of_sort, first_token}
-use Rattle.duration_str.proofs.Cutting.TerminalLemmas.{sign_sorts}
+use Rattle.duration_str.proofs.Cutting.PositionLemmas.{blanks_passed, chars_between, place_at_end, TakesWord}
+use Rattle.duration_str.proofs.Cutting.PositionLemmas.{token_taken}
+use Rattle.duration_str.proofs.Cutting.SortLemmas.{digit_of_sort, first_token, letter_of_sort, number_stands}
+use Rattle.duration_str.proofs.Cutting.SortLemmas.{sign_of_sort, sign_sorts, sign_stands, StandsToken, word_stands}
+use Rattle.duration_str.specs.declared.token.Token.{Token as RustToken}
 use Rattle.duration_str.specs.declared.token.What.TheVariants as whats
 
 pub keeps_all : (s : Tokens) → KeepsInput s s
@@ -22,11 +20,6 @@ keeps_all s = record { text = refl; options = refl }
 
 pub keeps_on : {s m t : Tokens} → KeepsInput s m → KeepsInput m t → KeepsInput s t
 keeps_on kept later = record { text = later.text ∙ kept.text; options = later.options ∙ kept.options }
-
--- the tokens that are left after a step, in terms of the source and the options before it
-left_same : {s t : Tokens} → KeepsInput s t
-    → tokens_left t ≡ tokens_from (options_of s) (cut_place t) (ahead (source s) (cut_place t))
-left_same kept = rw (kept.options, kept.text)
 
 -- ---- what is ahead
 
@@ -39,8 +32,7 @@ fewer_ahead kept past is = simp (kept.text, (past _ is).head) (omega arith)
 -- skipping the blanks from s to t
 pub looks_ahead : {s t : Tokens} (sort : Option TokenStart) → KeepsInput s t
     → Passes is_blank (source s) (cut_place s) (cut_place t) → IsAhead t sort → LooksAhead s t sort
-looks_ahead {s} sort kept blanks ahead =
-    record { kept = kept; same_left = rw (left_same kept, blanks_passed (options_of s) blanks); ahead = ahead }
+looks_ahead {s} sort kept blanks ahead = search (rules, blanks_passed)
 
 pub none_left : (s : Tokens) → IsAhead s None → (tokens_left s ≡ []) × (cut_place s ≡ length (source s))
 none_left s end = search (rules, IsUtf8-had, place_at_end)
@@ -64,13 +56,7 @@ letter_ahead s c h is = search (rules)
 
 takes_token : {s t : Tokens} {terminal : Terminal} → KeepsInput s t
     → StandsToken (options_of s) (source s) (cut_place s) (cut_place t) terminal → TakesToken s t terminal
-takes_token {s} kept token = record {
-  characters = token.characters;
-  kept = kept;
-  first = rw (token_taken (options_of s) token.between token.is_lexeme token.ends, left_same kept);
-  between = token.between;
-  is_terminal = token.is_terminal;
-}
+takes_token {s} kept token = search (rules, token_taken)
 
 -- a slice of the same text from the same place
 same_slice : {s t : Tokens} {slice : List ℕ} {start : ℕ} → KeepsInput s t → start ≡ cut_place s
@@ -107,17 +93,12 @@ pub takes_sign : {s t : Tokens} (sort : TokenStart) → IsSign sort → IsAhead 
 takes_sign {s} sort sign h kept past =
     let c = h.character in
     let (no_digit, no_letter, sort_is) = sign_of_sort (options_of s) c sort sign h.is_sort in
-    record {
-      terminal = operator_or_other (operator_of c);
-      token = takes_token kept (sign_stands (options_of s) (past c h.is_head) h.not_blank no_digit no_letter);
-      has = sort_is ∙ sign_sorts (operator_of c);
-    }
+    search (rules, takes_token, sign_stands, sign_sorts)
 
 -- the terminal of a single character, given its sort
 pub sign_what : (terminal : Terminal) (op : CondUnit) → Operator op ≡ sort_of terminal
     → whats.Operator op ≡ what_of terminal
-sign_what (operator next) op e = cc
-sign_what _ op e = absurd cc
+sign_what terminal op e = search rules
 
 pub other_what : (terminal : Terminal) → Other ≡ sort_of terminal → whats.Other ≡ what_of terminal
 other_what other e = refl
@@ -130,20 +111,4 @@ pub takes_terminal : {s m t : Tokens} {terminal : Terminal} (x : RustToken) → 
     → IsUtf8 x.text.now → x.what ≡ what_of terminal → IsCharBoundary (source m) (cut_place m)
     → IsCharBoundary (source t) (cut_place t) → YieldsNextToken s (Some x) t
 takes_terminal {s} {m} {t} x kept same taken there is utf8 sort before boundary =
-    let cs = chars_between taken.between (same_slice taken.kept there is) utf8 in
-    let order : x.start ≤ cut_place t = omega (arith, taken.between.bytes, there) in
-    let len : length x.text.now ≡ cut_place t - x.start =
-    ap length is
-    ∙ length-take-le (cut_place t - x.start) (drop x.start (source t))
-    (simp length-drop (omega (arith, boundary.0, order))) in
-    let all = keeps_on kept taken.kept in
-    record {
-      first = rw (there, cs, ← same) taken.first;
-      kept = all;
-      token = record {
-        end = omega (arith, len, order);
-        slice = simp all.text at is;
-        sort = rw (sort, taken.is_terminal, kept.options, cs);
-      };
-      end = tt;
-    }
+    search (rules, chars_between, length-take-le, length-drop)

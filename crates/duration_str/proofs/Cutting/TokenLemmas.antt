@@ -1,16 +1,15 @@
 -- `tokens_from` gives the tokens of a text, and a text has no others.
-use Rattle.duration_str.proofs.Common.{◌≡◌, ℕ, ◌+◌, Bool, true, false, List, [], ◌∷◌, ◌++◌, if◌then◌else◌, arith, refl}
-use Rattle.duration_str.proofs.Common.{ap, sym, ◌∙◌, add_assoc, add-zero, append-nil, and_parts, and_from, list_all}
-use Rattle.duration_str.proofs.Common.{Options, width, is_blank, IsBlank, byte_len, are_of_one_run, goes_on, IsLexeme}
-use Rattle.duration_str.proofs.Common.{EndsRun, AreTokens, tokens_from, Token, with_first_character}
-use Rattle.duration_str.proofs.Characters.CharacterLemmas.{same_run, run-not_blank}
+use Rattle.duration_str.proofs.Common.{add-zero, add_assoc, and_from, and_parts, ap, append-nil, are_of_one_run}
+use Rattle.duration_str.proofs.Common.{AreTokens, arith, Bool, byte_len, EndsRun, false, goes_on, if◌then◌else◌}
+use Rattle.duration_str.proofs.Common.{is_blank, IsBlank, IsLexeme, List, list_all, Options, refl, sym, Token}
+use Rattle.duration_str.proofs.Common.{tokens_from, true, width, with_first_character, [], ℕ, ◌++◌, ◌+◌, ◌∙◌, ◌∷◌, ◌≡◌}
+use Rattle.duration_str.proofs.Characters.CharacterLemmas.{run-not_blank, same_run}
 
 pub blanks_no_token : (o : Options) (at : ℕ) (blanks rest : List ℕ) → IsBlank blanks
     → tokens_from o at (blanks ++ rest) ≡ tokens_from o (at + byte_len blanks) rest
 blanks_no_token o at [] rest h = rw add-zero
 blanks_no_token o at (b ∷ blanks) rest h =
-    let parts = and_parts (is_blank b) (list_all is_blank blanks) h in
-    rw (parts.0, blanks_no_token o (at + width b) blanks rest parts.1, add_assoc)
+    grind (arith, and_parts, add_assoc, blanks_no_token o (at + width b) blanks rest)
 
 module _ (o : Options) where
   same_all : (c d : ℕ) (cs : List ℕ) → are_of_one_run o c d ≡ true
@@ -38,9 +37,7 @@ module _ (o : Options) where
       → tokens_from o at (blanks ++ (cs ++ rest))
       ≡ record { start = at + byte_len blanks; characters = cs }
       ∷ tokens_from o (at + byte_len blanks + byte_len cs) rest
-  tokens_step at blanks [] rest b p e = absurd p
-  tokens_step at blanks (c ∷ cs) rest b p e =
-      blanks_no_token o at blanks (c ∷ (cs ++ rest)) b ∙ run_token (at + byte_len blanks) c cs rest p e
+  tokens_step at blanks cs rest b p e = grind (arith, blanks_no_token, run_token)
 
   tokens_computed : (at : ℕ) (text : List ℕ) (ps : List Token) → AreTokens o at text ps → tokens_from o at text ≡ ps
   tokens_computed at text [] h = ap (tokens_from o at) (sym (append-nil text)) ∙ blanks_no_token o at text [] h
@@ -60,7 +57,7 @@ module _ (o : Options) where
       → AreTokens o (start + byte_len cs) rest ps
       → AreTokens o at (c ∷ d ∷ text) (record { start = at; characters = c ∷ cs } ∷ ps)
   joined_in_front at c d text (b ∷ blanks) cs rest start ps e g hb parts st hp en more =
-      let heads : d ≡ b = cc in cc ((and_parts (is_blank b) _ hb).0, run-not_blank o c d g)
+      grind (arith, and_parts, run-not_blank)
   joined_in_front at c d text [] [] rest start ps e g hb parts st hp en more = absurd hp
   joined_in_front at c d text [] (x ∷ cs) rest start ps e g hb parts st hp en more =
       let heads : d ≡ x = cc in
@@ -95,19 +92,11 @@ module _ (o : Options) where
     },
     h.2,
   )
-  in_front at c text ps false false e g h = (
-    text,
-    record { blanks = []; blank = refl; parts = refl; start = rw add-zero; is_lexeme = (e, refl); ends = g },
-    rw add-zero h,
-  )
+  in_front at c text ps false false e g h = grind arith
   in_front at c [] ps false true e g h = cc g
   in_front at c (d ∷ text) [] false true e g h = cc ((and_parts (is_blank d) _ h).0, run-not_blank o c d g)
-  in_front at c (d ∷ text) (p ∷ ps) false true e g h =
-      joined_in_front at c d text h.1.blanks p.characters h.0 p.start ps e g h.1.blank h.1.parts h.1.start h.1.is_lexeme
-      h.1.ends h.2
+  in_front at c (d ∷ text) (p ∷ ps) false true e g h = search (arith, joined_in_front)
 
   pub tokens_are : (at : ℕ) (text : List ℕ) → AreTokens o at text (tokens_from o at text)
   tokens_are at [] = refl
-  tokens_are at (c ∷ text) =
-      in_front at c text (tokens_from o (at + width c) text) (is_blank c) (goes_on o c text) refl refl
-      (tokens_are (at + width c) text)
+  tokens_are at (c ∷ text) = grind (arith, in_front, tokens_are (at + width c) text)

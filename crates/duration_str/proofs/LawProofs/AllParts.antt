@@ -1,23 +1,15 @@
 -- With all units and as many parts as there are units, the counts are those of the breakdown.
-use Rattle.duration_str.proofs.Common.{◌≡◌, ℕ, ◌-◌, ◌/◌, ◌%◌, ◌≤◌, ◌==◌, ◌∙◌, inl, inr, false, List, [], ◌∷◌, length}
-use Rattle.duration_str.proofs.Common.{arith, refl, sym, ap, cases_Bool, nat_tests, unit_lengths, Format, whole_format}
-use Rattle.duration_str.proofs.Common.{counts_within, text_within, printed_counts, counts_of, AllParts}
+use Rattle.duration_str.proofs.Common.{AllParts, ap, arith, counts_of, counts_within, Format, length, List}
+use Rattle.duration_str.proofs.Common.{printed_counts, refl, sym, text_within, unit_lengths, whole_format, [], ℕ, ◌∙◌}
+use Rattle.duration_str.proofs.Common.{◌∷◌, ◌≡◌, ◌≤◌}
 use Rattle.duration_str.proofs.LawProofs.GreatestBreakdown.{greatest_breakdown_holds}
-use Rattle.duration_str.proofs.LawProofs.GreatestWithin.{left_whole, greatest_within, one_greatest_within}
+use Rattle.duration_str.proofs.LawProofs.GreatestWithin.{greatest_within, one_greatest_within}
 use Rattle.duration_str.proofs.Printer.PrintingLemmas.{counts_are}
 
 pub all_counts : (lengths : List ℕ) (most nanos : ℕ) → length lengths ≤ most
     → counts_within lengths most nanos ≡ counts_of lengths nanos
 all_counts [] most nanos h = refl
-all_counts (l ∷ lengths) most nanos h =
-    let some : (most == 0) ≡ false = grind (arith, nat_tests) in
-    elim (cases_Bool (nanos / l == 0)) [
-      | inl zero ↦
-          let none : nanos / l ≡ 0 = grind (arith, nat_tests) in
-          let same : nanos % l ≡ nanos = left_whole nanos l none in
-          rw (some, zero, none, same, all_counts lengths most nanos (omega arith))
-      | inr count ↦ rw (some, count, all_counts lengths (most - 1) (nanos % l) (omega arith))
-    ]
+all_counts (l ∷ lengths) most nanos h = grind (arith, all_counts lengths)
 
 pub all_parts_holds : AllParts
 all_parts_holds style parts nanos text enough =

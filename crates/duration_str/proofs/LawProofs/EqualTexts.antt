@@ -1,8 +1,8 @@
 -- Two durations print the same text exactly if they are equal.
-use Rattle.duration_str.proofs.Common.{◌≡◌, ℕ, List, FitsDuration, off, terminals_of, sum_of, terms_of, Style}
-use Rattle.duration_str.proofs.Common.{IsPrintedIn, EqualTexts}
+use Rattle.duration_str.proofs.Common.{EqualTexts, FitsDuration, IsPrintedIn, List, off, Style, sum_of, terminals_of}
+use Rattle.duration_str.proofs.Common.{terms_of, ℕ, ◌≡◌}
 use Rattle.duration_str.proofs.Sentences.SpellingLemmas.{sentence_terminals}
-use Rattle.duration_str.proofs.Printer.PrintingLemmas.{duration_lexemes, counts_are, printed_is_sum, duration_sum}
+use Rattle.duration_str.proofs.Printer.PrintingLemmas.{counts_are, duration_lexemes, duration_sum, printed_is_sum}
 
 -- A printed text determines its duration: it is the sum of its terms.
 printed_sum : (style : Style) (nanos : ℕ) (text : List ℕ) → FitsDuration nanos → IsPrintedIn style nanos text

@@ -1,9 +1,10 @@
 -- The counts within limits by quotients and remainders are the greatest.
-use Rattle.duration_str.proofs.Common.{◌≡◌, ℕ, ◌+◌, ◌-◌, ◌*◌, ◌/◌, ◌%◌, ◌≤◌, ◌<◌, ◌⊎◌, inl, inr, false, List, [], ◌∷◌}
-use Rattle.duration_str.proofs.Common.{length, arith, refl, sym, ⊤, ◌==◌, cases_Bool, le-div_iff_mul-le, div-add-mod'}
-use Rattle.duration_str.proofs.Common.{cases_lt, leb, leb-true, map, TimeUnit, nanos_of, Format, rules, lengths_within}
-use Rattle.duration_str.proofs.Common.{weighted_sum, IsBefore, part_count, IsGreatestWithin, counts_within, nat_tests}
-use Rattle.duration_str.proofs.Characters.EachUnit.{all_units}
+use Rattle.duration_str.proofs.Common.{arith, cases_Bool, cases_lt, common_steps, counts_within, div-add-mod', false}
+use Rattle.duration_str.proofs.Common.{Format, inl, inr, IsBefore, IsGreatestWithin, le-div_iff_mul-le, leb, leb-true}
+use Rattle.duration_str.proofs.Common.{length, lengths_within, List, map, nanos_of, nat_tests, part_count, refl, rules}
+use Rattle.duration_str.proofs.Common.{TimeUnit, weighted_sum, [], ℕ, ⊤, ◌%◌, ◌*◌, ◌+◌, ◌-◌, ◌/◌, ◌<◌, ◌==◌, ◌∷◌, ◌≡◌}
+use Rattle.duration_str.proofs.Common.{◌≤◌, ◌⊎◌}
+use Rattle.duration_str.proofs.Characters.UnitLemmas.{all_units}
 use Rattle.duration_str.proofs.LawProofs.GreatestBreakdown.{not_before_each_other}
 
 abbrev pub ArePositive : List ℕ → Type 0
@@ -12,18 +13,15 @@ ArePositive (l ∷ lengths) = (1 ≤ l) × ArePositive lengths
 
 pub within_each : (lengths : List ℕ) (most nanos : ℕ) → length (counts_within lengths most nanos) ≡ length lengths
 within_each [] most nanos = refl
-within_each (l ∷ lengths) most nanos =
-    search (rules, within_each lengths most nanos, within_each lengths (most - 1) (nanos % l))
+within_each (l ∷ lengths) most nanos = search (rules, within_each lengths)
 
 pub within_few : (lengths : List ℕ) (most nanos : ℕ) → part_count (counts_within lengths most nanos) ≤ most
 within_few [] most nanos = omega arith
-within_few (l ∷ lengths) most nanos =
-    search (rules, within_few lengths most nanos, within_few lengths (most - 1) (nanos % l))
+within_few (l ∷ lengths) most nanos = search (rules, within_few lengths)
 
 pub within_sum : (lengths : List ℕ) (most nanos : ℕ) → weighted_sum lengths (counts_within lengths most nanos) ≤ nanos
 within_sum [] most nanos = omega arith
-within_sum (l ∷ lengths) most nanos =
-    search (rules, div-add-mod', within_sum lengths most nanos, within_sum lengths (most - 1) (nanos % l))
+within_sum (l ∷ lengths) most nanos = search (rules, div-add-mod', within_sum lengths)
 
 first_at_most : (m l rest nanos : ℕ) → 1 ≤ l → m * l + rest ≤ nanos → m ≤ nanos / l
 first_at_most m l rest nanos h e = search rules
@@ -33,10 +31,7 @@ rest_at_most m l rest nanos e s = let product = rw s at e in omega (arith, div-a
 
 -- A length that does not go into a number is more than it, and leaves it whole.
 pub below_length : (n l : ℕ) → 1 ≤ l → n / l ≡ 0 → n < l
-below_length n l h none = elim (cases_lt n l) [
-  | inl less ↦ less
-  | inr up ↦ let product : 1 * l ≤ n = omega arith in absurd (omega (arith, (le-div_iff_mul-le h).1 product))
-]
+below_length n l h none = search (rules, cases_lt, le-div_iff_mul-le)
 
 pub left_whole : (n l : ℕ) → n / l ≡ 0 → n % l ≡ n
 left_whole n l none = let parts = rw none at (div-add-mod' n l) in omega arith
@@ -106,10 +101,4 @@ pub one_greatest_within : (format : Format) (nanos : ℕ) (counts : List ℕ)
     → counts ≡ counts_within (lengths_within format) format.parts nanos
 one_greatest_within format nanos counts h =
     let own = greatest_within format nanos in
-    elim (h.greatest _ own.within) [
-      | inl same ↦ sym same
-      | inr before ↦ elim (own.greatest counts h.within) [
-        | inl same ↦ same
-        | inr after ↦ absurd (not_before_each_other _ _ before after)
-      ]
-    ]
+    grind (arith, common_steps, not_before_each_other)

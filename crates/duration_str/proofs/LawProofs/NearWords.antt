@@ -1,14 +1,14 @@
 -- A word for which a name is advised names no unit, and the name is one of the unit that people mean by it.
-use Rattle.duration_str.proofs.Common.{◌≡◌, ◌∙◌, ℕ, Bool, true, not, List, [], ◌∷◌, Some, refl, sym, map, find, Option, false, if◌then◌else◌}
-use Rattle.duration_str.proofs.Common.{bytes_eq, cases_Bool, inl, inr, list_any, list_all, Options, codes, TimeUnit, Month}
-use Rattle.duration_str.proofs.Common.{MicroSecond, to_ascii_lowercase, comparison_form, encode_utf8_all, units, row_of}
-use Rattle.duration_str.proofs.Common.{unit_of_word, all_names, arith, ap, rules}
+use Rattle.duration_str.proofs.Common.{all_names, ap, arith, Bool, bytes_eq, cases_Bool, codes, comparison_form}
+use Rattle.duration_str.proofs.Common.{encode_utf8_all, find, inl, inr, List, list_all, list_any, map, MicroSecond}
+use Rattle.duration_str.proofs.Common.{Month, not, Options, refl, row_of, rules, Some, sym, TimeUnit}
+use Rattle.duration_str.proofs.Common.{to_ascii_lowercase, true, unit_of_word, units, [], ℕ, ◌∙◌, ◌∷◌, ◌≡◌}
 use Rattle.std.specs.Option.{option_map}
-use Rattle.duration_str.specs.Laws.{NearWords, IsAdvised}
-use Rattle.duration_str.specs.OneLine.{near_words, small_words, us_words, is_among}
-use Rattle.duration_str.proofs.Characters.EachUnit.{all_units, each_unit}
-use Rattle.duration_str.proofs.Characters.UnitLemmas.{lower-encodes, bytes_eq-encodes, named_unit}
+use Rattle.duration_str.specs.Laws.{IsAdvised, NearWords}
+use Rattle.duration_str.specs.OneLine.{is_among, near_words, small_words, us_words}
+use Rattle.duration_str.proofs.Characters.UnitLemmas.{all_units, bytes_eq-encodes, each_unit, lower-encodes, named_unit}
 use Rattle.duration_str.proofs.Characters.PackedLemmas.{no_name}
+use Rattle.duration_str.proofs.Printer.NearLemmas.{otherwise}
 
 lower_twice : (word : List ℕ) → map to_ascii_lowercase (map to_ascii_lowercase word) ≡ map to_ascii_lowercase word
 lower_twice [] = refl
@@ -46,10 +46,7 @@ found_near : (small : List ℕ) (us : List TimeUnit) (name : List ℕ)
     → option_map (λ u. (row_of u).printed) (find (λ u. is_among (near_words u) small) us) ≡ Some name
     → (u : TimeUnit) × (is_among (near_words u) small ≡ true) × ((row_of u).printed ≡ name)
 found_near small [] name e = absurd cc
-found_near small (u ∷ us) name e = elim (cases_Bool (is_among (near_words u) small)) [
-  | inl near ↦ let found = rw near at e in (u, near, cc)
-  | inr far ↦ found_near small us name (rw far at e)
-]
+found_near small (u ∷ us) name e = search (rules, cases_Bool, found_near small us name)
 
 advised : (o : Options) (word name : List ℕ) (u : TimeUnit)
     → is_among (near_words u) (map to_ascii_lowercase (encode_utf8_all word)) ≡ true → unit_of_word o name ≡ Some u
@@ -62,9 +59,6 @@ advised o word name u near read =
       unread = sym (no_name o word (λ name. not (is_near u name)) (near_apart u) (rw (lower_form o word, is) refl));
       read = read;
     }
-
-otherwise : (b : Bool) (x y : Option (List ℕ)) → b ≡ false → y ≡ (if b then x else y)
-otherwise b x y e = rw e refl
 
 pub near_words_hold : NearWords
 near_words_hold o word name e =

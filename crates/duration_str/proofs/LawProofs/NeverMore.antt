@@ -1,20 +1,17 @@
 -- What is printed within limits is the greatest duration whose own breakdown keeps within them.
-use Rattle.duration_str.proofs.Common.{◌≡◌, ℕ, ◌+◌, ◌-◌, ◌*◌, ◌/◌, ◌%◌, ◌^◌, ◌≤◌, ◌<◌, ◌==◌, ◌∙◌, inl, inr, false}
-use Rattle.duration_str.proofs.Common.{List, [], ◌∷◌, ◌++◌, length, map, if◌then◌else◌, arith, refl, sym, ap, subst}
-use Rattle.duration_str.proofs.Common.{cases_Bool, cases_lt, nat_tests, le-div_iff_mul-le, div-add-mod', map-append}
-use Rattle.duration_str.proofs.Common.{Options, TimeUnit, Year, nanos_of, units, nat_lt, Format, units_within, rules}
-use Rattle.duration_str.proofs.Common.{units_from, units_down_to, lengths_within, zero_unit, counts_within, text_within}
-use Rattle.duration_str.proofs.Common.{part_count, IsRead, IsGreatestBreakdown, counts_of, weighted_sum, terminal_of}
-use Rattle.duration_str.proofs.Common.{NeverMore}
-use Rattle.std.proofs.Math.Nat.{div-eq_of_lt, div-eq_of_lt-le, mul-le-mul_right, le-mul_of_pos_right, zero-div}
-use Rattle.duration_str.proofs.LawProofs.GreatestBreakdown.{EndInOne, breakdown_of, one_greatest}
-use Rattle.duration_str.proofs.LawProofs.GreatestWithin.{ArePositive, below_length, left_whole, within_each, within_few}
-use Rattle.duration_str.proofs.LawProofs.GreatestWithin.{within_sum, lengths_positive, greatest_within}
-use Rattle.duration_str.proofs.LawProofs.GreatestWithin.{one_greatest_within}
-use Rattle.duration_str.proofs.Printer.PrintingLemmas.{kept, lexemes, terminals, or_zero, EachBelow, parts_kept}
-use Rattle.duration_str.proofs.Printer.PrintingLemmas.{all_spelled, terminals_kept, terminals_or_zero, units_sentence}
-use Rattle.duration_str.proofs.Printer.PrintingLemmas.{units_plus, sum_kept, sum_or_zero}
-use Rattle.duration_str.proofs.Sentences.SumReadings.{sum_read}
+use Rattle.duration_str.proofs.Common.{ap, arith, counts_of, counts_within, div-eq_of_lt-le, Format, if◌then◌else◌}
+use Rattle.duration_str.proofs.Common.{IsGreatestBreakdown, IsRead, le-div_iff_mul-le, le-mul_of_pos_right, length}
+use Rattle.duration_str.proofs.Common.{lengths_within, List, map, map-append, nanos_of, nat_lt, NeverMore, Options}
+use Rattle.duration_str.proofs.Common.{part_count, refl, rules, subst, sym, terminal_of, text_within, TimeUnit, units}
+use Rattle.duration_str.proofs.Common.{units_down_to, units_from, units_within, weighted_sum, Year, zero-div, zero_unit}
+use Rattle.duration_str.proofs.Common.{[], ℕ, ◌%◌, ◌*◌, ◌++◌, ◌+◌, ◌/◌, ◌<◌, ◌^◌, ◌∙◌, ◌∷◌, ◌≡◌, ◌≤◌}
+use Rattle.duration_str.proofs.LawProofs.GreatestBreakdown.{breakdown_of, EndInOne, one_greatest}
+use Rattle.duration_str.proofs.LawProofs.GreatestWithin.{ArePositive, greatest_within, left_whole, lengths_positive}
+use Rattle.duration_str.proofs.LawProofs.GreatestWithin.{one_greatest_within, within_each, within_few, within_sum}
+use Rattle.duration_str.proofs.Printer.PrintingLemmas.{all_spelled, EachBelow, kept, lexemes, or_zero, parts_kept}
+use Rattle.duration_str.proofs.Printer.PrintingLemmas.{sum_kept, sum_or_zero, terminals, terminals_kept}
+use Rattle.duration_str.proofs.Printer.PrintingLemmas.{terminals_or_zero, units_plus, units_sentence}
+use Rattle.duration_str.proofs.Sentences.AnswerLemmas.{sum_read}
 
 -- ---- The duration that is printed
 
@@ -39,40 +36,13 @@ none_shown (l ∷ lengths) most nanos none = search (rules, none_shown lengths m
 own_counts : (lengths more : List ℕ) (most nanos : ℕ) → ArePositive lengths
     → counts_of (lengths ++ more) (shown lengths most nanos) ≡ counts_within lengths most nanos ++ counts_of more 0
 own_counts [] more most nanos h = refl
-own_counts (l ∷ lengths) more most nanos h = elim (cases_Bool (most == 0)) [
-  | inl none ↦
-      let no : most ≡ 0 = grind (arith, nat_tests) in
-      rw none (own_step 0 l (shown lengths most nanos) lengths more (counts_within lengths most nanos)
-      (omega (arith, none_shown lengths most nanos no, h.0)) (own_counts lengths more most nanos h.1))
-  | inr some ↦ elim (cases_Bool (nanos / l == 0)) [
-    | inl zero ↦
-        let none : nanos / l ≡ 0 = grind (arith, nat_tests) in
-        rw (some, zero) (own_step 0 l (shown lengths most nanos) lengths more (counts_within lengths most nanos)
-        (omega (arith, below_length nanos l h.0 none, within_sum lengths most nanos))
-        (own_counts lengths more most nanos h.1))
-    | inr count ↦
-        let rest = nanos % l in
-        let positive : 0 < l = h.0 in
-        rw (some, count) (own_step (nanos / l) l (shown lengths (most - 1) rest) lengths more
-        (counts_within lengths (most - 1) rest) (omega (arith, within_sum lengths (most - 1) rest))
-        (own_counts lengths more (most - 1) rest h.1))
-  ]
-]
+own_counts (l ∷ lengths) more most nanos h = search (rules, own_step, none_shown, within_sum, own_counts lengths more)
 
 -- It prints as the same counts.
 within_again : (lengths : List ℕ) (most nanos : ℕ) → ArePositive lengths
     → counts_within lengths most (shown lengths most nanos) ≡ counts_within lengths most nanos
 within_again [] most nanos h = refl
-within_again (l ∷ lengths) most nanos h =
-    search (
-      rules,
-      below_length,
-      div-eq_of_lt,
-      divided,
-      within_sum,
-      within_again lengths most nanos h.1,
-      within_again lengths (most - 1) (nanos % l) h.1,
-    )
+within_again (l ∷ lengths) most nanos h = search (rules, divided, within_sum, within_again lengths)
 
 no_more_parts : (counts more : List ℕ) → part_count (counts ++ counts_of more 0) ≡ part_count counts
 no_more_parts [] [] = refl
@@ -92,53 +62,7 @@ most_within : (lengths more : List ℕ) (most between nanos : ℕ) → ArePositi
     → weighted_sum lengths (counts_of (lengths ++ more) between) ≡ between → between ≤ shown lengths most nanos
 most_within [] more most between nanos h up few whole = omega arith
 most_within (l ∷ lengths) more most between nanos h up few whole =
-    let n = between / l in
-    let left : weighted_sum lengths (counts_of (lengths ++ more) (between % l)) ≡ between % l =
-    omega (arith, div-add-mod' between l, whole) in
-    let product : n * l ≤ nanos = omega (arith, div-add-mod' between l) in
-    let least : n ≤ nanos / l = (le-div_iff_mul-le h.0).1 product in
-    elim (cases_Bool (n == 0)) [
-      | inl zero ↦
-          let none : between / l ≡ 0 = grind (arith, nat_tests) in
-          let same : between % l ≡ between = left_whole between l none in
-          let fewer : part_count (counts_of (lengths ++ more) (between % l)) ≤ most = rw zero at few in
-          let rest = most_within lengths more most (between % l) nanos h.1 (omega arith) fewer left in
-          elim (cases_Bool (most == 0)) [
-            | inl done ↦ rw done (omega arith)
-            | inr some ↦ elim (cases_Bool (nanos / l == 0)) [
-              | inl nothing ↦ rw (some, nothing) (omega arith)
-              | inr count ↦
-                  let one : 1 ≤ nanos / l = grind (arith, nat_tests) in
-                  rw (some, count) (omega (arith, below_length between l h.0 none, mul-le-mul_right l one))
-            ]
-          ]
-      | inr one ↦
-          let fewer : 1 + part_count (counts_of (lengths ++ more) (between % l)) ≤ most = rw one at few in
-          let some : (most == 0) ≡ false = grind (arith, nat_tests) in
-          let positive : 1 ≤ n = grind (arith, nat_tests) in
-          let count : (nanos / l == 0) ≡ false = grind (arith, nat_tests) in
-          rw (some, count) (elim (cases_lt n (nanos / l)) [
-            | inl less ↦ next_product between l (nanos / l) (shown lengths (most - 1) (nanos % l)) h.0 less
-            | inr other ↦
-                let same : between / l ≡ nanos / l = omega arith in
-                let down : between % l ≤ nanos % l = rest_smaller between nanos l same up in
-                let rest = most_within lengths more (most - 1) (between % l) (nanos % l) h.1 down (omega arith) left in
-                same_product between l (nanos / l) (shown lengths (most - 1) (nanos % l)) same rest
-          ])
-    ]
-  where
-    next_product : (e l c rest : ℕ) → 1 ≤ l → e / l < c → e ≤ c * l + rest
-    next_product e l c rest positive less =
-        let next : (e / l + 1) * l ≤ c * l = mul-le-mul_right l (omega arith) in
-        let positive_length : 0 < l = positive in
-        omega (arith, next, div-add-mod' e l)
-
-    rest_smaller : (e n l : ℕ) → e / l ≡ n / l → e ≤ n → e % l ≤ n % l
-    rest_smaller e n l same up =
-        let parts = rw same at (div-add-mod' e l) in omega (arith, parts, div-add-mod' n l)
-
-    same_product : (e l c rest : ℕ) → e / l ≡ c → e % l ≤ rest → e ≤ c * l + rest
-    same_product e l c rest same h = let parts = rw same at (div-add-mod' e l) in omega (arith, parts)
+    search (rules, le-div_iff_mul-le, most_within lengths more)
 
 -- ---- The units
 
@@ -162,9 +86,7 @@ each_below : (lengths counts : List ℕ) → ArePositive lengths → length coun
 each_below [] [] h e small = tt
 each_below [] (n ∷ counts) h e small = absurd (omega arith)
 each_below (l ∷ lengths) [] h e small = absurd (omega arith)
-each_below (l ∷ lengths) (n ∷ counts) h e small =
-    let product : n ≤ n * l = le-mul_of_pos_right n h.0 in
-    (omega arith, each_below lengths counts h.1 (omega arith) (omega arith))
+each_below (l ∷ lengths) (n ∷ counts) h e small = search (rules, le-mul_of_pos_right, each_below lengths counts)
 
 reads : (o : Options) (format : Format) (counts text : List ℕ) → length counts ≡ length (lengths_within format)
     → weighted_sum (lengths_within format) counts < 2 ^ 64 → text ≡ text_within format counts

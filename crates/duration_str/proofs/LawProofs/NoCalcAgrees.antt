@@ -1,8 +1,8 @@
 -- Without operators `no_calc` changes neither what is accepted nor its value.
-use Rattle.duration_str.proofs.Common.{ℕ, Bool, not, List, [], ◌∷◌, map, Some, ⊤, and_parts, Options}
-use Rattle.duration_str.proofs.Common.{Terminal, number, word, operator, terminal_of, IsSentence, NoCalcAgrees, rules}
-use Rattle.duration_str.proofs.Common.{HasNoOperator, is_operator, IsRead}
-use Rattle.duration_str.proofs.Cutting.TerminalLemmas.{terminal_cases}
+use Rattle.duration_str.proofs.Common.{and_parts, Bool, HasNoOperator, is_operator, IsRead, IsSentence, List, map}
+use Rattle.duration_str.proofs.Common.{NoCalcAgrees, not, number, operator, Options, rules, Some, Terminal, terminal_of}
+use Rattle.duration_str.proofs.Common.{word, [], ℕ, ⊤, ◌∷◌}
+use Rattle.duration_str.proofs.Cutting.SortLemmas.{terminal_cases}
 use Rattle.duration_str.proofs.Sentences.SpellingLemmas.{EachPasses, lexemes_pass}
 
 abbrev HaveNoOperator : List Terminal → Type 0

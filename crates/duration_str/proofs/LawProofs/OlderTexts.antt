@@ -1,13 +1,12 @@
 -- The law `older_texts`: a sentence over the units without the quarter is a sentence over all units.
-use Rattle.duration_str.proofs.Common.{◌≡◌, ℕ, Bool, true, false, List, [], ◌∷◌, map, Option, Some, None, IsTrue, refl}
-use Rattle.duration_str.proofs.Common.{ap, ap₂, ◌∙◌, append-nil, ◌⊎◌, inl, inr, find, ⊤, cases_Bool, list_all, Options}
-use Rattle.duration_str.proofs.Common.{CondUnit, Plus, TimeUnit, Quarter, Cause, rules, is_digit, is_unit_letter}
-use Rattle.duration_str.proofs.Common.{UnitRow, row_of, nanos_of, is_named, unit_of_word, Terminal, number, word}
-use Rattle.duration_str.proofs.Common.{operator, sign_terminal, terminal_by, terminal_of, IsSentence, IsSentenceOf}
-use Rattle.duration_str.proofs.Common.{expected_after, allows, terms_by, terms_of, IsRead, IsRefusedAt, IsRefused}
-use Rattle.duration_str.proofs.Common.{early, older_row_of, was_named, older_nanos_of, older_unit_of_word}
-use Rattle.duration_str.proofs.Common.{older_terminals, older_terms, WasSentenceOf, WasRead, WasRefused, sentence_fault}
-use Rattle.duration_str.proofs.Common.{OlderTexts}
+use Rattle.duration_str.proofs.Common.{allows, ap, append-nil, ap₂, Bool, cases_Bool, Cause, CondUnit, expected_after}
+use Rattle.duration_str.proofs.Common.{inl, inr, is_digit, is_unit_letter, IsRead, IsRefused, IsRefusedAt, IsSentence}
+use Rattle.duration_str.proofs.Common.{IsSentenceOf, IsTrue, List, list_all, map, nanos_of, None, number}
+use Rattle.duration_str.proofs.Common.{older_nanos_of, older_row_of, older_terminals, older_terms, older_unit_of_word}
+use Rattle.duration_str.proofs.Common.{OlderTexts, operator, Option, Options, Plus, refl, row_of, rules, sentence_fault}
+use Rattle.duration_str.proofs.Common.{sign_terminal, Some, Terminal, terminal_by, terminal_of, terms_by, terms_of}
+use Rattle.duration_str.proofs.Common.{TimeUnit, unit_of_word, WasRead, WasRefused, WasSentenceOf, word, [], ℕ, ⊤, ◌∙◌}
+use Rattle.duration_str.proofs.Common.{◌∷◌, ◌≡◌, ◌⊎◌}
 use Rattle.duration_str.proofs.Sentences.AnswerLemmas.{sentence_refused}
 use Rattle.duration_str.proofs.Sentences.FrontLemmas.{AreAllowed, sentence_allowed}
 
@@ -15,25 +14,7 @@ use Rattle.duration_str.proofs.Sentences.FrontLemmas.{AreAllowed, sentence_allow
 
 -- A unit had no row, or the one that it has.
 kept : (u : TimeUnit) → (older_row_of u ≡ None) ⊎ (older_row_of u ≡ Some (row_of u))
-kept Quarter = inl refl
-kept _ = inr refl
-
-same_row : (u : TimeUnit) (row : UnitRow) → older_row_of u ≡ Some row → row_of u ≡ row
-same_row u row e = elim (kept u) [ inl none ↦ cc | inr same ↦ cc ]
-
--- A name of a unit is still its name, and the unit has its length.
-still_named : (o : Options) (w : List ℕ) (u : TimeUnit) → was_named o w u ≡ true
-    → (is_named o w u ≡ true) × (older_nanos_of u ≡ nanos_of u)
-still_named o w u named = search rules
-
--- A unit found among these is named by the word.
-found_named : (o : Options) (w : List ℕ) (us : List TimeUnit) (u : TimeUnit) → find (was_named o w) us ≡ Some u
-    → was_named o w u ≡ true
-found_named o w [] u h = cc
-found_named o w (v ∷ us) u h = elim (cases_Bool (was_named o w v)) [
-  | inl e ↦ let same : v ≡ u = cc (rw e at h) in rw same at e
-  | inr e ↦ found_named o w us u (rw e at h)
-]
+kept u = search rules
 
 -- ---- Terminals and terms
 
@@ -47,13 +28,11 @@ same_word : (o : Options) (last : Option Terminal) (w : List ℕ) (found : Optio
     → older_unit_of_word o w ≡ found → IsTrue (allows (expected_after o.no_calc last) (word found))
     → KeepLengths terminals
     → (word found ≡ word (unit_of_word o w)) × KeepLengths (word found ∷ terminals)
-same_word o last w (Some u) terminals e a k = search (rules, found_named, still_named)
-same_word o last w None terminals e a k = search rules
+same_word o last w found terminals e a k = search rules
 
 sign_keeps : (w : List ℕ) (terminals : List Terminal) → KeepLengths terminals
     → KeepLengths (sign_terminal w ∷ terminals)
-sign_keeps (c ∷ []) terminals k = search rules
-sign_keeps _ terminals k = k
+sign_keeps w terminals k = search rules
 
 -- A lexeme that the table allows where it is has the same terminal as before, with a unit of the same length.
 same_terminal : (o : Options) (last : Option Terminal) (w : List ℕ) (terminals : List Terminal)
@@ -98,19 +77,12 @@ module _ (o : Options) (lexemes : List (List ℕ)) (text : List ℕ) (was : WasS
 -- ---- Values and causes
 
 older_value : (o : Options) (text : List ℕ) (nanos : ℕ) → WasRead o text nanos → IsRead o text nanos
-older_value o text nanos was =
-    let same = older_terms_same o was.lexemes text was.spells in record {
-      lexemes = was.lexemes;
-      spells = older_sentence o was.lexemes text was.spells;
-      evaluates = rw same at was.evaluates;
-      value = rw same at was.value;
-    }
+older_value o text nanos was = search (rules, older_terms_same, older_sentence)
 
 -- A sentence whose evaluation has this fault is refused for it, wherever its end stands.
 refused_at : (no_calc : Bool) (place : ℕ) (terminals : List Terminal) (cause : Cause) → IsSentence no_calc terminals
     → sentence_fault no_calc (terms_of terminals) ≡ Some cause → IsRefusedAt no_calc place terminals [] cause
-refused_at true place terminals cause s e = early e
-refused_at false place terminals cause s e = search (rules, append-nil)
+refused_at no_calc place terminals cause s e = search (rules, append-nil)
 
 older_cause : (o : Options) (text : List ℕ) (cause : Cause) → WasRefused o text cause → IsRefused o text cause
 older_cause o text cause was =
@@ -120,10 +92,4 @@ older_cause o text cause was =
     (rw (older_terms_same o was.lexemes text was.spells) at was.refused))
 
 pub older_texts_hold : OlderTexts
-older_texts_hold = record {
-  rows = same_row;
-  terminals = λ o lexemes text was. (older o lexemes text was).0;
-  sentence = older_sentence;
-  value = older_value;
-  cause = older_cause;
-}
+older_texts_hold = search (rules, older, older_value, older_cause)

@@ -1,8 +1,8 @@
 -- A text has only one list of tokens, and at most one sentence spells it.
-use Rattle.duration_str.proofs.Common.{List, ℕ, sym, subst, ◌∙◌, Spells, tokens_of, OneSentence, OneCut}
-use Rattle.duration_str.proofs.Cutting.TokenLemmas.{tokens_once, tokens_are}
+use Rattle.duration_str.proofs.Common.{arith, List, OneCut, OneSentence, Spells, subst, sym, ℕ, ◌∙◌}
+use Rattle.duration_str.proofs.Cutting.TokenLemmas.{tokens_are, tokens_once}
 use Rattle.duration_str.proofs.Sentences.SpellingLemmas.{sentence_tokens, tokens_spell}
-use Rattle.duration_str.proofs.Sentences.AnswerLemmas.{one_reading_holds, answer_is_reading_holds}
+use Rattle.duration_str.proofs.Sentences.AnswerLemmas.{answer_is_reading_holds, one_reading_holds}
 
 pub one_sentence_holds : OneSentence
 one_sentence_holds = record {
@@ -14,9 +14,6 @@ one_sentence_holds = record {
 }
 
 pub one_cut_holds : OneCut
-one_cut_holds = record {
-  are = λ o text. tokens_are o 0 text;
-  only = λ o text tokens h. tokens_once o 0 text tokens (tokens_of o text) h (tokens_are o 0 text);
-}
+one_cut_holds = search (arith, tokens_are, tokens_once)
 
 pub ruleset each_holds = (one_sentence_holds, one_cut_holds, one_reading_holds, answer_is_reading_holds)

@@ -1,12 +1,11 @@
 -- `lowercase` changes nothing without ASCII capitals, and `cn_unit` nothing without Chinese characters.
-use Rattle.duration_str.proofs.Common.{◌≡◌, ℕ, ◌+◌, Bool, true, false, not, List, [], ◌∷◌, map, IsTrue, rules}
-use Rattle.duration_str.proofs.Common.{if◌then◌else◌, bytes_eq, arith, refl, and_parts, and_from, not-true, nat_tests}
-use Rattle.duration_str.proofs.Common.{is_ascii_uppercase, to_ascii_lowercase, list_all, list_any, Options, Cause}
-use Rattle.duration_str.proofs.Common.{width, is_unit_letter, is_chinese, unit_of_word, terminal_of, goes_on}
-use Rattle.duration_str.proofs.Common.{tokens_from, tokens_of, terminals_of, IsRead, IsRefused, OptionsIdle}
-use Rattle.duration_str.proofs.Common.{HasNoCapital, HasNoChinese, IsIdle}
+use Rattle.duration_str.proofs.Common.{and_parts, arith, Bool, bytes_eq, Cause, false, goes_on, HasNoCapital}
+use Rattle.duration_str.proofs.Common.{HasNoChinese, if◌then◌else◌, is_chinese, is_unit_letter, IsIdle, IsRead}
+use Rattle.duration_str.proofs.Common.{IsRefused, IsTrue, List, list_all, list_any, map, not, not-true, Options}
+use Rattle.duration_str.proofs.Common.{OptionsIdle, refl, rules, terminal_of, terminals_of, to_ascii_lowercase}
+use Rattle.duration_str.proofs.Common.{tokens_from, tokens_of, true, unit_of_word, width, [], ℕ, ◌+◌, ◌∷◌, ◌≡◌}
 use Rattle.duration_str.proofs.Characters.UnitLemmas.{named_passes}
-use Rattle.duration_str.proofs.Sentences.SpellingLemmas.{tokens_spell, EachPasses, lexemes_pass}
+use Rattle.duration_str.proofs.Sentences.SpellingLemmas.{EachPasses, lexemes_pass, tokens_spell}
 use Rattle.duration_str.proofs.Sentences.AnswerLemmas.{read_terminals, terminals_read}
 
 -- ---- Options that give the same tokens and terminals give the same answer
@@ -39,14 +38,11 @@ record Agree (test : ℕ → Bool) (o p : Options) : Type 0 where
 module _ (test : ℕ → Bool) (o p : Options) (same : Agree test o p) where
   goes_on_alike : (c : ℕ) (text : List ℕ) → IsTrue (list_all test (c ∷ text)) → goes_on o c text ≡ goes_on p c text
   goes_on_alike c [] h = refl
-  goes_on_alike c (d ∷ text) h =
-      let (first, more) = and_parts (test c) (list_all test (d ∷ text)) h in
-      rw (same.letter c first, same.letter d (and_parts _ _ more).0)
+  goes_on_alike c (d ∷ text) h = grind (arith, and_parts)
 
   tokens_alike : (at : ℕ) (text : List ℕ) → IsTrue (list_all test text) → tokens_from o at text ≡ tokens_from p at text
   tokens_alike at [] h = refl
-  tokens_alike at (c ∷ text) h =
-      let parts = and_parts _ _ h in rw (goes_on_alike c text h, tokens_alike (at + width c) text parts.1)
+  tokens_alike at (c ∷ text) h = search (rules, and_parts, goes_on_alike, tokens_alike (at + width c) text)
 
   letters_alike : (w : List ℕ) → IsTrue (list_all test w)
       → list_all (is_unit_letter o) w ≡ list_all (is_unit_letter p) w
@@ -54,8 +50,7 @@ module _ (test : ℕ → Bool) (o p : Options) (same : Agree test o p) where
   letters_alike (c ∷ w) h = let parts = and_parts _ _ h in rw (same.letter c parts.0, letters_alike w parts.1)
 
   terminal_alike : (w : List ℕ) → IsTrue (list_all test w) → terminal_of o w ≡ terminal_of p w
-  terminal_alike [] h = refl
-  terminal_alike (c ∷ cs) h = rw (letters_alike (c ∷ cs) h, same.unit (c ∷ cs) h)
+  terminal_alike w h = search (rules, letters_alike)
 
   lexemes_alike : (lexemes : List (List ℕ)) → EachPasses test lexemes
       → map (terminal_of o) lexemes ≡ map (terminal_of p) lexemes
@@ -63,21 +58,13 @@ module _ (test : ℕ → Bool) (o p : Options) (same : Agree test o p) where
   lexemes_alike (w ∷ lexemes) h = rw (terminal_alike w h.0, lexemes_alike lexemes h.1)
 
   agree_alike : (text : List ℕ) → o.no_calc ≡ p.no_calc → IsTrue (list_all test text) → AreAlike o p text
-  agree_alike text grammar h =
-      let tokens = tokens_alike 0 text h in
-      record {
-        grammar = grammar;
-        tokens = tokens;
-        terminals = rw (← tokens) (lexemes_alike _ (lexemes_pass test _ text h (tokens_spell o text)));
-      }
+  agree_alike text grammar h = search (rules, tokens_alike, lexemes_alike, lexemes_pass, tokens_spell)
 
 -- ---- ASCII capitals
 
 all_lower : (w : List ℕ) → HasNoCapital w → map to_ascii_lowercase w ≡ w
 all_lower [] h = refl
-all_lower (c ∷ w) h =
-    let parts = and_parts (not (is_ascii_uppercase c)) _ h in
-    let same : to_ascii_lowercase c ≡ c = grind (arith, nat_tests, parts.0) in rw (same, all_lower w parts.1)
+all_lower (c ∷ w) h = search (rules, and_parts, all_lower w)
 
 -- ---- Chinese characters
 
@@ -85,18 +72,13 @@ chinese_letter : (o : Options) (c : ℕ) → not (is_chinese c) ≡ true
     → is_unit_letter (record o { cn_unit = true }) c ≡ is_unit_letter (record o { cn_unit = false }) c
 chinese_letter o c h = rw (not-true (is_chinese c) h)
 
-lower_not_chinese : (c : ℕ) → not (is_chinese c) ≡ true → not (is_chinese (to_ascii_lowercase c)) ≡ true
-lower_not_chinese c h = grind (arith, nat_tests)
-
 all_lower_not_chinese : (w : List ℕ) → HasNoChinese w → HasNoChinese (map to_ascii_lowercase w)
 all_lower_not_chinese [] h = refl
-all_lower_not_chinese (c ∷ w) h =
-    let parts = and_parts _ _ h in and_from _ _ (lower_not_chinese c parts.0) (all_lower_not_chinese w parts.1)
+all_lower_not_chinese (c ∷ w) h = search (rules, all_lower_not_chinese w)
 
 form_not_chinese : (lowercase : Bool) (w : List ℕ) → HasNoChinese w
     → HasNoChinese (if lowercase then w else map to_ascii_lowercase w)
-form_not_chinese true w h = h
-form_not_chinese false w h = all_lower_not_chinese w h
+form_not_chinese lowercase w h = search (rules, all_lower_not_chinese)
 
 abbrev has_chinese : List ℕ → Bool
 has_chinese name = not (list_all (λ c. not (is_chinese c)) name)
@@ -113,11 +95,4 @@ cn_unit_unit o w h = search (rules, form_not_chinese, other_names)
 -- ---- The law
 
 pub options_idle_holds : OptionsIdle
-options_idle_holds = record {
-  lowercase = λ o text h. idle (λ on. record o { lowercase = on }) text
-      (agree_alike (λ c. not (is_ascii_uppercase c)) _ _
-      (record { letter = λ c e. refl; unit = λ w e. rw (all_lower w e) }) text refl h);
-  cn_unit = λ o text h. idle (λ on. record o { cn_unit = on }) text
-      (agree_alike (λ c. not (is_chinese c)) _ _
-      (record { letter = chinese_letter o; unit = cn_unit_unit o }) text refl h);
-}
+options_idle_holds = search (rules, idle, agree_alike, all_lower, chinese_letter, cn_unit_unit)

@@ -1,14 +1,13 @@
 -- A printed text is read back below 2^64 nanoseconds, and otherwise overflows.
-use Rattle.duration_str.proofs.Common.{◌≡◌, ℕ, ◌+◌, ◌*◌, ◌/◌, ◌^◌, ◌≤◌, ◌<◌, Bool, true, false, List, [], ◌∷◌}
-use Rattle.duration_str.proofs.Common.{map, drop, Some, None, arith, sym, lt-ltb, le-ltb, FitsDuration, Options}
-use Rattle.duration_str.proofs.Common.{Year, Overflow, units, nanos_of, unit_lengths, Terminal, number, word, rules}
-use Rattle.duration_str.proofs.Common.{terminal_of, sum_of, terms_of, early_fault, IsRead, early, IsRefused, Style}
-use Rattle.duration_str.proofs.Common.{IsPrintedIn, counts_of, ReadsBack}
-use Rattle.duration_str.proofs.Sentences.AnswerLemmas.{sentence_refused}
-use Rattle.duration_str.proofs.Sentences.SumReadings.{terms_of_lexemes, sum_read, EachFits, sum_fits_each}
-use Rattle.duration_str.proofs.Sentences.SumReadings.{sum_overflows}
-use Rattle.duration_str.proofs.Printer.PrintingLemmas.{kept, terminals, duration_lexemes, terminals_of_duration}
-use Rattle.duration_str.proofs.Printer.PrintingLemmas.{printed_is_sum, duration_sum}
+use Rattle.duration_str.proofs.Common.{arith, Bool, counts_of, drop, early, early_fault, FitsDuration, IsPrintedIn}
+use Rattle.duration_str.proofs.Common.{IsRead, IsRefused, le-ltb, List, lt-ltb, map, nanos_of, None, number, Options}
+use Rattle.duration_str.proofs.Common.{Overflow, ReadsBack, rules, Some, Style, sum_of, sym, Terminal, terminal_of}
+use Rattle.duration_str.proofs.Common.{terms_of, unit_lengths, units, word, Year, [], ℕ, ◌*◌, ◌+◌, ◌/◌, ◌<◌, ◌^◌, ◌∷◌}
+use Rattle.duration_str.proofs.Common.{◌≡◌, ◌≤◌}
+use Rattle.duration_str.proofs.Sentences.AnswerLemmas.{EachFits, sentence_refused, sum_fits_each, sum_overflows}
+use Rattle.duration_str.proofs.Sentences.AnswerLemmas.{sum_read, terms_of_lexemes}
+use Rattle.duration_str.proofs.Printer.PrintingLemmas.{duration_lexemes, duration_sum, kept, printed_is_sum, terminals}
+use Rattle.duration_str.proofs.Printer.PrintingLemmas.{terminals_of_duration}
 
 abbrev years : ℕ → ℕ
 years nanos = nanos / nanos_of Year
@@ -44,8 +43,7 @@ overflows_above o style nanos text low high p =
 -- The years overflow by themselves.
 first_overflows : (no_calc : Bool) (n : ℕ) (rest : List Terminal) → n < 2 ^ 64 → 2 ^ 64 ≤ n * nanos_of Year
     → early_fault no_calc (number n ∷ word (Some Year) ∷ rest) [] ≡ Some (Overflow (Some 0))
-first_overflows false n rest small large = rw (lt-ltb n _ small, le-ltb (n * nanos_of Year) _ large)
-first_overflows true n rest small large = rw (lt-ltb n _ small, le-ltb (n * nanos_of Year) _ large)
+first_overflows no_calc n rest small large = search (rules, lt-ltb, le-ltb)
 
 overflows_far_above : (o : Options) (style : Style) (nanos : ℕ) (text : List ℕ) → 585 * nanos_of Year ≤ nanos
     → FitsDuration nanos → IsPrintedIn style nanos text → IsRefused o text (Overflow (Some 0))
@@ -56,8 +54,4 @@ overflows_far_above o style nanos text low high p =
     (printed_is_sum o style nanos text high p).sentence (λ place. early (rw (← terminals) fault))
 
 pub reads_back_holds : ReadsBack
-reads_back_holds = record {
-  below = reads_below;
-  above = overflows_above;
-  far_above = overflows_far_above;
-}
+reads_back_holds = search (rules, reads_below, overflows_above, overflows_far_above)

@@ -1,13 +1,10 @@
 -- Sums with the same values of terms, each equally often, are equal.
-use Rattle.duration_str.proofs.Common.{◌≡◌, ℕ, ◌+◌, ◌≤◌, inl, inr, ◌==◌, List, [], ◌∷◌, map, if◌then◌else◌, arith, refl}
-use Rattle.duration_str.proofs.Common.{◌∙◌, eqb-true, eq-eqb, find, Some, cases_Bool, cond-true, Term, value_of_term}
-use Rattle.duration_str.proofs.Common.{sum_of, Reorder, times_in}
-use Rattle.std.specs.List.{sum_by}
+use Rattle.duration_str.proofs.Common.{arith, cases_Bool, common_steps, cond-true, eq-eqb, eqb-true, find}
+use Rattle.duration_str.proofs.Common.{if◌then◌else◌, List, map, refl, Reorder, Some, sum_by, sum_by-cons, sum_of, Term}
+use Rattle.duration_str.proofs.Common.{times_in, value_of_term, [], ℕ, ◌+◌, ◌==◌, ◌∷◌, ◌≡◌, ◌≤◌}
 use Rattle.std.specs.Set.{remove_key}
-use Rattle.std.proofs.lemmas.List.Sums.{sum_by-cons}
 use Rattle.std.proofs.lemmas.Map.Made.{sum_by-remove_key}
-use Rattle.duration_str.proofs.Sentences.AnswerLemmas.{read_below}
-use Rattle.duration_str.proofs.Sentences.SumReadings.{terms_of_lexemes, sum_read, read_sum}
+use Rattle.duration_str.proofs.Sentences.AnswerLemmas.{read_below, read_sum, sum_read, terms_of_lexemes}
 
 -- how often n is in the list of x alone
 abbrev is_times : ℕ → ℕ → ℕ
@@ -19,10 +16,7 @@ times_sum n (x ∷ xs) = rw (sum_by-cons (is_times n) x xs, times_sum n xs)
 
 found : (n : ℕ) (xs : List ℕ) → 1 ≤ times_in n xs → find (λ x. x == n) xs ≡ Some n
 found n [] h = absurd (omega arith)
-found n (x ∷ xs) h = elim (cases_Bool (x == n)) [
-  | inl e ↦ rw (e, eqb-true x n e)
-  | inr e ↦ let later = rw e at h in rw e (found n xs (omega arith))
-]
+found n (x ∷ xs) h = grind (arith, cases_Bool, eqb-true, found n xs)
 
 -- What is added up over a list is what n adds and what the list without its first n adds.
 one_taken : (f : ℕ → ℕ) (n : ℕ) (xs : List ℕ) → 1 ≤ times_in n xs
@@ -55,6 +49,4 @@ pub reorder_holds : Reorder
 reorder_holds o a b lexemes others nanos s t plus other_plus counts r =
     let (xs, ys) : List Term × List Term = (terms_of_lexemes o lexemes, terms_of_lexemes o others) in
     let same = same_total (map value_of_term xs) (map value_of_term ys) counts in
-    let sums : sum_of ys ≡ sum_of xs = rw (sum_total ys, sum_total xs, same) in
-    sum_read (record { sentence = t; plus = other_plus })
-    (sums ∙ read_sum (record { sentence = s; plus = plus }) r) (read_below r)
+    grind (arith, common_steps, sum_total, sum_read, read_sum, read_below)

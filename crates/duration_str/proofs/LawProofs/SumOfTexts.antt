@@ -1,15 +1,15 @@
 -- Two accepted texts without `*`, joined by a plus, have the sum of their values, or overflow.
-use Rattle.duration_str.proofs.Common.{◌≡◌, ℕ, inl, inr, ◌+◌, true, false, not, ◌==◌, List, [], ◌∷◌, ◌++◌, map, Some}
-use Rattle.duration_str.proofs.Common.{codes, arith, refl, ◌∙◌, append_assoc, cases_Bool, and_parts, and_from, rules}
-use Rattle.duration_str.proofs.Common.{nat_tests, map-append, list_all-append, Options, CondUnit, Plus, IsBlank}
-use Rattle.duration_str.proofs.Common.{operator_of, Terminal, number, word, operator, terminal_of, IsSentence, Spells}
-use Rattle.duration_str.proofs.Common.{AllPlus, Term, sum_of, terms_of, terms_after, IsRead, SumOfTexts, HasNoStar}
-use Rattle.duration_str.proofs.Cutting.TerminalLemmas.{terminal_cases}
-use Rattle.duration_str.proofs.Sentences.SpellingLemmas.{EachPasses, lexemes_pass, begins_with}
+use Rattle.duration_str.proofs.Common.{AllPlus, and_from, and_parts, append_assoc, arith, cases_Bool, codes}
+use Rattle.duration_str.proofs.Common.{common_steps, CondUnit, false, HasNoStar, inl, inr, IsBlank, IsRead, IsSentence}
+use Rattle.duration_str.proofs.Common.{List, list_all-append, map, map-append, nat_tests, not, number, operator}
+use Rattle.duration_str.proofs.Common.{operator_of, Options, Plus, refl, rules, Some, Spells, sum_of, SumOfTexts, Term}
+use Rattle.duration_str.proofs.Common.{Terminal, terminal_of, terms_after, terms_of, true, word, [], ℕ, ◌++◌, ◌+◌, ◌==◌}
+use Rattle.duration_str.proofs.Common.{◌∙◌, ◌∷◌, ◌≡◌}
+use Rattle.duration_str.proofs.Cutting.SortLemmas.{terminal_cases}
+use Rattle.duration_str.proofs.Sentences.SpellingLemmas.{begins_with, EachPasses, lexemes_pass}
 use Rattle.duration_str.proofs.Sentences.SumLemmas.{sum-append}
-use Rattle.duration_str.proofs.Sentences.AnswerLemmas.{read_below}
-use Rattle.duration_str.proofs.Sentences.SumReadings.{IsSumOf, terms_of_lexemes, sum_read, read_sum, EachFits}
-use Rattle.duration_str.proofs.Sentences.SumReadings.{sum_fits_each, sum_overflows}
+use Rattle.duration_str.proofs.Sentences.AnswerLemmas.{EachFits, IsSumOf, read_below, read_sum, sum_fits_each}
+use Rattle.duration_str.proofs.Sentences.AnswerLemmas.{sum_overflows, sum_read, terms_of_lexemes}
 
 -- ---- The joined lexemes spell the joined text
 
@@ -65,10 +65,7 @@ module _ (o : Options) where
       (λ c cs _ _ plain. more) w h.0
 
   read_is_sum : {text : List ℕ} {nanos : ℕ} → HasNoStar text → (r : IsRead o text nanos) → IsSumOf o r.lexemes text
-  read_is_sum {text} plain r = record {
-    sentence = r.spells;
-    plus = lexemes_plus r.lexemes (lexemes_pass (λ c. not (c == 42)) r.lexemes text plain r.spells.1);
-  }
+  read_is_sum {text} plain r = search (rules, lexemes_plus, lexemes_pass)
 
 both_plus : (xs ys : List Terminal) → AllPlus xs → AllPlus ys → AllPlus (xs ++ operator Plus ∷ ys)
 both_plus [] ys h k = (refl, k)
@@ -92,16 +89,7 @@ joined_terminals o lexemes others = rw (append_assoc lexemes, map-append (termin
 joined_is_sum : {o : Options} {a b : List ℕ} {lexemes others : List (List ℕ)} → o.no_calc ≡ false
     → IsSumOf o lexemes a → IsSumOf o others b → IsSumOf o (joined_lexemes lexemes others) (a ++ codes "+" ++ b)
 joined_is_sum {o} {a} {b} {lexemes} {others} calc s t =
-    let (xs, ys) : List Terminal × List Terminal = (map (terminal_of o) lexemes, map (terminal_of o) others) in
-    let plus = spells_both lexemes (codes "+" ∷ []) a (codes "+") s.sentence.1 (begins_with [] [] refl refl refl) in
-    record {
-      sentence = (
-        rw (calc, joined_terminals o lexemes others)
-            (both_sentence xs ys (rw calc at s.sentence.0) (rw calc at t.sentence.0)),
-        spells_both (lexemes ++ codes "+" ∷ []) others (a ++ codes "+") b plus t.sentence.1,
-      );
-      plus = rw (joined_terminals o lexemes others) (both_plus xs ys s.plus t.plus);
-    }
+    grind (arith, common_steps, spells_both, joined_terminals, both_sentence, both_plus)
 
 joined_terms : (o : Options) (lexemes others : List (List ℕ)) → IsSentence false (map (terminal_of o) lexemes)
     → terms_of_lexemes o (joined_lexemes lexemes others) ≡ terms_of_lexemes o lexemes ++ terms_of_lexemes o others

@@ -1,10 +1,9 @@
 -- A product of two terms is accepted exactly if both terms and their product fit, and so is the exchanged product.
-use Rattle.duration_str.proofs.Common.{◌≡◌, ◌↔◌, ℕ, ◌*◌, ◌/◌, ◌^◌, ◌<◌, List, [], ◌∷◌, Some, arith, refl}
-use Rattle.duration_str.proofs.Common.{mul-div_cancel, mul_comm, Options, Star, IsSentenceOf, Term, value_of_term}
-use Rattle.duration_str.proofs.Common.{value_of, second, IsRead, TwoFactors}
-use Rattle.duration_str.proofs.Sentences.FaultLemmas.{no_fault}
-use Rattle.duration_str.proofs.Sentences.AnswerLemmas.{read_sentence}
-use Rattle.duration_str.proofs.Sentences.SumReadings.{terms_of_lexemes}
+use Rattle.duration_str.proofs.Common.{arith, IsRead, IsSentenceOf, List, mul-div_cancel, mul_comm, Options, refl}
+use Rattle.duration_str.proofs.Common.{second, Some, Star, Term, TwoFactors, value_of, value_of_term, [], ℕ, ◌*◌, ◌/◌}
+use Rattle.duration_str.proofs.Common.{◌<◌, ◌^◌, ◌↔◌, ◌∷◌, ◌≡◌}
+use Rattle.duration_str.proofs.Sentences.SumLemmas.{no_fault}
+use Rattle.duration_str.proofs.Sentences.AnswerLemmas.{read_sentence, terms_of_lexemes}
 
 -- The numbers of both terms, their values, and their product, which is `nanos`, are below 2^64.
 abbrev Fit : Term → Term → ℕ → Type 0

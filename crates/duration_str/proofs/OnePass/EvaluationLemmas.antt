@@ -1,14 +1,12 @@
 -- Combining the later terms one by one gives their faults in the order of the whole list.
-use Rattle.duration_str.proofs.Common.{◌≡◌, ℕ, ◌+◌, ◌^◌, ◌<◌, Bool, true, false, inl, inr, List, [], ◌∷◌, ◌++◌, Option}
-use Rattle.duration_str.proofs.Common.{Some, None, Result, Ok, Err, IsTrue, if◌then◌else◌, unwrap_or, refl, ap, ◌∙◌}
-use Rattle.duration_str.proofs.Common.{arith, append_assoc, append-nil, ok_or, lt-ltb}
-use Rattle.duration_str.proofs.Common.{cases_Bool, CondUnit, Plus, Star, Cause, Overflow, Term, value_of_term, sum_of}
-use Rattle.duration_str.proofs.Common.{later_total, combination, value_of, fits, or_else, unless, term_fault, rules}
-use Rattle.duration_str.proofs.Common.{fault_of_terms, evaluation_fault, u64_from, checked_term, first_fault}
-use Rattle.duration_str.proofs.Common.{running_fault, fault_or, checked_combination, total_with}
-use Rattle.std.proofs.lemmas.List.Sums.{fold-append}
-use Rattle.duration_str.proofs.Sentences.FaultLemmas.{no_fault, is_same_operator-true}
-use Rattle.duration_str.proofs.Sentences.SumLemmas.{AreAdded, sum-append, running_below, value_is_sum}
+use Rattle.duration_str.proofs.Common.{append-nil, append_assoc, arith, Bool, cases_Bool, Cause, checked_combination}
+use Rattle.duration_str.proofs.Common.{checked_term, combination, CondUnit, Err, evaluation_fault, false}
+use Rattle.duration_str.proofs.Common.{fault_of_terms, fault_or, first_fault, fits, fold-append, if◌then◌else◌, inl}
+use Rattle.duration_str.proofs.Common.{inr, IsTrue, later_total, List, lt-ltb, None, Ok, ok_or, Option, or_else}
+use Rattle.duration_str.proofs.Common.{Overflow, Plus, refl, Result, rules, running_fault, Some, sum_of, Term}
+use Rattle.duration_str.proofs.Common.{term_fault, total_with, true, u64_from, unless, unwrap_or, value_of}
+use Rattle.duration_str.proofs.Common.{value_of_term, [], ℕ, ◌++◌, ◌<◌, ◌^◌, ◌∷◌, ◌≡◌}
+use Rattle.duration_str.proofs.Sentences.SumLemmas.{AreAdded, no_fault, running_below, sum-append, value_is_sum}
 use Rattle.duration_str.proofs.Sentences.AnswerLemmas.{later_value}
 
 -- the answer to a text with these terms, given the syntax fault after them or `None`
@@ -20,27 +18,20 @@ answer_of no_calc terms syntax =
 -- ---- Faults in order
 
 or_else_assoc : (a b c : Option Cause) → or_else (or_else a b) c ≡ or_else a (or_else b c)
-or_else_assoc None b c = refl
-or_else_assoc (Some cause) b c = refl
+or_else_assoc a b c = search rules
 
 or_else-none_right : (a : Option Cause) → or_else a None ≡ a
-or_else-none_right None = refl
-or_else-none_right (Some cause) = refl
+or_else-none_right a = search rules
 
 fault_or-or_else : (a b : Option Cause) (r : Result ℕ Cause) → fault_or (or_else a b) r ≡ fault_or a (fault_or b r)
-fault_or-or_else None b r = refl
-fault_or-or_else (Some cause) b r = refl
+fault_or-or_else a b r = search rules
 
 checked_combination-fault : (op : CondUnit) (x : ℕ) (a : Option Cause) (y : Result ℕ Cause)
     → checked_combination op x (fault_or a y) ≡ fault_or a (checked_combination op x y)
-checked_combination-fault op x None y = refl
-checked_combination-fault op x (Some cause) y = refl
+checked_combination-fault op x a y = search rules
 
 ok_or-fits : (n : ℕ) → ok_or (u64_from n) (Overflow None) ≡ fault_or (unless (fits n) (Overflow None)) (Ok n)
 ok_or-fits n = elim (cases_Bool (fits n)) [ inl e ↦ rw e | inr e ↦ rw e ]
-
-nothing_added : (n : ℕ) → n < 2 ^ 64 → checked_combination Plus 0 (Ok n) ≡ Ok n
-nothing_added n h = let same : 0 + n ≡ n = omega arith in rw (same, lt-ltb n _ h)
 
 ruleset fault_order = (or_else-none_right, fault_or-or_else, checked_combination-fault, ok_or-fits)
 
@@ -67,8 +58,7 @@ checked_term_is place t = search (rules)
 
 together-push : (op : CondUnit) (before : List Term) (t : Term)
     → combination op (later_total op before) (value_of_term t) ≡ later_total op (before ++ t ∷ [])
-together-push Plus before t = omega (arith, sum-append before (t ∷ []))
-together-push Star before t = rw fold-append
+together-push op before t = search (rules, sum-append, fold-append)
 
 one_more : (op : CondUnit) (before : List Term) (t : Term) → fault_of_terms op [] before ≡ None
     → total_with (Some (op, later_total op before)) t.operator (u64_from t.number) t.length
@@ -101,78 +91,43 @@ abbrev pub answer_after_first : Bool → ℕ → List Term → Option Cause → 
 answer_after_first true value terms syntax = answer_with true 0 (Some (Plus, value)) terms syntax
 answer_after_first false value terms syntax = answer_with false value None terms syntax
 
-after_fault : (op : CondUnit) (first total : ℕ) (more : ℕ → Result ℕ Cause) (syntax a b : Option Cause)
-    (r : Result ℕ Cause)
-    → (a ≡ None → more total ≡ fault_or syntax (checked_combination op first (fault_or (or_else a b) r)))
-    → after_term false syntax more (fault_or a (Ok total))
-    ≡ fault_or syntax (checked_combination op first (fault_or (or_else a b) r))
-after_fault op first total more syntax None b r h = h refl
-after_fault op first total more syntax (Some cause) b r h = refl
-
 default_left : (first : ℕ) (op : CondUnit) (before later : List Term) (syntax : Option Cause)
     → fault_of_terms op [] before ≡ None
     → answer_with false first (Some (op, later_total op before)) later syntax
     ≡ fault_or syntax (checked_combination op first (value_by op (before ++ later)))
 default_left first op before [] syntax none = rw (append-nil, none)
 default_left first op before (t ∷ later) syntax none =
-    let next = before ++ t ∷ [] in
-    let parts : fault_of_terms op [] (before ++ t ∷ later)
-    ≡ or_else (fault_of_terms op [] next) (fault_of_terms op next later) =
-    rw append_assoc at (later_append op [] next later) in
-    rw (one_more op before t none, parts)
-    (after_fault op first (later_total op next)
-    (λ total. answer_with false first (Some (t.operator, total)) later syntax) syntax
-    (fault_of_terms op [] next) (fault_of_terms op next later) (Ok (later_total op (before ++ t ∷ later)))
-    (λ e.
-    let same : t.operator ≡ op = (simp no_fault at (rw (later_append op [] before (t ∷ [])) at e)).1.0 in
-    ap (λ o. answer_with false first (Some (o, later_total op next)) later syntax) same
-    ∙ rw (← parts, default_left first op next later syntax e, append_assoc)))
+    search (rules, append_assoc, later_append, one_more, no_fault, default_left first op (before ++ t ∷ []) later syntax)
 
 default_first : (first : ℕ) (u : Term) (later : List Term) (syntax : Option Cause)
     → answer_with false first None (u ∷ later) syntax
     ≡ fault_or syntax (checked_combination u.operator first (value_by u.operator (u ∷ later)))
-default_first first u later syntax = search (rules, after_fault, default_left, later_append)
+default_first first u later syntax = search (rules, default_left)
 
 -- Results after a fault are equal if they are without it.
 unless_fault : {x y : Result ℕ Cause} (fault : Option Cause) → (fault ≡ None → x ≡ y)
     → fault_or fault x ≡ fault_or fault y
-unless_fault None h = h refl
-unless_fault (Some cause) h = refl
+unless_fault fault h = search rules
 
 -- Under `no_calc` one more term is added, and its fault or that of the sum is reported immediately.
 one_added : (f : Term) (before : List Term) (t : Term) → t.operator ≡ Plus
     → total_with (Some (Plus, sum_of (f ∷ before))) t.operator (u64_from t.number) t.length
     ≡ fault_or (running_fault (f ∷ before) (t ∷ [])) (Ok (sum_of (f ∷ (before ++ t ∷ []))))
-one_added f before t plus = search (rules, is_same_operator-true, sum-append)
-
-reported : (total : ℕ) (more : ℕ → Result ℕ Cause) (syntax a : Option Cause)
-    → after_term true syntax more (fault_or a (Ok total)) ≡ fault_or a (more total)
-reported total more syntax None = refl
-reported total more syntax (Some cause) = refl
+one_added f before t plus = search (rules, sum-append)
 
 no_calc_left : (f : Term) (before later : List Term) (syntax : Option Cause) → sum_of (f ∷ before) < 2 ^ 64
     → AreAdded later
     → answer_with true 0 (Some (Plus, sum_of (f ∷ before))) later syntax
     ≡ fault_or (running_fault (f ∷ before) later) (fault_or syntax (Ok (sum_of (f ∷ (before ++ later)))))
-no_calc_left f before [] syntax h a = search (rules, append-nil, nothing_added)
+no_calc_left f before [] syntax h a = search (rules, append-nil)
 no_calc_left f before (t ∷ later) syntax h a =
-    let next = before ++ t ∷ [] in
-    let fault = running_fault (f ∷ before) (t ∷ []) in
-    rw (
-      one_added f before t a.0,
-      reported (sum_of (f ∷ next)) (λ total. answer_with true 0 (Some (t.operator, total)) later syntax) syntax fault,
-      running_append (f ∷ before) (t ∷ []) later,
-      fault_or-or_else fault (running_fault (f ∷ next) later),
-    ) (unless_fault fault (λ e.
-    ap (λ op. answer_with true 0 (Some (op, sum_of (f ∷ next))) later syntax) a.0
-    ∙ rw (← append_assoc before (t ∷ []) later)
-    (no_calc_left f next later syntax (running_below (f ∷ before) (t ∷ []) h e) a.2)))
+    search (rules, one_added, running_append, append_assoc, running_below, no_calc_left f (before ++ t ∷ []) later syntax)
 
 -- The first value combined with that of all later terms has the fault and the value of the whole list.
 whole_value : (f u : Term) (later : List Term)
     → checked_combination u.operator (value_of_term f) (value_by u.operator (u ∷ later))
     ≡ fault_or (evaluation_fault (f ∷ u ∷ later)) (Ok (unwrap_or (value_of (f ∷ u ∷ later)) 0))
-whole_value f u later = search (rules, fault_or-or_else, later_value, ok_or-fits, unless_fault)
+whole_value f u later = search (rules, later_value)
 
 -- The answer to terms is the answer of reading them one by one.
 pub one_by_one : (no_calc : Bool) (f : Term) (later : List Term) (syntax : Option Cause)

@@ -1,20 +1,23 @@
--- The place of a fault is a character boundary of the text.
-use Rattle.duration_str.proofs.Common.{◌≡◌, ℕ, Cause, zero, suc, ◌+◌, ◌-◌, ◌≤◌, Bool, true, false, List, []}
-use Rattle.duration_str.proofs.Common.{◌∷◌, ◌++◌, length, take, drop, Option, Some, None, Err, IfSome, IsUtf8, refl, ap}
-use Rattle.duration_str.proofs.Common.{sym, subst, ◌∙◌, arith, append_assoc, append-nil, length-append, IsCharBoundary}
-use Rattle.duration_str.proofs.Common.{chars, ForSome, IsUtf8-take, encodes-append, encodes-chars, scalars-chars}
-use Rattle.duration_str.proofs.Common.{chars-append, and_parts, scalar, scalars, encodes, encode, Options, CondUnit}
-use Rattle.duration_str.proofs.Common.{Syntax, byte_len, Terminal, AreTokens, tokens_of, start_after, Term, or_else}
-use Rattle.duration_str.proofs.Common.{unless, terms_of, fault_of_terms, evaluation_fault, complete_terms, first_fault}
-use Rattle.duration_str.proofs.Common.{running_fault, early_fault, late_fault, answer, IsRefused, early, syntax_fault}
-use Rattle.duration_str.proofs.Common.{late, IsCharBoundary-start, IsCharBoundary-at_seam, length-encode, Token}
-use Rattle.std.proofs.Math.Seq.{drop-nil, take-add}
-use Rattle.duration_str.specs.Faults.{place_of}
+-- The place of a fault, its token, and the answer to a whole text.
+use Rattle.duration_str.proofs.Common.{and_parts, answer, answer_left, ap, append-nil, append_assoc, AreTokens, arith}
+use Rattle.duration_str.proofs.Common.{Bool, Bor, byte_len, cases_Bool, Cause, chars, chars-append, chars-nil}
+use Rattle.duration_str.proofs.Common.{common_steps, CondUnit, drop, drop-nil, early, early_fault, Empty, encodes}
+use Rattle.duration_str.proofs.Common.{encodes-append, encodes-chars, eq-eqb, Err, evaluation_fault, false}
+use Rattle.duration_str.proofs.Common.{fault_of_terms, ForSome, found_token, IfSome, IsCharBoundary}
+use Rattle.duration_str.proofs.Common.{IsCharBoundary-at_seam, IsCharBoundary-start, IsLexeme, IsMissingAtEnd, IsNone}
+use Rattle.duration_str.proofs.Common.{IsRefused, IsSliceOf, IsUtf8, IsUtf8-take, late, late_fault, length}
+use Rattle.duration_str.proofs.Common.{length-append, length-encode, lexemes_of, List, map, ne_eqb, None, Option}
+use Rattle.duration_str.proofs.Common.{Options, options_of, or_else, place_of, refl, rest_from, rest_of, Result}
+use Rattle.duration_str.proofs.Common.{running_fault, scalars, scalars-chars, source, start_after, start_left, suc, sym}
+use Rattle.duration_str.proofs.Common.{Syntax, syntax_fault, take, take-add, Term, Terminal, terminal_of, terminals_in}
+use Rattle.duration_str.proofs.Common.{Token, token_at, Tokens, tokens_left, tokens_of, true, unless, zero, [], ℕ, ◌++◌}
+use Rattle.duration_str.proofs.Common.{◌+◌, ◌-◌, ◌<◌, ◌==◌, ◌↔◌, ◌∙◌, ◌∷◌, ◌≡◌, ◌≤◌}
 use Rattle.duration_str.specs.Results.{ReachesPlace}
 use Rattle.duration_str.specs.Internal.Rest.{IsPlacedUpTo}
-use Rattle.duration_str.proofs.Characters.TextLemmas.{width-scalar, byte_len-append}
+use Rattle.duration_str.proofs.Characters.CharacterLemmas.{byte_len-append}
 use Rattle.duration_str.proofs.Cutting.TokenLemmas.{tokens_are}
 use Rattle.duration_str.proofs.Sentences.AnswerLemmas.{answer_is_reading_holds}
+use Rattle.std.proofs.lemmas.Bool.{eqb-false}
 
 -- ---- A property of the place of a syntax fault
 
@@ -25,12 +28,10 @@ Stands P cause = IfSome (place_of cause) (λ place. place ≡ 0)
 
 module _ (P : ℕ → Type 0) where
   or_else_stands : (a b : Option Cause) → IfSome a (Stands P) → IfSome b (Stands P) → IfSome (or_else a b) (Stands P)
-  or_else_stands None b h k = k
-  or_else_stands (Some cause) b h k = h
+  or_else_stands a b h k = grind arith
 
   unless_stands : (b : Bool) (cause : Cause) → Stands P cause → IfSome (unless b cause) (Stands P)
-  unless_stands true cause h = tt
-  unless_stands false cause h = h
+  unless_stands b cause h = grind arith
 
   ruleset stands = (or_else_stands, unless_stands)
 
@@ -39,8 +40,7 @@ module _ (P : ℕ → Type 0) where
   later_stands op before (t ∷ later) = search (stands, later_stands op (before ++ t ∷ []) later) depth 8
 
   evaluation_stands : (terms : List Term) → IfSome (evaluation_fault terms) (Stands P)
-  evaluation_stands (t ∷ u ∷ later) = search (stands, later_stands u.operator [] (u ∷ later))
-  evaluation_stands _ = tt
+  evaluation_stands terms = grind (arith, later_stands)
 
   running_stands : (before terms : List Term) → IfSome (running_fault before terms) (Stands P)
   running_stands before [] = tt
@@ -48,22 +48,17 @@ module _ (P : ℕ → Type 0) where
   running_stands (b ∷ before) (t ∷ terms) = search (stands, running_stands (b ∷ before ++ t ∷ []) terms) depth 8
 
   pub early_stands : (no_calc : Bool) (front rest : List Terminal) → IfSome (early_fault no_calc front rest) (Stands P)
-  early_stands true front rest = running_stands [] (complete_terms front rest)
-  early_stands false front rest =
-      elim (complete_terms front rest) as (λ terms. IfSome (first_fault terms) (Stands P))
-      [ [] ↦ tt | t ∷ terms ↦ search stands ]
+  early_stands no_calc front rest = grind (arith, running_stands)
 
   pub late_stands : (no_calc : Bool) (terminals : List Terminal) → IfSome (late_fault no_calc terminals) (Stands P)
-  late_stands true terminals = tt
-  late_stands false terminals = evaluation_stands (terms_of terminals)
+  late_stands no_calc terminals = grind (arith, evaluation_stands)
 
   -- A syntax fault stands at the start of a token, or at the end.
   pub refused_stands : (o : Options) (text : List ℕ) (cause : Cause) → IsRefused o text cause
       → ((n : ℕ) → P (start_after n (byte_len text) (tokens_of o text))) → Stands P cause
   refused_stands o [] cause empty starts = rw empty tt
   refused_stands o (c ∷ text) cause (front, rest, is, early e) starts = rw e at (early_stands o.no_calc front rest)
-  refused_stands o (c ∷ text) cause (front, rest, is, syntax_fault expected none not kinds same) starts =
-      rw same (starts (length front))
+  refused_stands o (c ∷ text) cause (front, rest, is, syntax_fault expected none not kinds same) starts = grind arith
   refused_stands o (c ∷ text) cause (front, rest, is, late none whole e) starts =
       rw e at (late_stands o.no_calc (front ++ rest))
 
@@ -72,10 +67,7 @@ module _ (P : ℕ → Type 0) where
 encoded_parts : (xs ys : List ℕ) → scalars (xs ++ ys) ≡ true
     → (byte_len xs ≡ length (encodes xs)) × (scalars ys ≡ true)
 encoded_parts [] ys e = (refl, e)
-encoded_parts (x ∷ xs) ys e =
-    let h = and_parts (scalar x) (scalars (xs ++ ys)) e in
-    let (len, more) = encoded_parts xs ys h.1 in
-    (omega (arith, width-scalar x h.0, length-encode x, len, length-append (encode x) (encodes xs)), more)
+encoded_parts (x ∷ xs) ys e = grind (arith, and_parts, length-encode, length-append, encoded_parts xs ys)
 
 -- The bytes of a text are those of its characters.
 pub byte_count : (bs : List ℕ) → IsUtf8 bs → byte_len (chars bs) ≡ length bs
@@ -102,8 +94,7 @@ start_placed o bs xs cs (suc n) at (p ∷ tokens) utf8 e w (rest, next, more) =
 
 -- What holds of the start and of a syntax fault's place holds of the place of any fault.
 stands_at : (P : ℕ → Type 0) → P 0 → (cause : Cause) → Stands P cause → ForSome (place_of cause) P
-stands_at P start (Syntax place expected) h = λ n e. let same : place ≡ n = cc in rw (← same) h
-stands_at P start cause h = λ n e. rw (subst (λ o. IfSome o (λ place. place ≡ 0)) e h) start
+stands_at P start cause h = grind arith
 
 -- The place of the answer's fault is a character boundary.
 pub fault_placed : {c : Cause} (o : Options) (bs : List ℕ) → IsUtf8 bs → answer o (chars bs) ≡ Err c
@@ -119,9 +110,7 @@ pub chars_before : (bs : List ℕ) (place at : ℕ) → IsUtf8 bs → IsCharBoun
 chars_before bs place at utf8 boundary order =
     let (front, more) : List ℕ × List ℕ = (take place bs, take (at - place) (drop place bs)) in
     let sum : at ≡ place + (at - place) = omega arith in
-    let cut : take at bs ≡ front ++ more = ap (λ n. take n bs) sum ∙ take-add place (at - place) bs in
-    rw (cut, chars-append front more (IsUtf8-take bs place utf8 boundary))
-    (omega (arith, length-append (chars front) (chars more)))
+    grind (arith, common_steps, take-add, chars-append, IsUtf8-take, length-append)
 
 -- Where a text is looked at up to a byte, and refused for a fault at or before it, its place is reached.
 pub reaches_place : (o : Options) (bs : List ℕ) (at looks : ℕ) (cause : Cause) → IsUtf8 bs
@@ -131,3 +120,66 @@ reaches_place o bs at looks cause utf8 is placed least place expected e =
     let boundary = fault_placed o bs utf8 is place (ap place_of e) in
     let before = chars_before bs place at utf8 boundary (placed place (ap place_of e)) in
     omega (arith, before, least)
+
+-- ---- No token is found exactly if a syntax fault stands at the end of the text
+
+lexeme_some : (o : Options) (w : List ℕ) → IsLexeme o w → 0 < byte_len w
+lexeme_some o w l = grind arith
+
+-- No token of a text starts at its end.
+none_at : (o : Options) (n at : ℕ) (text : List ℕ) (tokens : List Token) → n ≡ at + byte_len text
+    → AreTokens o at text tokens → token_at n tokens ≡ None
+none_at o n at text [] e a = refl
+none_at o n at text (p ∷ tokens) e (rest, next, more) =
+    grind (arith, byte_len-append, lexeme_some, ne_eqb, none_at o n (p.start + byte_len p.characters) rest tokens)
+
+-- A token is found at the start of each.
+found_at : (n len : ℕ) (tokens : List Token) → token_at (start_after n len tokens) tokens ≡ None
+    → start_after n len tokens ≡ len
+found_at n len [] none = rw drop-nil
+found_at zero len (p ∷ tokens) none = absurd (cc (rw (eq-eqb p.start p.start refl) at none))
+found_at (suc n) len (p ∷ tokens) none = grind (arith, cases_Bool, found_at n len tokens)
+
+-- A slice is missing exactly if its token is.
+missing_token : (bytes : List ℕ) (token : Option Token) (slice : Option (Bor (List ℕ))) → IsSliceOf bytes token slice
+    → (IsNone slice ↔ (token ≡ None))
+missing_token bytes token slice h = grind arith
+
+pub missing_at_end : (o : Options) (bytes : List ℕ) (cause : Cause) (slice : Option (Bor (List ℕ))) → IsUtf8 bytes
+    → IsSliceOf bytes (found_token o (chars bytes) cause) slice → IsMissingAtEnd o bytes cause slice
+missing_at_end o bytes cause slice utf8 is place expected e refused =
+    let text = chars bytes in
+    let tokens = tokens_of o text in
+    let end : byte_len text ≡ length bytes = byte_count bytes utf8 in
+    let none = none_at o (length bytes) 0 text tokens (omega (arith, end)) (tokens_are o 0 text) in
+    let stands : (token_at place tokens ≡ None) ↔ (place ≡ length bytes) =
+    refused_stands (λ at. (token_at at tokens ≡ None) ↔ (at ≡ length bytes)) o text (Syntax place expected)
+    (rw e at refused) (λ n. (λ lost. found_at n (byte_len text) tokens lost ∙ end, λ same. rw same none)) in
+    let missing = missing_token bytes (token_at place tokens) slice (rw e at is) in
+    (λ none. stands.0 (missing.0 none), λ same. missing.1 (stands.1 same))
+
+-- ---- The result of reading everything from the start of a text is the text's answer
+
+all_terminals : (o : Options) (len : ℕ) (tokens : List Token)
+    → terminals_in (rest_from o len tokens) ≡ map (terminal_of o) (lexemes_of tokens)
+all_terminals o len [] = refl
+all_terminals o len (p ∷ tokens) = rw (all_terminals o len tokens)
+
+same_start : (o : Options) (n len : ℕ) (tokens : List Token)
+    → start_left n (rest_from o len tokens) ≡ start_after n len tokens
+same_start o n len [] = rw drop-nil
+same_start o zero len (p ∷ tokens) = refl
+same_start o (suc n) len (p ∷ tokens) = same_start o n len tokens
+
+nonempty_answer : (o : Options) (text : List ℕ) → 0 < byte_len text
+    → answer o text ≡ answer_left o.no_calc (rest_from o (byte_len text) (tokens_of o text))
+nonempty_answer o text h = grind (arith, all_terminals, same_start)
+
+pub text_answer : {o : Options} {bs : List ℕ} {r : Result ℕ Cause} (tokens : Tokens) → IsUtf8 bs
+    → false ≡ (length bs == 0) → source tokens ≡ bs → options_of tokens ≡ o
+    → tokens_left tokens ≡ tokens_of o (chars bs)
+    → r ≡ answer_left o.no_calc (rest_of tokens) → answer o (chars bs) ≡ r
+text_answer {o} {bs} tokens utf8 filled text options all is = grind (arith, byte_count, eqb-false, nonempty_answer)
+
+pub empty_answer : (o : Options) (bs : List ℕ) → length bs ≡ 0 → answer o (chars bs) ≡ Err Empty
+empty_answer o bs h = grind (arith, common_steps, chars-nil)

@@ -1,11 +1,9 @@
 -- The reader's steps: what comes next, by the sort ahead, and what is left after it.
-use Rattle.duration_str.proofs.Common.{◌≡◌, ℕ, length, Option, Some, None}
-use Rattle.duration_str.proofs.Common.{refl, sym, ap, ◌∙◌, if◌then◌else◌, TimeUnit, Syntax, TokenStart}
-use Rattle.duration_str.proofs.Common.{Tokens, Terminal, number, word, operator, other, terminal_of, expected_at_start}
-use Rattle.duration_str.proofs.Common.{sort_of, source, options_of, tokens_left, LooksAhead, is_number, TakesToken}
-use Rattle.duration_str.proofs.Common.{Rest, terminal_at, end_at, rest_from, rest_of, number_fault}
-use Rattle.duration_str.specs.Iteration.{cut_place}
-use Rattle.duration_str.proofs.Cutting.StepLemmas.{none_left, first_left}
+use Rattle.duration_str.proofs.Common.{arith, cut_place, end_at, expected_at_start, if◌then◌else◌, is_number, length}
+use Rattle.duration_str.proofs.Common.{LooksAhead, None, number, number_fault, operator, Option, options_of, other}
+use Rattle.duration_str.proofs.Common.{refl, Rest, rest_from, rest_of, Some, sort_of, source, sym, Syntax, TakesToken}
+use Rattle.duration_str.proofs.Common.{Terminal, terminal_at, terminal_of, TimeUnit, Tokens, TokenStart, word, ℕ, ◌≡◌}
+use Rattle.duration_str.proofs.Cutting.StepLemmas.{first_left, none_left}
 use Rattle.duration_str.specs.declared.token.TokenStart.TheVariants as sorts
 
 pub same_rest : {s m : Tokens} {sort : Option TokenStart} → LooksAhead s m sort → rest_of m ≡ rest_of s
@@ -48,7 +46,4 @@ number_comes {sort = Some sorts.Other} look = rw (starts look refl).1
 
 pub after_token : {s t : Tokens} {terminal : Terminal} → TakesToken s t terminal
     → rest_of s ≡ terminal_at (cut_place s) terminal (rest_of t)
-after_token {s} {t} taken =
-    ap (rest_from (options_of s) (length (source s))) taken.first
-    ∙ (λ i. terminal_at (cut_place s) (sym taken.is_terminal i)
-    (rest_from (sym taken.kept.options i) (length (sym taken.kept.text i)) (tokens_left t)))
+after_token {s} {t} taken = search arith

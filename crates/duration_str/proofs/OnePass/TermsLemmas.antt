@@ -1,19 +1,17 @@
 -- The terms that are left while a text is read, and the answer that they give.
-use Rattle.duration_str.proofs.Common.{◌≡◌, ◌<◌, ℕ, arith, Bool, true, false, List, [], ◌∷◌, ◌++◌, length, take, drop}
-use Rattle.duration_str.proofs.Common.{false, Option, Some, None, Result, Ok, Err, if◌then◌else◌, IsTrue, refl, sym, ap}
-use Rattle.duration_str.proofs.Common.{subst, ◌∙◌, TimeUnit, CondUnit, Plus, Cause, Expected, Syntax, Tokens, nanos_of}
-use Rattle.duration_str.proofs.Common.{Terminal, number, operator, AllPlus, Term, terms_of, terms_after, unless, rules}
-use Rattle.duration_str.proofs.Common.{checked_term, term_of, without_last_number, complete_terminals, late_answer}
-use Rattle.duration_str.proofs.Common.{answer_at, expected_after, last_of, front_of, TakesNumber, Rest, terminal_at}
-use Rattle.duration_str.proofs.Common.{rest_of, start_left, terminals_in, ReadItem, leaving, unit_read, operator_read}
-use Rattle.duration_str.proofs.Common.{answer_left, fault_or, by_operator, with_term, word}
-use Rattle.std.specs.Prelude.{IfErr}
-use Rattle.duration_str.specs.Iteration.{cut_place}
+use Rattle.duration_str.proofs.Common.{AllPlus, answer_at, answer_left, ap, arith, Bool, by_operator, Cause}
+use Rattle.duration_str.proofs.Common.{checked_term, complete_terminals, CondUnit, cut_place, drop, Err, Expected}
+use Rattle.duration_str.proofs.Common.{expected_after, false, fault_or, front_of, IfErr, if◌then◌else◌, IsTrue, last_of}
+use Rattle.duration_str.proofs.Common.{leaving, length, List, nanos_of, None, number, Ok, operator, operator_read}
+use Rattle.duration_str.proofs.Common.{Option, Plus, ReadItem, refl, Rest, rest_of, Result, rules, Some, start_left}
+use Rattle.duration_str.proofs.Common.{subst, sym, Syntax, take, TakesNumber, Term, term_of, Terminal, terminal_at}
+use Rattle.duration_str.proofs.Common.{terminals_in, terms_after, terms_of, TimeUnit, Tokens, true, unit_read, unless}
+use Rattle.duration_str.proofs.Common.{with_term, without_last_number, word, [], ℕ, ◌<◌, ◌∙◌, ◌∷◌, ◌≡◌}
 use Rattle.duration_str.proofs.Sentences.FrontLemmas.{begins_allowed, table_front}
 use Rattle.duration_str.proofs.Sentences.SumLemmas.{AreAdded, terms_added}
 use Rattle.duration_str.proofs.Sentences.AnswerLemmas.{allowed_plus}
-use Rattle.duration_str.proofs.OnePass.EvaluationLemmas.{answer_of, checked_term_is, after_term, answer_with}
-use Rattle.duration_str.proofs.OnePass.EvaluationLemmas.{answer_after_first, one_by_one}
+use Rattle.duration_str.proofs.OnePass.EvaluationLemmas.{after_term, answer_after_first, answer_of, answer_with}
+use Rattle.duration_str.proofs.OnePass.EvaluationLemmas.{checked_term_is, one_by_one}
 use Rattle.duration_str.proofs.OnePass.ReaderLemmas.{after_token}
 
 -- the syntax fault at a place with these kinds expected and these terminals following
@@ -62,20 +60,14 @@ after_number no_calc op n (Ok r) =
     record { terms = record { operator = op; number = n; length = nanos_of r.item } ∷ more.terms; fault = more.fault }
 after_number no_calc op n (Err cause) = no_terms cause
 
--- Terminals in front of which nothing ends are complete with what follows them.
-pulled : (ts front rest : List Terminal) → without_last_number (ts ++ front) ≡ ts ++ without_last_number front
-    → complete_terminals (ts ++ front) rest ≡ ts ++ complete_terminals front rest
-pulled ts front [] e = refl
-pulled ts front (terminal ∷ rest) e = e
-
 -- The terms from a number on are determined by the unit and the operator read after it.
 terms_read : (no_calc : Bool) (op : CondUnit) (at n : ℕ) (rest : Rest)
     → left_after no_calc op (terminal_at at (number n) rest) ≡ after_number no_calc op n (unit_read no_calc rest)
-terms_read no_calc op at n (terminal_at p (word (Some u)) (terminal_at q (number m) rest)) = search (rules, pulled)
+terms_read no_calc op at n (terminal_at p (word (Some u)) (terminal_at q (number m) rest)) = search rules
 terms_read false op at n (terminal_at p (word (Some u)) (terminal_at q (operator next)
     (terminal_at r (number m) rest))) =
-    search (rules, pulled)
-terms_read false op at n (terminal_at p (operator next) (terminal_at q (number m) rest)) = search (rules, pulled)
+    search arith
+terms_read false op at n (terminal_at p (operator next) (terminal_at q (number m) rest)) = search rules
 terms_read no_calc op at n rest = refl
 
 -- A number is taken, and r is the result of reading the unit after it.
@@ -117,14 +109,12 @@ total_of no_calc value left = answer_after_first no_calc value left.terms left.f
 -- A syntax fault precedes a fault that is held.
 pub unread : (no_calc : Bool) (first : ℕ) (later : Result (Option (CondUnit × ℕ)) Cause) (cause : Cause)
     → IfErr later (λ fault. no_calc ≡ false) → with_left no_calc first later (no_terms cause) ≡ Err cause
-unread no_calc first (Ok later) cause held = refl
-unread no_calc first (Err fault) cause held = rw held refl
+unread no_calc first later cause held = search rules
 
 by_total : (no_calc : Bool) (first : ℕ) (op : CondUnit) (left : Ended) (total : Result ℕ Cause)
     → after_term no_calc left.fault (λ n. answer_with no_calc first (Some (op, n)) left.terms left.fault) total
     ≡ with_left no_calc first (by_operator op total) left
-by_total no_calc first op left (Ok n) = refl
-by_total no_calc first op left (Err fault) = refl
+by_total no_calc first op left total = search rules
 
 -- A later term is read from p up to b and combined.
 pub later_step : (no_calc : Bool) (first : ℕ) (later : Result (Option (CondUnit × ℕ)) Cause) (p : Rest) {s a : Tokens}
@@ -141,17 +131,10 @@ later_step no_calc first (Err fault) p read taken unit =
 
 -- ---- The answer in order: the early fault, the syntax fault, the late fault, and the value
 
-whole_answer : (whole : Bool) (cause : Cause) (late : Option Cause) (terminals : List Terminal)
-    → fault_or (unless whole cause) (late_answer late terminals)
-    ≡ (if whole then late_answer late terminals else Err cause)
-whole_answer false cause late terminals = refl
-whole_answer true cause late terminals = refl
-
 in_order : (no_calc : Bool) (place : ℕ) (front rest : List Terminal)
     → answer_of no_calc (terms_of (complete_terminals front rest))
     (fault_at place (expected_after no_calc (last_of None front)) rest) ≡ answer_at no_calc place front rest
-in_order no_calc place front [] = rw whole_answer
-in_order no_calc place front (terminal ∷ rest) = refl
+in_order no_calc place front rest = search rules
 
 -- ---- The answer in terms of what is left
 
@@ -162,8 +145,7 @@ without_last_plus (operator op ∷ terminals) a = (a.0, without_last_plus termin
 without_last_plus (t ∷ terminals) a = without_last_plus terminals a
 
 complete_plus : (front rest : List Terminal) → AllPlus front → AllPlus (complete_terminals front rest)
-complete_plus front [] a = a
-complete_plus front (terminal ∷ rest) a = without_last_plus front a
+complete_plus front rest a = search (rules, without_last_plus)
 
 -- Under `no_calc` all terms that are left are added.
 left_added : (no_calc : Bool) (op : CondUnit) (rest : Rest) → op ≡ Plus → IsTrue no_calc
@@ -182,8 +164,7 @@ by_first no_calc (Err cause) left = Err cause
 
 by_first-fault : (no_calc : Bool) (fault : Option Cause) (first : ℕ) (left : Ended)
     → by_first no_calc (fault_or fault (Ok first)) left ≡ fault_or fault (total_of no_calc first left)
-by_first-fault no_calc None first left = refl
-by_first-fault no_calc (Some cause) first left = refl
+by_first-fault no_calc fault first left = search rules
 
 from_start : (no_calc : Bool) (rest : Rest) (left : Ended) → left_after no_calc Plus rest ≡ left
     → answer_of no_calc left.terms left.fault ≡ answer_left no_calc rest

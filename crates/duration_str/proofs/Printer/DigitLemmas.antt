@@ -1,9 +1,9 @@
 -- The steps of writing a number in decimal, and its length.
-use Rattle.duration_str.proofs.Common.{◌≡◌, ℕ, suc, ◌+◌, ◌/◌, ◌%◌, ◌^◌, ◌<◌, ◌≤◌, ◌++◌, List, [], ◌∷◌, length, decimal}
-use Rattle.duration_str.proofs.Common.{arith, append_assoc, ap, ◌∙◌, length-append, decimal_digit, pow-succ', lit<}
-use Rattle.duration_str.proofs.Common.{take, drop, sym, length-take-le, rules}
-use Rattle.std.proofs.Math.Seq.{take-add, take-append_seam}
-use Rattle.duration_str.proofs.Common.{decimal_step_wide, decimal_by_steps_wide, length-decimal-le_wide, take_more_set}
+use Rattle.duration_str.proofs.Common.{ap, append_assoc, arith, common_steps, decimal, decimal_by_steps_wide}
+use Rattle.duration_str.proofs.Common.{decimal_digit, decimal_step_wide, drop, length, length-append}
+use Rattle.duration_str.proofs.Common.{length-decimal-le_wide, length-take-le, List, lit<, pow-succ', rules, suc, sym}
+use Rattle.duration_str.proofs.Common.{take, take-add, take-append_seam, take_more_set, [], ℕ, ◌%◌, ◌++◌, ◌+◌, ◌/◌, ◌<◌}
+use Rattle.duration_str.proofs.Common.{◌^◌, ◌∙◌, ◌∷◌, ◌≡◌, ◌≤◌}
 
 pub length_one : (n : ℕ) → n < 10 → length (decimal n) ≡ 1
 length_one n h = ap length (decimal_digit n h)
@@ -14,9 +14,7 @@ length_step n low high = ap length (decimal_step_wide n low high) ∙ length-app
 -- The last digit after those of n / 10 gives the digits of n.
 pub put_last : (bytes before after : List ℕ) (n : ℕ) → after ≡ before ++ decimal (n % 10)
     → before ≡ bytes ++ decimal (n / 10) → 10 ≤ n → n < 10 ^ 64 → after ≡ bytes ++ decimal n
-put_last bytes before after n last first low high =
-    rw (last, first, decimal_digit (n % 10) (omega arith), decimal_step_wide n low high)
-    (append_assoc bytes (decimal (n / 10)) ((48 + n % 10) ∷ []))
+put_last bytes before after n last first low high = search (rules, decimal_digit, decimal_step_wide, append_assoc)
 
 -- The bytes before a byte that is written are those that were there.
 pub same_before : (at : ℕ) (old new more : List ℕ) → at ≤ length old → at ≤ length new
@@ -25,9 +23,7 @@ same_before at old new more in_old in_new same =
     let both : take at new ++ take 1 (drop at new) ≡ take at old ++ more = sym (take-add at 1 new) ∙ same in
     let front : take at (take at new ++ take 1 (drop at new)) ≡ take at new =
     rw (length-take-le at new in_new) at (take-append_seam (take at new) (take 1 (drop at new))) in
-    let before : take at (take at old ++ more) ≡ take at old =
-    rw (length-take-le at old in_old) at (take-append_seam (take at old) more) in
-    sym front ∙ ap (take at) both ∙ before
+    grind (arith, common_steps, length-take-le, take-append_seam)
 
 pub ruleset put_steps = (decimal_digit, length_one, length_step, take_more_set)
 

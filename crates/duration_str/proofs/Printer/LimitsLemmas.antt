@@ -1,21 +1,22 @@
 -- The steps of printing within limits, and the most bytes that it takes.
-use Rattle.duration_str.proofs.Common.{◌≡◌, ℕ, ◌+◌, ◌-◌, ◌*◌, ◌/◌, ◌%◌, ◌^◌, ◌<◌, ◌≤◌, ◌==◌, ◌++◌, inl, inr, List, []}
-use Rattle.duration_str.proofs.Common.{◌∷◌, length, map, decimal, encode_utf8_all, arith, refl, leb, leb-true, ltb}
-use Rattle.duration_str.proofs.Common.{ltb-true, length-append, IsUtf8, cases_Bool, nat_tests, list_all, rules}
-use Rattle.duration_str.proofs.Common.{le-div_iff_mul-le, div-le_self, mod-le, TimeUnit, Year, Quarter, Month, Week}
-use Rattle.duration_str.proofs.Common.{Day, Hour, units, Bool, and_parts, take, units_from, units_down_to, nanos_of}
-use Rattle.duration_str.proofs.Common.{Format, units_within, lengths_within, zero_unit, counts_within, with_part}
-use Rattle.duration_str.proofs.Common.{with_counts, true, ap, sym, chars, chars_from_encodes, Style, Short, Compact}
-use Rattle.duration_str.proofs.Common.{Long, between, with_gap, part_bytes, most_len, text_within, IsPrintedWithin}
-use Rattle.duration_str.proofs.Characters.EachUnit.{Each, each_unit, all_units}
-use Rattle.duration_str.proofs.Characters.NameLemmas.{length_part, name_len}
+use Rattle.duration_str.proofs.Common.{All, ap, arith, between, Bool, byte_len, cases_Bool, chars, chars_from_encodes}
+use Rattle.duration_str.proofs.Common.{common_steps, counts_within, Day, decimal, div-le_self, drop, drop_more}
+use Rattle.duration_str.proofs.Common.{encode_utf8_all, Format, Hour, inl, inr, IsPrintedWithin, IsUtf8}
+use Rattle.duration_str.proofs.Common.{le-div_iff_mul-le, leb, leb-true, length, length-append, lengths_within, List}
+use Rattle.duration_str.proofs.Common.{list_all, ltb, ltb-true, map, Month, most_len, nanos_of, nat_tests, part_bytes}
+use Rattle.duration_str.proofs.Common.{Printed, printed_row, Quarter, rank_of, refl, row_of, rules, Short}
+use Rattle.duration_str.proofs.Common.{slice_index_or, Style, sym, take, take-append-add, text_within, TimeUnit, true}
+use Rattle.duration_str.proofs.Common.{units, units_down_to, units_from, units_in, units_within, Week, with_counts}
+use Rattle.duration_str.proofs.Common.{with_gap, with_part, Year, zero-div, zero_unit, [], ℕ, ◌%◌, ◌*◌, ◌++◌, ◌+◌, ◌-◌}
+use Rattle.duration_str.proofs.Common.{◌/◌, ◌<◌, ◌==◌, ◌^◌, ◌∷◌, ◌≡◌, ◌≤◌}
+use Rattle.duration_str.proofs.Characters.UnitLemmas.{all_units, Each, each_unit, length_name, length_part, name_len}
 use Rattle.duration_str.proofs.Printer.DigitLemmas.{length_smaller}
 use Rattle.duration_str.proofs.Printer.PrintedBytesLemmas.{AreShort, ended, ended_parts, IsUtf8-joined, no_gap}
-use Rattle.duration_str.proofs.LawProofs.GreatestWithin.{some_length, below_length, greatest_within}
+use Rattle.duration_str.proofs.LawProofs.GreatestWithin.{below_length, greatest_within, some_length}
 use Rattle.duration_str.specs.Internal.PrintedBytes.{digits}
-use Rattle.duration_str.specs.Internal.UnitTable.{rank_of}
-use Rattle.std.proofs.Math.Nat.{div-eq_of_lt, zero-div}
-use borrow.Rule.Slice.PartMut.{mid_of}
+use borrow.Rule.Slice.PartMut.{mid_of, put_mid}
+use Rattle.std.proofs.lemmas.List.{drop-map, take-append-le, take-map}
+use Rattle.std.proofs.lemmas.List.Elements.{All-cons, All-drop, All-nil, All-take}
 
 -- ---- The units
 
@@ -66,13 +67,7 @@ without_days : (style : Style) (longer shorter : List TimeUnit) (bytes : List �
     ≡ with_counts style bytes (longer ++ shorter) (counts_within (map nanos_of (longer ++ shorter)) most nanos)
 without_days style [] shorter bytes most nanos long h = refl
 without_days style (u ∷ longer) shorter bytes most nanos long h =
-    let parts = and_parts (is_days u) (list_all is_days longer) long in
-    let more = without_days style longer shorter bytes most nanos parts.1 h in
-    let none : nanos / nanos_of u ≡ 0 = div-eq_of_lt (omega (arith, leb-true (nanos_of Day) (nanos_of u) parts.0)) in
-    elim (cases_Bool (most == 0)) [
-      | inl done ↦ rw done more
-      | inr some ↦ rw (some, none) more
-    ]
+    search (rules, without_days style longer shorter bytes most nanos)
 
 pub below_day : (format : Format) (bytes : List ℕ) (nanos : ℕ) → rank_of format.largest < 5 → nanos < nanos_of Day
     → with_counts format.style bytes (units_within (record format { largest = Hour }))
@@ -84,9 +79,7 @@ below_day format bytes nanos longer h =
     each_unit (λ s. units_within (record format { smallest = s })
     ≡ days format.largest s ++ units_within (record format { largest = Hour; smallest = s }))
     (split_each format.parts format.style format.largest longer) format.smallest in
-    rw split (without_days format.style (days format.largest format.smallest)
-    (units_within (record format { largest = Hour })) bytes format.parts nanos
-    (all_days format.largest format.smallest) h)
+    grind (arith, common_steps, without_days, all_days)
 
 -- ---- The parts
 
@@ -102,7 +95,7 @@ part_grows style bytes u n = search (rules, length-append)
 counts_grow : (style : Style) (us : List TimeUnit) (bytes counts : List ℕ)
     → length bytes ≤ length (with_counts style bytes us counts)
 counts_grow style (u ∷ us) bytes (n ∷ counts) =
-    omega (arith, part_grows style bytes u n, counts_grow style us (with_part style bytes u n) counts)
+    search (rules, part_grows, counts_grow style us (with_part style bytes u n) counts)
 counts_grow style _ bytes _ = omega arith
 
 -- Nothing is left to print.
@@ -136,10 +129,7 @@ most_bytes style limit (u ∷ us) =
     + most_bytes style (nanos_of u) us
 
 gap_more : (style : Style) (bytes : List ℕ) → length (with_gap style bytes) ≤ length bytes + length (between style)
-gap_more Compact bytes = omega arith
-gap_more style [] = omega arith
-gap_more Short (b ∷ bytes) = simp length-append (omega arith)
-gap_more Long (b ∷ bytes) = simp length-append (omega arith)
+gap_more style bytes = search (rules, length-append)
 
 part_more : (style : Style) (bytes : List ℕ) (u : TimeUnit) (n most : ℕ) → n ≤ most → most < 10 ^ 64
     → length (with_gap style (with_part style bytes u n))
@@ -188,26 +178,12 @@ bytes_within style l s =
 
 each_fits : (style : Style) (l s : TimeUnit) → bytes_within style l s ≤ most_len style + length (between style)
 unfolding digits
-each_fits style l s =
-    leb-true (bytes_within style l s) (most_len style + length (between style))
-    (all_units (λ s. leb (bytes_within style l s) (most_len style + length (between style)))
-    (all_units (λ l. list_all (λ s. leb (bytes_within style l s) (most_len style + length (between style))) units)
-    (all style) l) s)
-  where
-    all : (style : Style)
-        → list_all (λ l. list_all (λ s. leb (bytes_within style l s) (most_len style + length (between style))) units)
-        units ≡ true
-    all Short = refl
-    all Compact = refl
-    all Long = refl
+each_fits style l s = search (rules, leb-true)
 
 -- The bytes fit if they do with what stands between two parts.
 less_gap : (style : Style) (bytes : List ℕ) (most : ℕ) → length (with_gap style bytes) ≤ most + length (between style)
     → length bytes ≤ most
-less_gap Compact bytes most h = omega (arith, h)
-less_gap style [] most h = omega arith
-less_gap Short (b ∷ bytes) most h = let more = simp length-append at h in omega arith
-less_gap Long (b ∷ bytes) most h = let more = simp length-append at h in omega arith
+less_gap style bytes most h = search (rules, length-append)
 
 pub within_fits : (format : Format) (nanos : ℕ) → nanos < 2 ^ 64 * 10 ^ 9
     → length (with_counts format.style [] (units_within format)
@@ -226,17 +202,7 @@ within_fits format nanos h =
 
 pub within_short : (lengths : List ℕ) (most nanos : ℕ) → nanos < 10 ^ 64 → AreShort (counts_within lengths most nanos)
 within_short [] most nanos h = tt
-within_short (l ∷ lengths) most nanos h = elim (cases_Bool (most == 0)) [
-  | inl none ↦ rw none (omega arith, within_short lengths most nanos h)
-  | inr some ↦ elim (cases_Bool (nanos / l == 0)) [
-    | inl nothing ↦ rw (some, nothing) (omega arith, within_short lengths most nanos h)
-    | inr count ↦
-        rw (some, count) (
-          omega (arith, div-le_self nanos l),
-          within_short lengths (most - 1) (nanos % l) (omega (arith, mod-le nanos l)),
-        )
-  ]
-]
+within_short (l ∷ lengths) most nanos h = search (rules, within_short lengths)
 
 pub within_ended : (format : Format) (nanos : ℕ) → nanos < 10 ^ 64
     → ended (part_bytes format.style 0 (zero_unit format.smallest))
@@ -255,3 +221,49 @@ pub printed_within : (format : Format) (nanos : ℕ) (bytes : List ℕ) → IsUt
 printed_within format nanos bytes utf8 same =
     let counts = counts_within (lengths_within format) format.parts nanos in
     (counts, greatest_within format nanos, sym (chars_from_encodes (text_within format counts) bytes utf8 (sym same)))
+
+-- ---- The table of what is printed of each unit
+
+-- what stands beyond the end
+abbrev pub beyond : Printed
+beyond = record { unit = Year; nanos = 0; reciprocal = 0; letters = []; width = 0 }
+
+abbrev IsRight : Printed → Type 0
+IsRight row = row ≡ printed_row row.unit
+
+rows_right : (us : List TimeUnit) → All IsRight (map printed_row us)
+rows_right [] = All-nil IsRight
+rows_right (u ∷ us) = All-cons IsRight (printed_row u) (map printed_row us) refl (rows_right us)
+
+pub part_right : (a k : ℕ) → All IsRight (mid_of a k (map printed_row units))
+part_right a k = All-take IsRight k _ (All-drop IsRight a _ (rows_right units))
+
+pub part_units : (a k : ℕ) (rows : List Printed) → units_in (mid_of a k rows) ≡ mid_of a k (units_in rows)
+part_units a k rows = search (rules, drop-map, take-map)
+
+-- The row at a position, those from there on, and its length.
+pub row_from : (rows : List Printed) (at : ℕ) → at < length rows → All IsRight rows
+    → (drop at rows ≡ slice_index_or rows at beyond ∷ drop (at + 1) rows)
+    × ((slice_index_or rows at beyond).nanos ≡ nanos_of (slice_index_or rows at beyond).unit)
+row_from rows at inside right = search (rules, drop_more)
+
+pub row_at : (u : TimeUnit) → slice_index_or (map printed_row units) (rank_of u) beyond ≡ printed_row u
+row_at = each_unit (λ u. slice_index_or (map printed_row units) (rank_of u) beyond ≡ printed_row u) assumption
+
+pub name_short : (u : TimeUnit) → length (encode_utf8_all (row_of u).printed) ≤ 4
+name_short u = rw (length_name u) (leb-true _ 4 (all_units (λ u. leb (byte_len (row_of u).printed) 4) refl u))
+
+name_first : (u : TimeUnit)
+    → take (length (encode_utf8_all (row_of u).printed)) (printed_row u).letters ≡ encode_utf8_all (row_of u).printed
+unfolding lib.Utf8.encode
+name_first = search rules
+
+letters_len : (u : TimeUnit) → length (printed_row u).letters ≡ 4
+unfolding lib.Utf8.encode
+letters_len = each_unit (λ u. length (printed_row u).letters ≡ 4) assumption
+
+-- The name, copied with what follows it.
+pub name_copied : (at k : ℕ) (bytes : List ℕ) (u : TimeUnit) → at ≤ length bytes
+    → take (at + length (encode_utf8_all (row_of u).printed)) (put_mid at k bytes (printed_row u).letters)
+    ≡ take at bytes ++ encode_utf8_all (row_of u).printed
+name_copied at k bytes u inside = search (rules, letters_len, name_first, name_short, take-append-add, take-append-le)

@@ -1,19 +1,18 @@
 -- The text of a fault is UTF-8, and its last byte is no line feed.
-use Rattle.duration_str.proofs.Common.{rules, ◌≡◌, ◌≢◌, ℕ, ◌<◌, ◌^◌, ◌==◌, true, false, List, [], ◌∷◌, ◌++◌, Option}
-use Rattle.duration_str.proofs.Common.{Some, None, IsUtf8, encode_utf8_all, replicate, take, refl, lit<, IfSome, codes}
-use Rattle.duration_str.proofs.Common.{Plus, Star, Cause, Syntax, Mixed, NotText, IsAscii-decimal, IsUtf8-append}
-use Rattle.duration_str.proofs.Common.{IsUtf8-from_ascii, EndsInsideLine, byte_text, caret_text, placed_text, line_of}
+use Rattle.duration_str.proofs.Common.{ap, arith, byte_text, caret_text, Cause, codes, encode_utf8_all, EndsInsideLine}
+use Rattle.duration_str.proofs.Common.{IfSome, IsAscii-decimal, IsCharBoundary, IsCharBoundary-from_ascii, IsUtf8}
+use Rattle.duration_str.proofs.Common.{IsUtf8-append, IsUtf8-from_ascii, last_or, line_of, List, lit<, Option}
+use Rattle.duration_str.proofs.Common.{placed_text, refl, replicate, replicate-append-replicate, rules, Some, take}
+use Rattle.duration_str.proofs.Common.{take-replicate, [], ℕ, ◌++◌, ◌-◌, ◌<◌, ◌^◌, ◌∙◌, ◌∷◌, ◌≡◌, ◌≢◌, ◌≤◌}
 use Rattle.std.proofs.lemmas.List.Elements.{All-replicate}
 use Rattle.std.proofs.lemmas.Str.Ascii.{IsAscii-from_all}
-use Rattle.std.specs.List.{last_or}
 use Rattle.duration_str.specs.Buffers.{IsInFront}
 use Rattle.duration_str.specs.Laws.{LastLine}
 
 -- What holds of the bytes holds of the front of the buffer, if they are there.
 pub front_has : (P : List ℕ → Type 0) (bytes : List ℕ) (result : Option ℕ) (buffer : List ℕ) → P bytes
     → IsInFront bytes result buffer → IfSome result (λ end. P (take end buffer))
-front_has P bytes None buffer h there = tt
-front_has P bytes (Some end) buffer h there = rw there.1 h
+front_has P bytes result buffer h there = search rules
 
 -- ---- UTF-8
 
@@ -35,23 +34,31 @@ last_or-append : (o : Option ℕ) (xs ys : List ℕ) → last_or o (xs ++ ys) �
 last_or-append o [] ys = refl
 last_or-append o (x ∷ xs) ys = last_or-append (Some x) xs ys
 
--- Another byte is no line feed.
-not_line_feed : (n : ℕ) → (n == 10) ≡ false → Some n ≢ Some 10
-not_line_feed n other e = let same : n ≡ 10 = cc in cc (rw same at other)
-
 -- Whatever stands before a line, its last byte is no line feed.
 line_last : (cause : Cause) (o : Option ℕ) → last_or o (encode_utf8_all (line_of cause)) ≢ Some 10
 unfolding lib.Utf8.encode
-line_last (Syntax place expected) o = search (rules, not_line_feed)
-line_last (Mixed Plus Plus) o = not_line_feed _ refl
-line_last (Mixed Star Plus) o = not_line_feed _ refl
-line_last (NotText true) o = not_line_feed _ refl
-line_last _ o = not_line_feed _ refl
+line_last cause o = search rules
 
 placed_ends : (text : List ℕ) (cause : Cause) (place : Option ℕ)
     → EndsInsideLine (placed_text text place (encode_utf8_all (line_of cause)))
-placed_ends text cause None = line_last cause None
-placed_ends text cause (Some place) = search (rules, last_or-append, line_last)
+placed_ends text cause place = search (rules, line_last, last_or-append)
 
 pub last_line_holds : LastLine
 last_line_holds = search (rules, line_last, placed_ends)
+
+-- ---- Runs of spaces
+
+-- one more run of 64
+pub run_longer : (n left : ℕ) → 64 < left → left ≤ n
+    → ◌++◌ {A = ℕ} (replicate (n - left) 32) (replicate 64 32) ≡ replicate (n - (left - 64)) 32
+run_longer n left more h = replicate-append-replicate (n - left) 64 32 ∙ ap (λ (n : ℕ). replicate n 32) (omega arith)
+
+-- the last run
+pub run_last : (n left : ℕ) → left ≤ n → ◌++◌ {A = ℕ} (replicate (n - left) 32) (replicate left 32) ≡ replicate n 32
+run_last n left within = replicate-append-replicate (n - left) left 32 ∙ ap (λ (n : ℕ). replicate n 32) (omega arith)
+
+pub run_boundary : (count : ℕ) → count ≤ 64 → IsCharBoundary (replicate 64 32) count
+run_boundary count h = search (rules, All-replicate, IsAscii-from_all, IsCharBoundary-from_ascii)
+
+pub run_taken : (count : ℕ) → count ≤ 64 → take {A = ℕ} (count - 0) (replicate 64 32) ≡ replicate count 32
+run_taken count h = let e : count - 0 ≡ count = omega arith in rw e (take-replicate count 64 32 h)

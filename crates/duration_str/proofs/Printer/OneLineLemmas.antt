@@ -1,35 +1,30 @@
 -- A fault in one line.
-use Rattle.duration_str.proofs.Common.{rules, ◌≡◌, ◌≢◌, ◌∙◌, ℕ, ◌+◌, ◌-◌, ◌*◌, ◌%◌, ◌<◌, ◌≤◌, ◌^◌, ◌==◌, ◌||◌, ◌&&◌}
-use Rattle.duration_str.proofs.Common.{true, false, List, [], ◌∷◌, ◌++◌, Some, None, zero, suc, Bool, inl, inr}
-use Rattle.duration_str.proofs.Common.{nat_tests, IsUtf8, IsCharBoundary, chars, encode_utf8, encode_utf8_all, length}
-use Rattle.duration_str.proofs.Common.{take, drop, sym, refl, ap, arith, append_assoc, append-nil, encodes-append}
-use Rattle.duration_str.proofs.Common.{encodes-chars, length-le-encodes, length-append, IsUtf8-take, chars_past_char}
-use Rattle.duration_str.proofs.Common.{chars_from_encodes, chars-nil, lit<, codes, length-decimal-le}
-use Rattle.duration_str.proofs.Common.{scalar, scalars, and_parts, scalars-chars, length-encode, len_utf8_bounds}
-use Rattle.duration_str.proofs.Common.{cases_Bool, decimal, ahead, IsUtf8-drop, ForSome, Cause, Empty, Syntax}
-use Rattle.duration_str.proofs.Common.{NumberTooLarge, Overflow, Mixed, NotText, Expected, IsCharBoundary-at_seam}
-use Rattle.duration_str.proofs.Common.{list_all, ltb-true, slice_range, eqb-true, true≢false, TimeUnit, row_of, Option}
-use Rattle.duration_str.proofs.Common.{leb-true, nat_le, map, to_ascii_lowercase, find, units, if◌then◌else◌}
-use Rattle.duration_str.proofs.Common.{list_all-append, decimal_by_steps, encode_ascii, IsTrue}
+use Rattle.duration_str.proofs.Common.{ahead, and_parts, ap, append-nil, append_assoc, arith, Bool, cases_Bool, Cause}
+use Rattle.duration_str.proofs.Common.{chars, chars-encodes, chars-nil, chars_from_encodes, chars_past_char, codes}
+use Rattle.duration_str.proofs.Common.{common_steps, cond, decimal, decimal_by_steps, drop, Empty, encode_ascii}
+use Rattle.duration_str.proofs.Common.{encode_utf8, encode_utf8_all, encodes-append, encodes-chars, eqb-true, Expected}
+use Rattle.duration_str.proofs.Common.{false, find, ForSome, if◌then◌else◌, inl, inr, IsCharBoundary}
+use Rattle.duration_str.proofs.Common.{IsCharBoundary-at_seam, IsTrue, IsUtf8, IsUtf8-drop, IsUtf8-take, leb-true}
+use Rattle.duration_str.proofs.Common.{len_utf8_bounds, length, length-append, length-decimal-le, length-encode}
+use Rattle.duration_str.proofs.Common.{length-le-encodes, List, list_all, list_all-append, lit<, ltb-true, map, Mixed}
+use Rattle.duration_str.proofs.Common.{nat_le, nat_tests, None, NotText, NumberTooLarge, Option, OutOfRange, Overflow}
+use Rattle.duration_str.proofs.Common.{place_of, refl, row_of, rules, scalar, scalars, scalars-chars, slice_range, Some}
+use Rattle.duration_str.proofs.Common.{suc, Syntax, take, take-nil, take_while, take_while-cons, TimeUnit}
+use Rattle.duration_str.proofs.Common.{to_ascii_lowercase, true, units, zero, [], ℕ, ◌%◌, ◌&&◌, ◌*◌, ◌++◌, ◌+◌, ◌-◌}
+use Rattle.duration_str.proofs.Common.{◌<◌, ◌==◌, ◌^◌, ◌||◌, ◌∙◌, ◌∷◌, ◌≡◌, ◌≢◌, ◌≤◌}
 use Rattle.std.proofs.Common.{lit≤, nat_lt}
 use Rattle.std.proofs.lemmas.Bool.{le-leb, lt-leb}
-use Rattle.std.proofs.lemmas.List.{nil_from_length, length-take}
-use Rattle.std.proofs.Math.Seq.{take-append_seam}
-use Rattle.std.specs.List.{take_while}
-use Rattle.std.proofs.lemmas.List.Sums.{take_while-cons}
-use Rattle.duration_str.specs.declared.cause.Cause.TheVariants.{OutOfRange}
-use Rattle.duration_str.specs.Faults.{place_of}
-use Rattle.duration_str.specs.Messages.{chars_before, line_of}
-use Rattle.duration_str.specs.OneLine.{near_name, unit_help, first_piece, quoted_end, shown, quoted, is_plain, is_clear, is_like}
-use Rattle.duration_str.specs.OneLine.{found_words, found_line, at_column, expected_words}
-use Rattle.duration_str.specs.OneLine.{syntax_line, text_line, overflow_line, one_line_of, help_at, is_among, near_words, small_words, us_words}
-use Rattle.std.specs.Char.Escape.{escape_default, escape_unicode, short_escape, hex_digit_at}
-use Rattle.std.specs.Prelude.{not, cond}
+use Rattle.std.proofs.lemmas.List.{length-take, nil_from_length}
+use Rattle.duration_str.specs.Messages.{chars_before}
+use Rattle.duration_str.specs.OneLine.{at_column, begins_with_letter, expected_words, first_piece, found_line}
+use Rattle.duration_str.specs.OneLine.{found_words, help_at, is_among, is_clear, is_like, is_plain, near_name}
+use Rattle.duration_str.specs.OneLine.{near_words, one_line_of, overflow_line, quoted, quoted_end, shown, small_words}
+use Rattle.duration_str.specs.OneLine.{syntax_line, text_line, unit_help, us_words}
+use Rattle.std.specs.Char.Escape.{escape_default, escape_unicode, hex_digit_at, short_escape}
+use Rattle.std.specs.Prelude.{not}
 use Rattle.std.specs.Int.{is_in_range}
 use Rattle.std.specs.Option.{option_map}
-use Rattle.duration_str.specs.OneLine.{begins_with_letter}
 use Rattle.std.proofs.Math.Utf8.{low_scalar}
-use Rattle.std.proofs.lemmas.Str.{chars-encodes}
 
 -- The empty text has no characters.
 pub chars_of_none : (text : List ℕ) → length text ≡ 0 → chars text ≡ []
@@ -37,8 +32,7 @@ chars_of_none text none = ap chars (nil_from_length text none) ∙ chars-nil
 
 found_chars : (cs bytes : List ℕ) → encode_utf8_all cs ≡ bytes → (length bytes == 0) ≡ false
     → found_words cs ≡ codes ", found " ++ quoted cs
-found_chars [] bytes is some = absurd (true≢false (ap (λ bytes. length bytes == 0) is ∙ some))
-found_chars (c ∷ cs) bytes is some = refl
+found_chars cs bytes is some = search rules
 
 -- There are at most as many characters before a place as bytes.
 pub chars_before_le : (text : List ℕ) (place : ℕ) → IsUtf8 text → IsCharBoundary text place
@@ -60,11 +54,7 @@ pub record IsShort (most : ℕ) (bytes : List ℕ) : Type 0 where
 
 good_parts : (cs : List ℕ) → list_all is_good cs ≡ true → (scalars cs ≡ true) × (list_all is_plain cs ≡ true)
 good_parts [] e = (refl, refl)
-good_parts (c ∷ cs) e =
-    let both = and_parts (is_good c) (list_all is_good cs) e in
-    let one = and_parts (scalar c) (is_plain c) both.0 in
-    let more = good_parts cs both.1 in
-    (rw (one.0, more.0) refl, rw (one.1, more.1) refl)
+good_parts (c ∷ cs) e = search (rules, and_parts, good_parts cs)
 
 pub short_utf8 : (most : ℕ) (bytes : List ℕ) → IsShort most bytes → IsUtf8 bytes
 short_utf8 most bytes is = (is.characters, ((good_parts is.characters is.good).0, is.spells))
@@ -85,8 +75,7 @@ joined {xs = xs} {ys = ys} front back = record {
 
 chosen : {most : ℕ} (b : Bool) {xs ys : List ℕ} → IsShort most xs → IsShort most ys
     → IsShort most (if b then xs else ys)
-chosen true first second = first
-chosen false first second = second
+chosen b first second = search rules
 
 -- whether a byte is a plain character of ASCII
 abbrev is_plain_byte : ℕ → Bool
@@ -95,12 +84,7 @@ is_plain_byte b = nat_le 32 b && nat_lt b 127
 bytes_good : (bytes : List ℕ) → list_all is_plain_byte bytes ≡ true
     → (encode_utf8_all bytes ≡ bytes) × (list_all is_good bytes ≡ true)
 bytes_good [] e = (refl, refl)
-bytes_good (b ∷ bytes) e =
-    let both = and_parts (is_plain_byte b) (list_all is_plain_byte bytes) e in
-    let small = ltb-true b 127 (and_parts (nat_le 32 b) (nat_lt b 127) both.0).1 in
-    let plain : is_plain b ≡ true = grind (arith, nat_tests) in
-    let rest = bytes_good bytes both.1 in
-    (rw (encode_ascii b (omega (arith, small)), rest.0) refl, rw (low_scalar b (omega (arith, small)), plain, rest.1) refl)
+bytes_good (b ∷ bytes) e = search (rules, and_parts, ltb-true, encode_ascii, low_scalar, bytes_good bytes)
 
 -- whether bytes are plain characters of ASCII, at most so many
 abbrev are_short : ℕ → List ℕ → Bool
@@ -142,20 +126,14 @@ column_short text place is =
 
 either : (b : Bool) (xs ys : List ℕ) → list_all is_plain_byte xs ≡ true → list_all is_plain_byte ys ≡ true
     → list_all is_plain_byte (cond b xs ys) ≡ true
-either true xs ys first second = first
-either false xs ys first second = second
+either b xs ys first second = search rules
 
 code_plain : (c : ℕ) → list_all is_plain_byte (escape_unicode c) ≡ true
 code_plain c =
     let d0 : is_plain_byte (hex_digit_at 1 c) ≡ true = grind (arith, nat_tests) in
     let d1 : is_plain_byte (hex_digit_at 0x10 c) ≡ true = grind (arith, nat_tests) in
     let d2 : is_plain_byte (hex_digit_at 0x100 c) ≡ true = grind (arith, nat_tests) in
-    let d3 : is_plain_byte (hex_digit_at 0x1000 c) ≡ true = grind (arith, nat_tests) in
-    let d4 : is_plain_byte (hex_digit_at 0x1_0000 c) ≡ true = grind (arith, nat_tests) in
-    let d5 : is_plain_byte (hex_digit_at 0x10_0000 c) ≡ true = grind (arith, nat_tests) in
-    either (nat_lt c 0x10) _ _ (rw d0 refl) (either (nat_lt c 0x100) _ _ (rw (d1, d0) refl)
-    (either (nat_lt c 0x1000) _ _ (rw (d2, d1, d0) refl) (either (nat_lt c 0x1_0000) _ _ (rw (d3, d2, d1, d0) refl)
-    (either (nat_lt c 0x10_0000) _ _ (rw (d4, d3, d2, d1, d0) refl) (rw (d5, d4, d3, d2, d1, d0) refl)))))
+    grind (arith, common_steps, either)
 
 escape_plain : (c : ℕ) → is_clear c ≡ false → list_all is_plain_byte (escape_default c) ≡ true
 escape_plain c other = elim (cases_Bool (nat_lt 0 (short_escape c))) [
@@ -275,9 +253,6 @@ text_short problem text help utf8 first last =
     less (lit≤ tt)
     (joined first (joined (literal 4 (codes " in ") refl) (joined (quoted_short (chars text) (scalars-chars text utf8)) last)))
 
-none_short : IsShort 41 []
-none_short = literal 41 [] refl
-
 overflow_short : (text : List ℕ) → IsUtf8 text → IsShort 294 (overflow_line text)
 overflow_short text utf8 = search (rules, chosen, literal, text_short)
 
@@ -287,10 +262,9 @@ pub one_line_short : (text : List ℕ) (cause : Cause) → IsUtf8 text → lengt
 unfolding lib.Utf8.encode
 one_line_short text Empty utf8 small placed = literal 294 _ refl
 one_line_short text (Syntax place expected) utf8 small placed = search (rules, syntax_short)
-one_line_short text (NumberTooLarge place) utf8 small placed = search (rules, literal, none_short, text_short)
+one_line_short text (NumberTooLarge place) utf8 small placed = search (rules, literal, text_short)
 one_line_short text (Overflow place) utf8 small placed = overflow_short text utf8
-one_line_short text (Mixed first later) utf8 small placed =
-    text_short _ text [] utf8 (literal 26 (codes "sum and product mixed") refl) none_short
+one_line_short text (Mixed first later) utf8 small placed = search (rules, text_short, literal)
 one_line_short text OutOfRange utf8 small placed = literal 294 _ refl
 one_line_short text (NotText true) utf8 small placed = literal 294 _ refl
 one_line_short text (NotText false) utf8 small placed = literal 294 _ refl
@@ -312,16 +286,7 @@ clear_end : (text : List ℕ) (room : ℕ) → length text ≤ room → list_all
     → (encode_utf8_all text ≡ text) × (quoted_end room text ≡ text ++ codes "\"")
 clear_end [] room fits e = (refl, refl)
 clear_end (c ∷ text) room fits e =
-    let both = and_parts (is_clear_byte c) (list_all is_clear_byte text) e in
-    let parts = and_parts (is_in_range 32 126 c) (not (c == 34 || c == 92)) both.0 in
-    let within = and_parts (nat_le 32 c) (nat_le c 126) parts.0 in
-    let low = leb-true 32 c within.0 in
-    let high = leb-true c 126 within.1 in
-    let plain : is_plain c ≡ true = grind (arith, nat_tests) in
-    let clear : is_clear c ≡ true = rw (plain, parts.1) refl in
-    let small : c < 128 = omega (arith, high) in
-    let rest = clear_end text (room - 1) (omega (arith, fits)) both.1 in
-    (rw (encode_ascii c small, rest.0) refl, rw (clear, le-leb 1 room (omega (arith, fits)), encode_ascii c small, rest.1) refl)
+    grind (arith, common_steps, and_parts, leb-true, encode_ascii, le-leb, clear_end text (room - 1))
 
 -- A short text of such characters is quoted as it is.
 pub quoted_clear : (text : List ℕ) → IsUtf8 text → length text ≤ 40 → list_all is_clear_byte text ≡ true
@@ -342,8 +307,7 @@ end_inside bytes buffer end long is = omega (arith, long, ap length is, length-t
 pub quoted_more : (written whole rest after : List ℕ) (room c : ℕ) → length (shown c) ≤ room → IsUtf8 rest
     → rest ≡ encode_utf8 c ++ after → written ++ quoted_end room (chars rest) ≡ whole
     → (written ++ encode_utf8_all (shown c)) ++ quoted_end (room - length (shown c)) (chars after) ≡ whole
-quoted_more written whole rest after room c fits utf8 parts all =
-    rw append_assoc (rw (chars_past_char rest after c utf8 parts, le-leb (length (shown c)) room fits) at all)
+quoted_more written whole rest after room c fits utf8 parts all = grind (arith, append_assoc, chars_past_char, le-leb)
 
 -- Characters are left out.
 pub quoted_cut : (written whole rest after : List ℕ) (room c : ℕ) → room < length (shown c) → IsUtf8 rest
@@ -366,10 +330,6 @@ pub found_some : (piece : List ℕ) → (length piece == 0) ≡ false → IsUtf8
 found_some piece some utf8 = found_chars (chars piece) piece (encodes-chars piece utf8) some
 
 -- ---- A piece
-
-take_nil : (n : ℕ) → take {A = ℕ} n [] ≡ []
-take_nil zero = refl
-take_nil (suc n) = refl
 
 -- These characters of a text were taken for a piece that begins with this one, and so many more may follow.
 pub record Taken (first : ℕ) (text rest : List ℕ) (left : ℕ) : Type 0 where
@@ -402,12 +362,12 @@ taken_more first text rest after (suc left) c utf8 parts some like before =
 pub taken_other : (first : ℕ) (rest after : List ℕ) (left c : ℕ) → IsUtf8 rest → rest ≡ encode_utf8 c ++ after
     → is_like first c ≡ false → take left (take_while (is_like first) (chars rest)) ≡ []
 taken_other first rest after left c utf8 parts other =
-    rw (chars_past_char rest after c utf8 parts, take_while-cons (is_like first) c (chars after), other) (take_nil left)
+    rw (chars_past_char rest after c utf8 parts, take_while-cons (is_like first) c (chars after), other) (take-nil left)
 
 -- The text ends.
 pub taken_end : (first : ℕ) (rest : List ℕ) (left : ℕ) → length rest ≡ 0
     → take left (take_while (is_like first) (chars rest)) ≡ []
-taken_end first rest left none = rw (chars_of_none rest none) (take_nil left)
+taken_end first rest left none = rw (chars_of_none rest none) (take-nil left)
 
 module _ (first : ℕ) (text rest : List ℕ) (left : ℕ) (is : Taken first text rest left) where
   long : length text - length rest ≡ length (encode_utf8_all is.taken)
@@ -420,7 +380,4 @@ module _ (first : ℕ) (text rest : List ℕ) (left : ℕ) (is : Taken first tex
   -- It is what was taken.
   pub taken_all : (piece : List ℕ) → IsUtf8 piece → piece ≡ slice_range text 0 (length text - length rest)
       → take left (take_while (is_like first) (chars rest)) ≡ [] → chars piece ≡ first_piece (chars text)
-  taken_all piece utf8 cut ends =
-      let from : length text - length rest - 0 ≡ length (encode_utf8_all is.taken) = omega (arith, long) in
-      let bytes = cut ∙ rw (from, is.parts) (take-append_seam (encode_utf8_all is.taken) rest) in
-      sym (chars_from_encodes is.taken piece utf8 (sym bytes)) ∙ sym (is.whole ∙ rw ends (append-nil is.taken))
+  taken_all piece utf8 cut ends = grind (arith, common_steps, chars_from_encodes)

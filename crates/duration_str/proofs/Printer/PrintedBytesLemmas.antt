@@ -1,10 +1,10 @@
 -- The bytes built unit by unit are the UTF-8 of the printed text.
-use Rattle.duration_str.proofs.Common.{rules, ◌≡◌, ℕ, ◌^◌, ◌<◌, ◌≤◌, ◌==◌, List, [], ◌∷◌, ◌++◌, length, take}
-use Rattle.duration_str.proofs.Common.{decimal, encode_utf8_all, refl, sym, inl, inr, arith, length-append}
-use Rattle.duration_str.proofs.Common.{append_assoc, append-nil, flat_map, codes, IsUtf8, length-take-le, cases_Bool}
-use Rattle.duration_str.proofs.Common.{encodes-append, encodes-IsAscii, TimeUnit, ⊤, printed_parts, with_counts}
-use Rattle.duration_str.proofs.Common.{IsAscii-decimal_wide, IsUtf8-append, IsUtf8-from_ascii, IsUtf8-nil, Style, Short}
-use Rattle.duration_str.proofs.Common.{Compact, Long, between, printed_part, part_bytes, joined_parts, with_gap}
+use Rattle.duration_str.proofs.Common.{append-nil, append_assoc, arith, between, codes, Compact, decimal}
+use Rattle.duration_str.proofs.Common.{encode_utf8_all, encodes-append, encodes-IsAscii, flat_map, IsAscii-decimal_wide}
+use Rattle.duration_str.proofs.Common.{IsUtf8, IsUtf8-append, IsUtf8-from_ascii, IsUtf8-nil, joined_parts, length}
+use Rattle.duration_str.proofs.Common.{length-append, length-take-le, List, Long, part_bytes, printed_part}
+use Rattle.duration_str.proofs.Common.{printed_parts, rules, Short, Style, sym, take, TimeUnit, with_counts, with_gap}
+use Rattle.duration_str.proofs.Common.{[], ℕ, ⊤, ◌++◌, ◌<◌, ◌^◌, ◌∷◌, ◌≡◌, ◌≤◌}
 use Rattle.duration_str.proofs.Printer.DigitLemmas.{some_decimal}
 
 pub encode_part : (style : Style) (n : ℕ) (u : TimeUnit) → n < 10 ^ 64
@@ -12,17 +12,12 @@ pub encode_part : (style : Style) (n : ℕ) (u : TimeUnit) → n < 10 ^ 64
 encode_part style n u h = rw (encodes-append (decimal n), encodes-IsAscii (decimal n) (IsAscii-decimal_wide n h))
 
 pub no_gap : (style : Style) → with_gap style [] ≡ []
-no_gap Short = refl
-no_gap Compact = refl
-no_gap Long = refl
+no_gap style = search rules
 
 gap_some : (style : Style) (bytes : List ℕ) → 0 < length bytes
     → with_gap style bytes ≡ bytes ++ encode_utf8_all (between style)
 unfolding lib.Utf8.encode
-gap_some Compact bytes h = sym (append-nil bytes)
-gap_some style [] h = absurd (omega arith)
-gap_some Short (b ∷ bytes) h = refl
-gap_some Long (b ∷ bytes) h = refl
+gap_some style bytes h = search (rules, append-nil)
 
 -- Each count has at most 64 digits.
 abbrev pub AreShort : List ℕ → Type 0
@@ -38,17 +33,7 @@ parts_after : (style : Style) (us : List TimeUnit) (bytes counts : List ℕ) →
     → with_counts style bytes us counts
     ≡ bytes ++ encode_utf8_all (flat_map (λ part. between style ++ part) (printed_parts style us counts))
 parts_after style (u ∷ us) bytes (n ∷ counts) some short =
-    elim (cases_Bool (n == 0)) [
-      | inl e ↦ rw e (parts_after style us bytes counts some short.1)
-      | inr e ↦
-          let longer = some_part style (with_gap style bytes) n u short.0 in
-          rw (e, parts_after style us _ counts longer short.1, gap_some style bytes some)
-          (rw (
-            encodes-append (between style ++ printed_part style n u),
-            encodes-append (between style),
-            encode_part style n u short.0,
-          ) (simp append_assoc))
-    ]
+    search (rules, some_part, gap_some, encodes-append, encode_part, append_assoc, parts_after style us)
 parts_after style _ bytes _ some short = sym (append-nil bytes)
 
 -- the bytes, or these if there are none
@@ -57,24 +42,13 @@ ended zero [] = zero
 ended zero (b ∷ bytes) = b ∷ bytes
 
 ended_some : (zero bytes : List ℕ) → 0 < length bytes → ended zero bytes ≡ bytes
-ended_some zero [] h = absurd (omega arith)
-ended_some zero (b ∷ bytes) h = refl
+ended_some zero bytes h = search rules
 
 pub ended_parts : (style : Style) (zero : TimeUnit) (us : List TimeUnit) (counts : List ℕ) → AreShort counts
     → ended (part_bytes style 0 zero) (with_counts style [] us counts)
     ≡ encode_utf8_all (joined_parts style zero (printed_parts style us counts))
 ended_parts style zero (u ∷ us) (n ∷ counts) short =
-    search (
-      rules,
-      encode_part,
-      encodes-append,
-      ended_some,
-      length-append,
-      no_gap,
-      parts_after,
-      some_part,
-      ended_parts style zero us counts short.1,
-    )
+    search (rules, encode_part, encodes-append, length-append, parts_after, some_part, ended_parts style zero us counts)
 ended_parts style zero _ _ short = sym (encode_part style 0 zero (omega arith))
 
 pub ended_take : (zero : List ℕ) (end : ℕ) (buffer : List ℕ) → 0 < end → end ≤ length buffer

@@ -1,15 +1,14 @@
 -- A printed text is spelled by a sum whose total is the duration.
-use Rattle.std.proofs.lemmas.Grind.{common_steps}
-use Rattle.duration_str.proofs.Common.{◌≡◌, ℕ, ◌%◌, ◌^◌, ◌<◌, Bool, true, false, ◌==◌, List, [], ◌∷◌, ◌++◌}
-use Rattle.duration_str.proofs.Common.{map, drop, Some, if◌then◌else◌, decimal, arith, refl, append-nil}
-use Rattle.duration_str.proofs.Common.{eqb-true, flat_map, ⊤, FitsDuration, Options, TimeUnit, Year, Second}
-use Rattle.duration_str.proofs.Common.{row_of, units, nanos_of, unit_lengths, Terminal, number, word, terminal_of}
-use Rattle.duration_str.proofs.Common.{IsSentence, Spells, AllPlus, sum_of, terms_of, weighted_sum, IsPrintedIn, rules}
-use Rattle.duration_str.proofs.Common.{counts_of, printed_parts, joined_parts, Style, Short, Compact, Long, IsBlank}
-use Rattle.duration_str.proofs.Common.{between, name_in, printed_part, printed_counts}
+use Rattle.duration_str.proofs.Common.{AllPlus, append-nil, arith, between, Bool, common_steps, Compact, counts_of}
+use Rattle.duration_str.proofs.Common.{decimal, drop, eqb-true, false, FitsDuration, flat_map, if◌then◌else◌, IsBlank}
+use Rattle.duration_str.proofs.Common.{IsPrintedIn, IsSentence, joined_parts, List, Long, map, name_in, nanos_of}
+use Rattle.duration_str.proofs.Common.{number, Options, printed_counts, printed_part, printed_parts, refl, row_of}
+use Rattle.duration_str.proofs.Common.{rules, Second, Short, Some, Spells, Style, sum_of, Terminal, terminal_of}
+use Rattle.duration_str.proofs.Common.{terms_of, TimeUnit, true, unit_lengths, units, weighted_sum, word, Year, [], ℕ}
+use Rattle.duration_str.proofs.Common.{⊤, ◌%◌, ◌++◌, ◌<◌, ◌==◌, ◌^◌, ◌∷◌, ◌≡◌}
 use Rattle.duration_str.proofs.Characters.NumberLemmas.{decimal_terminal}
-use Rattle.duration_str.proofs.LawProofs.GreatestBreakdown.{one_greatest, greatest_breakdown_holds}
-use Rattle.duration_str.proofs.Sentences.SumReadings.{IsSumOf, terms_of_lexemes}
+use Rattle.duration_str.proofs.LawProofs.GreatestBreakdown.{greatest_breakdown_holds, one_greatest}
+use Rattle.duration_str.proofs.Sentences.AnswerLemmas.{IsSumOf, terms_of_lexemes}
 
 -- the nonzero counts, each with its unit
 abbrev pub kept : List TimeUnit → List ℕ → List (ℕ × TimeUnit)
@@ -47,11 +46,6 @@ pub parts_kept : (style : Style) (us : List TimeUnit) (counts : List ℕ)
 parts_kept style (u ∷ us) (n ∷ counts) = search (rules, parts_kept style us counts)
 parts_kept style _ _ = refl
 
-blank_between : (style : Style) → IsBlank (between style)
-blank_between Short = refl
-blank_between Compact = refl
-blank_between Long = refl
-
 -- A part and what follows it.
 part_spelled : (style : Style) (blanks rest : List ℕ) (p : ℕ × TimeUnit) (ps : List (ℕ × TimeUnit)) → IsBlank blanks
     → Spells (lexemes style ps) rest → Spells (lexemes style (p ∷ ps)) (blanks ++ (part style p ++ rest))
@@ -60,7 +54,7 @@ part_spelled style blanks rest p ps blank more = grind (arith, common_steps)
 later_spelled : (style : Style) (ps : List (ℕ × TimeUnit))
     → Spells (lexemes style ps) (flat_map (λ part. between style ++ part) (map (part style) ps))
 later_spelled style [] = refl
-later_spelled style (p ∷ ps) = grind (arith, common_steps, blank_between, part_spelled, later_spelled style ps)
+later_spelled style (p ∷ ps) = grind (arith, common_steps, later_spelled style ps)
 
 pub all_spelled : (style : Style) (u : TimeUnit) (ps : List (ℕ × TimeUnit))
     → Spells (lexemes style (or_zero u ps)) (joined_parts style u (map (part style) ps))
@@ -69,40 +63,25 @@ all_spelled style u (p ∷ ps) = part_spelled style [] _ p ps refl (later_spelle
 
 -- ---- The lexemes have these terminals
 
-short_terminal : (no_calc lowercase cn_unit : Bool) (u : TimeUnit)
-    → terminal_of (record { no_calc = no_calc; lowercase = lowercase; cn_unit = cn_unit }) ((row_of u).printed)
-    ≡ word (Some u)
-short_terminal no_calc true true Year = refl
-short_terminal no_calc true false Year = refl
-short_terminal no_calc false true Year = refl
-short_terminal no_calc false false Year = refl
-short_terminal no_calc lowercase cn_unit u = refl
+short_terminal : (o : Options) (lowercase cn_unit : Bool) (u : TimeUnit)
+    → terminal_of (record o { lowercase = lowercase; cn_unit = cn_unit }) ((row_of u).printed) ≡ word (Some u)
+short_terminal o lowercase cn_unit u = search rules
 
-one_terminal : (no_calc lowercase cn_unit : Bool) (u : TimeUnit)
-    → terminal_of (record { no_calc = no_calc; lowercase = lowercase; cn_unit = cn_unit }) (name_in Long true u)
-    ≡ word (Some u)
-one_terminal no_calc true true Year = refl
-one_terminal no_calc true false Year = refl
-one_terminal no_calc false true Year = refl
-one_terminal no_calc false false Year = refl
-one_terminal no_calc lowercase cn_unit u = refl
+one_terminal : (o : Options) (lowercase cn_unit : Bool) (u : TimeUnit)
+    → terminal_of (record o { lowercase = lowercase; cn_unit = cn_unit }) (name_in Long true u) ≡ word (Some u)
+one_terminal o lowercase cn_unit u = search rules
 
-long_terminal : (no_calc lowercase cn_unit : Bool) (u : TimeUnit)
-    → terminal_of (record { no_calc = no_calc; lowercase = lowercase; cn_unit = cn_unit }) (name_in Long false u)
-    ≡ word (Some u)
-long_terminal no_calc true true Year = refl
-long_terminal no_calc true false Year = refl
-long_terminal no_calc false true Year = refl
-long_terminal no_calc false false Year = refl
-long_terminal no_calc lowercase cn_unit u = refl
+long_terminal : (o : Options) (lowercase cn_unit : Bool) (u : TimeUnit)
+    → terminal_of (record o { lowercase = lowercase; cn_unit = cn_unit }) (name_in Long false u) ≡ word (Some u)
+long_terminal o lowercase cn_unit u = search rules
 
 -- Each name is a name of its unit under all options.
 pub printed_terminal : (o : Options) (style : Style) (one : Bool) (u : TimeUnit)
     → terminal_of o (name_in style one u) ≡ word (Some u)
-printed_terminal o Short one = short_terminal o.no_calc o.lowercase o.cn_unit
-printed_terminal o Compact one = short_terminal o.no_calc o.lowercase o.cn_unit
-printed_terminal o Long true = one_terminal o.no_calc o.lowercase o.cn_unit
-printed_terminal o Long false = long_terminal o.no_calc o.lowercase o.cn_unit
+printed_terminal o Short one = short_terminal o o.lowercase o.cn_unit
+printed_terminal o Compact one = short_terminal o o.lowercase o.cn_unit
+printed_terminal o Long true = one_terminal o o.lowercase o.cn_unit
+printed_terminal o Long false = long_terminal o o.lowercase o.cn_unit
 
 abbrev pub EachBelow : List ℕ → Type 0
 EachBelow [] = ⊤
@@ -111,14 +90,13 @@ EachBelow (n ∷ counts) = (n < 2 ^ 64) × EachBelow counts
 pub terminals_kept : (o : Options) (style : Style) (us : List TimeUnit) (counts : List ℕ) → EachBelow counts
     → map (terminal_of o) (lexemes style (kept us counts)) ≡ terminals (kept us counts)
 terminals_kept o style (u ∷ us) (n ∷ counts) small =
-    search (rules, decimal_terminal, printed_terminal, terminals_kept o style us counts small.1)
+    search (rules, decimal_terminal, printed_terminal, terminals_kept o style us counts)
 terminals_kept o style _ _ small = refl
 
 pub terminals_or_zero : (o : Options) (style : Style) (u : TimeUnit) (ps : List (ℕ × TimeUnit))
     → map (terminal_of o) (lexemes style ps) ≡ terminals ps
     → map (terminal_of o) (lexemes style (or_zero u ps)) ≡ terminals (or_zero u ps)
-terminals_or_zero o style u [] h = rw (decimal_terminal o 0 (omega arith), printed_terminal o style false u)
-terminals_or_zero o style u (p ∷ ps) h = h
+terminals_or_zero o style u ps h = search (rules, decimal_terminal, printed_terminal)
 
 counts_below : (lengths : List ℕ) (nanos : ℕ) → nanos < 2 ^ 64 → EachBelow (counts_of lengths nanos)
 counts_below [] nanos h = tt
@@ -170,8 +148,7 @@ sum_kept _ _ = refl
 
 pub sum_or_zero : (u : TimeUnit) (ps : List (ℕ × TimeUnit))
     → sum_of (terms_of (terminals (or_zero u ps))) ≡ sum_of (terms_of (terminals ps))
-sum_or_zero u [] = omega arith
-sum_or_zero u (p ∷ ps) = refl
+sum_or_zero u ps = search rules
 
 pub duration_sum : (o : Options) (style : Style) (nanos : ℕ) → FitsDuration nanos
     → sum_of (terms_of_lexemes o (duration_lexemes style nanos)) ≡ nanos

@@ -1,21 +1,25 @@
 -- A text is read or refused, not both, and the computed answer says which.
-use Rattle.duration_str.proofs.Common.{◌≡◌, ℕ, ◌^◌, ◌<◌, ◌≤◌, Bool, true, false, ◌⊎◌, ◌↔◌, inl, inr, List, [], ◌∷◌}
-use Rattle.duration_str.proofs.Common.{◌++◌, map, length, Option, Some, None, Result, Ok, Err, if◌then◌else◌, arith}
-use Rattle.duration_str.proofs.Common.{refl, sym, ap, ◌∙◌, append-nil, list_all, Options, rules}
-use Rattle.duration_str.proofs.Common.{CondUnit, Cause, Syntax, byte_len, Terminal, number, word, operator, other}
-use Rattle.duration_str.proofs.Common.{terminal_of, IsSentence, IsSentenceOf, tokens_of, lexemes_of, IsFront}
-use Rattle.duration_str.proofs.Common.{start_after, terminals_of, AllPlus, Term, value_of_term, combination}
-use Rattle.duration_str.proofs.Common.{later_total, value_of, terms_of, fault_of_terms, evaluation_fault}
-use Rattle.duration_str.proofs.Common.{is_same_operator, Evaluates, first_fault, early_fault, late_fault, IsRead}
-use Rattle.duration_str.proofs.Common.{IsRefusedAt, early, syntax_fault, late, IsRefused, is_whole, fault_or}
-use Rattle.duration_str.proofs.Common.{late_answer, answer, expected_after, last_of, OneReading, AnswerIsReading}
-use Rattle.duration_str.proofs.Sentences.FrontLemmas.{AreAllowed, sentence_allowed, no_operators, one_front}
-use Rattle.duration_str.proofs.Sentences.FrontLemmas.{one_expected, table_front, front_allowed, ends_by_table}
-use Rattle.duration_str.proofs.Sentences.FrontLemmas.{expected_by_table}
-use Rattle.duration_str.proofs.Sentences.SpellingLemmas.{sentence_terminals, tokens_spell, empty_no_sentence}
-use Rattle.duration_str.proofs.Sentences.FaultLemmas.{no_fault, or_else-none, is_same_operator-true}
-use Rattle.duration_str.proofs.Sentences.SumLemmas.{terms_added, has_terms, running_none, running_below, below_evaluate}
-use Rattle.duration_str.proofs.Sentences.SumLemmas.{evaluate_below}
+use Rattle.duration_str.proofs.Common.{AllPlus, answer, AnswerIsReading, append-nil, arith, as_nanos, Bool, byte_len}
+use Rattle.duration_str.proofs.Common.{Cause, chars, combination, CondUnit, early, early_fault, Err, Evaluates}
+use Rattle.duration_str.proofs.Common.{evaluation_fault, expected_after, false, Fault, fault_of_terms, fault_or}
+use Rattle.duration_str.proofs.Common.{first_fault, IfErr, if◌then◌else◌, inl, inr, is_same_operator, is_whole, IsFront}
+use Rattle.duration_str.proofs.Common.{IsOkAnd, IsRead, IsRefused, IsRefusedAt, IsSentence, IsSentenceOf, last_of, late}
+use Rattle.duration_str.proofs.Common.{late_answer, late_fault, later_total, le-ltb, length, List, list_all, map}
+use Rattle.duration_str.proofs.Common.{MatchResult, None, number, Ok, OneReading, operator, Option, Options, other}
+use Rattle.duration_str.proofs.Common.{Overflow, ParsesText, refl, Result, rules, Some, start_after, sum_of, sym}
+use Rattle.duration_str.proofs.Common.{Syntax, syntax_fault, Term, Terminal, terminal_of, terminals_of, terms_of}
+use Rattle.duration_str.proofs.Common.{tokens_of, true, value_of, value_of_term, word, [], ℕ, ◌++◌, ◌<◌, ◌^◌, ◌↔◌, ◌∙◌}
+use Rattle.duration_str.proofs.Common.{◌∷◌, ◌≡◌, ◌≤◌, ◌⊎◌}
+use Rattle.duration_str.proofs.Sentences.FrontLemmas.{AreAllowed, ends_by_table, expected_by_table, front_allowed}
+use Rattle.duration_str.proofs.Sentences.FrontLemmas.{no_operators, one_expected, one_front, sentence_allowed}
+use Rattle.duration_str.proofs.Sentences.FrontLemmas.{table_front}
+use Rattle.duration_str.proofs.Sentences.SpellingLemmas.{empty_no_sentence, sentence_terminals, tokens_spell}
+use Rattle.duration_str.proofs.Sentences.SumLemmas.{added_overflow, AreAdded, below_evaluate, evaluate_below, has_terms}
+use Rattle.duration_str.proofs.Sentences.SumLemmas.{no_fault, or_else-none, running_below, running_none}
+use Rattle.duration_str.proofs.Sentences.SumLemmas.{running_overflow, terms_added, value_is_sum}
+pub use Rattle.duration_str.proofs.Sentences.SumLemmas.{EachFits, sum_fits_each}
+use Rattle.std.specs.declared.time.Duration.{Duration}
+use Rattle.duration_str.specs.Results.{IsValueOrFault, ReadsText}
 
 -- ---- The faults of a sentence
 
@@ -30,8 +34,7 @@ allowed_plus last (other ∷ terminals) h = cc h.0
 
 evaluates_by_faults : (terms : List Term) → 1 ≤ length terms
     → (Evaluates terms ↔ (first_fault terms ≡ None) × (evaluation_fault terms ≡ None))
-evaluates_by_faults [] l = absurd (omega arith)
-evaluates_by_faults (t ∷ terms) l = search rules
+evaluates_by_faults terms l = search rules
 
 -- A sentence evaluates exactly if it has neither an early nor a late fault.
 evaluates_by : (no_calc : Bool) (terminals : List Terminal) → IsSentence no_calc terminals
@@ -50,9 +53,7 @@ evaluates_by true terminals s =
 same_later : (op : CondUnit) (before later : List Term) → fault_of_terms op before later ≡ None
     → list_all (λ v. is_same_operator op v.operator) later ≡ true
 same_later op before [] h = refl
-same_later op before (t ∷ later) h =
-    let parts = simp no_fault at h in
-    rw ((is_same_operator-true op t.operator).1 parts.0) (same_later op (before ++ t ∷ []) later parts.1.1.1)
+same_later op before (t ∷ later) h = search (rules, same_later op (before ++ t ∷ []) later)
 
 pub later_value : (t u : Term) (later : List Term) → fault_of_terms u.operator [] (u ∷ later) ≡ None
     → value_of (t ∷ u ∷ later) ≡ Some (combination u.operator (value_of_term t) (later_total u.operator (u ∷ later)))
@@ -79,9 +80,7 @@ pub record EvaluatesTo (no_calc : Bool) (terminals : List Terminal) (nanos : ℕ
 
 pub read_terminals : {o : Options} {text : List ℕ} {nanos : ℕ} → IsRead o text nanos
     → EvaluatesTo o.no_calc (terminals_of o text) nanos
-read_terminals {o} {text} r =
-    rw (← sentence_terminals o text r.lexemes r.spells)
-    (record { sentence = r.spells.0; evaluates = r.evaluates; value = r.value })
+read_terminals {o} {text} r = search (rules, sentence_terminals)
 
 pub read_sentence : {o : Options} {text : List ℕ} {nanos : ℕ} (lexemes : List (List ℕ)) → IsSentenceOf o lexemes text
     → IsRead o text nanos → EvaluatesTo o.no_calc (map (terminal_of o) lexemes) nanos
@@ -89,18 +88,10 @@ read_sentence {o} {text} lexemes s r = rw (sentence_terminals o text lexemes s) 
 
 pub terminals_read : (o : Options) (text : List ℕ) (nanos : ℕ) → EvaluatesTo o.no_calc (terminals_of o text) nanos
     → IsRead o text nanos
-terminals_read o text nanos r = record {
-  lexemes = lexemes_of (tokens_of o text);
-  spells = (r.sentence, tokens_spell o text);
-  evaluates = r.evaluates;
-  value = r.value;
-}
+terminals_read o text nanos r = search (rules, tokens_spell)
 
 pub read_below : {o : Options} {text : List ℕ} {nanos : ℕ} → IsRead o text nanos → nanos < 2 ^ 64
-read_below {o} {nanos = nanos} r =
-    let found = has_value_below (terms_of (map (terminal_of o) r.lexemes)) r.evaluates in
-    let same : found.0 ≡ nanos = cc (r.value, found.1) in
-    omega arith
+read_below {o} {nanos = nanos} r = search (rules, has_value_below)
 
 one_value : {o : Options} {text : List ℕ} {m n : ℕ} → IsRead o text m → IsRead o text n → m ≡ n
 one_value r s = cc ((read_terminals r).value, (read_terminals s).value)
@@ -120,16 +111,12 @@ one_cause_at (late e n f) (late e' n' f') = cc
 
 evaluates_not_refused : {no_calc : Bool} {place : ℕ} (terminals : List Terminal) (cause : Cause)
     → IsSentence no_calc terminals → Evaluates (terms_of terminals) → IsRefusedAt no_calc place terminals [] cause → ⊥
-evaluates_not_refused {no_calc} terminals cause s e (early k) = cc ((evaluates_by no_calc terminals s).0 e).0
-evaluates_not_refused terminals cause s e (syntax_fault x k n f c) = n (rw append-nil s)
-evaluates_not_refused {no_calc} terminals cause s e (late k n f) = search (rules, append-nil, evaluates_by)
+evaluates_not_refused {no_calc} terminals cause s e h = search (rules, evaluates_by, append-nil)
 
 -- A sentence has no syntax fault, so its refusal does not depend on the place of the rest.
 place_free : {no_calc : Bool} {p : ℕ} (q : ℕ) {terminals : List Terminal} {cause : Cause} → IsSentence no_calc terminals
     → IsRefusedAt no_calc p terminals [] cause → IsRefusedAt no_calc q terminals [] cause
-place_free q s (early e) = early e
-place_free q s (syntax_fault x e n f c) = absurd (n (rw append-nil s))
-place_free q s (late e n f) = late e n f
+place_free q s h = search (rules, append-nil)
 
 -- A text that a sentence spells is refused exactly if the terminals of the sentence are.
 pub refused_sentence : (o : Options) (text : List ℕ) (lexemes : List (List ℕ)) (cause : Cause) (place : ℕ)
@@ -178,11 +165,7 @@ module _ (no_calc : Bool) (place : ℕ) where
   late_means : (terminals : List Terminal) (cause : Option Cause) → IsSentence no_calc terminals
       → early_fault no_calc terminals [] ≡ None → late_fault no_calc terminals ≡ cause
       → MeansAt no_calc place terminals [] (late_answer cause terminals)
-  late_means terminals (Some cause) s e l = late e (rw append-nil s) (rw append-nil l)
-  late_means terminals None s e l =
-      let evaluates = (evaluates_by no_calc terminals s).1 (e, l) in
-      let found = has_value_below (terms_of terminals) evaluates in
-      (refl, record { sentence = s; evaluates = evaluates; value = rw found.1 })
+  late_means terminals cause s e l = search (rules, append-nil, evaluates_by, has_value_below)
 
   syntax_means : {terminals : List Terminal} (front rest : List Terminal) → IsFront no_calc terminals front rest
       → early_fault no_calc front rest ≡ None → (IsSentence no_calc (front ++ rest) → ⊥)
@@ -226,10 +209,7 @@ answer_means o (c ∷ text) =
 
 -- The result that means what is known of the text is its answer.
 only_meaning : (o : Options) (text : List ℕ) (x y : Result ℕ Cause) → Means o text x → Means o text y → x ≡ y
-only_meaning o text (Ok m) (Ok n) h k = ap Ok (one_value h k)
-only_meaning o text (Ok m) (Err cause) h k = absurd (not_both o text m cause h k)
-only_meaning o text (Err cause) (Ok n) h k = absurd (not_both o text n cause k h)
-only_meaning o text (Err c) (Err d) h k = ap Err (one_cause o text c d h k)
+only_meaning o text x y h k = search (rules, one_value, not_both, one_cause)
 
 pub one_reading_holds : OneReading
 one_reading_holds = record {
@@ -248,3 +228,72 @@ answer_is_reading_holds = record {
   read = λ o text nanos. let is = answer_means o text in (λ e. rw e at is, only_meaning o text _ (Ok nanos) is);
   refused = λ o text cause. let is = answer_means o text in (λ e. rw e at is, only_meaning o text _ (Err cause) is);
 }
+
+-- ---- A text that a sum spells is read as the sum if it is below 2^64, and otherwise refused as an overflow
+
+-- The lexemes are a sentence of the options' grammar without `*`, and spell the text.
+pub record IsSumOf (o : Options) (lexemes : List (List ℕ)) (text : List ℕ) : Type 0 where
+  pub sentence : IsSentenceOf o lexemes text
+  pub plus : AllPlus (map (terminal_of o) lexemes)
+
+abbrev pub terms_of_lexemes : Options → List (List ℕ) → List Term
+terms_of_lexemes o lexemes = terms_of (map (terminal_of o) lexemes)
+
+sum_terms : {o : Options} {lexemes : List (List ℕ)} {text : List ℕ} → IsSumOf o lexemes text
+    → (1 ≤ length (terms_of_lexemes o lexemes)) × AreAdded (terms_of_lexemes o lexemes)
+sum_terms {o} {lexemes} s = search (rules, terms_added)
+
+-- ---- Sums below 2^64
+
+pub sum_read : {o : Options} {lexemes : List (List ℕ)} {text : List ℕ} {nanos : ℕ} → IsSumOf o lexemes text
+    → sum_of (terms_of_lexemes o lexemes) ≡ nanos → nanos < 2 ^ 64 → IsRead o text nanos
+sum_read {o} {lexemes} s e h = search (rules, sum_terms, below_evaluate, value_is_sum)
+
+pub read_sum : {o : Options} {lexemes : List (List ℕ)} {text : List ℕ} {nanos : ℕ} → IsSumOf o lexemes text
+    → IsRead o text nanos → sum_of (terms_of_lexemes o lexemes) ≡ nanos
+read_sum {o} {lexemes} s r =
+    let (some, added) = sum_terms s in
+    cc ((read_sentence lexemes s.sentence r).value, value_is_sum (terms_of_lexemes o lexemes) some added)
+
+-- ---- Sums from 2^64 on, of terms below 2^64
+
+terminals_overflow : (no_calc : Bool) (place : ℕ) (terminals : List Terminal) → IsSentence no_calc terminals
+    → AreAdded (terms_of terminals) → EachFits (terms_of terminals) → 2 ^ 64 ≤ sum_of (terms_of terminals)
+    → IsRefusedAt no_calc place terminals [] (Overflow None)
+terminals_overflow no_calc place terminals s a f h =
+    search (rules, added_overflow, append-nil, le-ltb, running_overflow)
+
+pub sum_overflows : {o : Options} {lexemes : List (List ℕ)} {text : List ℕ} → IsSumOf o lexemes text
+    → EachFits (terms_of_lexemes o lexemes) → 2 ^ 64 ≤ sum_of (terms_of_lexemes o lexemes)
+    → IsRefused o text (Overflow None)
+sum_overflows {o} {lexemes} {text} s f h = search (rules, sentence_refused, terminals_overflow, terms_added)
+
+-- ---- The result of a call, in terms of the sentences of the text
+
+-- The computed answer is what the text is read as.
+pub reads_text : (o : Options) (bytes : List ℕ) (r : Result ℕ Fault)
+    → IsValueOrFault (λ nanos. answer o (chars bytes) ≡ Ok nanos) (λ cause. answer o (chars bytes) ≡ Err cause) bytes r
+    → ReadsText o bytes r
+reads_text o bytes (Ok nanos) h = search (arith, answer_is_reading_holds)
+reads_text o bytes (Err f) h = record {
+  read = tt;
+  accepts = λ n read. cc (h.1, (answer_is_reading_holds.read o (chars bytes) n).1 read);
+  refused = (h.0, (answer_is_reading_holds.refused o (chars bytes) f.cause).0 h.1);
+}
+
+-- The result is these nanoseconds as a duration, or the same fault.
+abbrev IsDurationOf : Result ℕ Fault → Result Duration Fault → Type 0
+IsDurationOf n r = MatchResult n (λ nanos. IsOkAnd r (λ d. as_nanos d ≡ nanos)) (λ fault. r ≡ Err fault)
+
+-- What holds of nanoseconds holds of them as a duration.
+pub parses_text : (o : Options) (bytes : List ℕ) (n : Result ℕ Fault) (r : Result Duration Fault) → IsDurationOf n r
+    → ReadsText o bytes n → ParsesText o bytes r
+parses_text o bytes (Ok nanos) (Ok d) is h = search (arith, read_below)
+parses_text o bytes (Ok nanos) (Err f) is h = absurd is
+parses_text o bytes (Err f) r is h = rw is (record { read = tt; accepts = h.accepts; refused = h.refused; fits = tt })
+
+pub same_on_err : (P : Cause → Type 0) (n : Result ℕ Fault) (r : Result Duration Fault) → IsDurationOf n r
+    → IfErr n (λ f. P f.cause) → IfErr r (λ f. P f.cause)
+same_on_err P (Ok nanos) (Ok d) is h = h
+same_on_err P (Ok nanos) (Err f) is h = absurd is
+same_on_err P (Err f) r is h = rw is h

@@ -1,11 +1,11 @@
 -- Sentences in terms of the table of what may follow a terminal, and the front of a list of terminals.
-use Rattle.duration_str.proofs.Common.{◌≡◌, ℕ, suc, zero, ◌≤◌, Bool, true, false, ◌↔◌, inl, inr, List, [], ◌∷◌, ◌++◌}
-use Rattle.duration_str.proofs.Common.{Option, Some, None, take, drop, length, IsTrue, arith, refl, sym, ap, zero-le}
-use Rattle.duration_str.proofs.Common.{le_antisymm, suc-le-suc, le_of_suc-le-suc, take-append-drop, take_at, drop_at}
-use Rattle.duration_str.proofs.Common.{length-append, ⊤, same_from_decides, cases_Bool, not-true, and_from, and_parts}
-use Rattle.duration_str.proofs.Common.{Second, Plus, Expected, Terminal, number, word, operator, IsSentence}
-use Rattle.duration_str.proofs.Common.{BeginsSentence, CanFollow, IsFront, expected_after, allows, last_of, front_after}
-use Rattle.duration_str.proofs.Common.{front_of, not_from_false, not_from_true}
+use Rattle.duration_str.proofs.Common.{allows, and_from, and_parts, ap, arith, BeginsSentence, Bool, CanFollow}
+use Rattle.duration_str.proofs.Common.{cases_Bool, drop, drop_at, Expected, expected_after, false, front_after}
+use Rattle.duration_str.proofs.Common.{front_of, IsFront, IsSentence, IsTrue, last_of, le_antisymm, le_of_suc-le-suc}
+use Rattle.duration_str.proofs.Common.{length, length-append, List, None, not-true, not_from_false, not_from_true}
+use Rattle.duration_str.proofs.Common.{number, operator, Option, Plus, refl, same_from_decides, Second, Some, suc, sym}
+use Rattle.duration_str.proofs.Common.{take, take-append-drop, take_at, Terminal, true, word, zero, zero-le, [], ℕ, ⊤}
+use Rattle.duration_str.proofs.Common.{◌++◌, ◌↔◌, ◌∷◌, ◌≡◌, ◌≤◌}
 
 -- The table allows each terminal after the one before it, and the first one after `last`.
 abbrev pub AreAllowed : Bool → Option Terminal → List Terminal → Type 0
@@ -33,19 +33,17 @@ module _ (no_calc : Bool) where
   pub sentence_allowed : (terminals : List Terminal) → IsSentence no_calc terminals → AreAllowed no_calc None terminals
   sentence_allowed (number n ∷ []) h = (refl, tt)
   sentence_allowed (number n ∷ operator op ∷ number m ∷ more) h =
-      (refl, (not_from_false _ h.0, sentence_allowed (number m ∷ more) h.1))
+      grind (arith, not_from_false, sentence_allowed (number m ∷ more))
   sentence_allowed (number n ∷ word (Some u) ∷ []) h = (refl, (refl, tt))
   sentence_allowed (number n ∷ word (Some u) ∷ operator op ∷ number m ∷ more) h =
-      (refl, (refl, (not_from_false _ h.0, sentence_allowed (number m ∷ more) h.1)))
+      grind (arith, not_from_false, sentence_allowed (number m ∷ more))
   sentence_allowed (number n ∷ word (Some u) ∷ number m ∷ more) h = (refl, (refl, sentence_allowed (number m ∷ more) h))
   sentence_allowed _ h = absurd assumption
 
   allowed-append : (last : Option Terminal) (front more : List Terminal) → (AreAllowed no_calc last (front ++ more)
       ↔ AreAllowed no_calc last front × AreAllowed no_calc (last_of last front) more)
   allowed-append last [] more = (λ h. (tt, h), λ h. h.1)
-  allowed-append last (t ∷ front) more =
-      let rest = allowed-append (Some t) front more in
-      (λ h. ((h.0, (rest.0 h.1).0), (rest.0 h.1).1), λ h. (h.0.0, rest.1 (h.0.1, h.1)))
+  allowed-append last (t ∷ front) more = grind (arith, allowed-append (Some t) front more)
 
   pub begins_allowed : (front : List Terminal) → BeginsSentence no_calc front → AreAllowed no_calc None front
   begins_allowed front b = ((allowed-append None front b.0).0 (sentence_allowed (front ++ b.0) b.1)).0
@@ -58,11 +56,10 @@ module _ (no_calc : Bool) where
   allowed_begins (number n ∷ operator op ∷ []) h =
       ((number 0 ∷ [], (not-true _ h.1.0, tt)), (λ k. cc k, λ s. absurd s.1))
   allowed_begins (number n ∷ operator op ∷ number m ∷ more) h =
-      let (begins, ends) = allowed_begins (number m ∷ more) h.1.1 in
-      ((begins.0, (not-true _ h.1.0, begins.1)), (λ k. (not-true _ h.1.0, ends.0 k), λ s. ends.1 s.1))
+      grind (arith, not-true, allowed_begins (number m ∷ more))
   allowed_begins (number n ∷ word (Some u) ∷ []) h = (([], tt), (λ _. tt, λ _. refl))
   allowed_begins (number n ∷ word (Some u) ∷ operator op ∷ more) h =
-      allowed_begins (number n ∷ operator op ∷ more) (refl, h.1.1)
+      grind (arith, allowed_begins (number n ∷ operator op ∷ more) (refl, h.1.1))
   allowed_begins (number n ∷ word (Some u) ∷ number m ∷ more) h = allowed_begins (number m ∷ more) h.1.1
   allowed_begins _ h = cc
 
@@ -98,9 +95,7 @@ module _ (no_calc : Bool) where
       (λ h. one_expected h (table_can_follow front b), λ e. rw e (table_can_follow front b))
 
   pub no_operators : (last : Option Terminal) → no_calc ≡ true → (expected_after no_calc last).operator ≡ false
-  no_operators (Some (number n)) e = not_from_true _ e
-  no_operators (Some (word u)) e = not_from_true _ e
-  no_operators _ e = refl
+  no_operators last e = grind (arith, not_from_true)
 
   -- ---- The table finds the front
 
@@ -108,19 +103,14 @@ module _ (no_calc : Bool) where
       → let front = take (front_after no_calc last terminals) terminals in
       AreAllowed no_calc last front × (length front ≡ front_after no_calc last terminals)
   front_allowed last [] = (tt, refl)
-  front_allowed last (t ∷ terminals) =
-      let rest = front_allowed (Some t) terminals in
-      elim (cases_Bool (allows (expected_after no_calc last) t)) [
-        | inl e ↦ rw e ((e, rest.0), ap suc rest.1)
-        | inr e ↦ rw e (tt, refl)
-      ]
+  front_allowed last (t ∷ terminals) = grind (arith, cases_Bool, front_allowed (Some t) terminals)
 
   longest_allowed : (last : Option Terminal) (terminals : List Terminal) (n : ℕ) → n ≤ length terminals
       → AreAllowed no_calc last (take n terminals) → n ≤ length (take (front_after no_calc last terminals) terminals)
   longest_allowed last terminals zero l h = zero-le
   longest_allowed last [] (suc n) l h = l
   longest_allowed last (t ∷ terminals) (suc n) l h =
-      rw h.0 (suc-le-suc (longest_allowed (Some t) terminals n (le_of_suc-le-suc l) h.1))
+      grind (arith, longest_allowed (Some t) terminals n (le_of_suc-le-suc l))
 
   pub table_front : (terminals : List Terminal) → IsFront no_calc terminals
       (take (front_of no_calc terminals) terminals) (drop (front_of no_calc terminals) terminals)

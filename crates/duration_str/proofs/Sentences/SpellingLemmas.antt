@@ -1,14 +1,14 @@
 -- A sentence spells a text exactly if its lexemes are those of the text's tokens.
-use Rattle.duration_str.proofs.Common.{◌≡◌, ℕ, ◌+◌, Bool, true, false, List, [], ◌∷◌, ◌++◌, map, Option, Some, None}
-use Rattle.duration_str.proofs.Common.{IsTrue, refl, sym, ◌∙◌, ⊤, and_parts, false_from_ne_true, list_all-append, rules}
-use Rattle.duration_str.proofs.Common.{list_all, Options, Expected, is_blank, IsBlank, byte_len, Terminal, number, word}
-use Rattle.duration_str.proofs.Common.{operator, other, terminal_of, IsSentenceOf, BeginsWith, Spells, are_of_one_run}
-use Rattle.duration_str.proofs.Common.{goes_on, IsLexeme, EndsRun, AreTokens, tokens_of, lexemes_of, terminals_of}
-use Rattle.duration_str.proofs.Common.{expected_after, allows, sort_of, Token}
+use Rattle.duration_str.proofs.Common.{allows, and_parts, are_of_one_run, AreTokens, BeginsWith, Bool, byte_len}
+use Rattle.duration_str.proofs.Common.{EndsRun, Expected, expected_after, false, false_from_ne_true, goes_on, is_blank}
+use Rattle.duration_str.proofs.Common.{IsBlank, IsLexeme, IsSentenceOf, IsTrue, lexemes_of, List, list_all}
+use Rattle.duration_str.proofs.Common.{list_all-append, map, None, Option, Options, refl, rules, Some, sort_of, Spells}
+use Rattle.duration_str.proofs.Common.{sym, Terminal, terminal_of, terminals_of, Token, tokens_of, true, [], ℕ, ⊤, ◌++◌}
+use Rattle.duration_str.proofs.Common.{◌+◌, ◌∙◌, ◌∷◌, ◌≡◌}
 use Rattle.duration_str.proofs.Characters.CharacterLemmas.{operator-not_blank, run-not_blank}
-use Rattle.duration_str.proofs.Cutting.TokenLemmas.{tokens_once, tokens_are}
-use Rattle.duration_str.proofs.Cutting.TerminalLemmas.{terminal_cases, digits_are_lexeme, letters_are_lexeme}
-use Rattle.duration_str.proofs.Cutting.TerminalLemmas.{lexeme_sort, run_sort}
+use Rattle.duration_str.proofs.Cutting.TokenLemmas.{tokens_are, tokens_once}
+use Rattle.duration_str.proofs.Cutting.SortLemmas.{digits_are_lexeme, letters_are_lexeme, lexeme_sort, run_sort}
+use Rattle.duration_str.proofs.Cutting.SortLemmas.{terminal_cases}
 use Rattle.duration_str.proofs.Sentences.FrontLemmas.{AreAllowed, sentence_allowed}
 
 pub begins_with : {lexeme text : List ℕ} {IsRest : List ℕ → Type 0} (blanks rest : List ℕ) → IsBlank blanks
@@ -25,11 +25,7 @@ allowed_is_lexeme o expected = terminal_cases o (λ w t. IsTrue (allows expected
 -- The table allows no terminal after one of its own sort.
 sorts_apart : (no_calc : Bool) (s t : Terminal) → IsTrue (allows (expected_after no_calc (Some s)) t)
     → sort_of s ≡ sort_of t → ⊥
-sorts_apart no_calc (number n) (number m) a e = cc
-sorts_apart no_calc (word u) (word v) a e = cc
-sorts_apart no_calc (operator op) (operator next) a e = cc
-sorts_apart no_calc other other a e = cc
-sorts_apart no_calc s t a e = cc
+sorts_apart no_calc s t a e = search rules
 
 module _ (o : Options) where
   stops_at_blank : (c d : ℕ) → is_blank d ≡ true → are_of_one_run o c d ≡ false
@@ -50,9 +46,7 @@ module _ (o : Options) where
   ends_in_sentence [] rest ws p a s = tt
   ends_in_sentence (c ∷ cs) [] [] p a s = refl
   ends_in_sentence (c ∷ cs) (d ∷ rest) [] p a s = stops_at_blank c d (and_parts _ _ s).0
-  ends_in_sentence (c ∷ cs) rest (v ∷ ws) p a s =
-      let expected = expected_after o.no_calc (Some (terminal_of o (c ∷ cs))) in
-      rw s.parts (stops_before c cs s.blanks v s.rest s.blank p (allowed_is_lexeme o expected v a.0) a.0)
+  ends_in_sentence (c ∷ cs) rest (v ∷ ws) p a s = search (rules, stops_before, allowed_is_lexeme)
 
   -- The lexemes of a sentence that spells the text are the characters of its tokens.
   spelled_tokens : (at : ℕ) (last : Option Terminal) (lexemes : List (List ℕ)) (text : List ℕ)
@@ -105,7 +99,4 @@ EachPasses test (w ∷ lexemes) = IsTrue (list_all test w) × EachPasses test le
 pub lexemes_pass : (test : ℕ → Bool) (lexemes : List (List ℕ)) (text : List ℕ) → IsTrue (list_all test text)
     → Spells lexemes text → EachPasses test lexemes
 lexemes_pass test [] text h s = tt
-lexemes_pass test (w ∷ lexemes) text h s =
-    let whole = rw (s.parts, list_all-append, list_all-append) at h in
-    let parts = and_parts (list_all test w) _ (and_parts (list_all test s.blanks) _ whole).1 in
-    (parts.0, lexemes_pass test lexemes s.rest parts.1 s.is_rest)
+lexemes_pass test (w ∷ lexemes) text h s = search (rules, list_all-append, and_parts, lexemes_pass test lexemes)

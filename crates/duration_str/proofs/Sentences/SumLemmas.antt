@@ -1,13 +1,35 @@
 -- Terms that are added evaluate exactly if their sum is below 2^64, and the sum is their value.
-use Rattle.duration_str.proofs.Common.{ℕ, ◌≡◌, ◌+◌, ◌^◌, ◌≤◌, ◌<◌, inl, inr, lt-ltb, le-ltb, Option, Bool, true, leb}
-use Rattle.duration_str.proofs.Common.{List, [], ◌∷◌, ◌++◌, length, Some, None, arith, refl, ap, append_assoc, rules}
-use Rattle.duration_str.proofs.Common.{append-nil, leb-true, ⊤, cases_lt, Cause, first_fault, list_all}
-use Rattle.duration_str.proofs.Common.{TimeUnit, CondUnit, Plus, Overflow, nanos_of, Terminal, number, word, operator}
-use Rattle.duration_str.proofs.Common.{IsSentence, AllPlus, Term, value_of_term, combination, sum_of, later_total}
-use Rattle.duration_str.proofs.Common.{value_of, terms_of, terms_after, fits, unless, or_else, fault_of_terms}
-use Rattle.duration_str.proofs.Common.{evaluation_fault, is_same_operator, Evaluates, running_fault}
-use Rattle.duration_str.proofs.Sentences.FaultLemmas.{no_fault, is_same_operator-true, term_below_no_fault}
-use Rattle.duration_str.proofs.Characters.EachUnit.{all_units}
+use Rattle.duration_str.proofs.Common.{AllPlus, ap, append-nil, append_assoc, arith, Bool, cases_lt, Cause, combination}
+use Rattle.duration_str.proofs.Common.{CondUnit, Evaluates, evaluation_fault, fault_of_terms, first_fault, fits}
+use Rattle.duration_str.proofs.Common.{is_same_operator, IsSentence, later_total, le-ltb, leb, leb-true, length, List}
+use Rattle.duration_str.proofs.Common.{list_all, lt-ltb, ltb-true, nanos_of, None, number, operator, Option, or_else}
+use Rattle.duration_str.proofs.Common.{Overflow, Plus, refl, rules, running_fault, Some, sum_of, Term, term_fault}
+use Rattle.duration_str.proofs.Common.{Terminal, terms_after, terms_of, TimeUnit, true, unless, value_of, value_of_term}
+use Rattle.duration_str.proofs.Common.{word, [], ℕ, ⊤, ◌++◌, ◌+◌, ◌<◌, ◌^◌, ◌↔◌, ◌∷◌, ◌≡◌, ◌≤◌}
+use Rattle.duration_str.proofs.Characters.UnitLemmas.{all_units}
+
+-- ---- When there is no fault: a set of equivalences for `simp`
+
+pub or_else-none : (a b : Option Cause) → (or_else a b ≡ None) ↔ ((a ≡ None) × (b ≡ None))
+or_else-none a b = grind arith
+
+pub unless-none : (b : Bool) (cause : Cause) → (unless b cause ≡ None) ↔ (b ≡ true)
+unless-none b cause = grind arith
+
+pub fits-true : (n : ℕ) → (fits n ≡ true) ↔ (n < 2 ^ 64)
+fits-true n = (ltb-true n (2 ^ 64), lt-ltb n (2 ^ 64))
+
+pub is_same_operator-true : (op next : CondUnit) → (is_same_operator op next ≡ true) ↔ (next ≡ op)
+is_same_operator-true op next = grind arith
+
+-- There is no fault: each number is below 2^64, and the operators are the same.
+pub ruleset no_fault = (or_else-none, unless-none, fits-true, is_same_operator-true)
+
+pub term_below_no_fault : (place : Option ℕ) (t : Term) → 1 ≤ t.length → value_of_term t < 2 ^ 64
+    → term_fault place t ≡ None
+term_below_no_fault place t l h = simp no_fault (grind arith)
+
+-- ---- Terms that are added
 
 -- Each term is added, and its length is above 0.
 abbrev pub AreAdded : List Term → Type 0
@@ -29,9 +51,7 @@ terms_added terminals a = terms_added_after Plus terminals refl a
 
 pub has_terms : (no_calc : Bool) (terminals : List Terminal) → IsSentence no_calc terminals
     → 1 ≤ length (terms_of terminals)
-has_terms no_calc (number n ∷ word (Some u) ∷ more) h = omega arith
-has_terms no_calc (number n ∷ more) h = omega arith
-has_terms no_calc _ h = absurd h
+has_terms no_calc terminals h = search rules
 
 pub sum-append : (xs ys : List Term) → sum_of (xs ++ ys) ≡ sum_of xs + sum_of ys
 sum-append [] ys = omega arith
@@ -52,24 +72,14 @@ abbrev pub overflow : ℕ → Option Cause
 overflow n = unless (fits n) (Overflow None)
 
 pub overflow_grows : (m n : ℕ) → m ≤ n → or_else (overflow m) (overflow n) ≡ overflow n
-overflow_grows m n h = elim (cases_lt m (2 ^ 64)) [
-  | inl below ↦ rw (lt-ltb m _ below)
-  | inr above ↦ rw (le-ltb m _ above, le-ltb n (2 ^ 64) (omega arith))
-]
+overflow_grows m n h = search (rules, cases_lt, lt-ltb, le-ltb)
 
 pub running_overflow : (before terms : List Term) → AreAdded terms → EachFits terms
     → (or_else (overflow (sum_of before)) (running_fault before terms) ≡ overflow (sum_of (before ++ terms)))
     × (or_else (overflow (sum_of before)) (fault_of_terms Plus before terms) ≡ overflow (sum_of (before ++ terms)))
 running_overflow before [] a f = search (rules, append-nil)
 running_overflow before (t ∷ later) a f =
-    search (
-      rules,
-      is_same_operator-true,
-      overflow_grows,
-      sum-append,
-      term_below_no_fault,
-      running_overflow (before ++ t ∷ []) later a.2 f.1,
-    )
+    search (rules, sum-append, term_below_no_fault, running_overflow (before ++ t ∷ []) later)
 
 pub added_overflow : (terms : List Term) → AreAdded terms → EachFits terms
     → (first_fault terms ≡ None) × (evaluation_fault terms ≡ overflow (sum_of terms))
@@ -88,20 +98,13 @@ running_none terms a h = rw ((running_overflow [] terms a (sum_fits_each terms h
 pub running_below : (before terms : List Term) → sum_of before < 2 ^ 64 → running_fault before terms ≡ None
     → sum_of (before ++ terms) < 2 ^ 64
 running_below before [] b h = rw append-nil b
-running_below before (t ∷ later) b h =
-    let parts = simp no_fault at h in
-    rw (← append_assoc before (t ∷ []) later) (running_below (before ++ t ∷ []) later parts.1.0 parts.1.1)
+running_below before (t ∷ later) b h = search (rules, append_assoc, running_below (before ++ t ∷ []) later)
 
 pub below_evaluate : (terms : List Term) → 1 ≤ length terms → AreAdded terms → sum_of terms < 2 ^ 64 → Evaluates terms
-below_evaluate [] l a h = absurd (omega arith)
-below_evaluate (t ∷ later) l a h =
-    let fits = sum_fits_each (t ∷ later) h in
-    (term_below_no_fault None t a.1 fits.0, rw ((added_overflow (t ∷ later) a fits).1, lt-ltb _ _ h))
+below_evaluate terms l a h = grind (arith, sum_fits_each, added_overflow)
 
 pub evaluate_below : (terms : List Term) → AreAdded terms → Evaluates terms → sum_of terms < 2 ^ 64
-evaluate_below [] a h = absurd h
-evaluate_below (t ∷ []) a h = let own = simp no_fault at h.0 in omega arith
-evaluate_below (t ∷ u ∷ later) a h = (simp no_fault at (rw a.2.0 at h.1)).1
+evaluate_below terms a h = search rules
 
 all_plus : (later : List Term) → AreAdded later → list_all (λ v. is_same_operator Plus v.operator) later ≡ true
 all_plus [] a = refl

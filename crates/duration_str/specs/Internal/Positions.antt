@@ -1,6 +1,6 @@
 -- Positions in a text: the character at a byte, and the characters between two bytes.
-use Rattle.std.specs.Prelude.{◌≡◌, ℕ, ◌+◌, ◌*◌, ◌%◌, ◌^◌, Bool, false, [], ◌∷◌, ◌++◌, IsTrue, ⊤, ◌==◌, if◌then◌else◌}
-use Rattle.std.specs.List.{list_any, list_all}
+use Rattle.std.specs.Prelude.{◌≡◌, ℕ, ◌+◌, ◌*◌, ◌%◌, ◌^◌, Bool, false, ◌&&◌, [], ◌∷◌, ◌++◌, IsTrue, ⊤, ◌==◌, if◌then◌else◌}
+use Rattle.std.specs.List.{list_all}
 use Rattle.std.specs.Char.{is_ascii_alphabetic, is_ascii_uppercase}
 use Rattle.duration_str.specs.Text.{Bytes, Characters, ahead, width, byte_len, chinese_letters}
 use Rattle.duration_str.specs.Text.{is_digit, is_unit_letter, number_of}
@@ -40,26 +40,26 @@ number_in n (d ∷ letters) c = if d == c then n else number_in (n + 1) letters 
 abbrev pub wide_number : ℕ → ℕ
 wide_number c = number_in 27 (0xB5 ∷ chinese_letters) c
 
--- the number of a unit letter, ignoring case
-abbrev pub letter_number : ℕ → ℕ
-letter_number c = if is_ascii_alphabetic c then c % 32 else wide_number c
+-- the number of a unit letter, ignoring case; under `lowercase` 39 for a capital, which no other letter has
+abbrev pub letter_number : Options → ℕ → ℕ
+letter_number o c =
+    if o.lowercase && is_ascii_uppercase c then 39 else if is_ascii_alphabetic c then c % 32 else wide_number c
 
 -- the packed number n with these unit letters after it, as digits to the base 40
-abbrev pub packed_number_after : ℕ → Characters → ℕ
-packed_number_after n [] = n
-packed_number_after n (c ∷ letters) = packed_number_after (n * 40 + letter_number c) letters
+abbrev pub packed_number_after : Options → ℕ → Characters → ℕ
+packed_number_after o n [] = n
+packed_number_after o n (c ∷ letters) = packed_number_after o (n * 40 + letter_number o c) letters
 
--- unit letters packed into a number, ignoring case
-abbrev pub packed_number : Characters → ℕ
-packed_number letters = packed_number_after 0 letters
+-- unit letters packed into a number
+abbrev pub packed_number : Options → Characters → ℕ
+packed_number o letters = packed_number_after o 0 letters
 
 -- The characters from `place` to `next` are digits, and `value` is their number modulo 2^64.
 pub record TakesDigits (text : Bytes) (place next value : ℕ) : Type 0 where
   pub run : Passes is_digit text place next
   pub number : value ≡ number_of run.characters % 2 ^ 64
 
--- They are unit letters, `value` is their packed number modulo 2^64, and `has_capital` whether one is a capital.
-pub record TakesLetters (o : Options) (text : Bytes) (place next value : ℕ) (has_capital : Bool) : Type 0 where
+-- They are unit letters, and `value` is their packed number modulo 2^64.
+pub record TakesLetters (o : Options) (text : Bytes) (place next value : ℕ) : Type 0 where
   pub run : Passes (is_unit_letter o) text place next
-  pub number : value ≡ packed_number run.characters % 2 ^ 64
-  pub capital : has_capital ≡ list_any is_ascii_uppercase run.characters
+  pub number : value ≡ packed_number o run.characters % 2 ^ 64

@@ -1,13 +1,17 @@
--- The code's table of units.
+-- The code's tables: of units, of names by their packed numbers, and of near words.
 use denote.Ref.{Bor}
-use Rattle.std.specs.Prelude.{◌≡◌, ◌-◌, ◌/◌, ◌^◌, encode_utf8_all, ℕ, map, count_by, nat_lt}
-use Rattle.std.specs.Prelude.{All, List, take, length, ◌++◌, ◌∷◌, []}
+use Rattle.std.specs.Prelude.{All, Bool, List, Option, bytes_eq, count_by, encode_utf8_all, length, map, nat_lt, not, take}
+use Rattle.std.specs.Prelude.{[], ℕ, ◌&&◌, ◌++◌, ◌-◌, ◌/◌, ◌==◌, ◌^◌, ◌∷◌, ◌≡◌}
+use Rattle.std.specs.Char.{is_ascii_whitespace, to_ascii_lowercase}
+use Rattle.std.specs.List.{find, list_any, suffix_len}
 use Rattle.duration_str.specs.declared.unit.Row.{Row}
 use Rattle.duration_str.specs.declared.unit.Printed.{Printed}
 use Rattle.duration_str.specs.declared.unit.TimeUnit.{TimeUnit}
 use Rattle.duration_str.specs.Text.{Bytes, Characters}
-use Rattle.duration_str.specs.Units.{UnitRow, row_of, units, nanos_of}
+use Rattle.duration_str.specs.Units.{UnitRow, nanos_of, off, row_of, units}
 use Rattle.duration_str.specs.Printing.{long_name}
+use Rattle.duration_str.specs.OneLine.{is_among, small_words}
+use Rattle.duration_str.specs.Internal.Positions.{packed_number}
 
 -- The texts are the names in UTF-8.
 abbrev pub AreEncoded : List (Bor Bytes) → List Characters → Type 0
@@ -42,3 +46,27 @@ units_in rows = map (λ row. row.unit) rows
 -- Each row is that of its unit.
 abbrev pub AreRight : List Printed → Type 0
 AreRight rows = All (λ row. row ≡ printed_row row.unit) rows
+
+-- all names of a unit
+abbrev pub all_names : TimeUnit → List Characters
+all_names u = (row_of u).names ++ (row_of u).chinese
+
+-- whether a name packs to n
+abbrev pub packs_to : ℕ → Characters → Bool
+packs_to n name = packed_number off name == n
+
+-- the unit with a name that packs to n
+unfoldable pub unit_of_packed : ℕ → Option TimeUnit
+unit_of_packed n = find (λ u. list_any (packs_to n) (all_names u)) units
+
+-- bytes without the spaces after them
+abbrev pub trimmed : Bytes → Bytes
+trimmed bytes = take (length bytes - suffix_len is_ascii_whitespace bytes) bytes
+
+-- whether a word is `mo` or `mos` with a capital
+abbrev pub is_megabyte : Bytes → Bool
+is_megabyte word = is_among small_words (map to_ascii_lowercase word) && not (is_among small_words word)
+
+-- whether a word is the one in a row
+abbrev pub is_near : Bytes → Bytes → Bool
+is_near near word = bytes_eq (map to_ascii_lowercase word) (map to_ascii_lowercase (trimmed near))

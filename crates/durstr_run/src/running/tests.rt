@@ -175,10 +175,8 @@ fn flushes_outputs_of_all_lengths(rt: HostRuntime) -> Result<(), Fail> {
     let (mut input, mut output) = (Vec::new(rt.alloc()), Vec::new(rt.alloc()));
     for lines in 0..400u32 {
         let (source, sink) = (Source::new(&input), Sink::new());
-        assert!(rt;
-            ends(rt.alloc(), source, sink, Ok(true), &output),
-            "{lines}"
-        );
+        let is_so = ends(rt.alloc(), source, sink, Ok(true), &output);
+        assert!(rt; is_so, "{lines}");
         input.extend_from_slice(b"0\n")?;
         output.extend_from_slice(b"0 0s\n")?;
     }
@@ -222,10 +220,8 @@ fn stops_at_a_failing_writer(rt: HostRuntime) {
     let failed = Err(RunFault::Write);
     for calls in 0..OUTPUT.len() {
         let (source, sink) = (Source::new(INPUT), Sink::taking(1, calls));
-        assert!(rt;
-            ends(rt.alloc(), source, sink, failed, &OUTPUT[..calls]),
-            "at {calls}"
-        );
+        let is_so = ends(rt.alloc(), source, sink, failed, &OUTPUT[..calls]);
+        assert!(rt; is_so, "at {calls}");
     }
     let (source, sink) = (Source::new(INPUT), Sink::taking(4, 1));
     assert!(rt; ends(rt.alloc(), source, sink, failed, b"2110"));
@@ -237,26 +233,16 @@ fn stops_at_a_failing_flush_and_a_full_writer(rt: HostRuntime) {
     let mut unflushed = Sink::new();
     unflushed.flushes = false;
     assert!(rt; ends(rt.alloc(), Source::new(INPUT), unflushed, failed, OUTPUT));
-    assert!(rt;
-        ends(
-            rt.alloc(),
-            Source::new(INPUT),
-            Sink::taking(0, 1),
-            failed,
-            b""
-        )
-    );
+    let (source, sink) = (Source::new(INPUT), Sink::taking(0, 1));
+    assert!(rt; ends(rt.alloc(), source, sink, failed, b""));
 }
 
 #[test]
 fn stops_at_a_failing_reader(rt: HostRuntime) {
     for calls in 0..INPUT.len() + 1 {
         let source = Source::giving(INPUT, 1, calls);
-        let failed = Err(RunFault::Read);
-        assert!(rt;
-            ends(rt.alloc(), source, Sink::new(), failed, b""),
-            "at {calls}"
-        );
+        let is_so = ends(rt.alloc(), source, Sink::new(), Err(RunFault::Read), b"");
+        assert!(rt; is_so, "at {calls}");
     }
     let mut sink = Sink::new();
     let answer = run(rt.alloc(), &mut Blanks, &mut sink, Options::off());
@@ -292,17 +278,10 @@ fn makes_a_read_for_each_byte_and_one_more(rt: HostRuntime) -> Result<(), Fail> 
         (most, 1_048_576, RunFault::Read),
         (blanks.as_slice(), 1_048_577, RunFault::TooLong),
     ] {
-        let mut source = Source::giving(bytes, 1, calls);
-        let answer = run(
-            rt.alloc(),
-            &mut source,
-            &mut Sink::taking(0, 1),
-            Options::off(),
-        );
-        assert!(rt;
-            answer == Err(fault) && source.reads == 1_048_577,
-            "{fault:?}"
-        );
+        let (mut source, mut sink) = (Source::giving(bytes, 1, calls), Sink::taking(0, 1));
+        let answer = run(rt.alloc(), &mut source, &mut sink, Options::off());
+        let is_so = answer == Err(fault) && source.reads == 1_048_577;
+        assert!(rt; is_so, "{fault:?}");
     }
     Ok(())
 }

@@ -1,4 +1,4 @@
-use Rattle.duration_str.proofs.Common.{◌≡◌, length, token_at, source, tokens_left}
+use Rattle.duration_str.proofs.Common.{length, source, token_at, tokens_left, ◌≡◌}
 use Rattle.duration_str.proofs.fault.token_at.Given as goal
 
 abbrev pub invariant-loop-token : goal.invariant-loop-token

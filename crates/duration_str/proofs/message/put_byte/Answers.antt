@@ -1,6 +1,5 @@
-use Rattle.duration_str.proofs.Common.{arith, IsUtf8, byte_text}
-use Rattle.std.proofs.lemmas.Grind.{common_steps}
-use Rattle.duration_str.proofs.Printer.MessageLemmas.{front_has, byte_text_utf8}
+use Rattle.duration_str.proofs.Common.{arith, byte_text, common_steps, IsUtf8}
+use Rattle.duration_str.proofs.Printer.MessageLemmas.{byte_text_utf8, front_has}
 use Rattle.duration_str.proofs.message.put_byte.Goals as goal
 
 pub returns-clause-utf8 : goal.returns-clause-utf8

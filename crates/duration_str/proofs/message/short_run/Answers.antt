@@ -1,5 +1,5 @@
 use Rattle.duration_str.proofs.Common.{◌∙◌}
-use Rattle.duration_str.proofs.Printer.SpaceLemmas.{run_boundary, run_taken}
+use Rattle.duration_str.proofs.Printer.MessageLemmas.{run_boundary, run_taken}
 use Rattle.duration_str.proofs.message.short_run.Goals as goal
 
 pub range-requires-clause-end_boundary : goal.range-requires-clause-end_boundary

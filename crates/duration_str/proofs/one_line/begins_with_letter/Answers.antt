@@ -1,4 +1,4 @@
-use Rattle.duration_str.proofs.Common.{◌∙◌, sym, chars_past_char}
+use Rattle.duration_str.proofs.Common.{chars_past_char, sym, ◌∙◌}
 use Rattle.duration_str.proofs.one_line.begins_with_letter.Goals as goal
 
 pub returns-in-Some : goal.returns-in-Some

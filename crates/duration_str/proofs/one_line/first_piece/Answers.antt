@@ -1,18 +1,13 @@
-use Rattle.duration_str.proofs.Common.{◌∙◌, sym, refl}
-use Rattle.duration_str.proofs.Printer.OneLineLemmas.{taken_first, taken_more, taken_other, taken_end, taken_boundary}
-use Rattle.duration_str.proofs.Printer.OneLineLemmas.{taken_all}
+use Rattle.duration_str.proofs.Common.{refl, rules, sym, ◌∙◌}
+use Rattle.duration_str.proofs.Printer.OneLineLemmas.{taken_all, taken_boundary, taken_end, taken_first, taken_more}
+use Rattle.duration_str.proofs.Printer.OneLineLemmas.{taken_other}
 use Rattle.duration_str.proofs.one_line.first_piece.Goals as goal
-use Rattle.duration_str.proofs.one_line.first_piece.Goals.{in-Some-next+then-left-eq0, in_default-next, then-left-eq0-via-then-left-eq0}
+use Rattle.duration_str.proofs.one_line.first_piece.Goals.{in-Some-next+then-left-eq0, in_default-next}
 use Rattle.duration_str.proofs.one_line.first_piece.Goals.{then-left-eq0-via-else-left-eq0+then-not-is_like}
+use Rattle.duration_str.proofs.one_line.first_piece.Goals.{then-left-eq0-via-then-left-eq0}
 
 pub loop-c-init : goal.loop-c-init
-loop-c-init c = record {
-  text = c.as_str-rest.utf8;
-  utf8 = c.as_str-rest.utf8;
-  same = sym c.as_str-rest.ensures;
-  taken = taken_first c.in-Some.first c.args.text.now _ c.utf8.text
-      (rw c.as_str-rest.ensures (sym c.chars-chars.ensures.rest ∙ (c.in-Some.ensures {u = tt}).steps.0));
-}
+loop-c-init c = search (rules, taken_first)
 
 pub loop-c-preserved : goal.loop-c-preserved
 loop-c-preserved c =
@@ -28,8 +23,7 @@ loop-c-preserved c =
     }
 
 pub range-requires-clause-end_boundary : goal.range-requires-clause-end_boundary
-range-requires-clause-end_boundary c =
-    let held = c.loop-c.invariant in taken_boundary c.in-Some.first c.args.text.now _ c.loop-c.left held.taken held.utf8
+range-requires-clause-end_boundary c = search (rules, taken_boundary)
 
 pub returns : goal.returns
 returns c =

@@ -1,7 +1,6 @@
-use Rattle.duration_str.proofs.Common.{◌≡◌, IsUtf8}
+use Rattle.duration_str.proofs.Common.{chars_rest, IsUtf8, ◌≡◌}
 use denote.Text.{Utf8}
 use denote.Shadow.{shadow}
-use Rattle.std.specs.Str.Iter.{chars_rest}
 use Rattle.duration_str.proofs.Printer.OneLineLemmas.{Taken}
 use Rattle.duration_str.proofs.one_line.first_piece.Given as goal
 

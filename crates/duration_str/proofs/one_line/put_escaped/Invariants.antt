@@ -1,6 +1,6 @@
-use Rattle.duration_str.proofs.Common.{◌≡◌, ◌≤◌, ◌++◌, encode_utf8_all, take, length}
+use Rattle.duration_str.proofs.Common.{encode_utf8_all, length, take, ◌++◌, ◌≡◌, ◌≤◌}
 use Rattle.std.specs.Char.Escape.{escape_default}
-use Rattle.std.specs.Char.Iter.{escape_rest, escape_end}
+use Rattle.std.specs.Char.Iter.{escape_end, escape_rest}
 use Rattle.duration_str.proofs.one_line.put_escaped.Given as goal
 
 -- what is written and what is left make the whole

@@ -1,9 +1,5 @@
-use Rattle.duration_str.proofs.Common.{ap}
-use Rattle.duration_str.specs.Faults.{place_of}
+use Rattle.duration_str.proofs.Common.{ap, place_of}
 use Rattle.duration_str.proofs.one_line.put_line.Goals as goal
 
 pub put_syntax-requires : goal.put_syntax-requires
 put_syntax-requires c = c.requires c.in-Syntax.place (ap place_of c.in-Syntax.is)
-
-pub returns-in-Syntax : goal.returns-in-Syntax
-returns-in-Syntax c = rw c.in-Syntax.is c.put_syntax.ensures

@@ -1,30 +1,23 @@
-use Rattle.duration_str.proofs.Common.{◌≡◌, ◌++◌, ◌-◌, ◌∙◌, append_assoc, sym, chars, encode_utf8_all, take, codes}
-use Rattle.std.proofs.lemmas.Str.{IsUtf8-past_char}
-use Rattle.std.specs.Str.Iter.{chars_rest}
+use Rattle.duration_str.proofs.Common.{append_assoc, chars, chars_rest, codes, encode_utf8_all, IsUtf8-past_char, rules}
+use Rattle.duration_str.proofs.Common.{take, ◌++◌, ◌-◌, ◌≡◌}
 use Rattle.duration_str.specs.OneLine.{quoted, quoted_end, shown}
-use Rattle.duration_str.proofs.Printer.OneLineLemmas.{quoted_more, quoted_stops, quoted_cut, quoted_all, quoted_clear, end_inside}
-use Rattle.duration_str.proofs.one_line.put_quoted.Goals as goal
+use Rattle.duration_str.proofs.Printer.OneLineLemmas.{end_inside, quoted_all, quoted_clear, quoted_cut, quoted_more}
+use Rattle.duration_str.proofs.Printer.OneLineLemmas.{quoted_stops}
 use Rattle.duration_str.proofs.one_line.put_quoted.Goals.{After-put_shown, After-put_text}
+use Rattle.duration_str.proofs.one_line.put_quoted.Goals as goal
 
 -- what is written with the character, and what is left after it, make the whole
 more : (c : After-put_shown)
     → (take c.loop-c.end c.loop-c.buffer ++ encode_utf8_all (shown c.in-Some.c))
     ++ quoted_end (c.loop-c.room - c.shown_len-width.result) (chars (chars_rest c.next.new.self))
     ≡ take c.args.at c.args.buffer.now ++ quoted (chars c.args.text.now)
-more c =
-    let held = c.loop-c.invariant in
-    rw c.shown_len-width.ensures
-    (quoted_more _ _ _ _ c.loop-c.room c.in-Some.c (rw c.shown_len-width.ensures at c.if-width-room.false) held.utf8
-    (c.in-Some.ensures {u = tt}).steps.0 held.whole)
+more c = search (rules, quoted_more)
 
 -- a short text of clear characters
 clear : (c : After-put_text)
     → (take c.in_ok-end.end c.put.new.buffer ++ c.args.text.now) ++ codes "\""
     ≡ take c.args.at c.args.buffer.now ++ quoted (chars c.args.text.now)
-clear c =
-    let are = rw c.as_bytes.ensures.value at (sym c.are_clear.ensures ∙ c.if-are_clear.true) in
-    rw ((c.in_ok-end.ensures {u = tt}).0.1, quoted_clear c.args.text.now c.utf8.text c.if-text-le-MOST_SHOWN.true are)
-    (simp append_assoc)
+clear c = search (rules, quoted_clear, append_assoc)
 
 pub returns-in_err-end-2 : goal.returns-in_err-end-2
 returns-in_err-end-2 c =

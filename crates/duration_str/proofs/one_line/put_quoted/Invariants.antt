@@ -1,5 +1,4 @@
-use Rattle.duration_str.proofs.Common.{◌≡◌, ◌≤◌, ◌++◌, IsUtf8, chars, take, length}
-use Rattle.std.specs.Str.Iter.{chars_rest}
+use Rattle.duration_str.proofs.Common.{chars, chars_rest, IsUtf8, length, take, ◌++◌, ◌≡◌, ◌≤◌}
 use Rattle.duration_str.specs.OneLine.{quoted, quoted_end}
 use Rattle.duration_str.proofs.one_line.put_quoted.Given as goal
 

@@ -1,10 +1,9 @@
-use Rattle.duration_str.proofs.Common.{◌≡◌, ◌∙◌, sym, ap, chars, ahead, encodes-chars, ◌&&◌, false, refl}
-use Rattle.duration_str.specs.OneLine.{first_piece, begins_with_letter}
+use Rattle.duration_str.proofs.Common.{ahead, ap, chars, encodes-chars, false, refl, sym, ◌&&◌, ◌∙◌, ◌≡◌}
+use Rattle.duration_str.specs.OneLine.{begins_with_letter, first_piece}
 use Rattle.duration_str.proofs.Printer.OneLineLemmas.{no_unit_word}
-use Rattle.duration_str.proofs.one_line.put_syntax.Goals as goal
-use Rattle.duration_str.proofs.one_line.put_syntax.Goals.{After-first_piece-piece}
+use Rattle.duration_str.proofs.one_line.put_syntax.Goals.{After-first_piece-piece, else-expected-via-else-expected}
 use Rattle.duration_str.proofs.one_line.put_syntax.Goals.{else-expected-via-then-expected+else-begins_with_letter}
-use Rattle.duration_str.proofs.one_line.put_syntax.Goals.{else-expected-via-else-expected}
+use Rattle.duration_str.proofs.one_line.put_syntax.Goals as goal
 
 same : (c : After-first_piece-piece)
     → chars c.first_piece-piece.result.now ≡ first_piece (ahead c.args.text.now c.args.place)
@@ -17,7 +16,6 @@ returns-then-begins_with_letter c =
       encodes-chars c.first_piece-piece.result.now c.first_piece-piece.utf8,
       c.if-expected.true,
       sym c.begins_with_letter.ensures ∙ c.if-begins_with_letter.true,
-      ← c.unit_help.ensures,
       ← c.chars_before-column.ensures.count,
     ) c.put_unknown.ensures
 

@@ -1,4 +1,4 @@
-use Rattle.duration_str.proofs.Sentences.ParsingLemmas.{parses_text}
+use Rattle.duration_str.proofs.Sentences.AnswerLemmas.{parses_text}
 use Rattle.duration_str.proofs.parser.parse.Goals as goal
 
 pub returns : goal.returns

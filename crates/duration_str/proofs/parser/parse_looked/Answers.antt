@@ -1,4 +1,4 @@
-use Rattle.duration_str.proofs.Sentences.ParsingLemmas.{parses_text, same_on_err}
+use Rattle.duration_str.proofs.Sentences.AnswerLemmas.{parses_text, same_on_err}
 use Rattle.duration_str.specs.Results.{ReachesPlace}
 use Rattle.duration_str.proofs.parser.parse_looked.Goals as goal
 

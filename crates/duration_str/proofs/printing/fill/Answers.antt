@@ -1,7 +1,6 @@
-use Rattle.duration_str.proofs.Common.{take, length, length-take-le, arith, sym, ap, ◌∙◌, as_nanos}
-use Rattle.duration_str.proofs.Common.{part_bytes, zero_unit}
-use Rattle.duration_str.proofs.Printer.PrintedBytesLemmas.{ended, ended_take}
-use Rattle.duration_str.proofs.Printer.LimitsLemmas.{within_fits, within_ended, within_utf8}
+use Rattle.duration_str.proofs.Common.{ap, arith, as_nanos, common_steps, length, length-take-le}
+use Rattle.duration_str.proofs.Printer.PrintedBytesLemmas.{ended_take}
+use Rattle.duration_str.proofs.Printer.LimitsLemmas.{within_ended, within_fits, within_utf8}
 use Rattle.duration_str.proofs.printing.fill.Goals as goal
 
 pub put_within-end-requires : goal.put_within-end-requires
@@ -9,23 +8,14 @@ put_within-end-requires c =
     rw c.as_nanos.ensures (omega (arith, within_fits c.args.format (as_nanos c.args.d) (omega arith), c.requires))
 
 pub returns-then-end-eq0-clause-text : goal.returns-then-end-eq0-clause-text
-returns-then-end-eq0-clause-text c =
-    let zero = part_bytes c.args.format.style 0 (zero_unit c.args.format.smallest) in
-    let parts = rw c.as_nanos.ensures at c.put_within-end.ensures.text in
-    c.put_zero.ensures.text
-    ∙ ap (λ n. ended zero (take n c.put_within-end.new.buffer)) (sym c.if-end-eq0.true) ∙ ap (ended zero) parts
-    ∙ within_ended c.args.format (as_nanos c.args.d) (omega arith)
+returns-then-end-eq0-clause-text c = grind (arith, common_steps, within_ended)
 
 pub returns-then-end-eq0-clause-utf8 : goal.returns-then-end-eq0-clause-utf8
 returns-then-end-eq0-clause-utf8 c =
     rw (returns-then-end-eq0-clause-text c) (within_utf8 c.args.format (as_nanos c.args.d) (omega arith))
 
 pub returns-clause-text : goal.returns-clause-text
-returns-clause-text c =
-    let zero = part_bytes c.args.format.style 0 (zero_unit c.args.format.smallest) in
-    let parts = rw c.as_nanos.ensures at c.put_within-end.ensures.text in
-    sym (ended_take zero c.put_within-end.result c.put_within-end.new.buffer (omega arith) (omega arith))
-    ∙ ap (ended zero) parts ∙ within_ended c.args.format (as_nanos c.args.d) (omega arith)
+returns-clause-text c = grind (arith, common_steps, ended_take, within_ended)
 
 pub returns-clause-utf8 : goal.returns-clause-utf8
 returns-clause-utf8 c = rw (returns-clause-text c) (within_utf8 c.args.format (as_nanos c.args.d) (omega arith))

@@ -1,4 +1,4 @@
-use Rattle.duration_str.proofs.Common.{◌≡◌, ◌-◌, ◌*◌, ◌/◌, ◌%◌, arith}
+use Rattle.duration_str.proofs.Common.{arith, ◌%◌, ◌*◌, ◌-◌, ◌/◌, ◌≡◌}
 use Rattle.duration_str.proofs.Printer.DigitLemmas.{put_last}
 use Rattle.duration_str.proofs.printing.put_count.Goals as goal
 

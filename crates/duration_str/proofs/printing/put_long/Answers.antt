@@ -1,9 +1,5 @@
-use Rattle.duration_str.proofs.Common.{arith, length, drop, [], ◌-◌}
-use Rattle.std.specs.Prelude.{slice_index_or}
-use Rattle.duration_str.specs.declared.unit.Printed.{Printed}
-use Rattle.duration_str.specs.Internal.UnitTable.{units_in}
-use Rattle.duration_str.proofs.Printer.RowLemmas.{beyond, row_from}
-use Rattle.duration_str.proofs.Printer.LimitsLemmas.{with_none, first_room}
+use Rattle.duration_str.proofs.Common.{arith, drop, length, Printed, slice_index_or, units_in, [], ◌-◌}
+use Rattle.duration_str.proofs.Printer.LimitsLemmas.{beyond, first_room, row_from, with_none}
 use Rattle.duration_str.proofs.printing.put_long.Goals as goal
 
 pub returns-then-most-eq0-clause-text : goal.returns-then-most-eq0-clause-text

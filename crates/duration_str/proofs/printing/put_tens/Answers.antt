@@ -1,7 +1,7 @@
-use Rattle.duration_str.proofs.Common.{◌≡◌, ℕ, ◌-◌, ◌*◌, ◌/◌, ◌%◌, ◌++◌, ◌∙◌, List, ap, decimal, arith}
+use Rattle.duration_str.proofs.Common.{ap, arith, decimal, List, ℕ, ◌%◌, ◌*◌, ◌++◌, ◌-◌, ◌/◌, ◌∙◌, ◌≡◌}
 use Rattle.duration_str.proofs.Printer.DigitLemmas.{put_last, same_before}
 use Rattle.duration_str.proofs.printing.put_tens.Goals as goal
-use Rattle.duration_str.proofs.printing.put_tens.Goals.{then-n-lt10, else-n-lt10}
+use Rattle.duration_str.proofs.printing.put_tens.Goals.{else-n-lt10, then-n-lt10}
 
 pub returns-clause-text : goal.returns-clause-text
 returns-clause-text c = elim c.if-n-lt10.branch [

@@ -1,4 +1,4 @@
-use Rattle.duration_str.proofs.Common.{◌∙◌, arith, chars, as_nanos, IsPrintedWithin, Short}
+use Rattle.duration_str.proofs.Common.{arith, as_nanos, chars, IsPrintedWithin, Short, ◌∙◌}
 use Rattle.duration_str.proofs.LawProofs.AllParts.{all_parts_holds}
 use Rattle.duration_str.proofs.Printer.LimitsLemmas.{printed_within}
 use Rattle.duration_str.proofs.printing.write_human.Goals as goal

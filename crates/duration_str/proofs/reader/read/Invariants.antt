@@ -1,6 +1,5 @@
-use Rattle.std.specs.Prelude.{IfErr}
-use Rattle.duration_str.proofs.Common.{◌≡◌, false, rest_of, answer_left, operator_read, source, IsPlaceless}
-use Rattle.duration_str.proofs.OnePass.TermsLemmas.{after_unit, with_left, count}
+use Rattle.duration_str.proofs.Common.{answer_left, false, IfErr, IsPlaceless, operator_read, rest_of, source, ◌≡◌}
+use Rattle.duration_str.proofs.OnePass.TermsLemmas.{after_unit, count, with_left}
 use Rattle.duration_str.proofs.reader.read.Given as goal
 
 abbrev pub invariant-loop-next : goal.invariant-loop-next

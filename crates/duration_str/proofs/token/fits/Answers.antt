@@ -1,4 +1,4 @@
-use Rattle.duration_str.proofs.Common.{ne_eqb}
+use Rattle.duration_str.proofs.Common.{arith, common_steps, ne_eqb}
 use Rattle.duration_str.proofs.Characters.NumberLemmas.{long_number}
 use Rattle.duration_str.proofs.token.fits.Goals as goal
 
@@ -15,8 +15,7 @@ returns-then-first-eq49 c =
 pub returns-else-first-eq49 : goal.returns-else-first-eq49
 returns-else-first-eq49 c =
     let is = long_number c.args.digits.now c.args.low c.requires.long c.requires.digits c.requires.same in
-    let other = ne_eqb _ 49 c.if-first-eq49.false in
-    rw other (rw (← c.if-are_zeros.ensures {u = tt}, ne_eqb _ 48 c.if-first-eq48.false, other) at is)
+    grind (arith, common_steps, ne_eqb)
 
 pub returns-else-are_zeros : goal.returns-else-are_zeros
 returns-else-are_zeros c =

@@ -1,4 +1,4 @@
-use Rattle.duration_str.proofs.Common.{◌≡◌, ◌+◌, false, refl, arith, BLANKS}
+use Rattle.duration_str.proofs.Common.{arith, BLANKS, false, refl, ◌+◌, ◌≡◌}
 use Rattle.duration_str.proofs.Characters.CharacterLemmas.{blank_at}
 use Rattle.duration_str.proofs.token.is_blank.Goals as goal
 

@@ -1,6 +1,6 @@
-use Rattle.duration_str.proofs.Common.{FitsDuration, as_nanos, off}
-use Rattle.std.proofs.Common.{◌≡◌, sym, ◌∙◌, arith}
-use Rattle.uses.proofs.CacheLemmas.{key_is_printed, equal_by_chars}
+use Rattle.duration_str.proofs.Common.{as_nanos, FitsDuration, off}
+use Rattle.std.proofs.Common.{arith, sym, ◌∙◌, ◌≡◌}
+use Rattle.uses.proofs.CacheLemmas.{equal_by_chars, key_is_printed}
 use Rattle.duration_str.specs.declared.format.Style.TheVariants.{Compact}
 use Rattle.uses.proofs.cache.share_entry.Goals as goal
 

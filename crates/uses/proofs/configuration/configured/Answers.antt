@@ -1,10 +1,10 @@
-use Rattle.std.proofs.Common.{◌≡◌, pos, Result, Ok, Err, sym, chars}
-use Rattle.duration_str.proofs.Common.{as_nanos, off, OneReading}
-use Rattle.uses.proofs.Common.{true≢false, Duration, Fault}
+use Rattle.std.proofs.Common.{Err, Ok, pos, Result, rules, ◌≡◌}
+use Rattle.duration_str.proofs.Common.{as_nanos, OneReading}
+use Rattle.uses.proofs.Common.{Duration, Fault}
 use Rattle.serde_json.specs.Data.{Data, string}
 use Rattle.duration_str.specs.declared.error.DError.{DError}
 use Rattle.duration_str.specs.Configuration.{IsRequired}
-use Rattle.duration_str.specs.Errors.{IsErrorOf, IsOverflow}
+use Rattle.duration_str.specs.Messages.{IsErrorOf, IsOverflow}
 use Rattle.uses.specs.Configuration.{IsConfigured, Overflows}
 use Rattle.uses.proofs.configuration.configured.Goals as goal
 
@@ -22,19 +22,13 @@ given_fault (string text) f error (bytes, refused) is = (f.cause, refused, is)
 given_fault _ f error (bytes, no_text) is = rw no_text at is
 
 overflow_given : OneReading → (value : Data) (f : Fault) → Overflows value → IsGiven value (Err f) → IsOverflow f.cause
-overflow_given law value f o given =
-    let (bytes, refused) = rw o.is_text at given in
-    rw (law.one_cause off (chars o.text) f.cause _ refused o.refused) tt
+overflow_given law value f o given = search rules
 
 pub returns-in-Ok-clause-answer : goal.returns-in-Ok-clause-answer
 returns-in-Ok-clause-answer g c = given_value g.row.A.Denot _ c.in-Ok.length c.in-Ok.ensures
 
 pub returns-in_ok-to_derror-in-Err-clause-answer : goal.returns-in_ok-to_derror-in-Err-clause-answer
-returns-in_ok-to_derror-in-Err-clause-answer g c =
-    given_fault _ c.in-Err.fault c.in_ok-to_derror-in-Err.field-0 c.in-Err.ensures
-    c.in_ok-to_derror-in-Err.ensures.error
+returns-in_ok-to_derror-in-Err-clause-answer g c = search (rules, given_fault)
 
 pub returns-in_err-to_derror-in-Err-clause-overflow : goal.returns-in_err-to_derror-in-Err-clause-overflow
-returns-in_err-to_derror-in-Err-clause-overflow g c overflows =
-    let is_overflow = overflow_given c.one_sentence.ensures.reading _ c.in-Err.fault overflows c.in-Err.ensures in
-    absurd (true≢false (sym (c.in_err-to_derror-in-Err.ensures.overflow is_overflow)))
+returns-in_err-to_derror-in-Err-clause-overflow g c overflows = search (rules, overflow_given)

@@ -1,8 +1,8 @@
-use Rattle.std.proofs.Common.{◌≡◌, ℕ, List, Result, Ok, Err, OnOk, IsOkAnd, IsErrAnd, refl, mul-le-mul_right}
+use Rattle.std.proofs.Common.{Err, IsErrAnd, IsOkAnd, List, mul-le-mul_right, Ok, OnOk, refl, Result, ℕ, ◌≡◌}
 use Rattle.std.specs.Prelude.{IfErr}
-use Rattle.uses.proofs.Common.{Duration, Cause, Syntax, Fault}
+use Rattle.uses.proofs.Common.{Cause, Duration, Fault, Syntax}
 use Rattle.duration_str.specs.Results.{ReachesPlace}
-use Rattle.uses.proofs.StoredLemmas.{value_answered, cause_answered}
+use Rattle.uses.proofs.StoredLemmas.{cause_answered, value_answered}
 use Rattle.uses.proofs.cost.price.Goals as goal
 
 on_value : (P : Duration → Type 0) {X : Type 0} (result : Result Duration Fault) → IsOkAnd result P → OnOk result X → X

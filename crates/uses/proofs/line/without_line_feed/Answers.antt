@@ -1,4 +1,4 @@
-use Rattle.std.proofs.Common.{rules, arith, ◌≡◌, inl, inr, refl}
+use Rattle.std.proofs.Common.{arith, inl, inr, refl, rules, ◌≡◌}
 use Rattle.std.proofs.lemmas.Str.Pattern.{strip_suffix_char}
 use Rattle.uses.proofs.Common.{with_line_feed}
 use Rattle.uses.proofs.LineLemmas.{text_read}

@@ -1,4 +1,4 @@
-use Rattle.std.proofs.Common.{rules, arith, ◌<◌, length, take, [], ◌∷◌, ap}
+use Rattle.std.proofs.Common.{ap, arith, length, rules, take, [], ◌<◌, ◌∷◌}
 use Rattle.uses.proofs.Common.{length-take, take_more_set}
 use Rattle.std.proofs.lemmas.Str.{IsUtf8-append, IsUtf8-from_ascii}
 use Rattle.uses.proofs.log.log_entry.Goals as goal

@@ -1,5 +1,5 @@
-use Rattle.std.proofs.Common.{chars, [], ◌∷◌, ap, sym, ◌∙◌}
-use Rattle.duration_str.proofs.Common.{what_of, terminal_of}
+use Rattle.std.proofs.Common.{ap, chars, sym, [], ◌∙◌, ◌∷◌}
+use Rattle.duration_str.proofs.Common.{terminal_of, what_of}
 use Rattle.uses.proofs.Common.{token_of}
 use Rattle.uses.proofs.StoredLemmas.{first_kept}
 use Rattle.uses.proofs.stored.first_unit.Goals as goal

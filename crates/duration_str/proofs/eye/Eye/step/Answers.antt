@@ -1,5 +1,5 @@
-use Rattle.duration_str.proofs.Common.{sym, ◌∙◌, IsUtf8-had}
-use Rattle.duration_str.proofs.Characters.TextLemmas.{past_stands}
+use Rattle.duration_str.proofs.Common.{IsUtf8-had, sym, ◌∙◌}
+use Rattle.duration_str.proofs.Characters.CharacterLemmas.{past_stands}
 use Rattle.duration_str.proofs.eye.Eye.step.Goals as goal
 
 pub invariant_of-self-clause-at_place : goal.invariant_of-self-clause-at_place

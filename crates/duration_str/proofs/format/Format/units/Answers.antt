@@ -1,7 +1,5 @@
-use Rattle.duration_str.proofs.Common.{◌∙◌, ◌+◌, ◌-◌, map, units}
-use Rattle.duration_str.proofs.Printer.LimitsLemmas.{slice_within, none_within}
-use Rattle.duration_str.proofs.Printer.RowLemmas.{part_right, part_units}
-use Rattle.duration_str.specs.Internal.UnitTable.{printed_row, rank_of}
+use Rattle.duration_str.proofs.Common.{map, printed_row, rank_of, units, ◌+◌, ◌-◌, ◌∙◌}
+use Rattle.duration_str.proofs.Printer.LimitsLemmas.{none_within, part_right, part_units, slice_within}
 use Rattle.duration_str.proofs.format.Format.units.Goals as goal
 
 pub returns-then-last-first-clause-units : goal.returns-then-last-first-clause-units

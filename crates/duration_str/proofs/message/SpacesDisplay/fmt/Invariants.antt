@@ -1,4 +1,4 @@
-use Rattle.duration_str.proofs.Common.{◌-◌, ◌≤◌, replicate}
+use Rattle.duration_str.proofs.Common.{replicate, ◌-◌, ◌≤◌}
 use Rattle.std.specs.Fmt.{HasWritten, IsPlainFormatter}
 use Rattle.duration_str.proofs.message.SpacesDisplay.fmt.Given as goal
 

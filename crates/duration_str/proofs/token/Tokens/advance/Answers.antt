@@ -1,4 +1,4 @@
-use Rattle.duration_str.proofs.Common.{rules, ◌+◌, width, IsUtf8-had}
+use Rattle.duration_str.proofs.Common.{IsUtf8-had, rules, width, ◌+◌}
 use Rattle.duration_str.proofs.Cutting.PositionLemmas.{counted_past, looks_fit}
 use Rattle.duration_str.proofs.Cutting.StepLemmas.{takes_sign}
 use Rattle.duration_str.proofs.token.Tokens.advance.Goals as goal

@@ -1,4 +1,4 @@
-use Rattle.duration_str.proofs.Common.{Some, None, refl, ◌∙◌, sort_at, options_of}
+use Rattle.duration_str.proofs.Common.{None, options_of, refl, Some, sort_at, ◌∙◌}
 use Rattle.duration_str.proofs.Cutting.SortLemmas.{digit_sort}
 use Rattle.duration_str.proofs.Cutting.StepLemmas.{looks_ahead}
 use Rattle.duration_str.proofs.token.Tokens.is_number_ahead.Goals as goal

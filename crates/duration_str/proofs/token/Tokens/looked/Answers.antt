@@ -1,5 +1,5 @@
 use Rattle.duration_str.proofs.Common.{IsUtf8-had}
-use Rattle.duration_str.proofs.Cutting.PositionLemmas.{looks_most, looks_least}
+use Rattle.duration_str.proofs.Cutting.PositionLemmas.{looks_least, looks_most}
 use Rattle.duration_str.proofs.token.Tokens.looked.Goals as goal
 
 pub returns-clause-most : goal.returns-clause-most

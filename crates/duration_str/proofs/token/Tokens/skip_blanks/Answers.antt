@@ -1,6 +1,6 @@
-use Rattle.duration_str.proofs.Common.{◌∙◌, sym}
+use Rattle.duration_str.proofs.Common.{sym, ◌∙◌}
 use Rattle.duration_str.proofs.Cutting.PositionLemmas.{passes_head}
-use Rattle.duration_str.proofs.Cutting.StepLemmas.{keeps_on, fewer_ahead}
+use Rattle.duration_str.proofs.Cutting.StepLemmas.{fewer_ahead, keeps_on}
 use Rattle.duration_str.proofs.token.Tokens.skip_blanks.Goals as goal
 
 pub loop-self-preserved : goal.loop-self-preserved

@@ -1,4 +1,4 @@
-use Rattle.duration_str.proofs.Common.{length, is_blank, ahead, Passes, source, KeepsInput, cut_place}
+use Rattle.duration_str.proofs.Common.{ahead, cut_place, is_blank, KeepsInput, length, Passes, source}
 use Rattle.duration_str.proofs.token.Tokens.skip_blanks.Given as goal
 
 abbrev pub invariant-loop-self : goal.invariant-loop-self

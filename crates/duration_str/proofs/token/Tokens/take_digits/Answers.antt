@@ -1,6 +1,6 @@
-use Rattle.duration_str.proofs.Common.{◌∙◌, refl, sym}
-use Rattle.duration_str.proofs.Cutting.PositionLemmas.{digits_none, digits_head}
-use Rattle.duration_str.proofs.Cutting.StepLemmas.{keeps_all, keeps_on, fewer_ahead}
+use Rattle.duration_str.proofs.Common.{refl, sym, ◌∙◌}
+use Rattle.duration_str.proofs.Cutting.PositionLemmas.{digits_head, digits_none}
+use Rattle.duration_str.proofs.Cutting.StepLemmas.{fewer_ahead, keeps_all, keeps_on}
 use Rattle.duration_str.proofs.token.Tokens.take_digits.Goals as goal
 
 pub loop-self-init : goal.loop-self-init

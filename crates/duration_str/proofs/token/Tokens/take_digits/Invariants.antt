@@ -1,4 +1,4 @@
-use Rattle.duration_str.proofs.Common.{length, ahead, TakesDigits, source, KeepsInput, cut_place}
+use Rattle.duration_str.proofs.Common.{ahead, cut_place, KeepsInput, length, source, TakesDigits}
 use Rattle.duration_str.proofs.token.Tokens.take_digits.Given as goal
 
 abbrev pub invariant-loop-self : goal.invariant-loop-self

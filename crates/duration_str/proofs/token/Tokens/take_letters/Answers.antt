@@ -1,7 +1,7 @@
-use Rattle.duration_str.proofs.Common.{refl, arith}
+use Rattle.duration_str.proofs.Common.{arith, refl, rules}
 use Rattle.duration_str.proofs.Characters.PackedLemmas.{numbered_letter, unnumbered}
-use Rattle.duration_str.proofs.Cutting.PositionLemmas.{letters_none, letters_head}
-use Rattle.duration_str.proofs.Cutting.StepLemmas.{keeps_on, fewer_ahead, letter_ahead}
+use Rattle.duration_str.proofs.Cutting.PositionLemmas.{letters_head, letters_none}
+use Rattle.duration_str.proofs.Cutting.StepLemmas.{fewer_ahead, keeps_on, letter_ahead}
 use Rattle.duration_str.proofs.token.Tokens.take_letters.Goals as goal
 
 pub loop-self-init : goal.loop-self-init
@@ -12,7 +12,7 @@ loop-self-init c =
       kept = c.advance.ensures.kept;
       letters = letters_head letters_none (c.advance.ensures.past first c.in-Some.is)
           (letter_ahead s first c.requires c.in-Some.is)
-          (omega (arith, c.first_number-packed.ensures, c.first_number-packed.type_inv)) refl;
+          (omega (arith, c.first_number-packed.ensures, c.first_number-packed.type_inv));
     }
 
 pub loop-self-preserved : goal.loop-self-preserved
@@ -24,12 +24,11 @@ loop-self-preserved c =
     record {
       kept = keeps_on inv.kept more.kept;
       letters = letters_head inv.letters (rw inv.kept.text at (more.past next c.in-Some-head.is))
-          (rw inv.kept.options at letter.0) (rw letter.1 refl) refl;
+          (rw inv.kept.options at letter.0) (rw (letter.1, inv.kept.options) refl);
     }
 
 pub loop-self-smaller : goal.loop-self-smaller
-loop-self-smaller c =
-    let more = c.advance-in-Some-head.ensures in fewer_ahead more.kept more.past c.in-Some-head.is
+loop-self-smaller c = search (rules, fewer_ahead)
 
 pub returns-in_default-letter_number-clause-stops : goal.returns-in_default-letter_number-clause-stops
 returns-in_default-letter_number-clause-stops c =

@@ -1,4 +1,4 @@
-use Rattle.duration_str.proofs.Cutting.StepLemmas.{sign_what, other_what}
+use Rattle.duration_str.proofs.Cutting.StepLemmas.{other_what, sign_what}
 use Rattle.duration_str.proofs.token.Tokens.take_token.Goals as goal
 
 pub returns-in-Operator : goal.returns-in-Operator

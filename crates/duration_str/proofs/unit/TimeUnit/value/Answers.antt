@@ -1,4 +1,4 @@
-use Rattle.duration_str.proofs.Common.{◌∙◌, None, chars}
+use Rattle.duration_str.proofs.Common.{chars, None, ◌∙◌}
 use Rattle.duration_str.proofs.Characters.NumberLemmas.{parsed_u64}
 use Rattle.duration_str.proofs.OnePass.EvaluationLemmas.{checked_term_is}
 use Rattle.duration_str.specs.Value.{term_of}

@@ -1,0 +1,124 @@
+-- The table of near words.
+use Rattle.duration_str.proofs.Common.{ap, arith, Bool, bytes_eq, bytes_eq-Decides, cases_Bool, codes, encode_utf8_all}
+use Rattle.duration_str.proofs.Common.{false, find, if◌then◌else◌, inl, inr, List, map, MicroSecond, None, Option}
+use Rattle.duration_str.proofs.Common.{or_cases, refl, row_of, Some, sym, TimeUnit, to_ascii_lowercase, units, [], ℕ}
+use Rattle.duration_str.proofs.Common.{◌||◌, ◌∙◌, ◌∷◌, ◌≡◌}
+use Rattle.duration_str.proofs.Characters.UnitLemmas.{each_unit}
+use Rattle.duration_str.specs.declared.one_line.TheConstants.{NEAR_WORDS}
+use Rattle.std.specs.Option.{option_map}
+use Rattle.duration_str.specs.OneLine.{is_among, name_help, near_name, near_words, small_words, unit_help, us_words}
+use Rattle.duration_str.specs.Internal.UnitTable.{is_megabyte, is_near, trimmed}
+
+-- a word in small letters, and the name to write, in bytes
+abbrev Row : Type 0
+Row = List ℕ × List ℕ
+
+-- these words with this name, and then the rows
+abbrev with_words : List (List ℕ) → List ℕ → List Row → List Row
+with_words [] name rows = rows
+with_words (word ∷ words) name rows = (encode_utf8_all word, encode_utf8_all name) ∷ with_words words name rows
+
+-- the near words of a unit, without those for which `us` is written
+abbrev own_words : TimeUnit → List (List ℕ)
+own_words MicroSecond = codes "µsecs" ∷ codes "µseconds" ∷ []
+own_words u = near_words u
+
+-- the rows of these units
+abbrev rows_of : List TimeUnit → List Row
+rows_of [] = []
+rows_of (u ∷ us) = with_words (own_words u) (row_of u).printed (rows_of us)
+
+-- the name beside a word
+abbrev name_beside : List ℕ → List Row → Option (List ℕ)
+name_beside word rows = option_map (λ row. row.1) (find (λ row. bytes_eq word row.0) rows)
+
+found_among : (small : List ℕ) (words : List (List ℕ)) (name : List ℕ) (rows : List Row)
+    → name_beside small (with_words words name rows)
+    ≡ (if is_among words small then Some (encode_utf8_all name) else name_beside small rows)
+found_among small [] name rows = refl
+found_among small (word ∷ words) name rows = elim (cases_Bool (bytes_eq small (encode_utf8_all word))) [
+  | inl same ↦ rw same refl
+  | inr other ↦ rw other (found_among small words name rows)
+]
+
+own_among : (small : List ℕ) → is_among us_words small ≡ false → (u : TimeUnit)
+    → is_among (own_words u) small ≡ is_among (near_words u) small
+own_among small none =
+    each_unit (λ u. is_among (own_words u) small ≡ is_among (near_words u) small)
+    (refl, (refl, (refl, (refl, (refl, (refl, (refl, (refl, (refl, (grind arith, (refl, tt)))))))))))
+
+found_unit : (small : List ℕ) (us : List TimeUnit) → is_among us_words small ≡ false → name_beside small (rows_of us)
+    ≡ option_map encode_utf8_all (option_map (λ u. (row_of u).printed) (find (λ u. is_among (near_words u) small) us))
+found_unit small [] none = refl
+found_unit small (u ∷ us) none =
+    let found = found_among small (own_words u) (row_of u).printed (rows_of us) in
+    let own = own_among small none u in
+    elim (cases_Bool (is_among (near_words u) small)) [
+      | inl near ↦ found ∙ rw (own, near) refl
+      | inr far ↦ found ∙ rw (own, far) (found_unit small us none)
+    ]
+
+-- what a row of the code says
+abbrev row_said : Row → Row
+row_said row = (map to_ascii_lowercase (trimmed row.0), trimmed row.1)
+
+found_said : (small : List ℕ) (rows : List Row)
+    → option_map (λ row. trimmed row.1) (find (λ row. bytes_eq small (map to_ascii_lowercase (trimmed row.0))) rows)
+    ≡ name_beside small (map row_said rows)
+found_said small [] = refl
+found_said small (row ∷ rows) = elim (cases_Bool (bytes_eq small (map to_ascii_lowercase (trimmed row.0)))) [
+  | inl same ↦ rw same refl
+  | inr other ↦ rw other (found_said small rows)
+]
+
+pub otherwise : {A : Type 0} (b : Bool) (x y : A) → b ≡ false → y ≡ (if b then x else y)
+otherwise b x y e = rw e refl
+
+-- the row with a word
+abbrev near_row : List ℕ → Option Row
+near_row word = if is_megabyte word then None else find (λ row. is_near row.0 word) NEAR_WORDS
+
+-- The table has the words for the microsecond without its sign, and then those of each unit.
+near_found : (word : List ℕ)
+    → option_map (λ row. trimmed row.1) (near_row word) ≡ option_map encode_utf8_all (near_name word)
+unfolding lib.Utf8.encode
+near_found word =
+    let lower = map to_ascii_lowercase word in
+    elim (cases_Bool (is_among small_words lower)) [
+      | inl month ↦ elim (cases_Bool (is_among small_words word)) [
+        | inl exact ↦ elim (or_cases (bytes_eq word (codes "mo")) (bytes_eq word (codes "mos") || false) exact) [
+          | inl mo ↦ rw ((bytes_eq-Decides word (codes "mo")).0 mo) refl
+          | inr mos ↦ rw ((bytes_eq-Decides word (codes "mos")).0 (grind arith)) refl
+        ]
+        | inr other ↦ rw (month, other) refl
+      ]
+      | inr none ↦
+          let right : map row_said NEAR_WORDS ≡ with_words us_words (codes "us") (rows_of units) = refl in
+          let found = found_said lower NEAR_WORDS ∙ ap (name_beside lower) right
+          ∙ found_among lower us_words (codes "us") (rows_of units) in
+          elim (cases_Bool (is_among us_words lower)) [
+            | inl us ↦ rw none (found ∙ rw us refl)
+            | inr other ↦
+                let read : is_megabyte word ≡ false = rw none refl in
+                ap (option_map (λ row. trimmed row.1)) (sym (otherwise (is_megabyte word) None _ read)) ∙ found
+                ∙ sym (otherwise (is_among us_words lower) _ _ other) ∙ found_unit lower units other
+                ∙ ap (option_map encode_utf8_all)
+                (otherwise (is_among us_words lower) _ _ other ∙ otherwise (is_among small_words lower) _ _ none)
+          ]
+    ]
+
+advised : (name : Option (List ℕ)) (bytes : List ℕ) → Some bytes ≡ option_map encode_utf8_all name
+    → unit_help name ≡ name_help bytes
+advised None bytes e = absurd cc
+advised (Some name) bytes e = let same : encode_utf8_all name ≡ bytes = cc in rw same refl
+
+all_units : (name : Option (List ℕ)) → None ≡ option_map encode_utf8_all name → unit_help name ≡ unit_help None
+all_units None e = refl
+all_units (Some name) e = absurd cc
+
+pub help_found : (word : List ℕ) (row : Row) → near_row word ≡ Some row
+    → unit_help (near_name word) ≡ name_help (trimmed row.1)
+help_found word row is = advised (near_name word) (trimmed row.1) (rw is at (near_found word))
+
+pub help_none : (word : List ℕ) → near_row word ≡ None → unit_help (near_name word) ≡ unit_help None
+help_none word is = all_units (near_name word) (rw is at (near_found word))
