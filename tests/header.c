@@ -60,7 +60,6 @@ static void check_refusals(void)
     expect(read_with("1s 99999999999999999999", 0).cause == DURATION_STR_NUMBER_TOO_LARGE, "a number");
     expect(read_with("1\xff", 0).cause == DURATION_STR_NOT_TEXT, "bytes that are no UTF-8");
     expect(strcmp(duration_str_cause_name(DURATION_STR_NOT_TEXT), "NOT_TEXT") == 0, "the name of a cause");
-    expect(strcmp(duration_str_cause_name(DURATION_STR_BAD_OFFSETS), "BAD_OFFSETS") == 0, "the last name of a cause");
     expect(strcmp(duration_str_cause_name(9), "") == 0, "no name");
 }
 
@@ -68,18 +67,6 @@ static void check_refusals(void)
 static bool is_written(const char *buffer, size_t length, const char *wanted)
 {
     return length == strlen(wanted) && memcmp(buffer, wanted, length + 1) == 0 && buffer[length + 1] == '#';
-}
-
-static void check_messages(void)
-{
-    const char *text = "3ms-2ms", *wanted = "3ms-2ms\n   ^\nexpected ['+', '*']";
-    char message[34];
-    memset(message, '#', sizeof message);
-    expect(duration_str_message(text, 7, 0, message, 32) == 32 && message[0] == '#', "a message without room for its zero");
-    expect(is_written(message, duration_str_message(text, 7, 0, message, 34), wanted), "a message");
-    expect(duration_str_message(text, 7, 0, NULL, 0) == 32, "the length of a message");
-    memset(message, '#', sizeof message);
-    expect(is_written(message, duration_str_message(text, 3, 0, message, 34), ""), "a message of a text that is read");
 }
 
 static void check_plain_calls(void)
@@ -102,7 +89,6 @@ static void check_null_texts(void)
     struct duration_str_answer answer;
     expect(!duration_str_parse(NULL, 0, &nanos) && nanos == 7, "a null text");
     expect(!duration_str_parse_with(NULL, 0, 0, &answer) && answer.cause == DURATION_STR_EMPTY, "a null text with options");
-    expect(duration_str_message(NULL, 0, 0, NULL, 0) == 11, "the message of a null text");
 }
 
 /* Prints within limits over a buffer of marks. */
@@ -145,33 +131,14 @@ static void check_one_line(void)
     expect(answer.cause == DURATION_STR_NOT_TEXT, "its answer");
 }
 
-static void check_columns(void)
-{
-    const char *bytes = "#1m1m-";
-    const size_t offsets[] = {1, 3, 6, 7, 3};
-    uint64_t nanos[] = {7, 7, 7, 7, 7};
-    uint32_t causes[] = {9, 9, 9, 9, 9};
-    expect(duration_str_parse_column(bytes, 6, offsets, 5, 0, nanos, 5, causes, 5) == 1, "how many of a column are read");
-    expect(nanos[0] == 60000000000 && causes[0] == DURATION_STR_READ, "a text of a column");
-    expect(nanos[1] == 0 && causes[1] == DURATION_STR_SYNTAX, "a refused text of a column");
-    expect(nanos[2] == 0 && causes[2] == DURATION_STR_BAD_OFFSETS, "an offset beyond the bytes");
-    expect(nanos[3] == 0 && causes[3] == DURATION_STR_BAD_OFFSETS, "offsets that decrease");
-    expect(nanos[4] == 7 && causes[4] == 9, "what follows a column");
-    expect(duration_str_parse_column(bytes, 6, offsets, 5, 0, nanos + 4, 1, causes, 0) == 0, "a column without room");
-    expect(duration_str_parse_column(NULL, 0, NULL, 0, 0, NULL, 0, NULL, 0) == 0, "a column without texts");
-    expect(nanos[4] == 7 && causes[0] == DURATION_STR_READ, "arrays that stay");
-}
-
 int main(void)
 {
     expect(duration_str_version() == DURATION_STR_VERSION_NUMBER, "the version of the library");
     check_options();
     check_refusals();
-    check_messages();
     check_plain_calls();
     check_styles();
     check_one_line();
     check_null_texts();
-    check_columns();
     return wrong;
 }

@@ -7,8 +7,7 @@
  * function writes. It must not change during a call, by another thread or, in
  * a mapped file, by another process: copy such a text first. What is written
  * ends with a zero byte, which the returned length doesn't count, and the rest
- * of a buffer is unchanged. A pointer may be null only if its length is 0: as
- * the empty text, a buffer into which nothing fits, or an array of no numbers.
+ * of a buffer is unchanged. A text may be null only if its length is 0.
  * Texts are UTF-8; other bytes are refused. No function calls back or throws.
  * The header is for C99 and C++11 and later.
  *
@@ -93,10 +92,7 @@ enum duration_str_cause {
     /* `+` and `*` are mixed */
     DURATION_STR_MIXED = 5,
     /* the bytes are not UTF-8 */
-    DURATION_STR_NOT_TEXT = 7,
-    /* duration_str_parse_column only: offsets decrease or lie beyond the
-     * bytes */
-    DURATION_STR_BAD_OFFSETS = 8
+    DURATION_STR_NOT_TEXT = 7
 };
 
 /* The name of a cause, such as `NUMBER_TOO_LARGE`; empty for another number. */
@@ -104,8 +100,7 @@ static inline const char *duration_str_cause_name(uint32_t cause)
 {
     static const char *const names[] = {
         "READ",     "EMPTY", "SYNTAX", "NUMBER_TOO_LARGE",
-        "OVERFLOW", "MIXED", "",       "NOT_TEXT",
-        "BAD_OFFSETS"};
+        "OVERFLOW", "MIXED", "",       "NOT_TEXT"};
     return cause < sizeof names / sizeof *names ? names[cause] : "";
 }
 
@@ -204,27 +199,6 @@ bool duration_str_parse_with(const char *text, size_t length,
                              uint32_t options,
                              struct duration_str_answer *answer);
 
-/* Reads the texts of a column under these options, and returns how many are
- * read. Text `k` is the bytes from `offsets[k]` to `offsets[k + 1]`, so there
- * is one text less than `count` offsets, and bytes before the first offset and
- * after the last are ignored. An Arrow large string array has its texts in
- * this form where a `size_t` has 64 bits.
- *
- * `nanos[k]` becomes the value of text `k` in nanoseconds, or 0 if it is
- * refused, and `causes[k]` why it is refused, as an `enum duration_str_cause`:
- * that of duration_str_parse_with, or DURATION_STR_BAD_OFFSETS if `offsets[k]`
- * is above `offsets[k + 1]`, or `offsets[k + 1]` above `length`. The texts
- * after it are read all the same.
- *
- * `nanos` has room for `nanos_room` numbers and `causes` for `causes_room`.
- * Only as many texts are handled as there are, and as there is room for in
- * both; what follows in the arrays is unchanged. */
-size_t duration_str_parse_column(const char *bytes, size_t length,
-                                 const size_t *offsets, size_t count,
-                                 uint32_t options, uint64_t *nanos,
-                                 size_t nanos_room, uint32_t *causes,
-                                 size_t causes_room);
-
 /* Reads a text under these options as duration_str_parse_with does, and
  * writes what is wrong with a refused one to the start of `buffer`, in one
  * line for people: `unknown unit "mins" at column 3 (did you mean "min"?)`.
@@ -238,21 +212,6 @@ size_t duration_str_one_line(const char *text, size_t length,
                              uint32_t options,
                              struct duration_str_answer *answer,
                              char *buffer);
-
-/* Reads a text under these options, and writes the message about its refusal
- * to the start of `buffer`, which has room for `room` bytes. Returns the
- * length of the message in bytes; 0, and the message is empty, if the text is
- * read. The message and its zero need one byte more than the length: if
- * `room` is less, nothing is written, so with room 0 a caller asks for the
- * length. A length of 2^64 bytes or more, which no memory has, is returned as
- * SIZE_MAX.
- *
- * If the fault has a place, the message is the text, below it a caret under
- * the place, and a line that says what is wrong; or, if the text has a line
- * feed, `byte N: ` and the line. Without a place it is only the line. For
- * DURATION_STR_NOT_TEXT it is `not UTF-8`. */
-size_t duration_str_message(const char *text, size_t length,
-                            uint32_t options, char *buffer, size_t room);
 
 /* The version of the library, in the form of DURATION_STR_VERSION_NUMBER. */
 uint32_t duration_str_version(void);

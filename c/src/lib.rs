@@ -10,8 +10,6 @@ mod bare;
 #[forbid(unsafe_code)]
 pub mod answer;
 #[forbid(unsafe_code)]
-pub mod column;
-#[forbid(unsafe_code)]
 pub mod limits;
 #[forbid(unsafe_code)]
 pub mod message;

@@ -5,19 +5,6 @@ use crate::answer::{Answer, refused};
 use crate::{options_of_bits, put, read, text_of};
 use duration_str_core::{Cause, Fault, ONE_LINE_BUFFER_SIZE};
 
-/// Writes the message about the text's refusal under the options whose bits are set, and a zero byte, to the start of the
-/// buffer, and returns the message's length in bytes, without the zero. The message is empty for a text that is read. If
-/// the buffer isn't longer than the message, nothing is written. What follows the zero is unchanged.
-pub fn duration_str_message(text: &[u8], options: u32, buffer: &mut [u8]) -> usize {
-    let Some(text) = text_of(text) else {
-        return show("not UTF-8", buffer);
-    };
-    match read(text, options_of_bits(options)) {
-        Ok(_) => show("", buffer),
-        Err(fault) => show_message(&fault, buffer),
-    }
-}
-
 /// Reads a text under the options whose bits are set, as `duration_str_parse_with` does, and writes what is wrong with
 /// a refused one in one line, and a zero byte, to the start of the buffer. Returns the length of the line in bytes,
 /// without the zero; the line is empty for a text that is read. The rest of the buffer is unchanged.
@@ -49,16 +36,6 @@ pub fn duration_str_one_line(
 fn show_one_line(fault: &Fault<'_>, buffer: &mut [u8; ONE_LINE_BUFFER_SIZE]) -> usize {
     let mut line = [0; ONE_LINE_BUFFER_SIZE];
     put(fault.write_one_line(&mut line), buffer)
-}
-
-/// Writes the message and a zero byte if there is room, and returns the message's length in bytes.
-fn show_message(fault: &Fault<'_>, buffer: &mut [u8]) -> usize {
-    let length = fault.message_len();
-    if length < buffer.len() {
-        let _ = fault.write_message(&mut buffer[..length]);
-        buffer[length] = 0;
-    }
-    length
 }
 
 /// Writes a text and a zero byte if there is room, and returns the text's length in bytes.

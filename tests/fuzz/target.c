@@ -132,21 +132,6 @@ static void check_printed(uint64_t nanos)
     }
 }
 
-/* The length of a message is the same whatever the room, and it and a zero stand there, or nothing does. */
-static void check_message(struct text text, uint32_t options)
-{
-    const char *bytes = (const char *)text.bytes;
-    size_t length = duration_str_message(bytes, text.length, options, NULL, 0);
-    const size_t rooms[] = {length, length + 1, length + 6};
-    for (size_t at = 0; at < sizeof rooms / sizeof *rooms; at++) {
-        uint8_t *buffer = buffer_at(output_end, rooms[at]);
-        HOLDS(duration_str_message(bytes, text.length, options, (char *)buffer, rooms[at]) == length);
-        HOLDS(is_untouched(buffer - CANARIES, buffer));
-        HOLDS(is_untouched(rooms[at] == length ? buffer : buffer + length + 1, output_end));
-        HOLDS(rooms[at] == length || buffer[length] == 0);
-    }
-}
-
 /* ---- All together */
 
 /* The plain call agrees with the full one. */
@@ -183,8 +168,6 @@ static void check(struct text text)
             check_printed(answer.nanos);
         if (options > 0 && are_equal(answer, answers[0]))
             continue;
-        HOLDS((duration_str_message((const char *)text.bytes, text.length, options, NULL, 0) == 0) == (answer.cause == DURATION_STR_READ));
-        check_message(text, options);
     }
     check_plain(text, answers[0]);
 }

@@ -1,4 +1,3 @@
 pub mod Answers
 pub mod Limits
 pub mod Messages
-pub mod Columns

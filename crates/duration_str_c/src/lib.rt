@@ -17,7 +17,6 @@ ghost use Rattle.duration_str.specs.declared.cause.Cause.TheVariants.{NotText};
 ghost use Rattle.duration_str_c.specs.Answers.{options_of_bits, refusal_answer, IsAnswerTo};
 
 pub mod answer;
-pub mod column;
 pub mod limits;
 pub mod message;
 

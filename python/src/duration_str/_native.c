@@ -539,64 +539,36 @@ static void raise_between(struct state *state, const Py_buffer *data, const size
     Py_DECREF(copy);
 }
 
-/* A column to be read: its texts, and room for as many values and causes. */
-struct column {
-    const size_t *offsets;
-    size_t texts;
-    uint32_t options;
-    uint64_t *nanos;
-    uint32_t *causes;
-};
-
-/* The texts that are copied at once, and their bytes; a longer text is copied alone. */
-enum { RUN_TEXTS = 1024, RUN_BYTES = 65536 };
-
-/* How many texts from that one on are copied at once: none if its offsets lead elsewhere. */
-static size_t run_at(const struct column *column, size_t at, Py_ssize_t length) {
-    const size_t *offsets = column->offsets + at;
-    size_t run = 0;
-    while (at + run < column->texts && run < RUN_TEXTS && is_within(offsets + run, length) &&
-           (!run || offsets[run + 1] - offsets[0] <= RUN_BYTES))
-        run++;
-    return run;
-}
-
-/* Reads the texts from copies: whoever writes to the bytes meanwhile, also without the interpreter's lock, changes nothing
- * that is being read. Returns -1 with an error if there is no memory. */
-static int read_copies(const Py_buffer *data, const struct column *column) {
-    size_t moved[RUN_TEXTS + 1], room = RUN_BYTES, run;
-    char *copy = PyMem_Malloc(room);
-    for (size_t at = 0; copy && at < column->texts; at += run) {
-        const size_t *offsets = column->offsets + at;
-        run = run_at(column, at, data->len);
-        const size_t length = offsets[run] - offsets[0];
-        if (length > room) {
+/* Reads the texts between the offsets, and marks those that are read. The bytes of an exact `bytes`, which nobody may
+ * change, are read in place, while other threads run, and others from copies: whoever writes to them meanwhile, also
+ * without the interpreter's lock, changes nothing that is being read. Returns -1 with an error if there is no memory. */
+static int read_column(const Py_buffer *data, const size_t *offsets, size_t texts, uint32_t options, uint64_t *nanos,
+                       char *are_read) {
+    struct duration_str_answer answer;
+    PyThreadState *thread = PyBytes_CheckExact(data->obj) ? PyEval_SaveThread() : NULL;
+    size_t room = 256;
+    char *copy = thread ? NULL : PyMem_Malloc(room);
+    for (size_t at = 0; (thread || copy) && at < texts; at++) {
+        if (!is_within(offsets + at, data->len))
+            continue;
+        const char *text = (const char *)data->buf + offsets[at];
+        const size_t length = offsets[at + 1] - offsets[at];
+        if (!thread && length > room) {
             PyMem_Free(copy);
             copy = PyMem_Malloc(room = length);
         }
-        if (copy && length)
-            memcpy(copy, (const char *)data->buf + offsets[0], length);
-        for (size_t end = 0; end <= run; end++)
-            moved[end] = offsets[end] - offsets[0];
-        if (!run)
-            moved[++run] = SIZE_MAX;
-        if (copy)
-            duration_str_parse_column(copy, length, moved, run + 1, column->options, column->nanos + at, run,
-                                      column->causes + at, run);
+        if (!thread)
+            text = copy && length ? memcpy(copy, text, length) : copy;
+        if (text)
+            are_read[at] = options ? duration_str_parse_with(text, length, options, &answer)
+                                   : duration_str_parse(text, length, nanos + at);
+        if (are_read[at] && options)
+            nanos[at] = answer.nanos;
     }
     PyMem_Free(copy);
-    return copy ? 0 : (PyErr_NoMemory(), -1);
-}
-
-/* Reads a column. The bytes of an exact `bytes`, which nobody may change, are read in place, while other threads run. */
-static int read_column(const Py_buffer *data, const struct column *column) {
-    if (!PyBytes_CheckExact(data->obj))
-        return read_copies(data, column);
-    Py_BEGIN_ALLOW_THREADS
-    duration_str_parse_column(data->buf, (size_t)data->len, column->offsets, column->texts + 1, column->options,
-                              column->nanos, column->texts, column->causes, column->texts);
-    Py_END_ALLOW_THREADS
-    return 0;
+    if (thread)
+        PyEval_RestoreThread(thread);
+    return thread || copy ? 0 : (PyErr_NoMemory(), -1);
 }
 
 /* read_buffers(data, offsets, nanos, options, raises): as read_list, of the texts between the offsets into the data. */
@@ -609,18 +581,19 @@ static PyObject *read_buffers(PyObject *self, PyObject *arguments) {
         return NULL;
     const size_t texts = (size_t)nanos.len / 8;
     size_t *offsets = PyMem_Calloc(texts + 1, sizeof *offsets);
-    uint32_t *causes = PyMem_Calloc(texts + 1, sizeof *causes);
-    const struct column column = {offsets, texts, options, nanos.buf, causes};
-    const int are_signed = offsets && causes ? copy_offsets(given, offsets, (Py_ssize_t)texts) : (PyErr_NoMemory(), -1);
-    if (are_signed >= 0 && !read_column(&data, &column))
+    char *are_read = PyMem_Calloc(texts + 1, 1);
+    const int are_signed = offsets && are_read ? copy_offsets(given, offsets, (Py_ssize_t)texts) : (PyErr_NoMemory(), -1);
+    if (are_signed >= 0 && !read_column(&data, offsets, texts, options, nanos.buf, are_read))
         refused = PyList_New(0);
     for (size_t at = 0; refused && at < texts; at++) {
-        if (causes[at] && raises)
+        if (are_read[at])
+            continue;
+        if (raises)
             raise_between(PyModule_GetState(self), &data, offsets + at, are_signed, options, (Py_ssize_t)at);
-        if (causes[at] && (raises || add_position(refused, (Py_ssize_t)at)))
+        if (raises || add_position(refused, (Py_ssize_t)at))
             Py_CLEAR(refused);
     }
-    PyMem_Free(causes);
+    PyMem_Free(are_read);
     PyMem_Free(offsets);
     PyBuffer_Release(&data);
     PyBuffer_Release(&nanos);
