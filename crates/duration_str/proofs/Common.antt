@@ -1,35 +1,14 @@
 -- The definitions and the names of std that most proofs cite, passed on from one place. Declares nothing.
-pub use Rattle.std.proofs.Common.{add-zero, add_assoc, ap, append-nil, append_assoc, ap₂, arith, Bool, Bor, bytes_eq}
-pub use Rattle.std.proofs.Common.{chars, codes, decimal, div-add-mod', div-le_self, drop, drop-cons, drop-drop, drop_at}
-pub use Rattle.std.proofs.Common.{encode_utf8, encode_utf8_all, eq-eqb, eqb, eqb-true, Err, false, find, flat_map}
-pub use Rattle.std.proofs.Common.{get_or, IfOk, IfSome, if◌then◌else◌, inl, inr, is_some, IsCharBoundary, IsNone}
-pub use Rattle.std.proofs.Common.{IsSome, IsTrue, IsUtf8, le-div_iff_mul-le, le-ltb, le_antisymm, le_of_suc-le-suc, leb}
-pub use Rattle.std.proofs.Common.{leb-true, length, length-append, length-drop, length-take-le, List, lit<, lt-ltb, ltb}
-pub use Rattle.std.proofs.Common.{ltb-true, map, mul-div_cancel, mul-pos, mul_comm, nat_le, nat_lt, ne_eqb, None, not}
-pub use Rattle.std.proofs.Common.{Ok, ok_or, OkIff, Option, option_map, pow-suc, refl, replicate, Result, rules}
-pub use Rattle.std.proofs.Common.{slice_range, Some, subst, suc, suc-le-suc, sym, take, take-append-drop, take_at, true}
-pub use Rattle.std.proofs.Common.{true≢false, unwrap_or, zero, zero-le, [], ℕ, ◌%◌, ◌&&◌, ◌*◌, ◌++◌, ◌+◌, ◌-◌, ◌/◌, ◌<◌}
-pub use Rattle.std.proofs.Common.{◌==◌, ◌^◌, ◌||◌, ◌↔◌, ◌∙◌, ◌∷◌, ◌≡◌, ◌≢◌, ◌≤◌, ◌⊎◌}
+pub use Rattle.std.proofs.Common.{add-zero, add_assoc, ap, append-nil, append_assoc, ap₂, arith, Bool, Bor, bytes_eq, chars, codes, decimal, div-add-mod', div-le_self, drop, drop-cons, drop-drop, drop_at, encode_utf8, encode_utf8_all, eq-eqb, eqb, eqb-true, Err, false, find, flat_map, get_or, IfOk, IfSome, if◌then◌else◌, inl, inr, is_some, IsCharBoundary, IsNone, IsSome, IsTrue, IsUtf8, le-div_iff_mul-le, le-ltb, le_antisymm, le_of_suc-le-suc, leb, leb-true, length, length-append, length-drop, length-take-le, List, lit<, lt-ltb, ltb, ltb-true, map, mul-div_cancel, mul-pos, mul_comm, nat_le, nat_lt, ne_eqb, None, not, Ok, ok_or, OkIff, Option, option_map, pow-suc, refl, replicate, Result, rules, slice_range, Some, subst, suc, suc-le-suc, sym, take, take-append-drop, take_at, true, true≢false, unwrap_or, zero, zero-le, [], ℕ, ◌%◌, ◌&&◌, ◌*◌, ◌++◌, ◌+◌, ◌-◌, ◌/◌, ◌<◌, ◌==◌, ◌^◌, ◌||◌, ◌↔◌, ◌∙◌, ◌∷◌, ◌≡◌, ◌≢◌, ◌≤◌, ◌⊎◌}
 pub use Rattle.std.proofs.Math.Nat.{div-eq_of_lt-le, le-mul_of_pos_right, mod-le, pow-le-pow_right, pow-succ', zero-div}
-pub use Rattle.std.proofs.lemmas.Bool.{and_from, and_parts, cases_Bool, cases_lt, cond-true, false_from_ne_true}
-pub use Rattle.std.proofs.lemmas.Bool.{not-true, not_from_false, not_from_true, or_cases, or_from, or_parts, or_right}
+pub use Rattle.std.proofs.lemmas.Bool.{and_from, and_parts, cases_Bool, cases_lt, cond-true, false_from_ne_true, not-true, not_from_false, not_from_true, or_cases, or_from, or_parts, or_right}
 pub use Rattle.std.proofs.lemmas.Bool.Decides.{nat_tests, same_from_decides}
-pub use Rattle.std.proofs.lemmas.Fmt.{decimal_by_steps, decimal_by_steps_wide, decimal_digit, decimal_nonempty}
-pub use Rattle.std.proofs.lemmas.Fmt.{decimal_step, decimal_step_wide, digits_decimal, digits_value-decimal}
-pub use Rattle.std.proofs.lemmas.Fmt.{IsAscii-decimal, IsAscii-decimal_wide, IsAscii-from_digits, length-decimal-le}
-pub use Rattle.std.proofs.lemmas.Fmt.{length-decimal-le_wide}
-pub use Rattle.std.proofs.lemmas.List.{append_cancel_right, drop_all, drop_more, length-reverse, map-append}
-pub use Rattle.std.proofs.lemmas.List.{replicate-append-replicate, reverse-reverse, take-replicate, take_more_set}
+pub use Rattle.std.proofs.lemmas.Fmt.{decimal_by_steps, decimal_by_steps_wide, decimal_digit, decimal_nonempty, decimal_step, decimal_step_wide, digits_decimal, digits_value-decimal, IsAscii-decimal, IsAscii-decimal_wide, IsAscii-from_digits, length-decimal-le, length-decimal-le_wide}
+pub use Rattle.std.proofs.lemmas.List.{append_cancel_right, drop_all, drop_more, length-reverse, map-append, replicate-append-replicate, reverse-reverse, take-replicate, take_more_set}
 pub use Rattle.std.proofs.lemmas.List.Folds.{list_all-append, list_any-append}
 pub use Rattle.std.proofs.lemmas.Result.{err_from_is_err_and}
 pub use Rattle.std.proofs.lemmas.Slice.Eq.{bytes_eq-Decides}
-pub use Rattle.std.proofs.lemmas.Str.{chars-append, chars-encodes, chars-nil, chars_from_encodes, chars_past_char}
-pub use Rattle.std.proofs.lemmas.Str.{drop_past_char, encode_ascii, encodes-append, encodes-chars, encodes-IsAscii}
-pub use Rattle.std.proofs.lemmas.Str.{encodes_same, IsCharBoundary-at_seam, IsCharBoundary-from_ascii}
-pub use Rattle.std.proofs.lemmas.Str.{IsCharBoundary-past_char, IsCharBoundary-start, IsUtf8-append, IsUtf8-between}
-pub use Rattle.std.proofs.lemmas.Str.{IsUtf8-drop, IsUtf8-from_ascii, IsUtf8-had, IsUtf8-nil, IsUtf8-past_char}
-pub use Rattle.std.proofs.lemmas.Str.{IsUtf8-take, len_utf8_ascii, len_utf8_bounds, length-encode, length-le-encodes}
-pub use Rattle.std.proofs.lemmas.Str.{scalars-chars}
+pub use Rattle.std.proofs.lemmas.Str.{chars-append, chars-encodes, chars-nil, chars_from_encodes, chars_past_char, drop_past_char, encode_ascii, encodes-append, encodes-chars, encodes-IsAscii, encodes_same, IsCharBoundary-at_seam, IsCharBoundary-from_ascii, IsCharBoundary-past_char, IsCharBoundary-start, IsUtf8-append, IsUtf8-between, IsUtf8-drop, IsUtf8-from_ascii, IsUtf8-had, IsUtf8-nil, IsUtf8-past_char, IsUtf8-take, len_utf8_ascii, len_utf8_bounds, length-encode, length-le-encodes, scalars-chars}
 pub use Rattle.std.specs.Char.{is_ascii, is_ascii_alphabetic, is_ascii_uppercase, len_utf8, to_ascii_lowercase}
 pub use Rattle.std.specs.Duration.{as_nanos, FitsDuration}
 pub use Rattle.std.specs.List.{last_or, list_all, list_any, range_with_len, sum_by, take_while}
@@ -38,8 +17,7 @@ pub use Rattle.std.specs.Prelude.{All, cond, IfErr, IsOkAnd, MatchResult, slice_
 pub use Rattle.std.specs.Result.{result_err}
 pub use lib.Utf8.{encode, encodes, scalar, scalar_cases, scalars}
 pub use Rattle.duration_str.specs.declared.cause.Cause.{Cause}
-pub use Rattle.duration_str.specs.declared.cause.Cause.TheVariants.{Empty, Mixed, NotText, NumberTooLarge, OutOfRange}
-pub use Rattle.duration_str.specs.declared.cause.Cause.TheVariants.{Overflow, Syntax}
+pub use Rattle.duration_str.specs.declared.cause.Cause.TheVariants.{Empty, Mixed, NotText, NumberTooLarge, OutOfRange, Overflow, Syntax}
 pub use Rattle.duration_str.specs.declared.cause.Expected.{Expected}
 pub use Rattle.duration_str.specs.declared.fault.Fault.{Fault}
 pub use Rattle.duration_str.specs.declared.operator.CondUnit.{CondUnit}
@@ -51,61 +29,33 @@ pub use Rattle.duration_str.specs.declared.token.TokenStart.{TokenStart}
 pub use Rattle.duration_str.specs.declared.token.TokenStart.TheVariants.{Number, Operator, Other, Word}
 pub use Rattle.duration_str.specs.declared.token.Tokens.{Tokens}
 pub use Rattle.duration_str.specs.declared.unit.TimeUnit.{TimeUnit}
-pub use Rattle.duration_str.specs.declared.unit.TimeUnit.TheVariants.{Day, Hour, MicroSecond, MilliSecond, Minute}
-pub use Rattle.duration_str.specs.declared.unit.TimeUnit.TheVariants.{Month, NanoSecond, Quarter, Second, Week, Year}
-pub use Rattle.duration_str.specs.Answer.{allows, answer, answer_at, expected_after, expected_at_start, front_after}
-pub use Rattle.duration_str.specs.Answer.{front_of, is_whole, last_of, late_answer}
-pub use Rattle.duration_str.specs.Messages.{byte_text, caret_text, EndsInsideLine, has_line_feed, line_of, message_of}
-pub use Rattle.duration_str.specs.Messages.{placed_text}
+pub use Rattle.duration_str.specs.declared.unit.TimeUnit.TheVariants.{Day, Hour, MicroSecond, MilliSecond, Minute, Month, NanoSecond, Quarter, Second, Week, Year}
+pub use Rattle.duration_str.specs.Answer.{allows, answer, answer_at, expected_after, expected_at_start, front_after, front_of, is_whole, last_of, late_answer}
+pub use Rattle.duration_str.specs.Messages.{byte_text, caret_text, EndsInsideLine, has_line_feed, line_of, message_of, placed_text}
 pub use Rattle.duration_str.specs.Faults.{found_token, IsMissingAtEnd, IsSliceOf, place_of, token_at}
-pub use Rattle.duration_str.specs.Grammar.{BeginsWith, IsSentence, IsSentenceOf, number, operator, operator_or_other}
-pub use Rattle.duration_str.specs.Grammar.{other, sign_terminal, Spells, Terminal, terminal_by, terminal_of, word}
-pub use Rattle.duration_str.specs.Laws.{AllParts, AnswerIsReading, BlanksFree, EqualTexts, GreatestBreakdown}
-pub use Rattle.duration_str.specs.Laws.{HasNoCapital, HasNoChinese, HasNoOperator, HasNoStar, is_operator, IsIdle}
-pub use Rattle.duration_str.specs.Laws.{IsMostWithin, KeepsWithin, NearWords, NeverMore, NoCalcAgrees, OlderTexts}
-pub use Rattle.duration_str.specs.Laws.{OneCut, OneReading, OneSentence, OptionsIdle, PlaceAndKinds, ReadsBack, Reorder}
-pub use Rattle.duration_str.specs.Laws.{SumOfTexts, times_in, TwoFactors}
-pub use Rattle.duration_str.specs.Older.{older_nanos_of, older_row_of, older_terminals, older_terms, older_unit_of_word}
-pub use Rattle.duration_str.specs.Older.{older_units, sentence_fault, was_named, WasRead, WasRefused, WasSentenceOf}
+pub use Rattle.duration_str.specs.Grammar.{BeginsWith, IsSentence, IsSentenceOf, number, operator, operator_or_other, other, sign_terminal, Spells, Terminal, terminal_by, terminal_of, word}
+pub use Rattle.duration_str.specs.Laws.{AllParts, AnswerIsReading, BlanksFree, EqualTexts, GreatestBreakdown, HasNoCapital, HasNoChinese, HasNoOperator, HasNoStar, is_operator, IsIdle, IsMostWithin, KeepsWithin, NearWords, NeverMore, NoCalcAgrees, OlderTexts, OneCut, OneReading, OneSentence, OptionsIdle, PlaceAndKinds, ReadsBack, Reorder, SumOfTexts, times_in, TwoFactors}
+pub use Rattle.duration_str.specs.Older.{older_nanos_of, older_row_of, older_terminals, older_terms, older_unit_of_word, older_units, sentence_fault, was_named, WasRead, WasRefused, WasSentenceOf}
 pub use Rattle.duration_str.specs.declared.format.Format.{Format}
 pub use Rattle.duration_str.specs.declared.format.Style.{Style}
 pub use Rattle.duration_str.specs.declared.format.Style.TheVariants.{Compact, Long, Short}
 pub use Rattle.duration_str.specs.declared.printing.TheConstants.{MAX_LONG_LEN, MAX_PRINTED_LEN}
-pub use Rattle.duration_str.specs.Limits.{counts_within, IsGreatestWithin, IsPrintedWithin, IsWithin, lengths_within}
-pub use Rattle.duration_str.specs.Limits.{most_len, part_count, text_within, units_down_to, units_from, units_within}
-pub use Rattle.duration_str.specs.Limits.{whole_format, zero_unit}
+pub use Rattle.duration_str.specs.Limits.{counts_within, IsGreatestWithin, IsPrintedWithin, IsWithin, lengths_within, most_len, part_count, text_within, units_down_to, units_from, units_within, whole_format, zero_unit}
 pub use Rattle.duration_str.specs.Place.{BeginsSentence, CanFollow, IsFront, start_after, terminals_of}
-pub use Rattle.duration_str.specs.Printing.{before_name, between, counts_of, IsBefore, IsGreatestBreakdown, IsPrinted}
-pub use Rattle.duration_str.specs.Printing.{IsPrintedIn, joined_parts, long_name, name_in, printed_counts, printed_part}
-pub use Rattle.duration_str.specs.Printing.{printed_parts, weighted_sum}
-pub use Rattle.duration_str.specs.Reading.{complete_terminals, complete_terms, early, early_fault, first_fault, IsRead}
-pub use Rattle.duration_str.specs.Reading.{IsRefused, IsRefusedAt, late, late_fault, place_after, running_fault}
-pub use Rattle.duration_str.specs.Reading.{syntax_fault, without_last_number}
+pub use Rattle.duration_str.specs.Printing.{before_name, between, counts_of, IsBefore, IsGreatestBreakdown, IsPrinted, IsPrintedIn, joined_parts, long_name, name_in, printed_counts, printed_part, printed_parts, weighted_sum}
+pub use Rattle.duration_str.specs.Reading.{complete_terminals, complete_terms, early, early_fault, first_fault, IsRead, IsRefused, IsRefusedAt, late, late_fault, place_after, running_fault, syntax_fault, without_last_number}
 pub use Rattle.duration_str.specs.Results.{ParsesText}
-pub use Rattle.duration_str.specs.Value.{AllPlus, combination, Evaluates, evaluation_fault, fault_of_terms, fault_or}
-pub use Rattle.duration_str.specs.Value.{fits, is_same_operator, later_total, or_else, second, sum_of, Term, term_fault}
-pub use Rattle.duration_str.specs.Value.{term_of, terms_after, terms_by, terms_of, unless, value_of, value_of_term}
-pub use Rattle.duration_str.specs.Text.{ahead, byte_len, chinese_letters, is_blank, is_chinese, is_digit}
-pub use Rattle.duration_str.specs.Text.{is_unit_letter, IsBlank, IsNumber, number_after, number_of, operator_of, width}
-pub use Rattle.duration_str.specs.Iteration.{cut_place, KeepsInput, options_of, source, tokens_left, what_of}
-pub use Rattle.duration_str.specs.Iteration.{YieldsNextToken}
-pub use Rattle.duration_str.specs.Tokens.{are_of_one_run, AreTokens, EndsRun, goes_on, IsLexeme, lexemes_of, Token}
-pub use Rattle.duration_str.specs.Tokens.{tokens_from, tokens_of, with_first_character}
-pub use Rattle.duration_str.specs.Units.{comparison_form, is_named, nanos_of, off, row_of, unit_lengths, unit_of_word}
-pub use Rattle.duration_str.specs.Units.{UnitRow, units}
-pub use Rattle.duration_str.specs.Internal.Positions.{Between, letter_number, number_in, packed_number}
-pub use Rattle.duration_str.specs.Internal.Positions.{packed_number_after, Passes, Stands, StandsAt, Stops, TakesDigits}
-pub use Rattle.duration_str.specs.Internal.Positions.{TakesLetters, wide_number}
+pub use Rattle.duration_str.specs.Value.{AllPlus, combination, Evaluates, evaluation_fault, fault_of_terms, fault_or, fits, is_same_operator, later_total, or_else, second, sum_of, Term, term_fault, term_of, terms_after, terms_by, terms_of, unless, value_of, value_of_term}
+pub use Rattle.duration_str.specs.Text.{ahead, byte_len, chinese_letters, is_blank, is_chinese, is_digit, is_unit_letter, IsBlank, IsNumber, number_after, number_of, operator_of, width}
+pub use Rattle.duration_str.specs.Iteration.{cut_place, KeepsInput, options_of, source, tokens_left, what_of, YieldsNextToken}
+pub use Rattle.duration_str.specs.Tokens.{are_of_one_run, AreTokens, EndsRun, goes_on, IsLexeme, lexemes_of, Token, tokens_from, tokens_of, with_first_character}
+pub use Rattle.duration_str.specs.Units.{comparison_form, is_named, nanos_of, off, row_of, unit_lengths, unit_of_word, UnitRow, units}
+pub use Rattle.duration_str.specs.Internal.Positions.{Between, letter_number, number_in, packed_number, packed_number_after, Passes, Stands, StandsAt, Stops, TakesDigits, TakesLetters, wide_number}
 pub use Rattle.duration_str.specs.Internal.Numbers.{checked_term, u64_from}
-pub use Rattle.duration_str.specs.Internal.UnitTable.{all_names, packs_to, unit_of_packed}
+pub use Rattle.duration_str.specs.Internal.UnitTable.{all_names, packs_to, unit_of_packed, AreEncoded, printed_row, rank_of, units_in}
 pub use Rattle.duration_str.specs.Internal.PrintedBytes.{name_part, part_bytes, with_counts, with_gap, with_part}
-pub use Rattle.duration_str.specs.Internal.Rest.{answer_left, by_operator, checked_combination, end_at, IsPlaceless}
-pub use Rattle.duration_str.specs.Internal.Rest.{leaving, number_fault, operator_read, ReadItem, Rest, rest_from}
-pub use Rattle.duration_str.specs.Internal.Rest.{rest_of, start_left, terminal_at, terminals_in, total_with, unit_read}
-pub use Rattle.duration_str.specs.Internal.Rest.{with_term}
-pub use Rattle.duration_str.specs.Internal.Steps.{is_number, IsAhead, IsSign, LooksAhead, sign_sort, sort_at, sort_of}
-pub use Rattle.duration_str.specs.Internal.Steps.{TakesNumber, TakesSign, TakesToken, TakesTokenWith}
-pub use Rattle.duration_str.specs.Internal.UnitTable.{AreEncoded, printed_row, rank_of, units_in}
+pub use Rattle.duration_str.specs.Internal.Rest.{answer_left, by_operator, checked_combination, end_at, IsPlaceless, leaving, number_fault, operator_read, ReadItem, Rest, rest_from, rest_of, start_left, terminal_at, terminals_in, total_with, unit_read, with_term}
+pub use Rattle.duration_str.specs.Internal.Steps.{is_number, IsAhead, IsSign, LooksAhead, sign_sort, sort_at, sort_of, TakesNumber, TakesSign, TakesToken, TakesTokenWith}
 pub use Rattle.std.proofs.lemmas.Grind.{common_steps, get_or_default_zero}
 pub use Rattle.std.proofs.Math.Seq.{drop-nil, take-add, take-append-add, take-append_seam, take-nil}
 pub use Rattle.duration_str.specs.declared.unit.Printed.{Printed}

@@ -1,10 +1,5 @@
 -- Worked examples, computed: what texts are read as, why others are refused, and what durations print as.
-use Rattle.duration_str.proofs.Common.{answer, Bool, codes, Compact, counts_of, Empty, encode_utf8_all, Err, Expected}
-use Rattle.duration_str.proofs.Common.{false, flat_map, length, List, Long, map, MAX_LONG_LEN, MAX_PRINTED_LEN}
-use Rattle.duration_str.proofs.Common.{message_of, Mixed, None, NumberTooLarge, off, Ok, older_row_of}
-use Rattle.duration_str.proofs.Common.{older_unit_of_word, older_units, Options, OutOfRange, Overflow, Plus}
-use Rattle.duration_str.proofs.Common.{printed_counts, Quarter, refl, replicate, row_of, Short, Some, Star, Style}
-use Rattle.duration_str.proofs.Common.{Syntax, TimeUnit, true, unit_lengths, unit_of_word, units, [], ℕ, ◌++◌, ◌∷◌, ◌≡◌}
+use Rattle.duration_str.proofs.Common.{answer, Bool, codes, Compact, counts_of, Empty, encode_utf8_all, Err, Expected, false, flat_map, length, List, Long, map, MAX_LONG_LEN, MAX_PRINTED_LEN, message_of, Mixed, None, NumberTooLarge, off, Ok, older_row_of, older_unit_of_word, older_units, Options, OutOfRange, Overflow, Plus, printed_counts, Quarter, refl, replicate, row_of, Short, Some, Star, Style, Syntax, TimeUnit, true, unit_lengths, unit_of_word, units, [], ℕ, ◌++◌, ◌∷◌, ◌≡◌}
 use Rattle.duration_str.specs.declared.format.Format.{Format}
 use Rattle.duration_str.specs.declared.unit.TimeUnit.TheVariants.{Day, Hour, Minute}
 use Rattle.duration_str.specs.Limits.{counts_within, lengths_within, text_within, whole_format}

@@ -1,6 +1,5 @@
 -- A duration printed within limits, in the units from a largest to a smallest, in so many parts at most, and in a style.
-use Rattle.std.specs.Prelude.{◌≡◌, ℕ, ◌+◌, ◌-◌, ◌/◌, ◌%◌, ◌≤◌, List, [], ◌∷◌, if◌then◌else◌, length, ◌⊎◌, ◌==◌}
-use Rattle.std.specs.Prelude.{nat_lt, map}
+use Rattle.std.specs.Prelude.{◌≡◌, ℕ, ◌+◌, ◌-◌, ◌/◌, ◌%◌, ◌≤◌, List, [], ◌∷◌, if◌then◌else◌, length, ◌⊎◌, ◌==◌, nat_lt, map}
 use Rattle.duration_str.specs.declared.format.Format.{Format}
 use Rattle.duration_str.specs.declared.unit.TimeUnit.{TimeUnit}
 use Rattle.duration_str.specs.declared.unit.TimeUnit.TheVariants.{Year, Second, NanoSecond}

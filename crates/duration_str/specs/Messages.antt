@@ -1,12 +1,10 @@
 -- The messages of faults, and the error made from a fault.
-use Rattle.std.specs.Prelude.{◌≢◌, ℕ, Bool, ◌++◌, Option, Some, None, if◌then◌else◌, chars, codes}
-use Rattle.std.specs.Prelude.{length, take, replicate, decimal, encode_utf8_all, string_bytes, ⊤, ◌≡◌, ◌==◌}
+use Rattle.std.specs.Prelude.{◌≢◌, ℕ, Bool, ◌++◌, Option, Some, None, if◌then◌else◌, chars, codes, length, take, replicate, decimal, encode_utf8_all, string_bytes, ⊤, ◌≡◌, ◌==◌}
 use Rattle.std.specs.List.{list_any, last_or}
 use Rattle.duration_str.specs.declared.operator.CondUnit.{CondUnit}
 use Rattle.duration_str.specs.declared.operator.CondUnit.TheVariants.{Plus, Star}
 use Rattle.duration_str.specs.declared.cause.Cause.{Cause}
-use Rattle.duration_str.specs.declared.cause.Cause.TheVariants.{Empty, Syntax, NumberTooLarge, Overflow}
-use Rattle.duration_str.specs.declared.cause.Cause.TheVariants.{Mixed, OutOfRange, NotText}
+use Rattle.duration_str.specs.declared.cause.Cause.TheVariants.{Empty, Syntax, NumberTooLarge, Overflow, Mixed, OutOfRange, NotText}
 use Rattle.duration_str.specs.declared.error.DError.{DError}
 use Rattle.duration_str.specs.declared.error.DError.TheVariants.{ParseError, OverflowError}
 use Rattle.duration_str.specs.declared.message.Layout.{Layout}

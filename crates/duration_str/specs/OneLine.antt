@@ -1,7 +1,5 @@
 -- A fault in one line: what is wrong, at which column, and what stands there.
-use Rattle.std.specs.Prelude.{ℕ, ◌+◌, ◌-◌, Bool, false, not, ◌&&◌, ◌||◌, List, [], ◌∷◌, ◌++◌, Option, Some, None}
-use Rattle.std.specs.Prelude.{if◌then◌else◌, ◌==◌, nat_le, decimal, encode_utf8_all, map, take, length, slice_index}
-use Rattle.std.specs.Prelude.{option_map, chars, bytes_eq, codes}
+use Rattle.std.specs.Prelude.{ℕ, ◌+◌, ◌-◌, Bool, false, not, ◌&&◌, ◌||◌, List, [], ◌∷◌, ◌++◌, Option, Some, None, if◌then◌else◌, ◌==◌, nat_le, decimal, encode_utf8_all, map, take, length, slice_index, option_map, chars, bytes_eq, codes}
 use Rattle.std.specs.Char.{is_ascii_alphabetic, is_control, to_ascii_lowercase}
 use Rattle.std.specs.Char.Escape.{escape_default}
 use Rattle.std.specs.Int.{is_in_range}
@@ -10,8 +8,7 @@ use Rattle.duration_str.specs.declared.cause.Expected.{Expected}
 use Rattle.duration_str.specs.declared.cause.Cause.{Cause}
 use Rattle.duration_str.specs.declared.cause.Cause.TheVariants.{Empty, Syntax, NumberTooLarge, Overflow, Mixed}
 use Rattle.duration_str.specs.declared.unit.TimeUnit.{TimeUnit}
-use Rattle.duration_str.specs.declared.unit.TimeUnit.TheVariants.{Year, Quarter, Month, Week, Day, Hour, Minute, Second}
-use Rattle.duration_str.specs.declared.unit.TimeUnit.TheVariants.{MilliSecond, MicroSecond, NanoSecond}
+use Rattle.duration_str.specs.declared.unit.TimeUnit.TheVariants.{Year, Quarter, Month, Week, Day, Hour, Minute, Second, MilliSecond, MicroSecond, NanoSecond}
 use Rattle.duration_str.specs.Text.{Bytes, Characters, is_blank, is_digit, ahead}
 use Rattle.duration_str.specs.Units.{units, row_of}
 use Rattle.duration_str.specs.Messages.{line_of, chars_before}

@@ -1,6 +1,5 @@
 -- The breakdown of a duration, and its printed text.
-use Rattle.std.specs.Prelude.{◌≡◌, ℕ, Bool, ◌+◌, ◌*◌, ◌/◌, ◌%◌, ◌<◌, List, [], ◌∷◌, ◌++◌}
-use Rattle.std.specs.Prelude.{if◌then◌else◌, length, ◌⊎◌, ◌==◌, codes, decimal, flat_map}
+use Rattle.std.specs.Prelude.{◌≡◌, ℕ, Bool, ◌+◌, ◌*◌, ◌/◌, ◌%◌, ◌<◌, List, [], ◌∷◌, ◌++◌, if◌then◌else◌, length, ◌⊎◌, ◌==◌, codes, decimal, flat_map}
 use Rattle.duration_str.specs.declared.unit.TimeUnit.{TimeUnit}
 use Rattle.duration_str.specs.declared.unit.TimeUnit.TheVariants.{Second}
 use Rattle.duration_str.specs.declared.format.Style.{Style}

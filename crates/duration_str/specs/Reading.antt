@@ -8,8 +8,7 @@ use Rattle.duration_str.specs.Text.{Characters, byte_len}
 use Rattle.duration_str.specs.Grammar.{Terminal, IsSentence, IsSentenceOf, number}
 use Rattle.duration_str.specs.Tokens.{tokens_of}
 use Rattle.duration_str.specs.Place.{IsFront, CanFollow, start_after, terminals_of}
-use Rattle.duration_str.specs.Value.{Term, term_fault, sum_of, fits, or_else, unless, terms_of}
-use Rattle.duration_str.specs.Value.{written_terms, value_of, evaluation_fault, Evaluates}
+use Rattle.duration_str.specs.Value.{Term, term_fault, sum_of, fits, or_else, unless, terms_of, written_terms, value_of, evaluation_fault, Evaluates}
 
 -- A sentence spells the text, evaluates, and has this value in nanoseconds.
 pub record IsRead (o : Options) (text : Characters) (nanos : ℕ) : Type 0 where

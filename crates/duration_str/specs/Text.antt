@@ -1,6 +1,5 @@
 -- Texts as lists of character codes, the classes of characters, and the numbers that digits write.
-use Rattle.std.specs.Prelude.{ℕ, ◌+◌, ◌*◌, ◌-◌, ◌<◌, Bool, ◌&&◌, ◌||◌, List, [], ◌∷◌, nat_le, ◌==◌}
-use Rattle.std.specs.Prelude.{IsTrue, Option, Some, None, length, drop, if◌then◌else◌, chars, codes}
+use Rattle.std.specs.Prelude.{ℕ, ◌+◌, ◌*◌, ◌-◌, ◌<◌, Bool, ◌&&◌, ◌||◌, List, [], ◌∷◌, nat_le, ◌==◌, IsTrue, Option, Some, None, length, drop, if◌then◌else◌, chars, codes}
 use Rattle.std.specs.Char.{is_ascii_digit, is_ascii_alphabetic, len_utf8}
 use Rattle.std.specs.List.{list_any, list_all}
 use Rattle.duration_str.specs.declared.options.Options.{Options}

@@ -1,8 +1,5 @@
 //! Laws about the definitions: each function does nothing, and its contract is a law.
-ghost use Rattle.duration_str.specs.Laws.{OneSentence, OneCut, OneReading, AnswerIsReading, PlaceAndKinds};
-ghost use Rattle.duration_str.specs.Laws.{NoCalcAgrees, OptionsIdle, BlanksFree, SumOfTexts, Reorder, TwoFactors};
-ghost use Rattle.duration_str.specs.Laws.{GreatestBreakdown, EqualTexts, ReadsBack, LastLine, OlderTexts, AllParts};
-ghost use Rattle.duration_str.specs.Laws.{NeverMore, NearWords};
+ghost use Rattle.duration_str.specs.Laws.{OneSentence, OneCut, OneReading, AnswerIsReading, PlaceAndKinds, NoCalcAgrees, OptionsIdle, BlanksFree, SumOfTexts, Reorder, TwoFactors, GreatestBreakdown, EqualTexts, ReadsBack, LastLine, OlderTexts, AllParts, NeverMore, NearWords};
 
 /// At most one sentence spells a text, and its lexemes are those of the text's tokens; a text is read as one value or
 /// refused for one cause, not both, and the computed answer says which. So `3m31s` is spelled by `3`, `m`, `31`, `s`

@@ -2,8 +2,7 @@
 //!
 //! A function that writes returns where its part ends, and `None` if there is no room: so none needs a bound on what
 //! stands before its part, and that all fits is shown once, of the whole line.
-ghost use Rattle.std.specs.Prelude.{◌≡◌, ◌≤◌, ◌++◌, ◌-◌, ◌&&◌, ◌==◌, not, slice_index, length, take, map, encode_utf8_all, IsTrue, ◌||◌};
-ghost use Rattle.std.specs.Prelude.{None, if◌then◌else◌};
+ghost use Rattle.std.specs.Prelude.{◌≡◌, ◌≤◌, ◌++◌, ◌-◌, ◌&&◌, ◌==◌, not, slice_index, length, take, map, encode_utf8_all, IsTrue, ◌||◌, None, if◌then◌else◌};
 ghost use Rattle.std.specs.Char.{to_ascii_lowercase};
 ghost use Rattle.std.specs.Char.Escape.{escape_default};
 ghost use Rattle.std.specs.List.{find, list_all};
@@ -14,10 +13,7 @@ ghost use Rattle.duration_str.specs.Faults.{place_of};
 ghost use Rattle.std.specs.Option.{ForSome};
 ghost use Rattle.duration_str.specs.Internal.UnitTable.{is_megabyte, is_near};
 ghost use Rattle.std.specs.Int.{is_in_range};
-ghost use Rattle.duration_str.specs.OneLine.{one_line_of, is_plain, is_clear, is_letter, is_like, first_piece, shown};
-ghost use Rattle.duration_str.specs.OneLine.{quoted, at_column, found_line, found_words, unknown_line, syntax_line};
-ghost use Rattle.duration_str.specs.OneLine.{text_line, overflow_line, expected_words, begins_with_letter, near_name, name_help, unit_help};
-ghost use Rattle.duration_str.specs.OneLine.{notation_help, help_at};
+ghost use Rattle.duration_str.specs.OneLine.{one_line_of, is_plain, is_clear, is_letter, is_like, first_piece, shown, quoted, at_column, found_line, found_words, unknown_line, syntax_line, text_line, overflow_line, expected_words, begins_with_letter, near_name, name_help, unit_help, notation_help, help_at};
 ghost use Rattle.duration_str.specs.declared.one_line.TheConstants.{MAX_ONE_LINE_LEN, NEAR_WORDS};
 
 use crate::cause::{Cause, Expected};

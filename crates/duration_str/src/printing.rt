@@ -5,16 +5,14 @@
 //! is too. The duration 0 is `0s`.
 //!
 //! A function that writes begins after the first `at` bytes of the buffer, and returns where its part ends.
-ghost use Rattle.std.specs.Prelude.{ℕ, List, ◌≡◌, ◌+◌, ◌<◌, ◌≤◌, ◌++◌, ◌^◌, [], take, length, decimal, encode_utf8_all};
-ghost use Rattle.std.specs.Prelude.{chars, IsUtf8, map};
+ghost use Rattle.std.specs.Prelude.{ℕ, List, ◌≡◌, ◌+◌, ◌<◌, ◌≤◌, ◌++◌, ◌^◌, [], take, length, decimal, encode_utf8_all, chars, IsUtf8, map};
 ghost use Rattle.std.specs.Duration.{as_nanos};
 ghost use Rattle.duration_str.specs.declared.format.Style.{Style};
 ghost use Rattle.duration_str.specs.declared.format.Style.TheVariants.{Long, Short};
 ghost use Rattle.duration_str.specs.declared.printing.TheConstants.{MAX_PRINTED_LEN};
 ghost use Rattle.duration_str.specs.Units.{nanos_of, row_of};
 ghost use Rattle.duration_str.specs.Printing.{IsPrinted};
-ghost use Rattle.duration_str.specs.Limits.{IsPrintedWithin, counts_within, lengths_within, most_len, text_within};
-ghost use Rattle.duration_str.specs.Limits.{units_within, zero_unit};
+ghost use Rattle.duration_str.specs.Limits.{IsPrintedWithin, counts_within, lengths_within, most_len, text_within, units_within, zero_unit};
 ghost use Rattle.duration_str.specs.Internal.PrintedBytes.{name_part, part_bytes, with_counts, with_gap, with_part};
 ghost use Rattle.duration_str.specs.Internal.UnitTable.{AreRight, printed_row, units_in};
 

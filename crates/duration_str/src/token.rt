@@ -1,6 +1,5 @@
 //! The tokens of a text: numbers, words, operators, and other single characters.
-ghost use Rattle.std.specs.Prelude.{◌≡◌, ◌+◌, ◌%◌, ◌^◌, ◌≤◌, ◌<◌, [], ◌&&◌, ◌||◌, ◌==◌, true, length, take};
-ghost use Rattle.std.specs.Prelude.{is_some, Option, IsSome, IsTrue, if◌then◌else◌, false, Some, IsUtf8};
+ghost use Rattle.std.specs.Prelude.{◌≡◌, ◌+◌, ◌%◌, ◌^◌, ◌≤◌, ◌<◌, [], ◌&&◌, ◌||◌, ◌==◌, true, length, take, is_some, Option, IsSome, IsTrue, if◌then◌else◌, false, Some, IsUtf8};
 ghost use Rattle.std.specs.List.{list_all};
 ghost use Rattle.std.specs.Char.{is_ascii_alphabetic};
 ghost use Rattle.std.specs.Option.{ForSome, ForNone};
@@ -8,8 +7,7 @@ ghost use Rattle.std.specs.Str.{chars};
 ghost use Rattle.std.specs.Iterator.{item_count};
 ghost use Rattle.duration_str.specs.Text.{ahead, is_blank, is_digit, is_unit_letter, is_chinese, IsNumber, number_of};
 ghost use Rattle.duration_str.specs.Tokens.{tokens_of};
-ghost use Rattle.duration_str.specs.Internal.Positions.{letter_number, Stands, StandsAt, Passes, Stops};
-ghost use Rattle.duration_str.specs.Internal.Positions.{TakesDigits, TakesLetters, wide_number};
+ghost use Rattle.duration_str.specs.Internal.Positions.{letter_number, Stands, StandsAt, Passes, Stops, TakesDigits, TakesLetters, wide_number};
 ghost use Rattle.duration_str.specs.Value.{fits};
 ghost use Rattle.duration_str.specs.declared.token.TokenStart.{TokenStart};
 ghost use Rattle.duration_str.specs.declared.token.TokenStart.TheVariants.{Number as a_number, Word as a_word};

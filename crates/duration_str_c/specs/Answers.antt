@@ -1,6 +1,5 @@
 -- The answer that a caller of C gets for a text.
-use Rattle.std.specs.Prelude.{◌≡◌, ℕ, ◌+◌, ◌==◌, Bool, not, List, ◌⊎◌, Option}
-use Rattle.std.specs.Prelude.{Some, None, if◌then◌else◌, is_some, unwrap_or}
+use Rattle.std.specs.Prelude.{◌≡◌, ℕ, ◌+◌, ◌==◌, Bool, not, List, ◌⊎◌, Option, Some, None, if◌then◌else◌, is_some, unwrap_or}
 use Rattle.std.specs.Int.Bits.{bit_and}
 use Rattle.std.specs.Option.{ForSome}
 use Rattle.std.specs.Str.{chars, IsCharBoundary}
@@ -8,8 +7,7 @@ use Rattle.duration_str.specs.declared.options.Options.{Options}
 use Rattle.duration_str.specs.declared.operator.CondUnit.{CondUnit}
 use Rattle.duration_str.specs.declared.operator.CondUnit.TheVariants.{Plus, Star}
 use Rattle.duration_str.specs.declared.cause.Cause.{Cause}
-use Rattle.duration_str.specs.declared.cause.Cause.TheVariants.{Empty, Syntax, NumberTooLarge, Overflow}
-use Rattle.duration_str.specs.declared.cause.Cause.TheVariants.{Mixed, OutOfRange, NotText}
+use Rattle.duration_str.specs.declared.cause.Cause.TheVariants.{Empty, Syntax, NumberTooLarge, Overflow, Mixed, OutOfRange, NotText}
 use Rattle.duration_str.specs.declared.cause.Expected.{Expected}
 use Rattle.duration_str.specs.Text.{byte_len}
 use Rattle.duration_str.specs.Tokens.{Token}

@@ -3,8 +3,7 @@ ghost use Rattle.std.specs.Prelude.{◌≡◌};
 ghost use Rattle.std.specs.Str.{chars};
 ghost use Rattle.duration_str.specs.Faults.{found_token};
 ghost use Rattle.duration_str.specs.Reading.{IsRefused};
-ghost use Rattle.duration_str_c.specs.Answers.{cause_number, bits_of, expected_bits, sign_code, first_sign, later_sign};
-ghost use Rattle.duration_str_c.specs.Answers.{token_length, value_answer, refusal_answer, IsRefusalAnswer};
+ghost use Rattle.duration_str_c.specs.Answers.{cause_number, bits_of, expected_bits, sign_code, first_sign, later_sign, token_length, value_answer, refusal_answer, IsRefusalAnswer};
 
 use duration_str::{Cause, CondUnit, Expected, Fault, Options};
 

@@ -1,6 +1,5 @@
 -- The first line of bytes.
-use Rattle.std.proofs.Common.{◌≡◌, ℕ, ◌+◌, ◌<◌, Bool, false, ◌==◌, List, [], ◌∷◌, length}
-use Rattle.std.proofs.Common.{Some, refl, ap, ◌∙◌, arith, take, drop}
+use Rattle.std.proofs.Common.{◌≡◌, ℕ, ◌+◌, ◌<◌, Bool, false, ◌==◌, List, [], ◌∷◌, length, Some, refl, ap, ◌∙◌, arith, take, drop}
 use Rattle.std.specs.List.{slice_split, position, position_or_len, before_first, after_first, All}
 use Rattle.std.proofs.lemmas.List.Quantifiers.{position-Some}
 use Rattle.std.proofs.lemmas.List.Sums.{position_or_len_is}

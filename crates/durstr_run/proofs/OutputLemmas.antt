@@ -1,6 +1,5 @@
 -- The output for the bytes, line by line.
-use Rattle.std.proofs.Common.{◌≡◌, ℕ, Bool, true, ◌&&◌, List, [], ◌∷◌, ◌++◌, length, refl, sym, ap, subst, ◌∙◌}
-use Rattle.std.proofs.Common.{append_assoc, append-nil, arith}
+use Rattle.std.proofs.Common.{◌≡◌, ℕ, Bool, true, ◌&&◌, List, [], ◌∷◌, ◌++◌, length, refl, sym, ap, subst, ◌∙◌, append_assoc, append-nil, arith}
 use Rattle.std.proofs.Math.Bool.{and_assoc, and-true}
 use Rattle.duration_str.specs.declared.options.Options.{Options}
 use Rattle.durstr_run.specs.Lines.{lines_of}

@@ -9,8 +9,7 @@ pub use prog.Memory.{size, align, capped, up, Memory}
 pub use contract.BorrowLft.{◌⊑◌, ⊑_trans}
 pub use contract.Monad.{fact, Fun}
 pub use contract.Running.{tables}
-pub use types.Run.{stop, fld, addr, lit, no_more, and_then, first, branches, skips, exec, returns, returns_within}
-pub use types.Run.{enter, unit_lit, of_opd}
+pub use types.Run.{stop, fld, addr, lit, no_more, and_then, first, branches, skips, exec, returns, returns_within, enter, unit_lit, of_opd}
 pub use types.Part.{agg}
 pub use denote.Exit.{yes}
 pub use denote.RattleType.{owns}
@@ -21,9 +20,7 @@ pub use denote.Plain.{uint_vals, uint_Tells}
 pub use denote.Signature.{Slot, plain, types_at}
 pub use denote.Steps.{heard, nothing, only}
 pub use denote.Triple.Walked.{Stays, stay_dropped, walk_of, ends_at, Goes-dropped}
-pub use types.Kit.{‵, raw, ◌⊛◌, given, some, pick, learn, later, prop, at_ret, Sq, ◌$◌, ◌∵◌, !, qed, move, keep, use0}
-pub use types.Kit.{use1, use2, split, join, fsplit, fjoin, suffices, await, done, split3, feq_i, regoal, feq_l, check}
-pub use types.Kit.{show, updating, now as at_once}
+pub use types.Kit.{‵, raw, ◌⊛◌, given, some, pick, learn, later, prop, at_ret, Sq, ◌$◌, ◌∵◌, !, qed, move, keep, use0, use1, use2, split, join, fsplit, fjoin, suffices, await, done, split3, feq_i, regoal, feq_l, check, show, updating, now as at_once}
 pub use types.ByLocal.{alloc_all, pass_all, free_all, look_at, get, through, sets, lands_as, env}
 pub use denote.RawPtr.{block_ptr, Ptr, ptr_val, null_ptr, in_a_block, rawptr_vals, rawptr_Tells}
 pub use denote.Builtin.{usize, RefOf, RawPtr, bool}
@@ -31,9 +28,7 @@ pub use denote.Triple.Call.{calls_at}
 pub use denote.Triple.Table.{framed}
 pub use Rattle.std.proofs.raw_atomic.Walks.{proved}
 pub use Rattle.std.proofs.VecSteps.Shapes.{after}
-pub use Rattle.std.proofs.alloc.Calls.{Al, α, seen, Answer, answer_val, Answer-typed, Answer-Ok, Answer-err, Takes}
-pub use Rattle.std.proofs.alloc.Calls.{at_takes, Answered, Takes-goes, Takes-gives, answers, token, Gives, at_gives}
-pub use Rattle.std.proofs.alloc.Calls.{Gives-goes, Gives-Gives}
+pub use Rattle.std.proofs.alloc.Calls.{Al, α, seen, Answer, answer_val, Answer-typed, Answer-Ok, Answer-err, Takes, at_takes, Answered, Takes-goes, Takes-gives, answers, token, Gives, at_gives, Gives-goes, Gives-Gives}
 pub use Rattle.std.specs.Allocator.{block_if_ok, owned_block}
 pub use prog.Wp.{WpFn}
 pub use types.Logic.{sem, Logic}

@@ -1,8 +1,7 @@
 -- The canonical text of a value, and texts compared by their bytes.
 use Rattle.std.proofs.Common.{ap, Bool, chars, IsTrue, IsUtf8, List, refl, rules, sym, ℕ, ◌<◌, ◌^◌, ◌↔◌, ◌∙◌, ◌≡◌}
 use Rattle.std.specs.Str.{bytes_eq}
-use Rattle.duration_str.proofs.Common.{bytes_eq-Decides, counts_of, encodes, encodes-chars, EqualTexts, FitsDuration}
-use Rattle.duration_str.proofs.Common.{GreatestBreakdown, IsPrintedIn, IsRead, off, ReadsBack, unit_lengths}
+use Rattle.duration_str.proofs.Common.{bytes_eq-Decides, counts_of, encodes, encodes-chars, EqualTexts, FitsDuration, GreatestBreakdown, IsPrintedIn, IsRead, off, ReadsBack, unit_lengths}
 use Rattle.duration_str.specs.declared.format.Style.{Style}
 use Rattle.uses.specs.Cache.{canonical_text, IsCanonical, IsKey}
 

@@ -1,9 +1,6 @@
 -- What can be typed at the place of a syntax fault.
-use Rattle.std.proofs.Common.{ap, append-nil, append_assoc, arith, codes, IsTrue, length, List, map, refl, sym, take}
-use Rattle.std.proofs.Common.{[], ℕ, ◌++◌, ◌∙◌, ◌∷◌, ◌≡◌}
-use Rattle.duration_str.proofs.Common.{allows, AreTokens, BeginsSentence, byte_len, IsLexeme, IsRefused, IsSentence}
-use Rattle.duration_str.proofs.Common.{lexemes_of, map-append, number, OneCut, OneSentence, operator, other}
-use Rattle.duration_str.proofs.Common.{PlaceAndKinds, Spells, Terminal, terminal_of, tokens_of, word}
+use Rattle.std.proofs.Common.{ap, append-nil, append_assoc, arith, codes, IsTrue, length, List, map, refl, sym, take, [], ℕ, ◌++◌, ◌∙◌, ◌∷◌, ◌≡◌}
+use Rattle.duration_str.proofs.Common.{allows, AreTokens, BeginsSentence, byte_len, IsLexeme, IsRefused, IsSentence, lexemes_of, map-append, number, OneCut, OneSentence, operator, other, PlaceAndKinds, Spells, Terminal, terminal_of, tokens_of, word}
 use Rattle.uses.proofs.Common.{Expected, Options, Syntax, take-map, Token}
 use Rattle.std.proofs.Math.Seq.{take-append_seam}
 use Rattle.duration_str.proofs.Sentences.SpellingLemmas.{begins_with, tokens_spell_at}

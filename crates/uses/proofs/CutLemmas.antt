@@ -1,8 +1,6 @@
 -- How a text is cut that is split at a token, or joined at a blank.
-use Rattle.std.proofs.Common.{ap, append-nil, append_assoc, arith, List, refl, rules, suc, take, zero, [], ℕ, ◌++◌, ◌+◌}
-use Rattle.std.proofs.Common.{◌∙◌, ◌∷◌, ◌≡◌}
-use Rattle.duration_str.proofs.Common.{AreTokens, byte_len, EndsRun, false_from_ne_true, IsLexeme, lexemes_of}
-use Rattle.duration_str.proofs.Common.{map-append, start_after, tokens_from, tokens_of}
+use Rattle.std.proofs.Common.{ap, append-nil, append_assoc, arith, List, refl, rules, suc, take, zero, [], ℕ, ◌++◌, ◌+◌, ◌∙◌, ◌∷◌, ◌≡◌}
+use Rattle.duration_str.proofs.Common.{AreTokens, byte_len, EndsRun, false_from_ne_true, IsLexeme, lexemes_of, map-append, start_after, tokens_from, tokens_of}
 use Rattle.uses.proofs.Common.{Options, run-not_blank, Token}
 use Rattle.duration_str.proofs.Characters.CharacterLemmas.{byte_len-append}
 use Rattle.duration_str.proofs.Cutting.PositionLemmas.{blanks_no_token}

@@ -1,8 +1,6 @@
 -- What the law `place_and_kinds` says of one more terminal.
-use Rattle.std.proofs.Common.{append-nil, Bool, IsTrue, le_of_suc-le-suc, length, length-take, List, None, Option, refl}
-use Rattle.std.proofs.Common.{rules, Some, suc-le-suc, [], ◌++◌, ◌↔◌, ◌∷◌, ◌≡◌, ◌≤◌}
-use Rattle.duration_str.proofs.Common.{allows, BeginsSentence, cases_Bool, expected_after, front_after, front_of}
-use Rattle.duration_str.proofs.Common.{IsSentence, last_of, number, operator, PlaceAndKinds, Terminal}
+use Rattle.std.proofs.Common.{append-nil, Bool, IsTrue, le_of_suc-le-suc, length, length-take, List, None, Option, refl, rules, Some, suc-le-suc, [], ◌++◌, ◌↔◌, ◌∷◌, ◌≡◌, ◌≤◌}
+use Rattle.duration_str.proofs.Common.{allows, BeginsSentence, cases_Bool, expected_after, front_after, front_of, IsSentence, last_of, number, operator, PlaceAndKinds, Terminal}
 use Rattle.uses.proofs.Common.{CondUnit, take_all}
 
 last_of_pushed : (last : Option Terminal) (front : List Terminal) (t : Terminal) → last_of last (front ++ t ∷ [])

@@ -1,7 +1,6 @@
 -- Texts whose characters mean the same under several choices of options.
 use Rattle.std.proofs.Common.{arith, Bool, false, IsTrue, List, not, refl, subst, sym, true, ℕ, ◌&&◌, ◌||◌, ◌↔◌, ◌≡◌}
-use Rattle.duration_str.proofs.Common.{HasNoCapital, HasNoChinese, HasNoOperator, is_ascii_uppercase, is_operator}
-use Rattle.duration_str.proofs.Common.{IsRead, IsRefused, list_all, NoCalcAgrees, OptionsIdle, rules}
+use Rattle.duration_str.proofs.Common.{HasNoCapital, HasNoChinese, HasNoOperator, is_ascii_uppercase, is_operator, IsRead, IsRefused, list_all, NoCalcAgrees, OptionsIdle, rules}
 use Rattle.uses.proofs.Common.{Options}
 use Rattle.std.proofs.Math.Bool.{beq}
 use Rattle.duration_str.proofs.Characters.CharacterLemmas.{all_weaker}

@@ -1,7 +1,6 @@
 -- Results of reading, given what the text is read as or refused for.
 use Rattle.std.proofs.Common.{chars, Err, IsErrAnd, IsOkAnd, List, map, Ok, Result, rules, ℕ, ◌≡◌}
-use Rattle.duration_str.proofs.Common.{as_nanos, IsRead, IsRefused, lexemes_of, older_terminals, OlderTexts, OneReading}
-use Rattle.duration_str.proofs.Common.{OneSentence, ParsesText, terminal_of, tokens_of, WasSentenceOf}
+use Rattle.duration_str.proofs.Common.{as_nanos, IsRead, IsRefused, lexemes_of, older_terminals, OlderTexts, OneReading, OneSentence, ParsesText, terminal_of, tokens_of, WasSentenceOf}
 use Rattle.uses.proofs.Common.{Cause, Duration, Fault, Options, Token}
 use Rattle.uses.specs.Stored.{unit_of_first}
 

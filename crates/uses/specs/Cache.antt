@@ -1,7 +1,6 @@
 -- The one text of a value, and what printed texts are read as.
 use Rattle.std.specs.Prelude.{◌≡◌, ℕ, List, Result, Ok, Err, chars}
-use Rattle.uses.specs.Common.{Duration, as_nanos, Options, Cause, Fault, off, unit_lengths, IsRead}
-use Rattle.uses.specs.Common.{IsRefused, IsGreatestBreakdown, counts_of, printed_counts}
+use Rattle.uses.specs.Common.{Duration, as_nanos, Options, Cause, Fault, off, unit_lengths, IsRead, IsRefused, IsGreatestBreakdown, counts_of, printed_counts}
 use Rattle.duration_str.specs.declared.format.Style.{Style}
 
 -- the text that prints how often each unit goes into what the longer units leave

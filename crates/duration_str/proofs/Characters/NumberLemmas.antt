@@ -1,12 +1,5 @@
 -- Digits as std reads and writes them.
-use Rattle.duration_str.proofs.Common.{and_parts, ap, arith, Bool, cases_Bool, cases_lt, chars, common_steps, cond-true}
-use Rattle.duration_str.proofs.Common.{decimal, decimal_nonempty, digits_decimal, digits_value-decimal, drop, drop-cons}
-use Rattle.duration_str.proofs.Common.{encodes-chars, encodes-IsAscii, false, fits, get_or, inl, inr, is_digit}
-use Rattle.duration_str.proofs.Common.{IsAscii-from_digits, IsNumber, IsTrue, IsUtf8, le-ltb, length, length-drop, List}
-use Rattle.duration_str.proofs.Common.{list_all, list_all-append, lt-ltb, mul-pos, nat_le, nat_tests, number}
-use Rattle.duration_str.proofs.Common.{number_after, number_of, Option, Options, pow-suc, refl, Result, rules, Some}
-use Rattle.duration_str.proofs.Common.{suc, sym, take, take-append-drop, terminal_of, true, u64_from, [], ℕ, ◌%◌, ◌&&◌}
-use Rattle.duration_str.proofs.Common.{◌*◌, ◌++◌, ◌+◌, ◌-◌, ◌<◌, ◌==◌, ◌^◌, ◌||◌, ◌∙◌, ◌∷◌, ◌≡◌, ◌≤◌}
+use Rattle.duration_str.proofs.Common.{and_parts, ap, arith, Bool, cases_Bool, cases_lt, chars, common_steps, cond-true, decimal, decimal_nonempty, digits_decimal, digits_value-decimal, drop, drop-cons, encodes-chars, encodes-IsAscii, false, fits, get_or, inl, inr, is_digit, IsAscii-from_digits, IsNumber, IsTrue, IsUtf8, le-ltb, length, length-drop, List, list_all, list_all-append, lt-ltb, mul-pos, nat_le, nat_tests, number, number_after, number_of, Option, Options, pow-suc, refl, Result, rules, Some, suc, sym, take, take-append-drop, terminal_of, true, u64_from, [], ℕ, ◌%◌, ◌&&◌, ◌*◌, ◌++◌, ◌+◌, ◌-◌, ◌<◌, ◌==◌, ◌^◌, ◌||◌, ◌∙◌, ◌∷◌, ◌≡◌, ◌≤◌}
 use Rattle.std.proofs.lemmas.Str.Parse.{digits_value_short, IsNumeralModel, numerals_by_fold}
 use native.Mathlib.Nat.{pow-le-pow_right}
 use Rattle.std.specs.Bool.{then_some}

@@ -1,14 +1,5 @@
 -- Packed names and their slots.
-use Rattle.duration_str.proofs.Common.{all_names, and_from, and_parts, ap, arith, Bool, byte_len, bytes_eq, cases_Bool}
-use Rattle.duration_str.proofs.Common.{chinese_letters, comparison_form, eq-eqb, eqb, eqb-true, false}
-use Rattle.duration_str.proofs.Common.{false_from_ne_true, get_or, if◌then◌else◌, inl, inr, is_ascii_uppercase}
-use Rattle.duration_str.proofs.Common.{is_chinese, is_named, is_unit_letter, leb, leb-true, length, length-reverse}
-use Rattle.duration_str.proofs.Common.{letter_number, List, list_all, list_any, list_any-append, lit<, map, nat_tests}
-use Rattle.duration_str.proofs.Common.{None, not, number_in, off, Options, or_cases, or_parts, packed_number}
-use Rattle.duration_str.proofs.Common.{packed_number_after, packs_to, pow-le-pow_right, pow-succ', refl}
-use Rattle.duration_str.proofs.Common.{reverse-reverse, row_of, rules, Some, SPREAD, suc, sym, TimeUnit}
-use Rattle.duration_str.proofs.Common.{to_ascii_lowercase, true, unit_of_word, units, width, zero, [], ℕ, ◌%◌, ◌&&◌}
-use Rattle.duration_str.proofs.Common.{◌*◌, ◌+◌, ◌-◌, ◌/◌, ◌<◌, ◌==◌, ◌^◌, ◌||◌, ◌∙◌, ◌∷◌, ◌≡◌, ◌≤◌}
+use Rattle.duration_str.proofs.Common.{all_names, and_from, and_parts, ap, arith, Bool, byte_len, bytes_eq, cases_Bool, chinese_letters, comparison_form, eq-eqb, eqb, eqb-true, false, false_from_ne_true, get_or, if◌then◌else◌, inl, inr, is_ascii_uppercase, is_chinese, is_named, is_unit_letter, leb, leb-true, length, length-reverse, letter_number, List, list_all, list_any, list_any-append, lit<, map, nat_tests, None, not, number_in, off, Options, or_cases, or_parts, packed_number, packed_number_after, packs_to, pow-le-pow_right, pow-succ', refl, reverse-reverse, row_of, rules, Some, SPREAD, suc, sym, TimeUnit, to_ascii_lowercase, true, unit_of_word, units, width, zero, [], ℕ, ◌%◌, ◌&&◌, ◌*◌, ◌+◌, ◌-◌, ◌/◌, ◌<◌, ◌==◌, ◌^◌, ◌||◌, ◌∙◌, ◌∷◌, ◌≡◌, ◌≤◌}
 use Rattle.std.proofs.Math.Bool.{or-true}
 use mathlib.Core.List.{reverse, reverse_aux}
 use Rattle.duration_str.specs.Internal.UnitTable.{unit_of_packed}

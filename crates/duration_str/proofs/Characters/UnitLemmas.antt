@@ -1,13 +1,5 @@
 -- Units, and words and names: as bytes and as characters, and their ASCII capitals.
-use Rattle.duration_str.proofs.Common.{all_names, and_parts, AreEncoded, arith, Bool, Bor, byte_len, bytes_eq}
-use Rattle.duration_str.proofs.Common.{bytes_eq-Decides, cases_Bool, chars, common_steps, comparison_form, Day}
-use Rattle.duration_str.proofs.Common.{encode_utf8_all, encodes, encodes-chars, encodes_same, eqb, eqb-true, false}
-use Rattle.duration_str.proofs.Common.{find, Hour, inl, inr, is_named, IsUtf8, leb-true, length, List, list_all}
-use Rattle.duration_str.proofs.Common.{list_any, list_any-append, map, map-append, MicroSecond, MilliSecond, Minute}
-use Rattle.duration_str.proofs.Common.{Month, name_part, nanos_of, NanoSecond, not, Options, or_cases, Quarter, refl}
-use Rattle.duration_str.proofs.Common.{row_of, rules, same_from_decides, Second, Some, Style, TimeUnit}
-use Rattle.duration_str.proofs.Common.{to_ascii_lowercase, true, unit_of_word, units, Week, Year, [], ℕ, ⊤, ◌||◌, ◌∙◌}
-use Rattle.duration_str.proofs.Common.{◌∷◌, ◌≡◌, ◌≤◌}
+use Rattle.duration_str.proofs.Common.{all_names, and_parts, AreEncoded, arith, Bool, Bor, byte_len, bytes_eq, bytes_eq-Decides, cases_Bool, chars, common_steps, comparison_form, Day, encode_utf8_all, encodes, encodes-chars, encodes_same, eqb, eqb-true, false, find, Hour, inl, inr, is_named, IsUtf8, leb-true, length, List, list_all, list_any, list_any-append, map, map-append, MicroSecond, MilliSecond, Minute, Month, name_part, nanos_of, NanoSecond, not, Options, or_cases, Quarter, refl, row_of, rules, same_from_decides, Second, Some, Style, TimeUnit, to_ascii_lowercase, true, unit_of_word, units, Week, Year, [], ℕ, ⊤, ◌||◌, ◌∙◌, ◌∷◌, ◌≡◌, ◌≤◌}
 use lib.Utf8.{encode}
 
 -- ---- A property that holds of each unit in the table holds of every unit

@@ -1,10 +1,5 @@
 -- A token is found by cutting from a character before it.
-use Rattle.duration_str.proofs.Common.{add-zero, add_assoc, ap, arith, Bor, byte_len, cases_Bool, chars, chars-append}
-use Rattle.duration_str.proofs.Common.{common_steps, drop, drop-drop, false, goes_on, IsCharBoundary, IsSliceOf, IsUtf8}
-use Rattle.duration_str.proofs.Common.{IsUtf8-take, length-take-le, List, map, nat_tests, None, Option, option_map}
-use Rattle.duration_str.proofs.Common.{Options, refl, rules, Some, sym, take, take-append-drop, Token, token_at}
-use Rattle.duration_str.proofs.Common.{tokens_from, tokens_of, true, width, with_first_character, [], ℕ, ◌++◌, ◌+◌, ◌-◌}
-use Rattle.duration_str.proofs.Common.{◌<◌, ◌==◌, ◌∙◌, ◌∷◌, ◌≡◌, ◌≤◌}
+use Rattle.duration_str.proofs.Common.{add-zero, add_assoc, ap, arith, Bor, byte_len, cases_Bool, chars, chars-append, common_steps, drop, drop-drop, false, goes_on, IsCharBoundary, IsSliceOf, IsUtf8, IsUtf8-take, length-take-le, List, map, nat_tests, None, Option, option_map, Options, refl, rules, Some, sym, take, take-append-drop, Token, token_at, tokens_from, tokens_of, true, width, with_first_character, [], ℕ, ◌++◌, ◌+◌, ◌-◌, ◌<◌, ◌==◌, ◌∙◌, ◌∷◌, ◌≡◌, ◌≤◌}
 use Rattle.duration_str.proofs.Characters.CharacterLemmas.{run-not_blank, width_some}
 use Rattle.duration_str.proofs.OnePass.PlaceLemmas.{byte_count}
 use Rattle.duration_str.proofs.Cutting.SortLemmas.{first_token}

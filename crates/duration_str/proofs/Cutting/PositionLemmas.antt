@@ -1,14 +1,5 @@
 -- The steps of cutting, in terms of a text, the byte up to which it is cut, and the looks.
-use Rattle.duration_str.proofs.Common.{add-zero, ahead, and_from, ap, append_assoc, append_cancel_right, arith, Between}
-use Rattle.duration_str.proofs.Common.{Bool, byte_len, chars, chars-append, drop, drop-drop, encodes-chars, EndsRun}
-use Rattle.duration_str.proofs.Common.{ForSome, if◌then◌else◌, is_blank, is_digit, is_some, is_unit_letter}
-use Rattle.duration_str.proofs.Common.{IsCharBoundary, IsLexeme, IsUtf8, IsUtf8-drop, IsUtf8-take, length}
-use Rattle.duration_str.proofs.Common.{length-append, length-drop, length-le-encodes, letter_number, List}
-use Rattle.duration_str.proofs.Common.{list_all-append, None, number_after, number_of, Option, Options}
-use Rattle.duration_str.proofs.Common.{packed_number_after, Passes, refl, slice_range, Some, Stands, StandsAt, sym}
-use Rattle.duration_str.proofs.Common.{take, take-append-drop, TakesDigits, TakesLetters, TimeUnit, tokens_from, true}
-use Rattle.duration_str.proofs.Common.{u64_from, unit_of_packed, unit_of_word, width, [], ℕ, ◌%◌, ◌*◌, ◌++◌, ◌+◌, ◌-◌}
-use Rattle.duration_str.proofs.Common.{◌<◌, ◌^◌, ◌∙◌, ◌∷◌, ◌≡◌, ◌≤◌}
+use Rattle.duration_str.proofs.Common.{add-zero, ahead, and_from, ap, append_assoc, append_cancel_right, arith, Between, Bool, byte_len, chars, chars-append, drop, drop-drop, encodes-chars, EndsRun, ForSome, if◌then◌else◌, is_blank, is_digit, is_some, is_unit_letter, IsCharBoundary, IsLexeme, IsUtf8, IsUtf8-drop, IsUtf8-take, length, length-append, length-drop, length-le-encodes, letter_number, List, list_all-append, None, number_after, number_of, Option, Options, packed_number_after, Passes, refl, slice_range, Some, Stands, StandsAt, sym, take, take-append-drop, TakesDigits, TakesLetters, TimeUnit, tokens_from, true, u64_from, unit_of_packed, unit_of_word, width, [], ℕ, ◌%◌, ◌*◌, ◌++◌, ◌+◌, ◌-◌, ◌<◌, ◌^◌, ◌∙◌, ◌∷◌, ◌≡◌, ◌≤◌}
 pub use Rattle.duration_str.proofs.Cutting.TokenLemmas.{blanks_no_token, tokens_step}
 use Rattle.duration_str.proofs.Characters.CharacterLemmas.{byte_len-append, width_some}
 use Rattle.duration_str.proofs.Characters.NumberLemmas.{decimal_digits, whole_number}

@@ -1,17 +1,8 @@
 -- The steps of `Tokens`: what is ahead, and the next token.
-use Rattle.duration_str.proofs.Common.{ahead, arith, CondUnit, cut_place, ForSome, is_blank, is_digit, is_unit_letter}
-use Rattle.duration_str.proofs.Common.{IsAhead, IsCharBoundary, IsSign, IsUtf8, IsUtf8-had, KeepsInput, length}
-use Rattle.duration_str.proofs.Common.{length-drop, length-take-le, List, LooksAhead, None, Number, number_of, Operator}
-use Rattle.duration_str.proofs.Common.{Option, options_of, Other, other, Passes, refl, rules, slice_range, Some}
-use Rattle.duration_str.proofs.Common.{sort_of, source, Stands, StandsAt, Stops, sym, TakesDigits, TakesNumber}
-use Rattle.duration_str.proofs.Common.{TakesToken, TakesTokenWith, Terminal, terminal_of, TimeUnit, Token, Tokens}
-use Rattle.duration_str.proofs.Common.{tokens_left, TokenStart, true, u64_from, what_of, width, Word, word}
-use Rattle.duration_str.proofs.Common.{YieldsNextToken, [], ℕ, ◌+◌, ◌<◌, ◌∙◌, ◌∷◌, ◌≡◌}
+use Rattle.duration_str.proofs.Common.{ahead, arith, CondUnit, cut_place, ForSome, is_blank, is_digit, is_unit_letter, IsAhead, IsCharBoundary, IsSign, IsUtf8, IsUtf8-had, KeepsInput, length, length-drop, length-take-le, List, LooksAhead, None, Number, number_of, Operator, Option, options_of, Other, other, Passes, refl, rules, slice_range, Some, sort_of, source, Stands, StandsAt, Stops, sym, TakesDigits, TakesNumber, TakesToken, TakesTokenWith, Terminal, terminal_of, TimeUnit, Token, Tokens, tokens_left, TokenStart, true, u64_from, what_of, width, Word, word, YieldsNextToken, [], ℕ, ◌+◌, ◌<◌, ◌∙◌, ◌∷◌, ◌≡◌}
 use Rattle.duration_str.proofs.Characters.NumberLemmas.{bytes_of_digits}
-use Rattle.duration_str.proofs.Cutting.PositionLemmas.{blanks_passed, chars_between, place_at_end, TakesWord}
-use Rattle.duration_str.proofs.Cutting.PositionLemmas.{token_taken}
-use Rattle.duration_str.proofs.Cutting.SortLemmas.{digit_of_sort, first_token, letter_of_sort, number_stands}
-use Rattle.duration_str.proofs.Cutting.SortLemmas.{sign_of_sort, sign_sorts, sign_stands, StandsToken, word_stands}
+use Rattle.duration_str.proofs.Cutting.PositionLemmas.{blanks_passed, chars_between, place_at_end, TakesWord, token_taken}
+use Rattle.duration_str.proofs.Cutting.SortLemmas.{digit_of_sort, first_token, letter_of_sort, number_stands, sign_of_sort, sign_sorts, sign_stands, StandsToken, word_stands}
 use Rattle.duration_str.specs.declared.token.Token.{Token as RustToken}
 use Rattle.duration_str.specs.declared.token.What.TheVariants as whats
 

@@ -1,7 +1,5 @@
 -- With all units and as many parts as there are units, the counts are those of the breakdown.
-use Rattle.duration_str.proofs.Common.{AllParts, ap, arith, counts_of, counts_within, Format, length, List}
-use Rattle.duration_str.proofs.Common.{printed_counts, refl, sym, text_within, unit_lengths, whole_format, [], ℕ, ◌∙◌}
-use Rattle.duration_str.proofs.Common.{◌∷◌, ◌≡◌, ◌≤◌}
+use Rattle.duration_str.proofs.Common.{AllParts, ap, arith, counts_of, counts_within, Format, length, List, printed_counts, refl, sym, text_within, unit_lengths, whole_format, [], ℕ, ◌∙◌, ◌∷◌, ◌≡◌, ◌≤◌}
 use Rattle.duration_str.proofs.LawProofs.GreatestBreakdown.{greatest_breakdown_holds}
 use Rattle.duration_str.proofs.LawProofs.GreatestWithin.{greatest_within, one_greatest_within}
 use Rattle.duration_str.proofs.Printer.PrintingLemmas.{counts_are}

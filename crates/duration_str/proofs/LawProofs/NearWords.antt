@@ -1,8 +1,5 @@
 -- A word for which a name is advised names no unit, and the name is one of the unit that people mean by it.
-use Rattle.duration_str.proofs.Common.{all_names, ap, arith, Bool, bytes_eq, cases_Bool, codes, comparison_form}
-use Rattle.duration_str.proofs.Common.{encode_utf8_all, find, inl, inr, List, list_all, list_any, map, MicroSecond}
-use Rattle.duration_str.proofs.Common.{Month, not, Options, refl, row_of, rules, Some, sym, TimeUnit}
-use Rattle.duration_str.proofs.Common.{to_ascii_lowercase, true, unit_of_word, units, [], ℕ, ◌∙◌, ◌∷◌, ◌≡◌}
+use Rattle.duration_str.proofs.Common.{all_names, ap, arith, Bool, bytes_eq, cases_Bool, codes, comparison_form, encode_utf8_all, find, inl, inr, List, list_all, list_any, map, MicroSecond, Month, not, Options, refl, row_of, rules, Some, sym, TimeUnit, to_ascii_lowercase, true, unit_of_word, units, [], ℕ, ◌∙◌, ◌∷◌, ◌≡◌}
 use Rattle.std.specs.Option.{option_map}
 use Rattle.duration_str.specs.Laws.{IsAdvised, NearWords}
 use Rattle.duration_str.specs.OneLine.{is_among, near_words, small_words, us_words}

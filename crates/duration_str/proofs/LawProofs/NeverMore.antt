@@ -1,16 +1,8 @@
 -- What is printed within limits is the greatest duration whose own breakdown keeps within them.
-use Rattle.duration_str.proofs.Common.{ap, arith, counts_of, counts_within, div-eq_of_lt-le, Format, if◌then◌else◌}
-use Rattle.duration_str.proofs.Common.{IsGreatestBreakdown, IsRead, le-div_iff_mul-le, le-mul_of_pos_right, length}
-use Rattle.duration_str.proofs.Common.{lengths_within, List, map, map-append, nanos_of, nat_lt, NeverMore, Options}
-use Rattle.duration_str.proofs.Common.{part_count, refl, rules, subst, sym, terminal_of, text_within, TimeUnit, units}
-use Rattle.duration_str.proofs.Common.{units_down_to, units_from, units_within, weighted_sum, Year, zero-div, zero_unit}
-use Rattle.duration_str.proofs.Common.{[], ℕ, ◌%◌, ◌*◌, ◌++◌, ◌+◌, ◌/◌, ◌<◌, ◌^◌, ◌∙◌, ◌∷◌, ◌≡◌, ◌≤◌}
+use Rattle.duration_str.proofs.Common.{ap, arith, counts_of, counts_within, div-eq_of_lt-le, Format, if◌then◌else◌, IsGreatestBreakdown, IsRead, le-div_iff_mul-le, le-mul_of_pos_right, length, lengths_within, List, map, map-append, nanos_of, nat_lt, NeverMore, Options, part_count, refl, rules, subst, sym, terminal_of, text_within, TimeUnit, units, units_down_to, units_from, units_within, weighted_sum, Year, zero-div, zero_unit, [], ℕ, ◌%◌, ◌*◌, ◌++◌, ◌+◌, ◌/◌, ◌<◌, ◌^◌, ◌∙◌, ◌∷◌, ◌≡◌, ◌≤◌}
 use Rattle.duration_str.proofs.LawProofs.GreatestBreakdown.{breakdown_of, EndInOne, one_greatest}
-use Rattle.duration_str.proofs.LawProofs.GreatestWithin.{ArePositive, greatest_within, left_whole, lengths_positive}
-use Rattle.duration_str.proofs.LawProofs.GreatestWithin.{one_greatest_within, within_each, within_few, within_sum}
-use Rattle.duration_str.proofs.Printer.PrintingLemmas.{all_spelled, EachBelow, kept, lexemes, or_zero, parts_kept}
-use Rattle.duration_str.proofs.Printer.PrintingLemmas.{sum_kept, sum_or_zero, terminals, terminals_kept}
-use Rattle.duration_str.proofs.Printer.PrintingLemmas.{terminals_or_zero, units_plus, units_sentence}
+use Rattle.duration_str.proofs.LawProofs.GreatestWithin.{ArePositive, greatest_within, left_whole, lengths_positive, one_greatest_within, within_each, within_few, within_sum}
+use Rattle.duration_str.proofs.Printer.PrintingLemmas.{all_spelled, EachBelow, kept, lexemes, or_zero, parts_kept, sum_kept, sum_or_zero, terminals, terminals_kept, terminals_or_zero, units_plus, units_sentence}
 use Rattle.duration_str.proofs.Sentences.AnswerLemmas.{sum_read}
 
 -- ---- The duration that is printed

@@ -1,7 +1,5 @@
 -- Without operators `no_calc` changes neither what is accepted nor its value.
-use Rattle.duration_str.proofs.Common.{and_parts, Bool, HasNoOperator, is_operator, IsRead, IsSentence, List, map}
-use Rattle.duration_str.proofs.Common.{NoCalcAgrees, not, number, operator, Options, rules, Some, Terminal, terminal_of}
-use Rattle.duration_str.proofs.Common.{word, [], ℕ, ⊤, ◌∷◌}
+use Rattle.duration_str.proofs.Common.{and_parts, Bool, HasNoOperator, is_operator, IsRead, IsSentence, List, map, NoCalcAgrees, not, number, operator, Options, rules, Some, Terminal, terminal_of, word, [], ℕ, ⊤, ◌∷◌}
 use Rattle.duration_str.proofs.Cutting.SortLemmas.{terminal_cases}
 use Rattle.duration_str.proofs.Sentences.SpellingLemmas.{EachPasses, lexemes_pass}
 

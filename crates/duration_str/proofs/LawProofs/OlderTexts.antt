@@ -1,12 +1,5 @@
 -- The law `older_texts`: a sentence over the units without the quarter is a sentence over all units.
-use Rattle.duration_str.proofs.Common.{allows, ap, append-nil, ap₂, Bool, cases_Bool, Cause, CondUnit, expected_after}
-use Rattle.duration_str.proofs.Common.{inl, inr, is_digit, is_unit_letter, IsRead, IsRefused, IsRefusedAt, IsSentence}
-use Rattle.duration_str.proofs.Common.{IsSentenceOf, IsTrue, List, list_all, map, nanos_of, None, number}
-use Rattle.duration_str.proofs.Common.{older_nanos_of, older_row_of, older_terminals, older_terms, older_unit_of_word}
-use Rattle.duration_str.proofs.Common.{OlderTexts, operator, Option, Options, Plus, refl, row_of, rules, sentence_fault}
-use Rattle.duration_str.proofs.Common.{sign_terminal, Some, Terminal, terminal_by, terminal_of, terms_by, terms_of}
-use Rattle.duration_str.proofs.Common.{TimeUnit, unit_of_word, WasRead, WasRefused, WasSentenceOf, word, [], ℕ, ⊤, ◌∙◌}
-use Rattle.duration_str.proofs.Common.{◌∷◌, ◌≡◌, ◌⊎◌}
+use Rattle.duration_str.proofs.Common.{allows, ap, append-nil, ap₂, Bool, cases_Bool, Cause, CondUnit, expected_after, inl, inr, is_digit, is_unit_letter, IsRead, IsRefused, IsRefusedAt, IsSentence, IsSentenceOf, IsTrue, List, list_all, map, nanos_of, None, number, older_nanos_of, older_row_of, older_terminals, older_terms, older_unit_of_word, OlderTexts, operator, Option, Options, Plus, refl, row_of, rules, sentence_fault, sign_terminal, Some, Terminal, terminal_by, terminal_of, terms_by, terms_of, TimeUnit, unit_of_word, WasRead, WasRefused, WasSentenceOf, word, [], ℕ, ⊤, ◌∙◌, ◌∷◌, ◌≡◌, ◌⊎◌}
 use Rattle.duration_str.proofs.Sentences.AnswerLemmas.{sentence_refused}
 use Rattle.duration_str.proofs.Sentences.FrontLemmas.{AreAllowed, sentence_allowed}
 

@@ -1,9 +1,5 @@
 -- `lowercase` changes nothing without ASCII capitals, and `cn_unit` nothing without Chinese characters.
-use Rattle.duration_str.proofs.Common.{and_parts, arith, Bool, bytes_eq, Cause, false, goes_on, HasNoCapital}
-use Rattle.duration_str.proofs.Common.{HasNoChinese, if◌then◌else◌, is_chinese, is_unit_letter, IsIdle, IsRead}
-use Rattle.duration_str.proofs.Common.{IsRefused, IsTrue, List, list_all, list_any, map, not, not-true, Options}
-use Rattle.duration_str.proofs.Common.{OptionsIdle, refl, rules, terminal_of, terminals_of, to_ascii_lowercase}
-use Rattle.duration_str.proofs.Common.{tokens_from, tokens_of, true, unit_of_word, width, [], ℕ, ◌+◌, ◌∷◌, ◌≡◌}
+use Rattle.duration_str.proofs.Common.{and_parts, arith, Bool, bytes_eq, Cause, false, goes_on, HasNoCapital, HasNoChinese, if◌then◌else◌, is_chinese, is_unit_letter, IsIdle, IsRead, IsRefused, IsTrue, List, list_all, list_any, map, not, not-true, Options, OptionsIdle, refl, rules, terminal_of, terminals_of, to_ascii_lowercase, tokens_from, tokens_of, true, unit_of_word, width, [], ℕ, ◌+◌, ◌∷◌, ◌≡◌}
 use Rattle.duration_str.proofs.Characters.UnitLemmas.{named_passes}
 use Rattle.duration_str.proofs.Sentences.SpellingLemmas.{EachPasses, lexemes_pass, tokens_spell}
 use Rattle.duration_str.proofs.Sentences.AnswerLemmas.{read_terminals, terminals_read}

@@ -1,9 +1,6 @@
 -- The table says what can follow the beginning of a sentence, and finds the front.
-use Rattle.duration_str.proofs.Common.{allows, Bool, CondUnit, expected_after, IsTrue, last_of, List, None, operator}
-use Rattle.duration_str.proofs.Common.{Option, PlaceAndKinds, Some, sym, Terminal, true, true≢false, [], ◌∙◌, ◌∷◌, ◌≡◌}
-use Rattle.duration_str.proofs.Common.{◌≢◌}
-use Rattle.duration_str.proofs.Sentences.FrontLemmas.{AreAllowed, begins_allowed, expected_by_table, no_operators}
-use Rattle.duration_str.proofs.Sentences.FrontLemmas.{one_front, table_front}
+use Rattle.duration_str.proofs.Common.{allows, Bool, CondUnit, expected_after, IsTrue, last_of, List, None, operator, Option, PlaceAndKinds, Some, sym, Terminal, true, true≢false, [], ◌∙◌, ◌∷◌, ◌≡◌, ◌≢◌}
+use Rattle.duration_str.proofs.Sentences.FrontLemmas.{AreAllowed, begins_allowed, expected_by_table, no_operators, one_front, table_front}
 
 allowed_no_operator : (no_calc : Bool) (last : Option Terminal) (t : Terminal) (op : CondUnit) → no_calc ≡ true
     → IsTrue (allows (expected_after no_calc last) t) → Some t ≢ Some (operator op)

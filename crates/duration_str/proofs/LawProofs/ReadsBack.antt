@@ -1,13 +1,7 @@
 -- A printed text is read back below 2^64 nanoseconds, and otherwise overflows.
-use Rattle.duration_str.proofs.Common.{arith, Bool, counts_of, drop, early, early_fault, FitsDuration, IsPrintedIn}
-use Rattle.duration_str.proofs.Common.{IsRead, IsRefused, le-ltb, List, lt-ltb, map, nanos_of, None, number, Options}
-use Rattle.duration_str.proofs.Common.{Overflow, ReadsBack, rules, Some, Style, sum_of, sym, Terminal, terminal_of}
-use Rattle.duration_str.proofs.Common.{terms_of, unit_lengths, units, word, Year, [], ℕ, ◌*◌, ◌+◌, ◌/◌, ◌<◌, ◌^◌, ◌∷◌}
-use Rattle.duration_str.proofs.Common.{◌≡◌, ◌≤◌}
-use Rattle.duration_str.proofs.Sentences.AnswerLemmas.{EachFits, sentence_refused, sum_fits_each, sum_overflows}
-use Rattle.duration_str.proofs.Sentences.AnswerLemmas.{sum_read, terms_of_lexemes}
-use Rattle.duration_str.proofs.Printer.PrintingLemmas.{duration_lexemes, duration_sum, kept, printed_is_sum, terminals}
-use Rattle.duration_str.proofs.Printer.PrintingLemmas.{terminals_of_duration}
+use Rattle.duration_str.proofs.Common.{arith, Bool, counts_of, drop, early, early_fault, FitsDuration, IsPrintedIn, IsRead, IsRefused, le-ltb, List, lt-ltb, map, nanos_of, None, number, Options, Overflow, ReadsBack, rules, Some, Style, sum_of, sym, Terminal, terminal_of, terms_of, unit_lengths, units, word, Year, [], ℕ, ◌*◌, ◌+◌, ◌/◌, ◌<◌, ◌^◌, ◌∷◌, ◌≡◌, ◌≤◌}
+use Rattle.duration_str.proofs.Sentences.AnswerLemmas.{EachFits, sentence_refused, sum_fits_each, sum_overflows, sum_read, terms_of_lexemes}
+use Rattle.duration_str.proofs.Printer.PrintingLemmas.{duration_lexemes, duration_sum, kept, printed_is_sum, terminals, terminals_of_duration}
 
 abbrev years : ℕ → ℕ
 years nanos = nanos / nanos_of Year

@@ -1,7 +1,5 @@
 -- Sums with the same values of terms, each equally often, are equal.
-use Rattle.duration_str.proofs.Common.{arith, cases_Bool, common_steps, cond-true, eq-eqb, eqb-true, find}
-use Rattle.duration_str.proofs.Common.{if◌then◌else◌, List, map, refl, Reorder, Some, sum_by, sum_by-cons, sum_of, Term}
-use Rattle.duration_str.proofs.Common.{times_in, value_of_term, [], ℕ, ◌+◌, ◌==◌, ◌∷◌, ◌≡◌, ◌≤◌}
+use Rattle.duration_str.proofs.Common.{arith, cases_Bool, common_steps, cond-true, eq-eqb, eqb-true, find, if◌then◌else◌, List, map, refl, Reorder, Some, sum_by, sum_by-cons, sum_of, Term, times_in, value_of_term, [], ℕ, ◌+◌, ◌==◌, ◌∷◌, ◌≡◌, ◌≤◌}
 use Rattle.std.specs.Set.{remove_key}
 use Rattle.std.proofs.lemmas.Map.Made.{sum_by-remove_key}
 use Rattle.duration_str.proofs.Sentences.AnswerLemmas.{read_below, read_sum, sum_read, terms_of_lexemes}

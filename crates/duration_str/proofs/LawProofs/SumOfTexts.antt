@@ -1,15 +1,9 @@
 -- Two accepted texts without `*`, joined by a plus, have the sum of their values, or overflow.
-use Rattle.duration_str.proofs.Common.{AllPlus, and_from, and_parts, append_assoc, arith, cases_Bool, codes}
-use Rattle.duration_str.proofs.Common.{common_steps, CondUnit, false, HasNoStar, inl, inr, IsBlank, IsRead, IsSentence}
-use Rattle.duration_str.proofs.Common.{List, list_all-append, map, map-append, nat_tests, not, number, operator}
-use Rattle.duration_str.proofs.Common.{operator_of, Options, Plus, refl, rules, Some, Spells, sum_of, SumOfTexts, Term}
-use Rattle.duration_str.proofs.Common.{Terminal, terminal_of, terms_after, terms_of, true, word, [], ℕ, ◌++◌, ◌+◌, ◌==◌}
-use Rattle.duration_str.proofs.Common.{◌∙◌, ◌∷◌, ◌≡◌}
+use Rattle.duration_str.proofs.Common.{AllPlus, and_from, and_parts, append_assoc, arith, cases_Bool, codes, common_steps, CondUnit, false, HasNoStar, inl, inr, IsBlank, IsRead, IsSentence, List, list_all-append, map, map-append, nat_tests, not, number, operator, operator_of, Options, Plus, refl, rules, Some, Spells, sum_of, SumOfTexts, Term, Terminal, terminal_of, terms_after, terms_of, true, word, [], ℕ, ◌++◌, ◌+◌, ◌==◌, ◌∙◌, ◌∷◌, ◌≡◌}
 use Rattle.duration_str.proofs.Cutting.SortLemmas.{terminal_cases}
 use Rattle.duration_str.proofs.Sentences.SpellingLemmas.{begins_with, EachPasses, lexemes_pass}
 use Rattle.duration_str.proofs.Sentences.SumLemmas.{sum-append}
-use Rattle.duration_str.proofs.Sentences.AnswerLemmas.{EachFits, IsSumOf, read_below, read_sum, sum_fits_each}
-use Rattle.duration_str.proofs.Sentences.AnswerLemmas.{sum_overflows, sum_read, terms_of_lexemes}
+use Rattle.duration_str.proofs.Sentences.AnswerLemmas.{EachFits, IsSumOf, read_below, read_sum, sum_fits_each, sum_overflows, sum_read, terms_of_lexemes}
 
 -- ---- The joined lexemes spell the joined text
 

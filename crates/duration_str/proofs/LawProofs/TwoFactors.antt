@@ -1,7 +1,5 @@
 -- A product of two terms is accepted exactly if both terms and their product fit, and so is the exchanged product.
-use Rattle.duration_str.proofs.Common.{arith, IsRead, IsSentenceOf, List, mul-div_cancel, mul_comm, Options, refl}
-use Rattle.duration_str.proofs.Common.{second, Some, Star, Term, TwoFactors, value_of, value_of_term, [], ℕ, ◌*◌, ◌/◌}
-use Rattle.duration_str.proofs.Common.{◌<◌, ◌^◌, ◌↔◌, ◌∷◌, ◌≡◌}
+use Rattle.duration_str.proofs.Common.{arith, IsRead, IsSentenceOf, List, mul-div_cancel, mul_comm, Options, refl, second, Some, Star, Term, TwoFactors, value_of, value_of_term, [], ℕ, ◌*◌, ◌/◌, ◌<◌, ◌^◌, ◌↔◌, ◌∷◌, ◌≡◌}
 use Rattle.duration_str.proofs.Sentences.SumLemmas.{no_fault}
 use Rattle.duration_str.proofs.Sentences.AnswerLemmas.{read_sentence, terms_of_lexemes}
 

@@ -1,11 +1,5 @@
 -- Combining the later terms one by one gives their faults in the order of the whole list.
-use Rattle.duration_str.proofs.Common.{append-nil, append_assoc, arith, Bool, cases_Bool, Cause, checked_combination}
-use Rattle.duration_str.proofs.Common.{checked_term, combination, CondUnit, Err, evaluation_fault, false}
-use Rattle.duration_str.proofs.Common.{fault_of_terms, fault_or, first_fault, fits, fold-append, if◌then◌else◌, inl}
-use Rattle.duration_str.proofs.Common.{inr, IsTrue, later_total, List, lt-ltb, None, Ok, ok_or, Option, or_else}
-use Rattle.duration_str.proofs.Common.{Overflow, Plus, refl, Result, rules, running_fault, Some, sum_of, Term}
-use Rattle.duration_str.proofs.Common.{term_fault, total_with, true, u64_from, unless, unwrap_or, value_of}
-use Rattle.duration_str.proofs.Common.{value_of_term, [], ℕ, ◌++◌, ◌<◌, ◌^◌, ◌∷◌, ◌≡◌}
+use Rattle.duration_str.proofs.Common.{append-nil, append_assoc, arith, Bool, cases_Bool, Cause, checked_combination, checked_term, combination, CondUnit, Err, evaluation_fault, false, fault_of_terms, fault_or, first_fault, fits, fold-append, if◌then◌else◌, inl, inr, IsTrue, later_total, List, lt-ltb, None, Ok, ok_or, Option, or_else, Overflow, Plus, refl, Result, rules, running_fault, Some, sum_of, Term, term_fault, total_with, true, u64_from, unless, unwrap_or, value_of, value_of_term, [], ℕ, ◌++◌, ◌<◌, ◌^◌, ◌∷◌, ◌≡◌}
 use Rattle.duration_str.proofs.Sentences.SumLemmas.{AreAdded, no_fault, running_below, sum-append, value_is_sum}
 use Rattle.duration_str.proofs.Sentences.AnswerLemmas.{later_value}
 

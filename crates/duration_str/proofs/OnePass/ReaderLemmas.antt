@@ -1,8 +1,5 @@
 -- The reader's steps: what comes next, by the sort ahead, and what is left after it.
-use Rattle.duration_str.proofs.Common.{arith, cut_place, end_at, expected_at_start, if◌then◌else◌, is_number, length}
-use Rattle.duration_str.proofs.Common.{LooksAhead, None, number, number_fault, operator, Option, options_of, other}
-use Rattle.duration_str.proofs.Common.{refl, Rest, rest_from, rest_of, Some, sort_of, source, sym, Syntax, TakesToken}
-use Rattle.duration_str.proofs.Common.{Terminal, terminal_at, terminal_of, TimeUnit, Tokens, TokenStart, word, ℕ, ◌≡◌}
+use Rattle.duration_str.proofs.Common.{arith, cut_place, end_at, expected_at_start, if◌then◌else◌, is_number, length, LooksAhead, None, number, number_fault, operator, Option, options_of, other, refl, Rest, rest_from, rest_of, Some, sort_of, source, sym, Syntax, TakesToken, Terminal, terminal_at, terminal_of, TimeUnit, Tokens, TokenStart, word, ℕ, ◌≡◌}
 use Rattle.duration_str.proofs.Cutting.StepLemmas.{first_left, none_left}
 use Rattle.duration_str.specs.declared.token.TokenStart.TheVariants as sorts
 

@@ -1,17 +1,9 @@
 -- The terms that are left while a text is read, and the answer that they give.
-use Rattle.duration_str.proofs.Common.{AllPlus, answer_at, answer_left, ap, arith, Bool, by_operator, Cause}
-use Rattle.duration_str.proofs.Common.{checked_term, complete_terminals, CondUnit, cut_place, drop, Err, Expected}
-use Rattle.duration_str.proofs.Common.{expected_after, false, fault_or, front_of, IfErr, if◌then◌else◌, IsTrue, last_of}
-use Rattle.duration_str.proofs.Common.{leaving, length, List, nanos_of, None, number, Ok, operator, operator_read}
-use Rattle.duration_str.proofs.Common.{Option, Plus, ReadItem, refl, Rest, rest_of, Result, rules, Some, start_left}
-use Rattle.duration_str.proofs.Common.{subst, sym, Syntax, take, TakesNumber, Term, term_of, Terminal, terminal_at}
-use Rattle.duration_str.proofs.Common.{terminals_in, terms_after, terms_of, TimeUnit, Tokens, true, unit_read, unless}
-use Rattle.duration_str.proofs.Common.{with_term, without_last_number, word, [], ℕ, ◌<◌, ◌∙◌, ◌∷◌, ◌≡◌}
+use Rattle.duration_str.proofs.Common.{AllPlus, answer_at, answer_left, ap, arith, Bool, by_operator, Cause, checked_term, complete_terminals, CondUnit, cut_place, drop, Err, Expected, expected_after, false, fault_or, front_of, IfErr, if◌then◌else◌, IsTrue, last_of, leaving, length, List, nanos_of, None, number, Ok, operator, operator_read, Option, Plus, ReadItem, refl, Rest, rest_of, Result, rules, Some, start_left, subst, sym, Syntax, take, TakesNumber, Term, term_of, Terminal, terminal_at, terminals_in, terms_after, terms_of, TimeUnit, Tokens, true, unit_read, unless, with_term, without_last_number, word, [], ℕ, ◌<◌, ◌∙◌, ◌∷◌, ◌≡◌}
 use Rattle.duration_str.proofs.Sentences.FrontLemmas.{begins_allowed, table_front}
 use Rattle.duration_str.proofs.Sentences.SumLemmas.{AreAdded, terms_added}
 use Rattle.duration_str.proofs.Sentences.AnswerLemmas.{allowed_plus}
-use Rattle.duration_str.proofs.OnePass.EvaluationLemmas.{after_term, answer_after_first, answer_of, answer_with}
-use Rattle.duration_str.proofs.OnePass.EvaluationLemmas.{checked_term_is, one_by_one}
+use Rattle.duration_str.proofs.OnePass.EvaluationLemmas.{after_term, answer_after_first, answer_of, answer_with, checked_term_is, one_by_one}
 use Rattle.duration_str.proofs.OnePass.ReaderLemmas.{after_token}
 
 -- the syntax fault at a place with these kinds expected and these terminals following

@@ -1,9 +1,5 @@
 -- The steps of writing a number in decimal, and its length.
-use Rattle.duration_str.proofs.Common.{ap, append_assoc, arith, common_steps, decimal, decimal_by_steps_wide}
-use Rattle.duration_str.proofs.Common.{decimal_digit, decimal_step_wide, drop, length, length-append}
-use Rattle.duration_str.proofs.Common.{length-decimal-le_wide, length-take-le, List, lit<, pow-succ', rules, suc, sym}
-use Rattle.duration_str.proofs.Common.{take, take-add, take-append_seam, take_more_set, [], ℕ, ◌%◌, ◌++◌, ◌+◌, ◌/◌, ◌<◌}
-use Rattle.duration_str.proofs.Common.{◌^◌, ◌∙◌, ◌∷◌, ◌≡◌, ◌≤◌}
+use Rattle.duration_str.proofs.Common.{ap, append_assoc, arith, common_steps, decimal, decimal_by_steps_wide, decimal_digit, decimal_step_wide, drop, length, length-append, length-decimal-le_wide, length-take-le, List, lit<, pow-succ', rules, suc, sym, take, take-add, take-append_seam, take_more_set, [], ℕ, ◌%◌, ◌++◌, ◌+◌, ◌/◌, ◌<◌, ◌^◌, ◌∙◌, ◌∷◌, ◌≡◌, ◌≤◌}
 
 pub length_one : (n : ℕ) → n < 10 → length (decimal n) ≡ 1
 length_one n h = ap length (decimal_digit n h)

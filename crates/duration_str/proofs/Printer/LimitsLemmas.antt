@@ -1,14 +1,5 @@
 -- The steps of printing within limits, and the most bytes that it takes.
-use Rattle.duration_str.proofs.Common.{All, ap, arith, between, Bool, byte_len, cases_Bool, chars, chars_from_encodes}
-use Rattle.duration_str.proofs.Common.{common_steps, counts_within, Day, decimal, div-le_self, drop, drop_more}
-use Rattle.duration_str.proofs.Common.{encode_utf8_all, Format, Hour, inl, inr, IsPrintedWithin, IsUtf8}
-use Rattle.duration_str.proofs.Common.{le-div_iff_mul-le, leb, leb-true, length, length-append, lengths_within, List}
-use Rattle.duration_str.proofs.Common.{list_all, ltb, ltb-true, map, Month, most_len, nanos_of, nat_tests, part_bytes}
-use Rattle.duration_str.proofs.Common.{Printed, printed_row, Quarter, rank_of, refl, row_of, rules, Short}
-use Rattle.duration_str.proofs.Common.{slice_index_or, Style, sym, take, take-append-add, text_within, TimeUnit, true}
-use Rattle.duration_str.proofs.Common.{units, units_down_to, units_from, units_in, units_within, Week, with_counts}
-use Rattle.duration_str.proofs.Common.{with_gap, with_part, Year, zero-div, zero_unit, [], ℕ, ◌%◌, ◌*◌, ◌++◌, ◌+◌, ◌-◌}
-use Rattle.duration_str.proofs.Common.{◌/◌, ◌<◌, ◌==◌, ◌^◌, ◌∷◌, ◌≡◌, ◌≤◌}
+use Rattle.duration_str.proofs.Common.{All, ap, arith, between, Bool, byte_len, cases_Bool, chars, chars_from_encodes, common_steps, counts_within, Day, decimal, div-le_self, drop, drop_more, encode_utf8_all, Format, Hour, inl, inr, IsPrintedWithin, IsUtf8, le-div_iff_mul-le, leb, leb-true, length, length-append, lengths_within, List, list_all, ltb, ltb-true, map, Month, most_len, nanos_of, nat_tests, part_bytes, Printed, printed_row, Quarter, rank_of, refl, row_of, rules, Short, slice_index_or, Style, sym, take, take-append-add, text_within, TimeUnit, true, units, units_down_to, units_from, units_in, units_within, Week, with_counts, with_gap, with_part, Year, zero-div, zero_unit, [], ℕ, ◌%◌, ◌*◌, ◌++◌, ◌+◌, ◌-◌, ◌/◌, ◌<◌, ◌==◌, ◌^◌, ◌∷◌, ◌≡◌, ◌≤◌}
 use Rattle.duration_str.proofs.Characters.UnitLemmas.{all_units, Each, each_unit, length_name, length_part, name_len}
 use Rattle.duration_str.proofs.Printer.DigitLemmas.{length_smaller}
 use Rattle.duration_str.proofs.Printer.PrintedBytesLemmas.{AreShort, ended, ended_parts, IsUtf8-joined, no_gap}

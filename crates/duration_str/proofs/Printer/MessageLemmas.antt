@@ -1,9 +1,5 @@
 -- The text of a fault is UTF-8, and its last byte is no line feed.
-use Rattle.duration_str.proofs.Common.{ap, arith, byte_text, caret_text, Cause, codes, encode_utf8_all, EndsInsideLine}
-use Rattle.duration_str.proofs.Common.{IfSome, IsAscii-decimal, IsCharBoundary, IsCharBoundary-from_ascii, IsUtf8}
-use Rattle.duration_str.proofs.Common.{IsUtf8-append, IsUtf8-from_ascii, last_or, line_of, List, lit<, Option}
-use Rattle.duration_str.proofs.Common.{placed_text, refl, replicate, replicate-append-replicate, rules, Some, take}
-use Rattle.duration_str.proofs.Common.{take-replicate, [], ℕ, ◌++◌, ◌-◌, ◌<◌, ◌^◌, ◌∙◌, ◌∷◌, ◌≡◌, ◌≢◌, ◌≤◌}
+use Rattle.duration_str.proofs.Common.{ap, arith, byte_text, caret_text, Cause, codes, encode_utf8_all, EndsInsideLine, IfSome, IsAscii-decimal, IsCharBoundary, IsCharBoundary-from_ascii, IsUtf8, IsUtf8-append, IsUtf8-from_ascii, last_or, line_of, List, lit<, Option, placed_text, refl, replicate, replicate-append-replicate, rules, Some, take, take-replicate, [], ℕ, ◌++◌, ◌-◌, ◌<◌, ◌^◌, ◌∙◌, ◌∷◌, ◌≡◌, ◌≢◌, ◌≤◌}
 use Rattle.std.proofs.lemmas.List.Elements.{All-replicate}
 use Rattle.std.proofs.lemmas.Str.Ascii.{IsAscii-from_all}
 use Rattle.duration_str.specs.Buffers.{IsInFront}

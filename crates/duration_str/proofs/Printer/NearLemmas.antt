@@ -1,8 +1,5 @@
 -- The table of near words.
-use Rattle.duration_str.proofs.Common.{ap, arith, Bool, bytes_eq, bytes_eq-Decides, cases_Bool, codes, encode_utf8_all}
-use Rattle.duration_str.proofs.Common.{false, find, if◌then◌else◌, inl, inr, List, map, MicroSecond, None, Option}
-use Rattle.duration_str.proofs.Common.{or_cases, refl, row_of, Some, sym, TimeUnit, to_ascii_lowercase, units, [], ℕ}
-use Rattle.duration_str.proofs.Common.{◌||◌, ◌∙◌, ◌∷◌, ◌≡◌}
+use Rattle.duration_str.proofs.Common.{ap, arith, Bool, bytes_eq, bytes_eq-Decides, cases_Bool, codes, encode_utf8_all, false, find, if◌then◌else◌, inl, inr, List, map, MicroSecond, None, Option, or_cases, refl, row_of, Some, sym, TimeUnit, to_ascii_lowercase, units, [], ℕ, ◌||◌, ◌∙◌, ◌∷◌, ◌≡◌}
 use Rattle.duration_str.proofs.Characters.UnitLemmas.{each_unit}
 use Rattle.duration_str.specs.declared.one_line.TheConstants.{NEAR_WORDS}
 use Rattle.std.specs.Option.{option_map}

@@ -1,25 +1,10 @@
 -- A fault in one line.
-use Rattle.duration_str.proofs.Common.{ahead, and_parts, ap, append-nil, append_assoc, arith, Bool, cases_Bool, Cause}
-use Rattle.duration_str.proofs.Common.{chars, chars-encodes, chars-nil, chars_from_encodes, chars_past_char, codes}
-use Rattle.duration_str.proofs.Common.{common_steps, cond, decimal, decimal_by_steps, drop, Empty, encode_ascii}
-use Rattle.duration_str.proofs.Common.{encode_utf8, encode_utf8_all, encodes-append, encodes-chars, eqb-true, Expected}
-use Rattle.duration_str.proofs.Common.{false, find, ForSome, if◌then◌else◌, inl, inr, IsCharBoundary}
-use Rattle.duration_str.proofs.Common.{IsCharBoundary-at_seam, IsTrue, IsUtf8, IsUtf8-drop, IsUtf8-take, leb-true}
-use Rattle.duration_str.proofs.Common.{len_utf8_bounds, length, length-append, length-decimal-le, length-encode}
-use Rattle.duration_str.proofs.Common.{length-le-encodes, List, list_all, list_all-append, lit<, ltb-true, map, Mixed}
-use Rattle.duration_str.proofs.Common.{nat_le, nat_tests, None, NotText, NumberTooLarge, Option, OutOfRange, Overflow}
-use Rattle.duration_str.proofs.Common.{place_of, refl, row_of, rules, scalar, scalars, scalars-chars, slice_range, Some}
-use Rattle.duration_str.proofs.Common.{suc, Syntax, take, take-nil, take_while, take_while-cons, TimeUnit}
-use Rattle.duration_str.proofs.Common.{to_ascii_lowercase, true, units, zero, [], ℕ, ◌%◌, ◌&&◌, ◌*◌, ◌++◌, ◌+◌, ◌-◌}
-use Rattle.duration_str.proofs.Common.{◌<◌, ◌==◌, ◌^◌, ◌||◌, ◌∙◌, ◌∷◌, ◌≡◌, ◌≢◌, ◌≤◌}
+use Rattle.duration_str.proofs.Common.{ahead, and_parts, ap, append-nil, append_assoc, arith, Bool, cases_Bool, Cause, chars, chars-encodes, chars-nil, chars_from_encodes, chars_past_char, codes, common_steps, cond, decimal, decimal_by_steps, drop, Empty, encode_ascii, encode_utf8, encode_utf8_all, encodes-append, encodes-chars, eqb-true, Expected, false, find, ForSome, if◌then◌else◌, inl, inr, IsCharBoundary, IsCharBoundary-at_seam, IsTrue, IsUtf8, IsUtf8-drop, IsUtf8-take, leb-true, len_utf8_bounds, length, length-append, length-decimal-le, length-encode, length-le-encodes, List, list_all, list_all-append, lit<, ltb-true, map, Mixed, nat_le, nat_tests, None, NotText, NumberTooLarge, Option, OutOfRange, Overflow, place_of, refl, row_of, rules, scalar, scalars, scalars-chars, slice_range, Some, suc, Syntax, take, take-nil, take_while, take_while-cons, TimeUnit, to_ascii_lowercase, true, units, zero, [], ℕ, ◌%◌, ◌&&◌, ◌*◌, ◌++◌, ◌+◌, ◌-◌, ◌<◌, ◌==◌, ◌^◌, ◌||◌, ◌∙◌, ◌∷◌, ◌≡◌, ◌≢◌, ◌≤◌}
 use Rattle.std.proofs.Common.{lit≤, nat_lt}
 use Rattle.std.proofs.lemmas.Bool.{le-leb, lt-leb}
 use Rattle.std.proofs.lemmas.List.{length-take, nil_from_length}
 use Rattle.duration_str.specs.Messages.{chars_before}
-use Rattle.duration_str.specs.OneLine.{at_column, begins_with_letter, expected_words, first_piece, found_line}
-use Rattle.duration_str.specs.OneLine.{found_words, help_at, is_among, is_clear, is_like, is_plain, near_name}
-use Rattle.duration_str.specs.OneLine.{near_words, one_line_of, overflow_line, quoted, quoted_end, shown, small_words}
-use Rattle.duration_str.specs.OneLine.{syntax_line, text_line, unit_help, us_words}
+use Rattle.duration_str.specs.OneLine.{at_column, begins_with_letter, expected_words, first_piece, found_line, found_words, help_at, is_among, is_clear, is_like, is_plain, near_name, near_words, one_line_of, overflow_line, quoted, quoted_end, shown, small_words, syntax_line, text_line, unit_help, us_words}
 use Rattle.std.specs.Char.Escape.{escape_default, escape_unicode, hex_digit_at, short_escape}
 use Rattle.std.specs.Prelude.{not}
 use Rattle.std.specs.Int.{is_in_range}

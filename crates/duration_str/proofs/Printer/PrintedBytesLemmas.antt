@@ -1,10 +1,5 @@
 -- The bytes built unit by unit are the UTF-8 of the printed text.
-use Rattle.duration_str.proofs.Common.{append-nil, append_assoc, arith, between, codes, Compact, decimal}
-use Rattle.duration_str.proofs.Common.{encode_utf8_all, encodes-append, encodes-IsAscii, flat_map, IsAscii-decimal_wide}
-use Rattle.duration_str.proofs.Common.{IsUtf8, IsUtf8-append, IsUtf8-from_ascii, IsUtf8-nil, joined_parts, length}
-use Rattle.duration_str.proofs.Common.{length-append, length-take-le, List, Long, part_bytes, printed_part}
-use Rattle.duration_str.proofs.Common.{printed_parts, rules, Short, Style, sym, take, TimeUnit, with_counts, with_gap}
-use Rattle.duration_str.proofs.Common.{[], ℕ, ⊤, ◌++◌, ◌<◌, ◌^◌, ◌∷◌, ◌≡◌, ◌≤◌}
+use Rattle.duration_str.proofs.Common.{append-nil, append_assoc, arith, between, codes, Compact, decimal, encode_utf8_all, encodes-append, encodes-IsAscii, flat_map, IsAscii-decimal_wide, IsUtf8, IsUtf8-append, IsUtf8-from_ascii, IsUtf8-nil, joined_parts, length, length-append, length-take-le, List, Long, part_bytes, printed_part, printed_parts, rules, Short, Style, sym, take, TimeUnit, with_counts, with_gap, [], ℕ, ⊤, ◌++◌, ◌<◌, ◌^◌, ◌∷◌, ◌≡◌, ◌≤◌}
 use Rattle.duration_str.proofs.Printer.DigitLemmas.{some_decimal}
 
 pub encode_part : (style : Style) (n : ℕ) (u : TimeUnit) → n < 10 ^ 64

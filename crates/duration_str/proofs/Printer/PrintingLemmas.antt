@@ -1,11 +1,5 @@
 -- A printed text is spelled by a sum whose total is the duration.
-use Rattle.duration_str.proofs.Common.{AllPlus, append-nil, arith, between, Bool, common_steps, Compact, counts_of}
-use Rattle.duration_str.proofs.Common.{decimal, drop, eqb-true, false, FitsDuration, flat_map, if◌then◌else◌, IsBlank}
-use Rattle.duration_str.proofs.Common.{IsPrintedIn, IsSentence, joined_parts, List, Long, map, name_in, nanos_of}
-use Rattle.duration_str.proofs.Common.{number, Options, printed_counts, printed_part, printed_parts, refl, row_of}
-use Rattle.duration_str.proofs.Common.{rules, Second, Short, Some, Spells, Style, sum_of, Terminal, terminal_of}
-use Rattle.duration_str.proofs.Common.{terms_of, TimeUnit, true, unit_lengths, units, weighted_sum, word, Year, [], ℕ}
-use Rattle.duration_str.proofs.Common.{⊤, ◌%◌, ◌++◌, ◌<◌, ◌==◌, ◌^◌, ◌∷◌, ◌≡◌}
+use Rattle.duration_str.proofs.Common.{AllPlus, append-nil, arith, between, Bool, common_steps, Compact, counts_of, decimal, drop, eqb-true, false, FitsDuration, flat_map, if◌then◌else◌, IsBlank, IsPrintedIn, IsSentence, joined_parts, List, Long, map, name_in, nanos_of, number, Options, printed_counts, printed_part, printed_parts, refl, row_of, rules, Second, Short, Some, Spells, Style, sum_of, Terminal, terminal_of, terms_of, TimeUnit, true, unit_lengths, units, weighted_sum, word, Year, [], ℕ, ⊤, ◌%◌, ◌++◌, ◌<◌, ◌==◌, ◌^◌, ◌∷◌, ◌≡◌}
 use Rattle.duration_str.proofs.Characters.NumberLemmas.{decimal_terminal}
 use Rattle.duration_str.proofs.LawProofs.GreatestBreakdown.{greatest_breakdown_holds, one_greatest}
 use Rattle.duration_str.proofs.Sentences.AnswerLemmas.{IsSumOf, terms_of_lexemes}

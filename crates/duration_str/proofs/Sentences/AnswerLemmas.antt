@@ -1,22 +1,8 @@
 -- A text is read or refused, not both, and the computed answer says which.
-use Rattle.duration_str.proofs.Common.{AllPlus, answer, AnswerIsReading, append-nil, arith, as_nanos, Bool, byte_len}
-use Rattle.duration_str.proofs.Common.{Cause, chars, combination, CondUnit, early, early_fault, Err, Evaluates}
-use Rattle.duration_str.proofs.Common.{evaluation_fault, expected_after, false, Fault, fault_of_terms, fault_or}
-use Rattle.duration_str.proofs.Common.{first_fault, IfErr, if◌then◌else◌, inl, inr, is_same_operator, is_whole, IsFront}
-use Rattle.duration_str.proofs.Common.{IsOkAnd, IsRead, IsRefused, IsRefusedAt, IsSentence, IsSentenceOf, last_of, late}
-use Rattle.duration_str.proofs.Common.{late_answer, late_fault, later_total, le-ltb, length, List, list_all, map}
-use Rattle.duration_str.proofs.Common.{MatchResult, None, number, Ok, OneReading, operator, Option, Options, other}
-use Rattle.duration_str.proofs.Common.{Overflow, ParsesText, refl, Result, rules, Some, start_after, sum_of, sym}
-use Rattle.duration_str.proofs.Common.{Syntax, syntax_fault, Term, Terminal, terminal_of, terminals_of, terms_of}
-use Rattle.duration_str.proofs.Common.{tokens_of, true, value_of, value_of_term, word, [], ℕ, ◌++◌, ◌<◌, ◌^◌, ◌↔◌, ◌∙◌}
-use Rattle.duration_str.proofs.Common.{◌∷◌, ◌≡◌, ◌≤◌, ◌⊎◌}
-use Rattle.duration_str.proofs.Sentences.FrontLemmas.{AreAllowed, ends_by_table, expected_by_table, front_allowed}
-use Rattle.duration_str.proofs.Sentences.FrontLemmas.{no_operators, one_expected, one_front, sentence_allowed}
-use Rattle.duration_str.proofs.Sentences.FrontLemmas.{table_front}
+use Rattle.duration_str.proofs.Common.{AllPlus, answer, AnswerIsReading, append-nil, arith, as_nanos, Bool, byte_len, Cause, chars, combination, CondUnit, early, early_fault, Err, Evaluates, evaluation_fault, expected_after, false, Fault, fault_of_terms, fault_or, first_fault, IfErr, if◌then◌else◌, inl, inr, is_same_operator, is_whole, IsFront, IsOkAnd, IsRead, IsRefused, IsRefusedAt, IsSentence, IsSentenceOf, last_of, late, late_answer, late_fault, later_total, le-ltb, length, List, list_all, map, MatchResult, None, number, Ok, OneReading, operator, Option, Options, other, Overflow, ParsesText, refl, Result, rules, Some, start_after, sum_of, sym, Syntax, syntax_fault, Term, Terminal, terminal_of, terminals_of, terms_of, tokens_of, true, value_of, value_of_term, word, [], ℕ, ◌++◌, ◌<◌, ◌^◌, ◌↔◌, ◌∙◌, ◌∷◌, ◌≡◌, ◌≤◌, ◌⊎◌}
+use Rattle.duration_str.proofs.Sentences.FrontLemmas.{AreAllowed, ends_by_table, expected_by_table, front_allowed, no_operators, one_expected, one_front, sentence_allowed, table_front}
 use Rattle.duration_str.proofs.Sentences.SpellingLemmas.{empty_no_sentence, sentence_terminals, tokens_spell}
-use Rattle.duration_str.proofs.Sentences.SumLemmas.{added_overflow, AreAdded, below_evaluate, evaluate_below, has_terms}
-use Rattle.duration_str.proofs.Sentences.SumLemmas.{no_fault, or_else-none, running_below, running_none}
-use Rattle.duration_str.proofs.Sentences.SumLemmas.{running_overflow, terms_added, value_is_sum}
+use Rattle.duration_str.proofs.Sentences.SumLemmas.{added_overflow, AreAdded, below_evaluate, evaluate_below, has_terms, no_fault, or_else-none, running_below, running_none, running_overflow, terms_added, value_is_sum}
 pub use Rattle.duration_str.proofs.Sentences.SumLemmas.{EachFits, sum_fits_each}
 use Rattle.std.specs.declared.time.Duration.{Duration}
 use Rattle.duration_str.specs.Results.{IsValueOrFault, ReadsText}

@@ -1,11 +1,5 @@
 -- Sentences in terms of the table of what may follow a terminal, and the front of a list of terminals.
-use Rattle.duration_str.proofs.Common.{allows, and_from, and_parts, ap, arith, BeginsSentence, Bool, CanFollow}
-use Rattle.duration_str.proofs.Common.{cases_Bool, drop, drop_at, Expected, expected_after, false, front_after}
-use Rattle.duration_str.proofs.Common.{front_of, IsFront, IsSentence, IsTrue, last_of, le_antisymm, le_of_suc-le-suc}
-use Rattle.duration_str.proofs.Common.{length, length-append, List, None, not-true, not_from_false, not_from_true}
-use Rattle.duration_str.proofs.Common.{number, operator, Option, Plus, refl, same_from_decides, Second, Some, suc, sym}
-use Rattle.duration_str.proofs.Common.{take, take-append-drop, take_at, Terminal, true, word, zero, zero-le, [], ℕ, ⊤}
-use Rattle.duration_str.proofs.Common.{◌++◌, ◌↔◌, ◌∷◌, ◌≡◌, ◌≤◌}
+use Rattle.duration_str.proofs.Common.{allows, and_from, and_parts, ap, arith, BeginsSentence, Bool, CanFollow, cases_Bool, drop, drop_at, Expected, expected_after, false, front_after, front_of, IsFront, IsSentence, IsTrue, last_of, le_antisymm, le_of_suc-le-suc, length, length-append, List, None, not-true, not_from_false, not_from_true, number, operator, Option, Plus, refl, same_from_decides, Second, Some, suc, sym, take, take-append-drop, take_at, Terminal, true, word, zero, zero-le, [], ℕ, ⊤, ◌++◌, ◌↔◌, ◌∷◌, ◌≡◌, ◌≤◌}
 
 -- The table allows each terminal after the one before it, and the first one after `last`.
 abbrev pub AreAllowed : Bool → Option Terminal → List Terminal → Type 0

@@ -1,14 +1,8 @@
 -- A sentence spells a text exactly if its lexemes are those of the text's tokens.
-use Rattle.duration_str.proofs.Common.{allows, and_parts, are_of_one_run, AreTokens, BeginsWith, Bool, byte_len}
-use Rattle.duration_str.proofs.Common.{EndsRun, Expected, expected_after, false, false_from_ne_true, goes_on, is_blank}
-use Rattle.duration_str.proofs.Common.{IsBlank, IsLexeme, IsSentenceOf, IsTrue, lexemes_of, List, list_all}
-use Rattle.duration_str.proofs.Common.{list_all-append, map, None, Option, Options, refl, rules, Some, sort_of, Spells}
-use Rattle.duration_str.proofs.Common.{sym, Terminal, terminal_of, terminals_of, Token, tokens_of, true, [], ℕ, ⊤, ◌++◌}
-use Rattle.duration_str.proofs.Common.{◌+◌, ◌∙◌, ◌∷◌, ◌≡◌}
+use Rattle.duration_str.proofs.Common.{allows, and_parts, are_of_one_run, AreTokens, BeginsWith, Bool, byte_len, EndsRun, Expected, expected_after, false, false_from_ne_true, goes_on, is_blank, IsBlank, IsLexeme, IsSentenceOf, IsTrue, lexemes_of, List, list_all, list_all-append, map, None, Option, Options, refl, rules, Some, sort_of, Spells, sym, Terminal, terminal_of, terminals_of, Token, tokens_of, true, [], ℕ, ⊤, ◌++◌, ◌+◌, ◌∙◌, ◌∷◌, ◌≡◌}
 use Rattle.duration_str.proofs.Characters.CharacterLemmas.{operator-not_blank, run-not_blank}
 use Rattle.duration_str.proofs.Cutting.TokenLemmas.{tokens_are, tokens_once}
-use Rattle.duration_str.proofs.Cutting.SortLemmas.{digits_are_lexeme, letters_are_lexeme, lexeme_sort, run_sort}
-use Rattle.duration_str.proofs.Cutting.SortLemmas.{terminal_cases}
+use Rattle.duration_str.proofs.Cutting.SortLemmas.{digits_are_lexeme, letters_are_lexeme, lexeme_sort, run_sort, terminal_cases}
 use Rattle.duration_str.proofs.Sentences.FrontLemmas.{AreAllowed, sentence_allowed}
 
 pub begins_with : {lexeme text : List ℕ} {IsRest : List ℕ → Type 0} (blanks rest : List ℕ) → IsBlank blanks

@@ -1,11 +1,5 @@
 -- Terms that are added evaluate exactly if their sum is below 2^64, and the sum is their value.
-use Rattle.duration_str.proofs.Common.{AllPlus, ap, append-nil, append_assoc, arith, Bool, cases_lt, Cause, combination}
-use Rattle.duration_str.proofs.Common.{CondUnit, Evaluates, evaluation_fault, fault_of_terms, first_fault, fits}
-use Rattle.duration_str.proofs.Common.{is_same_operator, IsSentence, later_total, le-ltb, leb, leb-true, length, List}
-use Rattle.duration_str.proofs.Common.{list_all, lt-ltb, ltb-true, nanos_of, None, number, operator, Option, or_else}
-use Rattle.duration_str.proofs.Common.{Overflow, Plus, refl, rules, running_fault, Some, sum_of, Term, term_fault}
-use Rattle.duration_str.proofs.Common.{Terminal, terms_after, terms_of, TimeUnit, true, unless, value_of, value_of_term}
-use Rattle.duration_str.proofs.Common.{word, [], ℕ, ⊤, ◌++◌, ◌+◌, ◌<◌, ◌^◌, ◌↔◌, ◌∷◌, ◌≡◌, ◌≤◌}
+use Rattle.duration_str.proofs.Common.{AllPlus, ap, append-nil, append_assoc, arith, Bool, cases_lt, Cause, combination, CondUnit, Evaluates, evaluation_fault, fault_of_terms, first_fault, fits, is_same_operator, IsSentence, later_total, le-ltb, leb, leb-true, length, List, list_all, lt-ltb, ltb-true, nanos_of, None, number, operator, Option, or_else, Overflow, Plus, refl, rules, running_fault, Some, sum_of, Term, term_fault, Terminal, terms_after, terms_of, TimeUnit, true, unless, value_of, value_of_term, word, [], ℕ, ⊤, ◌++◌, ◌+◌, ◌<◌, ◌^◌, ◌↔◌, ◌∷◌, ◌≡◌, ◌≤◌}
 use Rattle.duration_str.proofs.Characters.UnitLemmas.{all_units}
 
 -- ---- When there is no fault: a set of equivalences for `simp`

@@ -2,8 +2,7 @@
 use Rattle.std.specs.Prelude.{◌≡◌, ℕ, ◌+◌, ◌*◌, ◌%◌, ◌^◌, Bool, false, ◌&&◌, [], ◌∷◌, ◌++◌, IsTrue, ⊤, ◌==◌, if◌then◌else◌}
 use Rattle.std.specs.List.{list_all}
 use Rattle.std.specs.Char.{is_ascii_alphabetic, is_ascii_uppercase}
-use Rattle.duration_str.specs.Text.{Bytes, Characters, ahead, width, byte_len, chinese_letters}
-use Rattle.duration_str.specs.Text.{is_digit, is_unit_letter, number_of}
+use Rattle.duration_str.specs.Text.{Bytes, Characters, ahead, width, byte_len, chinese_letters, is_digit, is_unit_letter, number_of}
 use Rattle.duration_str.specs.declared.options.Options.{Options}
 
 -- The character c is at byte `place`, and `next` is the byte after it.

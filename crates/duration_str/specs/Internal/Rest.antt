@@ -1,6 +1,5 @@
 -- What is left of a text while it is read: the next thing to read, and the answer.
-use Rattle.std.specs.Prelude.{◌≡◌, ℕ, zero, suc, ◌≤◌, Bool, false, List, [], ◌∷◌, length, take}
-use Rattle.std.specs.Prelude.{drop, Option, Some, None, Result, Ok, Err, IfErr}
+use Rattle.std.specs.Prelude.{◌≡◌, ℕ, zero, suc, ◌≤◌, Bool, false, List, [], ◌∷◌, length, take, drop, Option, Some, None, Result, Ok, Err, IfErr}
 use Rattle.std.specs.Option.{ForSome, ok_or}
 use Rattle.duration_str.specs.declared.options.Options.{Options}
 use Rattle.duration_str.specs.declared.unit.TimeUnit.{TimeUnit}
@@ -15,8 +14,7 @@ use Rattle.duration_str.specs.Grammar.{Terminal, number, word, operator, termina
 use Rattle.duration_str.specs.Tokens.{Token}
 use Rattle.duration_str.specs.Value.{combination, is_same_operator, unless, fault_or}
 use Rattle.duration_str.specs.Internal.Numbers.{u64_from, checked_term}
-use Rattle.duration_str.specs.Answer.{answer_at, expected_at_start, expected_after_number}
-use Rattle.duration_str.specs.Answer.{expected_after_unit, front_of}
+use Rattle.duration_str.specs.Answer.{answer_at, expected_at_start, expected_after_number, expected_after_unit, front_of}
 use Rattle.duration_str.specs.Faults.{place_of}
 use Rattle.duration_str.specs.Iteration.{source, options_of, cut_place, tokens_left}
 use Rattle.duration_str.specs.Internal.Steps.{IsAhead}

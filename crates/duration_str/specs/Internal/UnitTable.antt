@@ -1,7 +1,6 @@
 -- The code's tables: of units, of names by their packed numbers, and of near words.
 use denote.Ref.{Bor}
-use Rattle.std.specs.Prelude.{All, Bool, List, Option, bytes_eq, count_by, encode_utf8_all, length, map, nat_lt, not, take}
-use Rattle.std.specs.Prelude.{[], ℕ, ◌&&◌, ◌++◌, ◌-◌, ◌/◌, ◌==◌, ◌^◌, ◌∷◌, ◌≡◌}
+use Rattle.std.specs.Prelude.{All, Bool, List, Option, bytes_eq, count_by, encode_utf8_all, length, map, nat_lt, not, take, [], ℕ, ◌&&◌, ◌++◌, ◌-◌, ◌/◌, ◌==◌, ◌^◌, ◌∷◌, ◌≡◌}
 use Rattle.std.specs.Char.{is_ascii_whitespace, to_ascii_lowercase}
 use Rattle.std.specs.List.{find, list_any, suffix_len}
 use Rattle.duration_str.specs.declared.unit.Row.{Row}

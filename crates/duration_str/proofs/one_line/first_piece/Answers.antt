@@ -1,10 +1,7 @@
 use Rattle.duration_str.proofs.Common.{refl, rules, sym, ◌∙◌}
-use Rattle.duration_str.proofs.Printer.OneLineLemmas.{taken_all, taken_boundary, taken_end, taken_first, taken_more}
-use Rattle.duration_str.proofs.Printer.OneLineLemmas.{taken_other}
+use Rattle.duration_str.proofs.Printer.OneLineLemmas.{taken_all, taken_boundary, taken_end, taken_first, taken_more, taken_other}
 use Rattle.duration_str.proofs.one_line.first_piece.Goals as goal
-use Rattle.duration_str.proofs.one_line.first_piece.Goals.{in-Some-next+then-left-eq0, in_default-next}
-use Rattle.duration_str.proofs.one_line.first_piece.Goals.{then-left-eq0-via-else-left-eq0+then-not-is_like}
-use Rattle.duration_str.proofs.one_line.first_piece.Goals.{then-left-eq0-via-then-left-eq0}
+use Rattle.duration_str.proofs.one_line.first_piece.Goals.{in-Some-next+then-left-eq0, in_default-next, then-left-eq0-via-else-left-eq0+then-not-is_like, then-left-eq0-via-then-left-eq0}
 
 pub loop-c-init : goal.loop-c-init
 loop-c-init c = search (rules, taken_first)

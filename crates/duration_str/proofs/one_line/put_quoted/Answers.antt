@@ -1,8 +1,6 @@
-use Rattle.duration_str.proofs.Common.{append_assoc, chars, chars_rest, codes, encode_utf8_all, IsUtf8-past_char, rules}
-use Rattle.duration_str.proofs.Common.{take, ◌++◌, ◌-◌, ◌≡◌}
+use Rattle.duration_str.proofs.Common.{append_assoc, chars, chars_rest, codes, encode_utf8_all, IsUtf8-past_char, rules, take, ◌++◌, ◌-◌, ◌≡◌}
 use Rattle.duration_str.specs.OneLine.{quoted, quoted_end, shown}
-use Rattle.duration_str.proofs.Printer.OneLineLemmas.{end_inside, quoted_all, quoted_clear, quoted_cut, quoted_more}
-use Rattle.duration_str.proofs.Printer.OneLineLemmas.{quoted_stops}
+use Rattle.duration_str.proofs.Printer.OneLineLemmas.{end_inside, quoted_all, quoted_clear, quoted_cut, quoted_more, quoted_stops}
 use Rattle.duration_str.proofs.one_line.put_quoted.Goals.{After-put_shown, After-put_text}
 use Rattle.duration_str.proofs.one_line.put_quoted.Goals as goal
 

@@ -1,8 +1,7 @@
 use Rattle.duration_str.proofs.Common.{ahead, ap, chars, encodes-chars, false, refl, sym, ◌&&◌, ◌∙◌, ◌≡◌}
 use Rattle.duration_str.specs.OneLine.{begins_with_letter, first_piece}
 use Rattle.duration_str.proofs.Printer.OneLineLemmas.{no_unit_word}
-use Rattle.duration_str.proofs.one_line.put_syntax.Goals.{After-first_piece-piece, else-expected-via-else-expected}
-use Rattle.duration_str.proofs.one_line.put_syntax.Goals.{else-expected-via-then-expected+else-begins_with_letter}
+use Rattle.duration_str.proofs.one_line.put_syntax.Goals.{After-first_piece-piece, else-expected-via-else-expected, else-expected-via-then-expected+else-begins_with_letter}
 use Rattle.duration_str.proofs.one_line.put_syntax.Goals as goal
 
 same : (c : After-first_piece-piece)

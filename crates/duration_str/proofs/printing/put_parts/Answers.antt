@@ -1,5 +1,4 @@
-use Rattle.duration_str.proofs.Common.{arith, counts_within, drop, length, map, nanos_of, Printed, rules}
-use Rattle.duration_str.proofs.Common.{slice_index_or, take, units_in, with_counts, ◌+◌, ◌-◌, ◌≤◌}
+use Rattle.duration_str.proofs.Common.{arith, counts_within, drop, length, map, nanos_of, Printed, rules, slice_index_or, take, units_in, with_counts, ◌+◌, ◌-◌, ◌≤◌}
 use Rattle.duration_str.proofs.Printer.LimitsLemmas.{beyond, first_room, only_part, row_from, with_none}
 use Rattle.duration_str.proofs.printing.put_parts.Goals as goal
 

@@ -1,5 +1,4 @@
-use Rattle.duration_str.proofs.Common.{counts_within, drop, length, map, nanos_of, take, units_in, with_counts, ◌≡◌}
-use Rattle.duration_str.proofs.Common.{◌≤◌}
+use Rattle.duration_str.proofs.Common.{counts_within, drop, length, map, nanos_of, take, units_in, with_counts, ◌≡◌, ◌≤◌}
 use Rattle.duration_str.proofs.printing.put_parts.Given as goal
 
 abbrev pub invariant-loop-row : goal.invariant-loop-row

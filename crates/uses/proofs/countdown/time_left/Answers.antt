@@ -1,5 +1,4 @@
-use Rattle.duration_str.proofs.Common.{arith, as_nanos, cases_lt, chars, inl, inr, IsMostWithin, IsPrintedWithin, List}
-use Rattle.duration_str.proofs.Common.{off, ℕ}
+use Rattle.duration_str.proofs.Common.{arith, as_nanos, cases_lt, chars, inl, inr, IsMostWithin, IsPrintedWithin, List, off, ℕ}
 use Rattle.uses.specs.Countdown.{coarse}
 use Rattle.uses.proofs.countdown.time_left.Goals as goal
 

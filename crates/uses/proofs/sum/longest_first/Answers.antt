@@ -1,6 +1,5 @@
 use Rattle.std.proofs.Common.{ap, reverse, rules, subst, sym, ◌∙◌}
-use Rattle.uses.proofs.Common.{IsNonDecreasingBy, IsNonDecreasingBy-from_sort_by_key, IsPermutation-sym}
-use Rattle.uses.proofs.Common.{IsPermutation-trans, nanos_in, reverse-reverse}
+use Rattle.uses.proofs.Common.{IsNonDecreasingBy, IsNonDecreasingBy-from_sort_by_key, IsPermutation-sym, IsPermutation-trans, nanos_in, reverse-reverse}
 use Rattle.uses.proofs.SumLemmas.{permuted_read}
 use Rattle.uses.proofs.sum.longest_first.Goals as goal
 
