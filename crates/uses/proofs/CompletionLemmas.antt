@@ -7,13 +7,8 @@ use Rattle.duration_str.proofs.Sentences.SpellingLemmas.{begins_with, tokens_spe
 use Rattle.duration_str.proofs.LawProofs.SumOfTexts.{spells_both}
 use Rattle.uses.specs.Completion.{BeginsExpression, IsCompletion}
 use Rattle.uses.proofs.FollowLemmas.{ends, follows, zero_ends}
-use Rattle.uses.proofs.CutLemmas.{IsSplit, one_token, split_at, typed_lexemes}
+use Rattle.uses.proofs.CutLemmas.{IsSplit, split_at, typed_lexemes}
 use Rattle.uses.proofs.SyntaxLemmas.{refused_at}
-
--- A lexeme is the only token of its text.
-pub tokens_of_lexeme : OneCut → (o : Options) (w : List ℕ) → IsLexeme o w
-    → tokens_of o w ≡ record { start = 0; characters = w } ∷ []
-tokens_of_lexeme cut o w h = sym (cut.only o w (record { start = 0; characters = w } ∷ []) (one_token o w h))
 
 spells_one : (w : List ℕ) → Spells (w ∷ []) (32 ∷ w)
 spells_one w = begins_with (32 ∷ []) [] refl (rw append-nil) refl

@@ -77,8 +77,3 @@ module _ (o : Options) where
       let before = joined 0 text ((c ∷ cs) ++ 32 ∷ more) tokens are in
       let next = tokens_step o before.0 [] (c ∷ cs) (32 ∷ more) refl h (ends_at_blank (c ∷ cs) [] more refl) in
       (_, ap lexemes_of (before.1 ∙ ap (λ (ts : List Token). tokens ++ ts) next) ∙ map-append _ tokens _)
-
-  -- A lexeme is one token.
-  pub one_token : (w : List ℕ) → IsLexeme o w → AreTokens o 0 w (record { start = 0; characters = w } ∷ [])
-  one_token [] h = absurd h
-  one_token (c ∷ cs) h = search (rules, append-nil)
