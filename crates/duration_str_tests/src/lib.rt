@@ -1,4 +1,4 @@
-//! Tests of what the library's public functions return.
+//! Tests of what public functions return, mostly of the library.
 #![tactic(auto)]
 
 #[cfg(test)]
@@ -9,6 +9,8 @@ mod debug;
 mod error;
 #[cfg(test)]
 mod ext;
+#[cfg(test)]
+mod extremes;
 #[cfg(test)]
 mod reading;
 #[cfg(test)]

@@ -1,13 +1,14 @@
 // Long texts, look-alikes, calls that have no allocator, and a run that is refused memory.
+use crate::refusal::refusal;
+use crate::vectors::{
+    AFTER_NUMBER, AFTER_UNIT, CN_UNIT, NUMBER, OFF, OPERATORS, START, TOO_LARGE, UNITS, syntax,
+};
 use arrayvec::ArrayString;
 use duration_str::{
-    Cause, Expected, Fault, Options, after_naive_date, after_naive_date_time, before_naive_date,
+    Cause, Expected, Options, after_naive_date, after_naive_date_time, before_naive_date,
     before_naive_date_time, deserialize_duration, deserialize_duration_chrono,
     deserialize_duration_time, deserialize_option_duration, deserialize_option_duration_chrono,
-    deserialize_option_duration_time, parse, parse_with, write_human,
-};
-use duration_str_tests::vectors::{
-    AFTER_NUMBER, AFTER_UNIT, CN_UNIT, NUMBER, OFF, OPERATORS, START, TOO_LARGE, UNITS, syntax,
+    deserialize_option_duration_time, parse, write_human,
 };
 use durstr_run::{RunFault, run};
 use jiff::civil::Date;
@@ -32,11 +33,6 @@ fn long(
 ) -> Result<String, AllocError> {
     let run = part.repeat(rt.alloc(), times)?;
     format!(in rt.alloc(); "{head}{run}{tail}")
-}
-
-/// The fault with which the text is refused.
-fn refusal<'a>(rt: &impl Abort, text: &'a str, o: Options) -> Fault<'a> {
-    parse_with(text, o).err().expect(rt, "a refused text")
 }
 
 #[test]
