@@ -42,8 +42,8 @@
 #define DURATION_STR_VERSION "0.19.0"
 
 /* The most bytes that a printed duration has, and the bytes of the buffer
- * into which it is printed; then those in any style, and those of a refusal
- * in one line. */
+ * into which it is printed; then those in any style; then a bound for a
+ * refusal in one line, and its buffer. */
 #define DURATION_STR_MAX_PRINTED_LEN 60
 #define DURATION_STR_FORMAT_BUFFER_SIZE 64
 #define DURATION_STR_MAX_STYLED_LEN 134

@@ -21,7 +21,7 @@ use crate::fault::Fault;
 use crate::message::{chars_before, put, put_decimal};
 use crate::token::is_blank;
 
-/// The most bytes of a line.
+/// A line has no more bytes than this.
 ///
 /// ```
 /// use duration_str::{MAX_ONE_LINE_LEN, ONE_LINE_BUFFER_SIZE, Options, parse_with};
