@@ -51,8 +51,13 @@
 #define DURATION_STR_MAX_ONE_LINE_LEN 294
 #define DURATION_STR_ONE_LINE_BUFFER_SIZE 384
 
-/* What GCC and Clang are told: which pointers may not be null, and which
- * results must be used. */
+/* What GCC and Clang are told: how many bytes a buffer has, in C, which
+ * pointers may not be null, and which results must be used. */
+#if defined __GNUC__ && !defined __cplusplus
+#define DURATION_STR_STATIC static
+#else
+#define DURATION_STR_STATIC
+#endif
 #ifdef __GNUC__
 #define DURATION_STR_NONNULL(...) __attribute__((nonnull(__VA_ARGS__)))
 #define DURATION_STR_MUST_USE __attribute__((warn_unused_result))
@@ -172,7 +177,9 @@ bool duration_str_parse(const char *text, size_t length, uint64_t *nanos);
  * DURATION_STR_MAX_PRINTED_LEN. `buffer` has DURATION_STR_FORMAT_BUFFER_SIZE
  * bytes. */
 DURATION_STR_NONNULL(2)
-size_t duration_str_format(uint64_t nanos, char *buffer);
+size_t duration_str_format(
+    uint64_t nanos,
+    char buffer[DURATION_STR_STATIC DURATION_STR_FORMAT_BUFFER_SIZE]);
 
 /* Prints a duration of `secs` seconds and `nanos` nanoseconds in a style of
  * `enum duration_str_style`, only in the units from `largest` to `smallest`,
@@ -187,10 +194,10 @@ size_t duration_str_format(uint64_t nanos, char *buffer);
  * and the text is empty, if `nanos` is 1,000,000,000 or more, `style` is above
  * 2, or a unit's number is above 10. */
 DURATION_STR_NONNULL(7)
-size_t duration_str_format_styled(uint64_t secs, uint32_t nanos,
-                                  uint32_t largest, uint32_t smallest,
-                                  uint32_t parts, uint32_t style,
-                                  char *buffer);
+size_t duration_str_format_styled(
+    uint64_t secs, uint32_t nanos, uint32_t largest, uint32_t smallest,
+    uint32_t parts, uint32_t style,
+    char buffer[DURATION_STR_STATIC DURATION_STR_STYLED_BUFFER_SIZE]);
 
 /* Reads a text under these options, and writes its value to `*answer`, or
  * why and where it is refused. Returns true if it is read. */
@@ -208,10 +215,10 @@ bool duration_str_parse_with(const char *text, size_t length,
  * text, and what can't be seen or could do harm in a terminal or a log is
  * escaped. Of bytes that are not UTF-8 it is `not UTF-8`. */
 DURATION_STR_NONNULL(4, 5)
-size_t duration_str_one_line(const char *text, size_t length,
-                             uint32_t options,
-                             struct duration_str_answer *answer,
-                             char *buffer);
+size_t duration_str_one_line(
+    const char *text, size_t length, uint32_t options,
+    struct duration_str_answer *answer,
+    char buffer[DURATION_STR_STATIC DURATION_STR_ONE_LINE_BUFFER_SIZE]);
 
 /* The version of the library, in the form of DURATION_STR_VERSION_NUMBER. */
 uint32_t duration_str_version(void);
