@@ -5,26 +5,15 @@ from __future__ import annotations
 import datetime
 from contextlib import suppress
 from importlib import import_module
-from typing import TYPE_CHECKING, Annotated, Any, NoReturn
+from typing import Annotated, Any
 
 from ._native import format, parse
 from ._texts import DurationError
 
 
-def _parse(text: Any) -> datetime.timedelta:
-    """The value of a text. Raises pydantic's own error, whose message is the line, and whose context what the error has."""
-    try:
-        return parse(text)
-    except DurationError as error:
-        told = {"cause": error.cause.name, "place": error.place, "pos": error.pos, "found": error.found}
-        # pydantic puts the context's values in place of `{NAME}` in the message, and so a text that has one gets no context.
-        context = None if any(f"{{{name}}}" in str(error) for name in told) else told
-        raise import_module("pydantic_core").PydanticCustomError("duration", str(error), context) from None
-
-
-def _read(value: Any) -> datetime.timedelta:
-    """The value of a text, or a timedelta as it is. Raises pydantic's own error of a negative one, which has no text, and
-    of what is neither, as pydantic does where it reads JSON."""
+def duration(value: Any) -> Any:
+    """The value of a text, or a timedelta as it is. Raises pydantic's own errors. Where a field may have other types, too,
+    pydantic's errors name this function."""
     core = import_module("pydantic_core")
     if isinstance(value, datetime.timedelta):
         if value < datetime.timedelta(0):
@@ -32,7 +21,13 @@ def _read(value: Any) -> datetime.timedelta:
         return value
     if not isinstance(value, str):
         raise core.PydanticKnownError("string_type")
-    return _parse(value)
+    try:
+        return parse(value)
+    except DurationError as error:
+        told = {"cause": error.cause.name, "place": error.place, "pos": error.pos, "found": error.found}
+        # pydantic puts the context's values in place of `{NAME}` in the message, and so a text that has one gets no context.
+        context = None if any(f"{{{name}}}" in str(error) for name in told) else told
+        raise core.PydanticCustomError("duration", str(error), context) from None
 
 
 def _print(value: Any) -> str:
@@ -57,44 +52,21 @@ class _Texts:
     def __repr__(self) -> str:
         return "duration_str.Duration"
 
+    def __reduce__(self) -> str:
+        return "TEXTS"
+
     def __get_pydantic_core_schema__(self, source: Any, handler: Any) -> Any:
         schema: Any = import_module("pydantic_core.core_schema")
-        text = schema.str_schema()
-        # What `Field` demands of the timedelta, such as `gt`
-        demands = handler(datetime.timedelta)
-        read_json = schema.no_info_after_validator_function(_parse, text)
-        return schema.json_or_python_schema(
-            json_schema=schema.chain_schema([read_json, demands]),
-            python_schema=schema.chain_schema([schema.no_info_plain_validator_function(_read), demands]),
-            serialization=schema.plain_serializer_function_ser_schema(_print, return_schema=text, when_used="json"),
-        )
+        write = schema.plain_serializer_function_ser_schema(_print, return_schema=schema.str_schema(), when_used="json")
+        return schema.no_info_before_validator_function(duration, handler(datetime.timedelta), serialization=write)
 
     def __get_pydantic_json_schema__(self, schema: Any, handler: Any) -> Any:
         # pydantic writes demands that JSON Schema doesn't have of a string.
-        return _Shown((key, value) for key, value in handler(schema).items() if key not in ("gt", "ge", "lt", "le"))
+        told = handler({"type": "str"})
+        return _Shown((key, value) for key, value in told.items() if key not in ("gt", "ge", "lt", "le"))
 
 
-class _Plain(type):
-    """Of what any timedelta is an instance, so that who checks annotations takes those that `parse` returns."""
-
-    def __instancecheck__(cls, value: object) -> bool:
-        return isinstance(value, datetime.timedelta)
-
-
-class _Timedelta(datetime.timedelta, metaclass=_Plain):
-    """A timedelta to pydantic 2, and an error to pydantic 1, which would take no notice of `_Texts`."""
-
-    @classmethod
-    def __get_validators__(cls) -> NoReturn:
-        raise TypeError("duration_str.Duration needs pydantic 2")
-
-
-# Help texts, such as those of pydantic's settings, show the name.
-_Timedelta.__name__ = _Timedelta.__qualname__ = "Duration"
-
-if TYPE_CHECKING:
-    Duration = Annotated[datetime.timedelta, _Texts()]
-else:
-    Duration = Annotated[_Timedelta, _Texts()]
+TEXTS = _Texts()
+Duration = Annotated[datetime.timedelta, TEXTS]
 """A timedelta in a model of pydantic 2: a text is read, a timedelta is kept, and the JSON has the printed text. `gt`, `ge`,
-`lt` and `le` of a `Field` are timedeltas. pydantic 1 refuses it."""
+`lt` and `le` of a `Field` are timedeltas."""
