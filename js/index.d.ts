@@ -141,9 +141,9 @@ export type Result<Value = number> =
 export declare const version: string;
 
 /**
- * The value of a text in milliseconds: `parse("1m 30s")` is `90000`, and `parse("1500us")` is `1.5`. From 2^53 nanoseconds
- * (104 days) on it is the number nearest to it. To read an array write `texts.map((text) => parse(text))`, since `map` passes
- * the index, too.
+ * The value of a text in milliseconds: `parse("1m 30s")` is `90000`, and `parse("1500us")` is `1.5`. It is the number
+ * nearest to the value, which has its nanoseconds up to 2^33 ms (99 days). To read an array write
+ * `texts.map((text) => parse(text))`, since `map` passes the index, too.
  *
  * ```js
  * setTimeout(retry, parse("1m 30s")); // which takes up to 24.8 days

@@ -5,7 +5,8 @@ import { after, DurationError, parse } from "duration-str";
 export function schedule({ every, until }, job, now = new Date()) {
     const period = setting("every", () => parse(every));
     const end = setting("until", () => after(now, until));
-    if (period === 0) throw new RangeError("every: must not be 0");
+    // A timer takes what is longer for 1 ms.
+    if (period < 1 || period >= 2 ** 31) throw new RangeError("every: from 1 ms to 24 days");
     const timer = setInterval(() => (new Date() < end ? job() : clearInterval(timer)), period);
     return { timer, period, end };
 }

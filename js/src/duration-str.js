@@ -235,50 +235,61 @@ function ownOptions(options, defaults, hint = "") {
 
 /** The options of reading, in the order of their bits in `enum duration_str_option`. */
 const OFF = { noCalc: false, lowercase: false, cnUnit: false };
+const NAMES = Object.keys(OFF);
 
 /** The bits of the options that are on. */
 function bitsOf(options) {
     if (options === undefined) return 0;
     // Whoever hands a call over, as to `map`, hands in other arguments, too.
-    const all = Object.entries(ownOptions(options, OFF, ": write (text) => parse(text)"));
-    return all.reduce((bits, [name, value], bit) => {
-        if (typeof value !== "boolean") throw new TypeError(`the option ${name} must be a boolean, not ${typeOf(value)}`);
-        return bits | value << bit;
+    const all = ownOptions(options, OFF, ": write (text) => parse(text)");
+    return NAMES.reduce((bits, name, bit) => {
+        if (typeof all[name] !== "boolean") throw new TypeError(`the option ${name} must be a boolean, not ${typeOf(all[name])}`);
+        return bits | all[name] << bit;
     }, 0);
 }
 
-export function tryParseNs(text, options) {
+/** Reads a text, and returns what is wrong with it; nothing where it is read, and its value stands at ANSWER. */
+function faultIn(text, options) {
     if (typeof text !== "string") throw new TypeError(`a duration's text must be a string, not ${typeOf(text)}`);
     const bits = bitsOf(options);
     if (!calls) start();
     const { length, lone } = write(text);
-    if (lone >= 0) return { ok: false, fault: noText(text, lone) };
+    if (lone >= 0) return noText(text, lone);
     const lineLength = calls.duration_str_one_line(TEXT, length, bits, ANSWER, WRITTEN);
-    if (lineLength > 0) return { ok: false, fault: faultOf(text, length, lineLength) };
-    return { ok: true, value: fields.getBigUint64(ANSWER, true) };
+    return lineLength > 0 ? faultOf(text, length, lineLength) : null;
 }
 
-function valueOf({ ok, value, fault }) {
-    if (!ok) throw new DurationError(fault);
-    return value;
+const nanoseconds = () => fields.getBigUint64(ANSWER, true);
+
+/** The nearest number of milliseconds. Up to 2^53 nanoseconds are a number themselves, and so the quotient is the nearest. */
+function milliseconds() {
+    const high = fields.getUint32(ANSWER + 4, true);
+    return high < 2 ** 21 ? (high * 2 ** 32 + fields.getUint32(ANSWER, true)) / 1_000_000 : Number(`${nanoseconds()}e-6`);
+}
+
+function resultOf(fault, value) {
+    return fault ? { ok: false, fault } : { ok: true, value: value() };
+}
+
+function valueOf(fault, value) {
+    if (fault) throw new DurationError(fault);
+    return value();
+}
+
+export function tryParseNs(text, options) {
+    return resultOf(faultIn(text, options), nanoseconds);
 }
 
 export function parseNs(text, options) {
-    return valueOf(tryParseNs(text, options));
-}
-
-/** The nearest number of milliseconds. Up to 2^53 nanoseconds are a number themselves, and so the quotient is the nearest. */
-function inMilliseconds(nanoseconds) {
-    return nanoseconds <= Number.MAX_SAFE_INTEGER ? Number(nanoseconds) / 1_000_000 : Number(`${nanoseconds}e-6`);
+    return valueOf(faultIn(text, options), nanoseconds);
 }
 
 export function tryParse(text, options) {
-    const result = tryParseNs(text, options);
-    return result.ok ? { ok: true, value: inMilliseconds(result.value) } : result;
+    return resultOf(faultIn(text, options), milliseconds);
 }
 
 export function parse(text, options) {
-    return valueOf(tryParse(text, options));
+    return valueOf(faultIn(text, options), milliseconds);
 }
 
 /** The number that a name has among these, of which the option of this name must be one. */
@@ -313,7 +324,7 @@ const ALL = { largest: "y", smallest: "ns", parts: UNITS.length, style: "short" 
 
 function checkRange(nanoseconds, value) {
     if (value < 0) throw new RangeError(`a duration is not negative: ${value}`);
-    if (nanoseconds >= LIMIT) throw new RangeError("a duration is below 2^64 nanoseconds");
+    if (nanoseconds >= LIMIT) throw new RangeError("a duration is at most 584 years, 2^64 - 1 ns");
 }
 
 /** The nanoseconds of a bigint, which is them, or of a number of milliseconds, to the nearest one. */

@@ -45,7 +45,7 @@ test("has the version of package.json", () => {
 test("is packed with its licence, types and module", () => {
     const { exports, files } = JSON.parse(readFileSync(join(PACKAGE, "package.json"), "utf8"));
     const named = [exports["."], exports["./plain"]].flatMap(Object.values).flatMap(Object.values);
-    assert.deepEqual(files, ["dist", "index.d.ts", "LICENSE", "NOTICE"]);
+    assert.deepEqual(files, ["dist", "index.d.ts", "plain.d.ts", "LICENSE", "NOTICE"]);
     for (const file of [...named, "LICENSE", "NOTICE"]) assert.ok(readFileSync(join(PACKAGE, file)).length > 0, file);
 });
 
@@ -105,6 +105,13 @@ test("is imported and required, under some conditions without WebAssembly", () =
     }
 });
 
+test("has types for a CommonJS module", skipWithout("tsc"), () => {
+    writeFileSync(join(room, "typed.cts"), 'import { parse } from "duration-str/plain";\nexport const value: number = parse("1h");');
+    for (const [module, resolution] of [["node16", "node16"], ["commonjs", "node"]]) {
+        runs("tsc", "--strict", "--noEmit", "--target", "es2022", "--module", module, "--moduleResolution", resolution, "typed.cts");
+    }
+});
+
 // What is read by plain JavaScript, and printed whole, tests/compare compares.
 test("prints in plain JavaScript as in WebAssembly", async () => {
     const [compiled, plain] = await Promise.all([import("duration-str"), import("duration-str/plain")]);
@@ -134,7 +141,7 @@ test("a schedule has a period and an end, and names a setting that is refused", 
     clearInterval(timer);
     assert.deepEqual([period, end.toISOString()], [90_000, "2026-05-01T12:00:00.000Z"]);
     assert.throws(() => schedule({ every: "soon", until: "1d" }, () => {}), /^Error: every: expected a number at column 1, found "soon"$/);
-    assert.throws(() => schedule({ every: "0s", until: "1d" }, () => {}), RangeError);
+    for (const every of ["0s", "30d"]) assert.throws(() => schedule({ every, until: "90d" }, () => {}), RangeError);
 });
 
 const BABEL = "/usr/share/nodejs/@babel/standalone/babel.js";

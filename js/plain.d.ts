@@ -1,0 +1,2 @@
+// For TypeScript's moduleResolution "node", which does not read the exports of package.json.
+export * from "./index.js";
