@@ -184,6 +184,12 @@ def try_lines(page):
     page.put("30s\n 5 mins\n1h")
     page.click("#lines button")
     page.same("a line that is mended", "30s\n5 min\n1h", page.text())
+    page.same("how many are read", ["3 of 3 lines are read."], page.words("#lines caption"))
+    page.put("90s\n" * 600)
+    page.same("600 lines", ["90s", "1min 30s"] * 600, page.words("#lines :is(th, td > *)"))
+    page.put("90s\n" * 3_000)
+    said = "Its lines are more than are read one by one: they are added up."
+    page.same("3,000 lines", ["3d 3h", [said]], [page.text_of("printed"), page.words("#notes p")])
     page.put("1h 30m\n")
     page.same("one line", [None, "1h 30min"], [page.text_of("lines"), page.text_of("printed")])
 
@@ -362,7 +368,7 @@ def try_link(page):
     page.same("the link", "#text=" + urllib.parse.quote("1分 30&no=5%#", safe="") + "&no_calc&cn_unit", link)
     page.open(link)
     page.same("what the link gives", ["1分 30&no=5%#", ["no_calc", "cn_unit"]], [page.text(), page.chosen()])
-    for fragment, text in [("#text=1m+2", "1m+2"), ("#text=%E0%A4%A", ""), ("#", "3m + 13s + 29ms"), ("#other=1", "")]:
+    for fragment, text in [("#text=1m+2", "1m+2"), ("#text=%E0%A4%A", ""), ("#", "90m + 45s"), ("#other=1", "")]:
         page.open(fragment)
         page.same(f"the text of {fragment}", text, page.text())
     page.same("what is told of #other=1", "Not understood in the link: other=1", page.text_of("link-note"))

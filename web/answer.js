@@ -4,8 +4,8 @@ import { formatNs, tryParseNs } from "../js/dist/duration-str.js";
 import { notesOn, offersFor, sentence } from "./advice.js";
 import { choose, chosenLimits, chosenOptions, switches } from "./choices.js";
 import { LANGUAGES } from "./code.js";
-import { AROUND, button, element, LONG, make, text, write } from "./elements.js";
-import { lineOf, parts } from "./sentences.js";
+import { AROUND, button, element, LONG, LONGEST_LINES, make, text, write } from "./elements.js";
+import { lineOf, parts, say } from "./sentences.js";
 import { terms } from "./units.js";
 import { decimal, groupDigits, iso, seconds, termRows } from "./values.js";
 
@@ -88,9 +88,12 @@ function showOffers(offers) {
     element("offered").replaceChildren(...offers.map((offer) => offerButton(offer)));
 }
 
+const ADDED_UP = say`Its lines are more than are read one by one: they are added up.`;
+
 /** The sentences on a line, and what is offered beside it. */
 function remarksOn({ words, value, fault }) {
-    if (!fault) return words.length > LONG ? { sentences: [], offers: [] } : notesOn(words, value, chosenOptions());
+    if (!fault && words.length > LONG) return { sentences: words.trim().includes("\n") ? [ADDED_UP] : [], offers: [] };
+    if (!fault) return notesOn(words, value, chosenOptions());
     const said = sentence(words, fault.code, chosenOptions()) ?? lineOf(fault);
     return { sentences: [said], offers: words.length > LONG ? [] : offersFor(words, chosenOptions()) };
 }
@@ -136,10 +139,10 @@ function showValue(line) {
 
 function showCode(isShown) {
     element("no-code").hidden = isShown;
+    for (const id of ["how", "codes"]) element(id).hidden = !isShown;
     for (const [id, [, , written]] of Object.entries(LANGUAGES)) {
         show(id, isShown ? written(text.value, chosenOptions(), chosenLimits()) : "");
-        element(id).parentElement.hidden = !isShown;
-        element(`${id}-code`).hidden = isShown && copied[id] === "";
+        element(`${id}-code`).hidden = copied[id] === "";
     }
 }
 
@@ -148,7 +151,7 @@ function showCode(isShown) {
 /** The lines with something in them, each with where it starts, where there are several; otherwise all as one. */
 function linesOf(whole) {
     const lines = Array.from(whole.matchAll(/[^\n]*\S[^\n]*/g), ({ 0: words, index }) => ({ words, start: index }));
-    return whole.length <= LONG && lines.length > 1 ? lines : [{ words: whole, start: 0 }];
+    return whole.length <= LONGEST_LINES && lines.length > 1 ? lines : [{ words: whole, start: 0 }];
 }
 
 function showLines(lines) {
@@ -187,7 +190,9 @@ export function showAnswer() {
     else text.setAttribute("aria-describedby", "sentence");
     if (!isOne) {
         showLines(lines);
-        return `${lines.filter(({ ok }) => ok).length} of ${lines.length} lines are read.`;
+        const told = `${lines.filter(({ ok }) => ok).length} of ${lines.length} lines are read.`;
+        element("lines").caption.textContent = told;
+        return told;
     }
     if (isRead) {
         showValue(line);

@@ -12,9 +12,9 @@ const [WEEK, DAY, HOUR, MINUTE, SECOND] = ["w", "d", "h", "m", "s"].map(unitOf);
 // ---- Characters and names
 
 /** The text with the digits of other scripts as ASCII's, `µ` for the other mu, `microseconds` for `micro seconds`, and
- * without zero-width characters. */
+ * without zero-width characters and marks of direction around it. */
 function plain(text) {
-    const seen = text.trim().replace(/[\u00ad\u200b-\u200f\u2060\ufeff]/g, "");
+    const seen = text.trim().replace(/^[\u202a\u2066]|[\u202c\u2069]$|[\u00ad\u200b-\u200f\u2060\ufeff]/g, "");
     const joined = seen.replace(/\b(milli|micro|nano)[ -](?=sec)/gi, "$1");
     return joined.replace(/\u03bc/g, "µ").replace(/\p{Nd}/gu, (digit) => {
         // The ten digits of a script follow one another.
@@ -131,13 +131,13 @@ function afterKey(text, options) {
     const { key, word, words } = LED.exec(text)?.groups ?? {};
     if (!words) return null;
     const meant = inside(words, options);
-    const hasUnits = ({ text: each }) => Array.from(terms(each, options)).every(({ unit }) => unit);
+    const bare = meant?.readings.flatMap(({ text: each }) => Array.from(terms(each, options))).find((term) => !term.unit);
     if (!meant || meant.readings.length === 0) return meant;
-    if (meant.readings.every(hasUnits) && !words.includes(":")) return meaning(text, meant.readings, without(key ?? word));
-    const unit = /(?:[_-]|[a-z](?=[A-Z]))([A-Za-z]+)$/.exec(key ?? word)?.[1];
+    if (!bare && !words.includes(":")) return meaning(text, meant.readings, without(key ?? word));
+    const unit = /(?:[._-]|[a-z](?=[A-Z]))([A-Za-z]+)$/.exec(key ?? word)?.[1];
     if (unit && unitName(unit)) return meaning(text, [], say`Write the unit after the number.`);
     const isNumber = /^[0-9]+$/.test(words);
-    return meaning(text, [], isNumber ? say`Write ${words} alone: without a unit it is seconds.` : say`${words} has no unit.`);
+    return meaning(text, [], isNumber ? say`Write ${words} alone: without a unit it is seconds.` : say`${bare?.number ?? words} has no unit.`);
 }
 
 /** `"30m"` and `(30m)` */
@@ -353,7 +353,7 @@ const REFUSED = [
     [/^[-−–]\s*[0-9P.]|^PT?-/i, say`A duration can't be negative.`],
     [/^[0-9]{4}-[0-9]{2}-[0-9]{2}/, say`A date is not a duration.`],
     [/[()[\]{}]/, say`Brackets can't be read.`],
-    [/[0-9]\s*[ap]\.?m\b|o'clock|\bpast\b/i, say`A time of day is not a duration.`],
+    [/[0-9]\s*[ap]\.?m\b|o'clock|[a-z] past\b/i, say`A time of day is not a duration.`],
     [/[0-9]:[0-9]/, say`Write units in place of colons, as in ${"1h 30m"}.`],
     [/\b(?:ago|later|from now|timeout)\b|^(?:in|every|each|for|after|within|sleep)\b/i, without],
     [/^[~≈]|^(?:about|around|approx\w*|a (?:few|couple|moment|while))\b/i, say`Only exact durations can be read.`],

@@ -2,6 +2,8 @@
 
 /** Longer texts, in UTF-16 units, are not marked in the input but in an excerpt, and do not stand in the link. */
 export const LONG = 2_000;
+/** Several lines are read one by one in texts of at most so many UTF-16 units. */
+export const LONGEST_LINES = 10_000;
 /** How much of a long text is shown, or stands on each side of a fault, in UTF-16 units. */
 export const AROUND = 40;
 const CHINESE = /\p{Script=Han}/u;

@@ -11,7 +11,7 @@ import { UNITS } from "./units.js";
 const PAUSE = 500;
 /** How long is shown what was copied, in milliseconds. */
 const SHOWN = 4_000;
-const EXAMPLES = ["3m + 13s + 29ms", "1h 30", "1.5h", "5 mins", "PT5M", "3m-1s"];
+const EXAMPLES = ["90m + 45s", "1h 30", "1.5h", "5 mins", "PT5M", "3m-1s"];
 
 let pause;
 let shownCopy;
