@@ -60,14 +60,11 @@ finds() {
     ! missing=$("$2" --missing "${@:3}") || skips "$1" "missing: $missing (make setup all=yes)"
 }
 
-# can WHAT WORDS..: whether the words succeed
-can() { "${@:2}" >/dev/null 2>&1 || skips "$1" "this fails: ${*:2}"; }
+# can WHAT NEED WORDS..: whether the words succeed; NEED is what is missing where they fail, and how to get it
+can() { "${@:3}" >/dev/null 2>&1 || skips "$1" "missing: $2"; }
 
-# copies FOLDER: clones the checkout into the folder, with its files as they are here, committed or not
-copies() {
-    git clone --quiet --no-checkout . "$1" && git -C "$1" reset --quiet &&
-        git ls-files -z --cached --others --exclude-standard | tar -c --ignore-failed-read --null -T - 2>/dev/null | tar -x -C "$1"
-}
+# copies FOLDER: copies the files into the folder as they are here, but for what is built
+copies() { mkdir "$1" && tar -c --exclude={.git,dist,out,target,__pycache__} . | tar -x -C "$1"; }
 
 # path_without NAME..: the path, on which a folder of links to all else stands for each folder that has one of these commands
 path_without() {
