@@ -113,7 +113,9 @@ static void check_styles(void)
     expect(is_printed(193, 29000000, no_largest, DURATION_STR_SHORT, ""), "no largest unit");
     expect(is_printed(193, 29000000, no_smallest, DURATION_STR_SHORT, ""), "no smallest unit");
     expect(is_printed(193, 1000000000, two, DURATION_STR_SHORT, ""), "nanoseconds that are a second");
-    expect(is_printed(5401, 0, two, 3, ""), "a style above 2");
+    expect(is_printed(5401, 0, two, 3, "") && is_printed(5401, 0, two, 256, ""), "styles above 2");
+    const uint32_t wrapped[] = {256 + year, nanosecond, 2}, other[] = {year, 256 + nanosecond, 2};
+    expect(is_printed(5401, 0, wrapped, DURATION_STR_SHORT, "") && is_printed(5401, 0, other, 0, ""), "units above 255");
 }
 
 static void check_one_line(void)

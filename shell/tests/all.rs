@@ -189,13 +189,16 @@ fn prints_json() {
     assert_eq!(objects, wanted);
     let missing: Value = serde_json::from_str(&run(&["--json", "--require-unit", "1+2m"], b"").1).unwrap();
     assert_eq!((&missing["column"], &missing["found"], &missing["line"]), (&json!(2), &json!("+"), &json!(1)));
+    let wide: Value = serde_json::from_str(&run(&["--json", "1\u{b5}s \u{5206}"], b"").1).unwrap();
+    assert_eq!((&wide["column"], &wide["found"]), (&json!(5), &json!("\u{5206}")));
     let bytes: Value = serde_json::from_str(&run(&["--json"], b"1h\xff\n").1).unwrap();
     assert_eq!((&bytes["text"], &bytes["message"]), (&json!("1h\u{fffd}"), &json!("not UTF-8")));
 }
 
 #[test]
 fn says_nothing_if_it_is_to_be_quiet() {
-    for (input, status) in [("1h\n2h\n", 0), ("1h\n5 mins\n", 1), ("5 mins", 1), ("", 0)] {
+    let early = format!("1h\n5 mins\n{}", "1h\n".repeat(20));
+    for (input, status) in [("1h\n2h\n", 0), ("1h\n5 mins\n", 1), (&early, 1), ("5 mins", 1), ("", 0)] {
         for words in [&["-q"][..], &["-q", "--json"], &["--quiet", "--field=1", "--header"]] {
             let status = if words.contains(&"--header") && input == "5 mins" { 0 } else { status };
             assert_eq!(run(words, input.as_bytes()), (status, "".into(), "".into()), "{input:?} {words:?}");
