@@ -1,5 +1,6 @@
 //! Durations that are printed.
 use crate::human_duration::HumanDuration;
+use alloc::string::String;
 use core::fmt::{self, Write};
 use core::time::Duration;
 use duration_str_core::{Format, STYLED_BUFFER_SIZE, Style, TimeUnit, write_within};
@@ -63,6 +64,29 @@ impl FormattedDuration {
     #[must_use]
     pub const fn get_ref(&self) -> &Duration {
         &self.magnitude
+    }
+
+    /// The text, as [`ToString`](alloc::string::ToString) gives it, but in less time: not by way of a formatter.
+    ///
+    /// ```
+    /// use duration_str::format_duration;
+    /// use std::time::Duration;
+    ///
+    /// assert_eq!(format_duration(Duration::from_secs(90)).to_string(), "1min 30s");
+    /// ```
+    #[expect(clippy::inherent_to_string_shadow_display, reason = "the same text")]
+    #[must_use]
+    pub fn to_string(&self) -> String {
+        <[&str; 2]>::from(self.parts_of_text(&mut [0; STYLED_BUFFER_SIZE])).concat()
+    }
+
+    /// The sign, `-` or nothing, and the text of the magnitude.
+    #[inline(always)]
+    fn parts_of_text<'b>(&self, buffer: &'b mut [u8; STYLED_BUFFER_SIZE]) -> (&'static str, &'b str) {
+        let magnitude = write_within(&self.magnitude, self.format, buffer);
+        // Only a zero begins with `0`.
+        let has_minus = self.is_negative && !magnitude.starts_with('0');
+        (if has_minus { "-" } else { "" }, magnitude)
     }
 }
 
@@ -142,13 +166,9 @@ chooses! {
 /// around them. A precision, which `Formatter::pad` cuts at, is ignored.
 impl fmt::Display for FormattedDuration {
     fn fmt(&self, f: &mut fmt::Formatter<'_>) -> fmt::Result {
-        let mut buffer = [0; STYLED_BUFFER_SIZE];
-        let magnitude = write_within(&self.magnitude, self.format, &mut buffer);
-        // Only a zero begins with `0`.
-        let has_minus = self.is_negative && !magnitude.starts_with('0');
-        match (has_minus, f.width()) {
-            (false, None) => f.write_str(magnitude),
-            (_, width) => pad(f, if has_minus { "-" } else { "" }, magnitude, width.unwrap_or(0)),
+        match (self.parts_of_text(&mut [0; STYLED_BUFFER_SIZE]), f.width()) {
+            (("", magnitude), None) => f.write_str(magnitude),
+            ((sign, magnitude), width) => pad(f, sign, magnitude, width.unwrap_or(0)),
         }
     }
 }

@@ -1,6 +1,6 @@
 //! Printing, of the durations of each crate.
 use crate::formatted::{FormattedDuration, format_duration};
-use alloc::string::{String, ToString};
+use alloc::string::String;
 use core::time::Duration;
 use duration_str_core::{FORMAT_BUFFER_SIZE, write_human};
 
