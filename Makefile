@@ -1,4 +1,4 @@
-# make                 builds the program and the library for C, and says where they lie
+# make                 builds the program, the library for C and, where its crates are, the command, and says where they lie
 # make program         the program alone
 # make library         the library alone: an archive and a shared library, or a WebAssembly module
 # make duration        the command duration, where Debian's packages of the crates that it uses are there
@@ -31,6 +31,7 @@ version = $(shell tools/version)
 soname = $(shell sed -n 's/.*-soname,\(libduration_str\.so\.[0-9]*\).*/\1/p' c/build.rs)
 
 all: program library
+	@tools/cargo-debian --missing $(crates) >/dev/null || $(MAKE) --silent duration
 
 help:
 	@sed -n '/^[^#]/q; s/^# \{0,1\}//p' Makefile
@@ -39,15 +40,18 @@ help:
 
 # ./durstr takes the profile `quick`; what is installed and released, the other.
 profile = release
-host := $(shell rustc -vV 2>/dev/null | sed -n 's/^host: //p')
+host := $(or $(shell rustc -vV 2>/dev/null | sed -n 's/^host: //p'),$(notdir $(firstword $(wildcard out/cargo/$(shell uname -m)-*))))
 target = $(host)
 built = out/cargo/$(target)/$(profile)
 cargo = tools/cargo-for $(call quoted,$(target)) $(1) --quiet --profile $(profile) --target-dir out/cargo
 static =
 comma := ,
 
-# Where nothing can be written, what is there serves if it is current: $(call serves,FILE,FOLDER)
-serves = { [ ! -w . ] && [ -e $(1) ] && [ -z "$$(find Cargo.toml $(2) rust/core -newer $(1) -print -quit)" ]; }
+# Where nothing can be written, or is to be installed without cargo, as often under sudo, what is there serves if it is current:
+# $(call serves,FILE,FOLDERS)
+installing =
+serves = { { [ ! -w . ] $(if $(installing),|| ! type -P cargo >/dev/null); } && [ -e $(1) ] && \
+    [ -z "$$(find Cargo.toml $(2) rust/core -newer $(1) -print -quit)" ]; }
 
 program:
 	@program="$(built)/durstr"
@@ -79,11 +83,17 @@ library:
 # bytes in each folder: so out/command is a workspace around both, of copies, since the gate refuses links.
 command = out/cargo/$(host)/release/duration
 crates = clap clap_complete clap_derive libc serde_json
+commanded = shell/Cargo.toml shell/src rust/Cargo.toml rust/macros rust/src
 duration:
-	@! missing=$$(tools/cargo-debian --missing $(crates)) || {
+	@if $(call serves,$(command),$(commanded)); then
+	    echo $(command)
+	    exit
+	fi
+	! missing=$$(tools/cargo-debian --missing $(crates)) || {
 	    echo "duration: missing: $$missing (see shell/README.md)" >&2
 	    exit 1
 	}
+	[ -x $(command) ] || echo 'duration: cargo builds it and the crates that it uses, in a minute or more' >&2
 	mkdir -p out/command
 	rm -rf out/command/{rust,shell}
 	cp -a --parents rust/{Cargo.toml,core,macros,src} shell/{Cargo.toml,src} out/command
@@ -158,10 +168,11 @@ installable:
 	done
 	case "$(target)" in wasm*) echo 'install: WebAssembly modules are not installed' >&2; exit 1 ;; esac
 
+install: installing = yes
 install: installable
 	@$(put)
-	program=$$($(MAKE) --silent program target=$(target) static=$(static))
-	libraries=$$($(MAKE) --silent library target=$(target))
+	program=$$($(MAKE) --silent program installing=yes target=$(target) static=$(static))
+	libraries=$$($(MAKE) --silent library installing=yes target=$(target))
 	programs=durstr
 	put_program "$$program" $(bindir)/durstr
 	$(call page,docs/man/durstr.1.in) | put /dev/stdin $(mandir)/man1/durstr.1
@@ -176,12 +187,14 @@ install: installable
 	$(call page,c/duration_str.3.in) | put /dev/stdin $(mandir)/man3/duration_str.3
 	for call in $(calls); do echo '.so man3/duration_str.3' | put /dev/stdin "$(mandir)/man3/$$call.3"; done
 	for file in LICENSE NOTICE; do put "$$file" "$(docdir)/$$file"; done
-	missing=$$(tools/cargo-debian --missing $(crates)) || type -P help2man >/dev/null || missing=help2man
+	missing=$$(tools/cargo-debian --missing $(crates)) || true
+	! $(call serves,$(command),$(commanded)) || missing=
+	[ -n "$$missing" ] || type -P help2man >/dev/null || missing=help2man
 	[ "$(target)" = "$(host)" ] || missing='crates for $(target)'
 	if [ -n "$$missing" ]; then
 	    echo "install: the command duration is left out, missing: $$missing (see shell/README.md)"
 	else
-	    command=$$($(MAKE) --silent duration static=$(static))
+	    command=$$($(MAKE) --silent duration installing=yes static=$(static))
 	    programs='durstr and duration'
 	    put_program "$$command" $(bindir)/duration
 	    for file in $(completions); do
@@ -201,7 +214,7 @@ install: installable
 uninstall: installable
 	@made=$$(cat "$$DESTDIR$(folders)" 2>/dev/null || true)
 	for file in $(installed) $(folders); do rm -fv "$$DESTDIR$$file"; done
-	rm -fv "$$DESTDIR$(libdir)"/libduration_str.so.[0-9]* # those of older versions too
+	rm -fv "$$DESTDIR$(libdir)"/libduration_str.so.[0-9]* "$$DESTDIR$(mandir)"/man3/duration_str_*.3 # those of older versions too
 	for folder in $(docdir) $(libdir)/cmake/duration_str $$(for folder in $$made; do realpath -m "$(prefix)/$$folder"; done | sort -ru); do
 	    [ ! -d "$$DESTDIR$$folder" ] || rmdir --ignore-fail-on-non-empty "$$DESTDIR$$folder"
 	done
