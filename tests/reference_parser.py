@@ -374,6 +374,14 @@ def answer_of(text, options):
     return computed_answer(text, options._replace(lowercase=folds, cn_unit=knows))
 
 
+def with_units(text, answer):
+    """The answer where each number must have its unit: a text that is read is refused where the first one is missing."""
+    missing = re.search(rf"[0-9][{BLANKS}]*([+*]|\Z)", text)
+    if answer.cause != "read" or not missing:
+        return answer
+    return Answer("syntax", place=missing.start(1), expected=frozenset({"unit"}), found=missing[1])
+
+
 @functools.lru_cache(1 << 16)
 def computed_answer(text, options):
     if not text:

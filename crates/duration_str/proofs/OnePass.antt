@@ -3,3 +3,4 @@ pub mod PlaceLemmas
 pub mod ReaderLemmas
 pub mod TermsLemmas
 pub mod EvaluationLemmas
+pub mod MissingLemmas

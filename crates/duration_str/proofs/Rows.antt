@@ -4,6 +4,9 @@ use Rattle.duration_str.specs.declared.format.Format.{Format}
 use Rattle.duration_str.specs.declared.unit.TimeUnit.TheVariants.{Day, Hour, Minute}
 use Rattle.duration_str.specs.Limits.{counts_within, lengths_within, text_within, whole_format}
 use Rattle.duration_str.specs.OneLine.{one_line_of}
+use Rattle.duration_str.specs.Place.{terminals_of}
+use Rattle.duration_str.specs.WithUnits.{expected_unit, HasUnits, LacksUnit}
+use Rattle.duration_str.proofs.OnePass.MissingLemmas.{has_units, lacks_unit}
 use Rattle.duration_str.proofs.Characters.UnitLemmas.{Each}
 use Rattle.std.specs.Fmt.{digits}
 use Rattle.std.specs.Option.{option_map_or}
@@ -198,6 +201,17 @@ pub printed_texts : PrintedTexts
 unfolding chars digits encode
 printed_texts = assumption
 
+-- ---- Where a unit is missing
+
+pub missing-end : LacksUnit off (codes "1h 30") (Syntax 5 expected_unit)
+missing-end = lacks_unit off (codes "1h 30") refl
+
+pub missing-first : LacksUnit off (codes "5 + 1h 30") (Syntax 2 expected_unit)
+missing-first = lacks_unit off (codes "5 + 1h 30") refl
+
+pub missing-nowhere : HasUnits (terminals_of off (codes "1h30m * 2 s"))
+missing-nowhere = has_units off (codes "1h30m * 2 s") refl
+
 -- ---- Within limits
 
 -- the text of so many nanoseconds in a format
@@ -294,6 +308,8 @@ pub record Lines : Type 0 where
       ≡ codes "expected a number, '+', '*' or the end at column 3, found \",\" (one duration is read, without \",\" or \"and\")"
   pub line-and : one_line_of (codes "1h And 30m") (Syntax 3 after_unit-no_calc)
       ≡ codes "expected a number or the end at column 4, found \"And\" (one duration is read, without \",\" or \"and\")"
+  pub line-unit_alone : one_line_of (codes "1h 30") (Syntax 5 expected_unit)
+      ≡ codes "expected a unit at column 6, found the end"
   pub line-and_a_unit : one_line_of (codes "5 & 3") (Syntax 2 after_number)
       ≡ codes "expected a unit, '+', '*' or the end at column 3, found \"&\""
 

@@ -149,7 +149,9 @@ help_at expected text place piece =
 abbrev pub expected_words : Expected → Bytes
 expected_words expected =
     if expected.unit_word then
-    (if expected.operator then codes "expected a unit, '+', '*' or the end" else codes "expected a unit or the end")
+    (if expected.operator then codes "expected a unit, '+', '*' or the end"
+    else if expected.text_end then codes "expected a unit or the end"
+    else codes "expected a unit")
     else if expected.operator then codes "expected a number, '+', '*' or the end"
     else if expected.text_end then codes "expected a number or the end"
     else codes "expected a number"

@@ -3,6 +3,7 @@ ghost use Rattle.std.specs.Prelude.{◌≡◌, encode_utf8_all};
 ghost use Rattle.duration_str.specs.Answer.{expected_at_start, expected_after_number, expected_after_unit};
 ghost use Rattle.duration_str.specs.Faults.{place_of};
 ghost use Rattle.duration_str.specs.Messages.{line_of};
+ghost use Rattle.duration_str.specs.WithUnits.{expected_unit};
 
 use crate::operator::CondUnit;
 
@@ -61,6 +62,17 @@ impl Expected {
             unit_word: false,
             operator: !no_calc,
             text_end: true,
+        }
+    }
+
+    /// A unit alone: what must follow a number where units are required.
+    #[inline(always)]
+    pub(crate) fn unit() -> Expected
+        ensures { result ≡ expected_unit }
+    {
+        Expected {
+            text_end: false,
+            ..Expected::after_number(true)
         }
     }
 }

@@ -22,6 +22,7 @@ mod signed;
 pub mod token;
 pub mod top;
 pub mod unit;
+mod with_units;
 
 pub use error::{DError, DResult};
 pub use ext::HumanFormat;
@@ -40,3 +41,4 @@ pub use top::{
     deserialize_option_duration_time, parse_chrono, parse_time,
 };
 pub use unit::{CondUnit, Options, TimeUnit, UNITS};
+pub use with_units::{missing_unit, parse_with_units};

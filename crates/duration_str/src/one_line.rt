@@ -323,8 +323,10 @@ fn expected_words(expected: Expected) -> &'static str
     if expected.unit_word {
         if expected.operator {
             "expected a unit, '+', '*' or the end"
-        } else {
+        } else if expected.text_end {
             "expected a unit or the end"
+        } else {
+            "expected a unit"
         }
     } else if expected.operator {
         "expected a number, '+', '*' or the end"

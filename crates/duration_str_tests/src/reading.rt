@@ -1,8 +1,8 @@
 // What texts are read as: each by every call that reads under its options, and printed again where that is told.
 use crate::vectors::{CN_UNIT, LOWERCASE, NO_CALC, OFF};
 use duration_str::{
-    HumanFormat, Options, parse, parse_chrono, parse_looked, parse_std, parse_time, parse_with,
-    write_human,
+    Cause, HumanFormat, Options, parse, parse_chrono, parse_looked, parse_std, parse_time,
+    parse_with, parse_with_units, write_human,
 };
 use jiff::SignedDuration;
 use std::alloc::{AllocError, Global};
@@ -122,6 +122,23 @@ fn reads_values(rt: HostRuntime) {
         for text in texts.split('|') {
             assert!(rt; is_read(text, o, nanos), "{text}");
         }
+    }
+}
+
+#[test]
+fn requires_units(rt: HostRuntime) {
+    for (text, at) in [("90", 2), ("1h 30", 5), ("5 + 1h 30", 2), ("2s*3 ", 5), ("1m*60*20s", 5)] {
+        assert!(rt; parse_with(text, OFF).is_ok(), "{text}");
+        let Err(fault) = parse_with_units(text, OFF) else {
+            panic!(rt; "{text} is read");
+        };
+        let Cause::Syntax { place, expected } = fault.cause() else {
+            panic!(rt; "{text} has another fault");
+        };
+        assert!(rt; place == at && expected.unit_word && !expected.text_end, "{text}");
+    }
+    for text in ["1h 30m", "1 m*60s", "1m 3-5", "", "99999999999999999999", "600y", "1s 2*3"] {
+        assert!(rt; parse_with_units(text, OFF) == parse_with(text, OFF), "{text}");
     }
 }
 

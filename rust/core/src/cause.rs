@@ -55,6 +55,15 @@ impl Expected {
             text_end: true,
         }
     }
+
+    /// A unit alone: what must follow a number where units are required.
+    #[inline(always)]
+    pub(crate) fn unit() -> Expected {
+        Expected {
+            text_end: false,
+            ..Expected::after_number(true)
+        }
+    }
 }
 
 /// Why a text is refused. A place is a byte offset in the text.

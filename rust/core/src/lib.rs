@@ -35,6 +35,8 @@ mod reader;
 mod token;
 #[forbid(unsafe_code)]
 mod unit;
+#[forbid(unsafe_code)]
+mod with_units;
 
 pub use self::format::{Format, Style};
 pub use self::one_line::{MAX_ONE_LINE_LEN, ONE_LINE_BUFFER_SIZE};
@@ -45,3 +47,4 @@ pub use self::printing::{
 };
 pub use self::token::{Token, Tokens, What};
 pub use self::unit::{CondUnit, Options, TimeUnit, UNITS};
+pub use self::with_units::{missing_unit, parse_with_units};

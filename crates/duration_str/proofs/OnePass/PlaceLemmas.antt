@@ -84,13 +84,18 @@ start_placed o bs xs cs (suc n) at (p ∷ tokens) utf8 e w (rest, next, more) =
 stands_at : (P : ℕ → Type 0) → P 0 → (cause : Cause) → Stands P cause → ForSome (place_of cause) P
 stands_at P start cause h = grind arith
 
+-- Each token starts at a character boundary, and the text ends at one.
+pub starts_placed : (o : Options) (bs : List ℕ) (n : ℕ) → IsUtf8 bs
+    → IsCharBoundary bs (start_after n (byte_len (chars bs)) (tokens_of o (chars bs)))
+starts_placed o bs n utf8 = start_placed o bs [] (chars bs) n 0 _ utf8 refl refl (tokens_are o 0 (chars bs))
+
 -- The place of the answer's fault is a character boundary.
 pub fault_placed : {c : Cause} (o : Options) (bs : List ℕ) → IsUtf8 bs → answer o (chars bs) ≡ Err c
     → ForSome (place_of c) (IsCharBoundary bs)
 fault_placed {c} o bs utf8 e =
     stands_at (IsCharBoundary bs) (IsCharBoundary-start bs utf8) c
     (refused_stands (IsCharBoundary bs) o (chars bs) c ((answer_is_reading_holds.refused o (chars bs) c).0 e)
-    (λ n. start_placed o bs [] (chars bs) n 0 _ utf8 refl refl (tokens_are o 0 (chars bs))))
+    (λ n. starts_placed o bs n utf8))
 
 -- There are at most as many characters before an earlier place.
 pub chars_before : (bs : List ℕ) (place at : ℕ) → IsUtf8 bs → IsCharBoundary bs place → place ≤ at
@@ -153,7 +158,7 @@ all_terminals : (o : Options) (len : ℕ) (tokens : List Token)
 all_terminals o len [] = refl
 all_terminals o len (p ∷ tokens) = rw (all_terminals o len tokens)
 
-same_start : (o : Options) (n len : ℕ) (tokens : List Token)
+pub same_start : (o : Options) (n len : ℕ) (tokens : List Token)
     → start_left n (rest_from o len tokens) ≡ start_after n len tokens
 same_start o n len [] = rw drop-nil
 same_start o zero len (p ∷ tokens) = refl
