@@ -132,8 +132,14 @@ impl<'a> Fault<'a> {
     /// ```
     #[must_use]
     pub fn report(&self) -> String {
-        let place = self.expected().and(self.place());
-        report(self.text(), place, self.to_string())
+        let (text, line) = (self.text(), self.to_string());
+        match self.expected().and(self.place()) {
+            Some(place) if is_clear(text) => {
+                let spaces = " ".repeat(text[..place].chars().count());
+                [text, "\n", &spaces, "^\n", &line].concat()
+            }
+            _ => line,
+        }
     }
 
     /// The message with which the calls of `duration-str` 0.19.0 refuse.
@@ -296,17 +302,6 @@ impl core::error::Error for DurationError {}
 impl From<Fault<'_>> for DurationError {
     fn from(fault: Fault<'_>) -> DurationError {
         fault.into_owned()
-    }
-}
-
-/// The text, below it a caret at the place, and below that the line; or the line alone.
-pub(crate) fn report(text: &str, place: Option<usize>, line: String) -> String {
-    match place {
-        Some(place) if is_clear(text) => {
-            let spaces = " ".repeat(text[..place].chars().count());
-            [text, "\n", &spaces, "^\n", &line].concat()
-        }
-        _ => line,
     }
 }
 

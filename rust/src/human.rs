@@ -60,6 +60,7 @@ use crate::human_duration::HumanDuration;
 use crate::human_format::Sealed;
 use crate::parser::{ADDITIONS, CASE_SENSITIVE, parse_with};
 use crate::serde_texts::Length;
+use crate::with_units::with_units;
 use crate::{FORMAT_BUFFER_SIZE, write_human};
 use alloc::vec::Vec;
 use core::fmt;
@@ -131,10 +132,10 @@ pub fn deserialize<'de, T: HumanText, D: Deserializer<'de>>(deserializer: D) -> 
     T::deserialize_human::<D, TEXT>(deserializer)
 }
 
-/// How fields are read: as texts, also as whole seconds, or with capitals and small letters that differ.
+/// How fields are read: as texts, also as whole seconds, or as humantime reads.
 pub(crate) const TEXT: u8 = 0;
 pub(crate) const SECONDS: u8 = 1;
-pub(crate) const CASE: u8 = 2;
+pub(crate) const STRICT: u8 = 2;
 
 /// A text, or its bytes, is read as a duration, and where `HOW` says so a whole number as seconds.
 struct Text<T, const HOW: u8>(PhantomData<T>);
@@ -164,9 +165,9 @@ impl<T: Length, const HOW: u8> Visitor<'_> for Text<T, HOW> {
     }
 
     fn visit_str<E: de::Error>(self, text: &str) -> Result<T, E> {
-        let options = if HOW == CASE { CASE_SENSITIVE } else { ADDITIONS };
+        let read = if HOW == STRICT { with_units(text, CASE_SENSITIVE) } else { parse_with(text, ADDITIONS) };
         // Before the line stands what it is about, since the format adds its own line and column to it.
-        parse_with(text, options).map(T::of_std).map_err(|fault| E::custom(format_args!("invalid duration: {fault}")))
+        read.map(T::of_std).map_err(|fault| E::custom(format_args!("invalid duration: {fault}")))
     }
 
     fn visit_bytes<E: de::Error>(self, bytes: &[u8]) -> Result<T, E> {

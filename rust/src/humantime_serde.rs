@@ -21,7 +21,7 @@
 //! assert!(serde_json::from_str::<Config>(r#"{ "timeout": "1M" }"#).is_err());
 //! # Ok::<(), serde_json::Error>(())
 //! ```
-use crate::human::{CASE, HumanText};
+use crate::human::{HumanText, STRICT};
 use serde::de::Deserializer;
 
 #[doc(no_inline)]
@@ -42,7 +42,7 @@ pub use crate::human::serialize;
 /// # Ok::<(), serde_json::Error>(())
 /// ```
 pub fn deserialize<'de, T: HumanText, D: Deserializer<'de>>(deserializer: D) -> Result<T, D::Error> {
-    T::deserialize_human::<D, CASE>(deserializer)
+    T::deserialize_human::<D, STRICT>(deserializer)
 }
 
 /// The same, under the name that humantime-serde has for an `Option`.

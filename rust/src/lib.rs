@@ -209,4 +209,4 @@ pub use serde_texts::{deserialize_duration_chrono, deserialize_option_duration_c
 #[cfg(all(feature = "serde", feature = "time"))]
 #[allow(deprecated)]
 pub use serde_texts::{deserialize_duration_time, deserialize_option_duration_time};
-pub use with_units::{UnitError, parse_with_units};
+pub use with_units::parse_with_units;

@@ -1,6 +1,6 @@
 //! Reading by the library, and why a text is refused.
 use crate::options::Choices;
-use duration_str::{TimeUnit, parse_with, parse_with_units};
+use duration_str::{Fault, TimeUnit, parse_with, parse_with_units};
 use std::time::Duration;
 
 /// Why a text is refused. For a syntax fault there are the column, what stands there, and the text with a caret.
@@ -18,27 +18,27 @@ impl Refusal {
     }
 }
 
+impl From<Fault<'_>> for Refusal {
+    fn from(fault: Fault<'_>) -> Refusal {
+        let place = fault.expected().and(fault.place());
+        Refusal {
+            message: fault.to_string(),
+            report: fault.report(),
+            column: place.map(|place| fault.text()[..place].chars().count() + 1),
+            found: fault.found().map(str::to_string),
+        }
+    }
+}
+
 /// Reads a text. Under --from a bare number has that unit, and any other must have its own.
 pub fn read<'a>(bytes: &'a [u8], choices: &Choices) -> Result<(&'a str, Duration), Refusal> {
     let given = std::str::from_utf8(bytes).map_err(|_| Refusal::new("not UTF-8"))?;
     let number = choices.from.and_then(|unit| with_unit(given, unit));
     let text = number.as_deref().unwrap_or(given);
-    let refusal = |message, report, place: Option<usize>, found: Option<&str>| Refusal {
-        message,
-        report,
-        column: place.map(|place| text[..place].chars().count() + 1),
-        found: found.map(str::to_string),
-    };
-    let duration = parse_with(text, choices.reading()).map_err(|fault| {
-        let place = fault.expected().and(fault.place());
-        refusal(fault.to_string(), fault.report(), place, fault.found())
-    })?;
+    let duration = parse_with(text, choices.reading())?;
     if choices.require_unit || choices.from.is_some() {
-        // What is read under any options is refused here only if a unit is missing, before an operator or the end.
-        parse_with_units(text).map_err(|error| {
-            let found = error.place().and_then(|place| text[place..].get(..1));
-            refusal(error.to_string(), error.report(), error.place(), found)
-        })?;
+        // What is read under any options is refused here only if a unit is missing.
+        parse_with_units(text).map_err(|error| Refusal::from(error.as_fault()))?;
     }
     Ok((given, duration))
 }
@@ -48,6 +48,7 @@ pub fn read<'a>(bytes: &'a [u8], choices: &Choices) -> Result<(&'a str, Duration
 fn with_unit(text: &str, unit: TimeUnit) -> Option<String> {
     let number = text.trim_matches([' ', '\t', '\r', '\n']);
     let (whole, decimals) = number.split_once('.').unwrap_or((number, "0"));
+    let whole = if number.starts_with('.') { "0" } else { whole };
     let is_number = |digits: &str| !digits.is_empty() && digits.bytes().all(|d| d.is_ascii_digit());
     if !is_number(whole) || !is_number(decimals) {
         return None;

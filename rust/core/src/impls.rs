@@ -164,14 +164,14 @@ impl FromStr for TimeUnit {
 /// assert_eq!("Hours".parse(), Ok(TimeUnit::Hour));
 /// assert_eq!("分".parse::<TimeUnit>(), Err(UnknownUnit));
 /// let refusal: Box<dyn std::error::Error + Send + Sync> = UnknownUnit.into();
-/// assert_eq!(refusal.to_string(), "no unit of time such as h or min");
+/// assert_eq!(refusal.to_string(), "no unit: write y, q, mon, w, d, h, min, s, ms, us or ns");
 /// ```
 #[derive(Clone, Copy, Debug, PartialEq, Eq, Hash)]
 pub struct UnknownUnit;
 
 impl fmt::Display for UnknownUnit {
     fn fmt(&self, f: &mut fmt::Formatter<'_>) -> fmt::Result {
-        f.pad("no unit of time such as h or min")
+        f.pad("no unit: write y, q, mon, w, d, h, min, s, ms, us or ns")
     }
 }
 

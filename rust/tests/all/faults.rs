@@ -1,8 +1,6 @@
 //! Texts that are refused, and what their faults tell.
 use crate::{FEATURES, Refused, options_of, vectors};
-use duration_str::{
-    Cause, DError, Expected, Fault, Options, UnitError, parse, parse_duration, parse_with, parse_with_units,
-};
+use duration_str::{Cause, DError, Expected, Fault, Options, parse, parse_duration, parse_with, parse_with_units};
 use duration_str_core as proved;
 use std::error::Error;
 
@@ -159,9 +157,6 @@ fn pads_errors() {
     assert_eq!(format!("{error:>12}|{error:-<12}"), "  empty text|empty text--");
     let error = parse_with_units("").unwrap_err();
     assert_eq!(format!("{error:>12}|{error:-<12}"), "  empty text|empty text--");
-    let missing = parse_with_units("1").unwrap_err().to_string().len();
-    let error = parse_with_units("1").unwrap_err();
-    assert_eq!(format!("{error:>0$}", missing + 2), format!("  {error}"));
 }
 
 #[test]
@@ -179,18 +174,15 @@ fn requires_units() {
     ];
     for (text, place, wanted) in rows {
         let error = parse_with_units(text).unwrap_err();
-        let line = format!("expected a unit at {wanted} (each number needs one)");
-        assert_eq!((error.text(), error.place(), error.cause()), (text, Some(place), None));
-        assert_eq!((error.to_string(), format!("{error:?}")), (line.clone(), format!("UnitError({line})")));
+        let line = format!("expected a unit at {wanted}");
+        assert_eq!((error.text(), error.place()), (text, Some(place)));
+        assert_eq!((error.to_string(), format!("{error:?}")), (line.clone(), format!("DurationError({line})")));
         let spaces = " ".repeat(text[..place].chars().count());
         assert_eq!(error.report(), format!("{text}\n{spaces}^\n{line}"));
     }
     // What is refused anyway is refused for the same.
     for text in ["", "1 2", "1 x", "600y", "1s+2*3", "-5", "99999999999999999999"] {
         let (error, same) = (parse_with_units(text).unwrap_err(), parse_duration(text).unwrap_err());
-        assert_eq!((error.to_string(), error.report()), (same.to_string(), same.report()));
-        assert_eq!((error.cause(), error.place()), (Some(same.cause()), same.place()));
+        assert_eq!(error, same);
     }
-    let shared: Box<dyn Error + Send + Sync> = parse_with_units("90").unwrap_err().into();
-    assert!(shared.downcast_ref::<UnitError>().is_some());
 }
