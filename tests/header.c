@@ -37,7 +37,7 @@ static void check_options(void)
 {
     const char *minute = "1\xe5\x88\x86";
     const uint32_t after_number = DURATION_STR_UNIT | DURATION_STR_OPERATOR | DURATION_STR_END;
-    const uint32_t options = DURATION_STR_NO_CALC | DURATION_STR_LOWERCASE | DURATION_STR_CN_UNIT;
+    const uint32_t options = DURATION_STR_NO_CALC | DURATION_STR_LOWERCASE | DURATION_STR_CN_UNIT | DURATION_STR_REQUIRE_UNIT;
     struct duration_str_answer read = read_with(minute, DURATION_STR_CN_UNIT);
     expect(read.nanos == 60000000000u && read.has_place == 0 && read.place == 0 && read.expected == 0, "a Chinese unit");
     expect(is_syntax(read_with(minute, DURATION_STR_LOWERCASE | ~options), 1, after_number, 3), "a Chinese unit, unasked for");
@@ -45,6 +45,8 @@ static void check_options(void)
     expect(read_with("1M", DURATION_STR_NO_CALC | ~options).nanos == 60000000000u, "a capital without lowercase");
     expect(is_syntax(read_with("1+2", DURATION_STR_NO_CALC), 1, DURATION_STR_UNIT | DURATION_STR_END, 1), "an operator");
     expect(read_with("1+2", ~options).nanos == 3000000000u, "an operator without no_calc");
+    expect(is_syntax(read_with("1h 30", DURATION_STR_REQUIRE_UNIT), 5, DURATION_STR_UNIT, 0), "a unit that is missing");
+    expect(read_with("1h 30m", DURATION_STR_REQUIRE_UNIT).nanos == 5400000000000u, "no unit that is missing");
 }
 
 static void check_refusals(void)

@@ -79,7 +79,10 @@ enum duration_str_option {
      * small letters */
     DURATION_STR_LOWERCASE = 2,
     /* the Chinese names of the units are also read */
-    DURATION_STR_CN_UNIT = 4
+    DURATION_STR_CN_UNIT = 4,
+    /* a text that would be read, but has a number without a unit, is refused
+     * by DURATION_STR_SYNTAX where the first unit is missing */
+    DURATION_STR_REQUIRE_UNIT = 8
 };
 
 /* Why a text is refused. */

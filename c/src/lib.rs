@@ -15,7 +15,9 @@ pub mod limits;
 pub mod message;
 
 use crate::answer::{Answer, refused};
-use duration_str_core::{Cause, FORMAT_BUFFER_SIZE, Fault, Options, parse_nanos, write_human};
+use duration_str_core::{
+    Cause, FORMAT_BUFFER_SIZE, Fault, Options, missing_unit, parse_nanos, write_human,
+};
 use core::time::Duration;
 
 const NO_CALC: u32 = 1;
@@ -23,6 +25,8 @@ const NO_CALC: u32 = 1;
 const LOWERCASE: u32 = 2;
 
 const CN_UNIT: u32 = 4;
+
+const REQUIRE_UNIT: u32 = 8;
 
 /// The options whose bits are set. Other bits have no effect.
 pub(crate) fn options_of_bits(bits: u32) -> Options {
@@ -77,16 +81,28 @@ fn answer_to(bytes: &[u8], options: u32) -> Answer {
     let Some(text) = text_of(bytes) else {
         return Answer::refusal(Cause::NotText { optional: false }, 0);
     };
-    let options = options_of_bits(options);
-    match read(text, options) {
+    match read_by(text, options) {
         Ok(nanos) => Answer::value(nanos),
-        Err(fault) => refused(fault, options),
+        Err(fault) => refused(fault, options_of_bits(options)),
+    }
+}
+
+/// The value of a text under the options whose bits are set, or its fault.
+pub(crate) fn read_by(text: &str, bits: u32) -> Result<u64, Fault<'_>> {
+    let options = options_of_bits(bits);
+    let nanos = read(text, options)?;
+    if bits & REQUIRE_UNIT == 0 {
+        return Ok(nanos);
+    }
+    match missing_unit(text, options) {
+        Some(fault) => Err(fault),
+        None => Ok(nanos),
     }
 }
 
 /// What `parse_nanos` returns, out of line. A copy of the reader that knows that all options are off is faster.
 #[inline(never)]
-pub(crate) fn read(text: &str, options: Options) -> Result<u64, Fault<'_>> {
+fn read(text: &str, options: Options) -> Result<u64, Fault<'_>> {
     if options.are_off() {
         return parse_nanos(text, Options::off());
     }

@@ -2,7 +2,7 @@
 //! What is said about a refused text.
 
 use crate::answer::{Answer, refused};
-use crate::{options_of_bits, put, read, text_of};
+use crate::{options_of_bits, put, read_by, text_of};
 use duration_str_core::{Cause, Fault, ONE_LINE_BUFFER_SIZE};
 
 /// Reads a text under the options whose bits are set, as `duration_str_parse_with` does, and writes what is wrong with
@@ -18,15 +18,14 @@ pub fn duration_str_one_line(
         *answer = Answer::refusal(Cause::NotText { optional: false }, 0);
         return show("not UTF-8", buffer);
     };
-    let options = options_of_bits(options);
-    match read(text, options) {
+    match read_by(text, options) {
         Ok(nanos) => {
             *answer = Answer::value(nanos);
             show("", buffer)
         }
         Err(fault) => {
             let length = show_one_line(&fault, buffer);
-            *answer = refused(fault, options);
+            *answer = refused(fault, options_of_bits(options));
             length
         }
     }

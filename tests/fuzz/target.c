@@ -16,7 +16,7 @@
 #define ROOM (1u << 18)
 #define CANARY 0xa5
 #define CANARIES 32u
-#define ALL_OPTIONS (DURATION_STR_NO_CALC | DURATION_STR_LOWERCASE | DURATION_STR_CN_UNIT)
+#define ALL_OPTIONS 15u
 #define CHOICES (ALL_OPTIONS + 1u)
 
 /* ---- Failing */

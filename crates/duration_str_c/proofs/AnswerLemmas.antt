@@ -1,19 +1,33 @@
--- An answer for one text is one for an equal text.
-use Rattle.std.proofs.Common.{◌≡◌, ℕ, List, subst, inr}
+-- What is told of one text is told of an equal text.
+use Rattle.std.proofs.Common.{[], ◌≡◌, ℕ, List, inl, inr, subst}
+use Rattle.std.specs.Str.{chars}
 use Rattle.duration_str.specs.declared.options.Options.{Options}
 use Rattle.duration_str.specs.declared.cause.Cause.{Cause}
 use Rattle.duration_str_c.specs.declared.answer.Answer.{Answer}
-use Rattle.duration_str_c.specs.Answers.{IsAnswerTo, IsRefusalAnswer}
+use Rattle.duration_str_c.specs.Answers.{IsAnswerTo, IsReadBy, IsRefusedBy, options_of_bits, TellsFault, value_answer}
+use Rattle.duration_str_c.specs.Messages.{IsShown, ShowsRefusal}
 
--- An answer that refuses bytes also refuses equal bytes under equal options.
-pub refusal_moves : (o p : Options) (bytes same : List ℕ) (cause : Cause) (answer : Answer) → o ≡ p → bytes ≡ same
-    → IsRefusalAnswer o bytes cause answer → IsRefusalAnswer p same cause answer
-refusal_moves o p bytes same cause answer e f answers =
-    subst (λ (b : List ℕ). IsRefusalAnswer p b cause answer) f
-    (subst (λ (q : Options). IsRefusalAnswer q bytes cause answer) e answers)
+pub value_answers : (bits nanos : ℕ) (bytes same : List ℕ) (answer : Answer) → bytes ≡ same
+    → IsReadBy bits (chars bytes) nanos → answer ≡ value_answer nanos → IsAnswerTo bits same answer
+value_answers bits nanos bytes same answer e read is = inl (nanos, rw e at read, is)
 
--- So it is the answer to them.
-pub refusal_answers : (o p : Options) (bytes same : List ℕ) (cause : Cause) (answer : Answer) → o ≡ p → bytes ≡ same
-    → IsRefusalAnswer o bytes cause answer → IsAnswerTo p same answer
-refusal_answers o p bytes same cause answer e f answers =
-    inr (cause, refusal_moves o p bytes same cause answer e f answers)
+pub refusal_answers : (o : Options) (bits : ℕ) (bytes same : List ℕ) (cause : Cause) (answer : Answer)
+    → o ≡ options_of_bits bits → bytes ≡ same → IsRefusedBy bits (chars same) cause → TellsFault o bytes cause answer
+    → IsAnswerTo bits same answer
+refusal_answers o bits bytes same cause answer e f refused tells =
+    inr (
+      cause,
+      refused,
+      subst (λ (b : List ℕ). TellsFault (options_of_bits bits) b cause answer) f
+      (subst (λ (q : Options). TellsFault q bytes cause answer) e tells),
+    )
+
+pub shows_value : (shown : Cause → List ℕ) (bits nanos : ℕ) (bytes same : List ℕ) {len : ℕ} {old new : List ℕ}
+    → bytes ≡ same → IsReadBy bits (chars bytes) nanos → IsShown [] old len new
+    → ShowsRefusal shown bits same old len new
+shows_value shown bits nanos bytes same e read shows = inl (nanos, rw e at read, shows)
+
+pub shows_refusal : (shown : Cause → List ℕ) (bits : ℕ) (bytes same : List ℕ) (cause : Cause) {len : ℕ} {old new : List ℕ}
+    → bytes ≡ same → IsRefusedBy bits (chars bytes) cause → IsShown (shown cause) old len new
+    → ShowsRefusal shown bits same old len new
+shows_refusal shown bits bytes same cause e refused shows = inr (cause, rw e at refused, shows)

@@ -1,5 +1,6 @@
 -- The answer that a caller of C gets for a text.
 use Rattle.std.specs.Prelude.{◌≡◌, ℕ, ◌+◌, ◌==◌, Bool, not, List, ◌⊎◌, Option, Some, None, if◌then◌else◌, is_some, unwrap_or}
+use Rattle.std.specs.Bool.{MatchBool}
 use Rattle.std.specs.Int.Bits.{bit_and}
 use Rattle.std.specs.Option.{ForSome}
 use Rattle.std.specs.Str.{chars, IsCharBoundary}
@@ -13,6 +14,7 @@ use Rattle.duration_str.specs.Text.{byte_len}
 use Rattle.duration_str.specs.Tokens.{Token}
 use Rattle.duration_str.specs.Faults.{place_of, found_token}
 use Rattle.duration_str.specs.Reading.{IsRead, IsRefused}
+use Rattle.duration_str.specs.WithUnits.{IsReadWithUnits, IsRefusedWithUnits}
 use Rattle.duration_str_c.specs.declared.answer.Answer.{Answer}
 
 -- whether a flag is set among the bits
@@ -90,14 +92,26 @@ refusal_answer cause found_length = record {
   later_operator = later_sign cause;
 }
 
--- The answer says that the bytes are refused for this cause, whose place is a character boundary of the bytes.
-abbrev pub IsRefusalAnswer : Options → List ℕ → Cause → Answer → Type 0
-IsRefusalAnswer o bytes cause answer =
-    IsRefused o (chars bytes) cause × (answer ≡ refusal_answer cause (token_length (found_token o (chars bytes) cause)))
+-- The answer tells this cause of the bytes, whose place is a character boundary of them.
+abbrev pub TellsFault : Options → List ℕ → Cause → Answer → Type 0
+TellsFault o bytes cause answer =
+    (answer ≡ refusal_answer cause (token_length (found_token o (chars bytes) cause)))
     × ForSome (place_of cause) (IsCharBoundary bytes)
 
--- The answer has the value of the bytes, or the cause of their refusal.
-abbrev pub IsAnswerTo : Options → List ℕ → Answer → Type 0
-IsAnswerTo o bytes answer =
-    ((nanos : ℕ) × IsRead o (chars bytes) nanos × (answer ≡ value_answer nanos))
-    ⊎ ((cause : Cause) × IsRefusalAnswer o bytes cause answer)
+-- The text is read as this value under the options whose bits are set; where bit 8 is, each number has its unit.
+abbrev pub IsReadBy : ℕ → List ℕ → ℕ → Type 0
+IsReadBy bits text nanos =
+    MatchBool (has_flag bits 8) (IsReadWithUnits (options_of_bits bits) text nanos)
+    (IsRead (options_of_bits bits) text nanos)
+
+-- The text is refused for this cause under the options whose bits are set.
+abbrev pub IsRefusedBy : ℕ → List ℕ → Cause → Type 0
+IsRefusedBy bits text cause =
+    MatchBool (has_flag bits 8) (IsRefusedWithUnits (options_of_bits bits) text cause)
+    (IsRefused (options_of_bits bits) text cause)
+
+-- The answer has the value of the bytes, or the cause of their refusal, under the options whose bits are set.
+abbrev pub IsAnswerTo : ℕ → List ℕ → Answer → Type 0
+IsAnswerTo bits bytes answer =
+    ((nanos : ℕ) × IsReadBy bits (chars bytes) nanos × (answer ≡ value_answer nanos))
+    ⊎ ((cause : Cause) × IsRefusedBy bits (chars bytes) cause × TellsFault (options_of_bits bits) bytes cause answer)

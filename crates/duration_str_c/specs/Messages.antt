@@ -1,9 +1,8 @@
 -- The message about a refused text, in a caller's buffer.
 use Rattle.std.specs.Prelude.{◌≡◌, ℕ, ◌+◌, ◌^◌, ◌-◌, ◌<◌, ◌≤◌, ◌⊎◌, List, [], ◌∷◌, ◌++◌, length, drop, min}
 use Rattle.std.specs.Str.{chars}
-use Rattle.duration_str.specs.declared.options.Options.{Options}
 use Rattle.duration_str.specs.declared.cause.Cause.{Cause}
-use Rattle.duration_str.specs.Reading.{IsRead, IsRefused}
+use Rattle.duration_str_c.specs.Answers.{IsReadBy, IsRefusedBy}
 
 -- The length is that of the bytes, or the greatest possible one. If there is room for them and a zero, these are at the
 -- start of the buffer, and the rest of it is unchanged; otherwise all of it is.
@@ -15,7 +14,7 @@ IsShown bytes old len new =
 
 -- The text is read, and the empty text is shown; or it is refused, and the bytes that `shown` gives for the cause are
 -- shown.
-abbrev pub ShowsRefusal : (Cause → List ℕ) → Options → List ℕ → List ℕ → ℕ → List ℕ → Type 0
-ShowsRefusal shown o text old len new =
-    ((nanos : ℕ) × IsRead o (chars text) nanos × IsShown [] old len new)
-    ⊎ ((cause : Cause) × IsRefused o (chars text) cause × IsShown (shown cause) old len new)
+abbrev pub ShowsRefusal : (Cause → List ℕ) → ℕ → List ℕ → List ℕ → ℕ → List ℕ → Type 0
+ShowsRefusal shown bits text old len new =
+    ((nanos : ℕ) × IsReadBy bits (chars text) nanos × IsShown [] old len new)
+    ⊎ ((cause : Cause) × IsRefusedBy bits (chars text) cause × IsShown (shown cause) old len new)

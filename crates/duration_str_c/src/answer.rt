@@ -2,8 +2,7 @@
 ghost use Rattle.std.specs.Prelude.{◌≡◌};
 ghost use Rattle.std.specs.Str.{chars};
 ghost use Rattle.duration_str.specs.Faults.{found_token};
-ghost use Rattle.duration_str.specs.Reading.{IsRefused};
-ghost use Rattle.duration_str_c.specs.Answers.{cause_number, bits_of, expected_bits, sign_code, first_sign, later_sign, token_length, value_answer, refusal_answer, IsRefusalAnswer};
+ghost use Rattle.duration_str_c.specs.Answers.{cause_number, bits_of, expected_bits, sign_code, first_sign, later_sign, token_length, value_answer, refusal_answer, TellsFault};
 
 use duration_str::{Cause, CondUnit, Expected, Fault, Options};
 
@@ -89,8 +88,7 @@ impl Answer {
 
 /// The answer with the fault for which a text is refused under these options.
 pub(crate) fn refused(fault: Fault<'_>, options: Options) -> Answer
-    requires { IsRefused options (chars fault.text.now) fault.cause }
-    ensures { IsRefusalAnswer options fault.entry.text.now fault.entry.cause result }
+    ensures { TellsFault options fault.entry.text.now fault.entry.cause result }
 {
     Answer::refusal(fault.cause(), found_length(&fault, options))
 }

@@ -3,7 +3,7 @@
 //! Nothing is allocated. Bytes that are not UTF-8 are refused.
 #![tactic(auto)]
 
-ghost use Rattle.std.specs.Prelude.{◌≡◌, ℕ, ◌+◌, ◌<◌, ◌≤◌, ◌==◌, ◌∷◌, false, length, IsTrue, IsFalse, IfSome, IfNone, IsUtf8, take, drop};
+ghost use Rattle.std.specs.Prelude.{◌≡◌, ℕ, ◌+◌, ◌<◌, ◌≤◌, ◌==◌, ◌∷◌, false, length, IsTrue, IsFalse, IfSome, IfNone, IfOk, IfErr, IsUtf8, take, drop};
 ghost use Rattle.std.specs.Bool.{MatchBool};
 ghost use Rattle.std.specs.Int.Bits.{bit_and};
 ghost use Rattle.std.specs.Str.{chars};
@@ -13,14 +13,16 @@ ghost use Rattle.duration_str.specs.Printing.{IsPrinted};
 ghost use Rattle.duration_str.specs.Results.{ReadsText};
 ghost use Rattle.duration_str.specs.declared.printing.TheConstants.{MAX_PRINTED_LEN};
 ghost use Rattle.duration_str.specs.declared.cause.Cause.TheVariants.{NotText};
-ghost use Rattle.duration_str_c.specs.Answers.{options_of_bits, refusal_answer, IsAnswerTo};
+ghost use Rattle.duration_str_c.specs.Answers.{options_of_bits, refusal_answer, IsAnswerTo, IsReadBy, IsRefusedBy};
 
 pub mod answer;
 pub mod limits;
 pub mod message;
 
 use crate::answer::{Answer, refused};
-use duration_str::{Cause, FORMAT_BUFFER_SIZE, Fault, Options, parse_nanos, write_human};
+use duration_str::{
+    Cause, FORMAT_BUFFER_SIZE, Fault, Options, missing_unit, parse_nanos, write_human,
+};
 use std::time::Duration;
 
 const NO_CALC: u32 = 1;
@@ -28,6 +30,8 @@ const NO_CALC: u32 = 1;
 const LOWERCASE: u32 = 2;
 
 const CN_UNIT: u32 = 4;
+
+const REQUIRE_UNIT: u32 = 8;
 
 /// The options whose bits are set. Other bits have no effect.
 pub(crate) fn options_of_bits(bits: u32) -> Options
@@ -92,7 +96,7 @@ pub(crate) fn put(text: &str, buffer: &mut [u8]) -> usize
 
 /// Reads a text under the options whose bits are set. Returns true if it is read.
 pub fn duration_str_parse_with(text: &[u8], options: u32, answer: &mut Answer) -> bool
-    ensures answers { IsUtf8 text.now → IsAnswerTo (options_of_bits options) text.now answer.new }
+    ensures answers { IsUtf8 text.now → IsAnswerTo options text.now answer.new }
     ensures not_text { ¬ (IsUtf8 text.now) → answer.new ≡ refusal_answer (NotText false) 0 }
     ensures read { result ≡ (answer.new.cause == 0) }
 {
@@ -102,22 +106,38 @@ pub fn duration_str_parse_with(text: &[u8], options: u32, answer: &mut Answer) -
 
 /// The answer for the bytes under the options whose bits are set.
 fn answer_to(bytes: &[u8], options: u32) -> Answer
-    ensures answers { IsUtf8 bytes.now → IsAnswerTo (options_of_bits options) bytes.now result }
+    ensures answers { IsUtf8 bytes.now → IsAnswerTo options bytes.now result }
     ensures not_text { ¬ (IsUtf8 bytes.now) → result ≡ refusal_answer (NotText false) 0 }
 {
     let Some(text) = text_of(bytes) else {
         return Answer::refusal(Cause::NotText { optional: false }, 0);
     };
-    let options = options_of_bits(options);
-    match read(text, options) {
+    match read_by(text, options) {
         Ok(nanos) => Answer::value(nanos),
-        Err(fault) => refused(fault, options),
+        Err(fault) => refused(fault, options_of_bits(options)),
+    }
+}
+
+/// The value of a text under the options whose bits are set, or its fault.
+pub(crate) fn read_by(text: &str, bits: u32) -> Result<u64, Fault<'_>>
+    ensures value { IfOk result (IsReadBy bits (chars text.now)) }
+    ensures fault { IfErr result (λ fault. (fault.text.now ≡ text.now)
+        × IsRefusedBy bits (chars text.now) fault.cause) }
+{
+    let options = options_of_bits(bits);
+    let nanos = read(text, options)?;
+    if bits & REQUIRE_UNIT == 0 {
+        return Ok(nanos);
+    }
+    match missing_unit(text, options) {
+        Some(fault) => Err(fault),
+        None => Ok(nanos),
     }
 }
 
 /// What `parse_nanos` returns, out of line. A copy of the reader that knows that all options are off is faster.
 #[inline(never)]
-pub(crate) fn read(text: &str, options: Options) -> Result<u64, Fault<'_>>
+fn read(text: &str, options: Options) -> Result<u64, Fault<'_>>
     ensures { ReadsText options text.now result }
 {
     if options.are_off() {

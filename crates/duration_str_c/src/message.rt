@@ -3,11 +3,11 @@ ghost use Rattle.std.specs.Prelude.{◌≡◌, ◌+◌, ◌<◌, ◌≤◌, ◌�
 ghost use Rattle.duration_str.specs.declared.cause.Cause.TheVariants.{NotText};
 ghost use Rattle.duration_str.specs.declared.one_line.TheConstants.{MAX_ONE_LINE_LEN};
 ghost use Rattle.duration_str.specs.OneLine.{one_line_of};
-ghost use Rattle.duration_str_c.specs.Answers.{options_of_bits, refusal_answer, IsAnswerTo};
+ghost use Rattle.duration_str_c.specs.Answers.{refusal_answer, IsAnswerTo};
 ghost use Rattle.duration_str_c.specs.Messages.{IsShown, ShowsRefusal};
 
 use crate::answer::{Answer, refused};
-use crate::{options_of_bits, put, read, text_of};
+use crate::{options_of_bits, put, read_by, text_of};
 use duration_str::{Cause, Fault, ONE_LINE_BUFFER_SIZE};
 
 /// Reads a text under the options whose bits are set, as `duration_str_parse_with` does, and writes what is wrong with
@@ -19,9 +19,9 @@ pub fn duration_str_one_line(
     answer: &mut Answer,
     buffer: &mut [u8; ONE_LINE_BUFFER_SIZE],
 ) -> usize
-    ensures answers { IsUtf8 text.now → IsAnswerTo (options_of_bits options) text.now answer.new }
+    ensures answers { IsUtf8 text.now → IsAnswerTo options text.now answer.new }
     ensures text { IsUtf8 text.now → ShowsRefusal (one_line_of text.now)
-        (options_of_bits options) text.now buffer.old result buffer.new }
+        options text.now buffer.old result buffer.new }
     ensures not_text { ¬ (IsUtf8 text.now) → (answer.new ≡ refusal_answer (NotText false) 0)
         × IsShown (codes "not UTF-8") buffer.old result buffer.new }
     ensures utf8 { IsUtf8 (take result buffer.new) }
@@ -32,15 +32,14 @@ pub fn duration_str_one_line(
         *answer = Answer::refusal(Cause::NotText { optional: false }, 0);
         return show("not UTF-8", buffer);
     };
-    let options = options_of_bits(options);
-    match read(text, options) {
+    match read_by(text, options) {
         Ok(nanos) => {
             *answer = Answer::value(nanos);
             show("", buffer)
         }
         Err(fault) => {
             let length = show_one_line(&fault, buffer);
-            *answer = refused(fault, options);
+            *answer = refused(fault, options_of_bits(options));
             length
         }
     }

@@ -8,4 +8,4 @@ pub returns : goal.returns
 returns c =
     let token = found_token c.args.options (chars c.args.fault.text.now) c.args.fault.cause in
     let answers : c.refusal.result ≡ refusal_answer c.args.fault.cause (token_length token) = search rules in
-    (c.requires, answers, c.args.fault.placed)
+    (answers, c.args.fault.placed)
