@@ -211,6 +211,7 @@ class Reading(unittest.TestCase):
         with self.assertRaisesRegex(DurationError, r'^unknown unit "x" at column 2 \(write y, .* or ns\)$') as told:
             to_timedelta("1x")
         self.assertIsNone(told.exception.index)
+        self.assertTrue(numpy.isnat(to_timedelta(["1h", "90"], errors="coerce", require_unit=True)[1]))
         with self.assertRaisesRegex(DurationError, "^duration of .* timedelta64 doesn't have$"):
             to_timedelta("300y")
         with self.assertRaisesRegex(OverflowError, "nanoseconds or more: .*=999999\\)$"):

@@ -38,7 +38,7 @@ class Documentation(unittest.TestCase):
     def test_shows_the_units_and_the_options(self):
         self.assertIn("µs, µsec, µsecond", pydoc.render_doc(duration_str))
         for name in ["parse", "parse_ns", "parse_seconds"]:
-            options = ", ".join(f"{option}=False" for option in VECTORS["options"])
+            options = ", ".join(f"{option}=False" for option in [*VECTORS["options"], "require_unit"])
             self.assertEqual(f"(text, /, *, {options})", str(inspect.signature(getattr(duration_str, name))))
 
     def test_has_its_version_and_its_description(self):

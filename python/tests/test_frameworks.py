@@ -64,6 +64,8 @@ class Lines(unittest.TestCase):
         self.assertEqual(parser.parse_args(["--timeout", "1分"]).timeout, MINUTE)
         with self.assertRaisesRegex(argparse.ArgumentError, "argument --timeout: '1%x': expected a unit"):
             parser.parse_args(["--timeout", "1%x"])
+        with self.assertRaisesRegex(argparse.ArgumentTypeError, "'90': expected a unit at column 3"):
+            DurationType(require_unit=True)("90")
 
     @unittest.skipUnless(has("click"), "Click is missing")
     def test_click(self):
@@ -80,6 +82,8 @@ class Lines(unittest.TestCase):
 
         self.assertEqual(DurationParamType(cn_unit=True)("1分"), MINUTE)
         self.assertEqual(repr(DURATION), "DURATION")
+        with self.assertRaisesRegex(click.BadParameter, "'90': expected a unit at column 3"):
+            DurationParamType(require_unit=True)("90")
         with self.assertRaisesRegex(click.BadParameter, "'1分': unknown unit"):
             DURATION("1分")
 

@@ -33,6 +33,9 @@ class Reading(unittest.TestCase):
         longest = parse(f"{2**64 - 1}ns")
         self.assertEqual(longest // datetime.timedelta(microseconds=1), (2**64 - 1) // 1000)
         self.assertEqual(parse("1分", cn_unit=True), datetime.timedelta(minutes=1))
+        self.assertEqual(parse("1h 30m", require_unit=True), datetime.timedelta(minutes=90))
+        with self.assertRaisesRegex(DurationError, "^expected a unit at column 3, found the end$"):
+            parse("90", require_unit=True)
 
     def test_rounds_seconds_to_the_nearest_float(self):
         self.assertEqual(parse_seconds("1h 30m"), 5400.0)

@@ -103,21 +103,21 @@ def _nanos_of_lengths(values: Any, lengths: Any, raises: bool) -> Any:
 @overload
 def to_timedelta(
     values: None, *, errors: Errors = ...,
-    no_calc: bool = ..., lowercase: bool = ..., cn_unit: bool = ...,
+    no_calc: bool = ..., lowercase: bool = ..., cn_unit: bool = ..., require_unit: bool = ...,
 ) -> None: ...
 @overload
 def to_timedelta(
     values: list[Any] | tuple[Any, ...] | NDArray[Any], *,
-    errors: Errors = ..., no_calc: bool = ..., lowercase: bool = ..., cn_unit: bool = ...,
+    errors: Errors = ..., no_calc: bool = ..., lowercase: bool = ..., cn_unit: bool = ..., require_unit: bool = ...,
 ) -> NDArray[numpy.timedelta64]: ...
 @overload
 def to_timedelta(
     values: Any, *, errors: Errors = ...,
-    no_calc: bool = ..., lowercase: bool = ..., cn_unit: bool = ...,
+    no_calc: bool = ..., lowercase: bool = ..., cn_unit: bool = ..., require_unit: bool = ...,
 ) -> Any: ...
 def to_timedelta(
     values: Any, *, errors: Errors = "raise",
-    no_calc: bool = False, lowercase: bool = False, cn_unit: bool = False,
+    no_calc: bool = False, lowercase: bool = False, cn_unit: bool = False, require_unit: bool = False,
 ) -> Any:
     """As `pandas.to_timedelta`, of texts: of a Series a Series of
     timedelta64[ns] with its index and its name, of an Index an Index, and
@@ -136,7 +136,7 @@ def to_timedelta(
     DurationTypeError, also where a text before it is refused. With
     `errors="coerce"` all of these become NaT.
     """
-    raises, options = raises_errors(errors), option_bits(no_calc, lowercase, cn_unit)
+    raises, options = raises_errors(errors), option_bits(no_calc, lowercase, cn_unit, require_unit)
     if values is None:
         return None
     import numpy

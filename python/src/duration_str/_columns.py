@@ -37,16 +37,16 @@ def raises_errors(errors: str) -> bool:
 @overload
 def parse_many(
     texts: Iterable[str], *, errors: Literal["raise"] = ...,
-    no_calc: bool = ..., lowercase: bool = ..., cn_unit: bool = ...,
+    no_calc: bool = ..., lowercase: bool = ..., cn_unit: bool = ..., require_unit: bool = ...,
 ) -> array[int]: ...
 @overload
 def parse_many(
     texts: Iterable[object], *, errors: Literal["coerce"],
-    no_calc: bool = ..., lowercase: bool = ..., cn_unit: bool = ...,
+    no_calc: bool = ..., lowercase: bool = ..., cn_unit: bool = ..., require_unit: bool = ...,
 ) -> tuple[array[int], array[int]]: ...
 def parse_many(
     texts: Any, *, errors: Errors = "raise",
-    no_calc: bool = False, lowercase: bool = False, cn_unit: bool = False,
+    no_calc: bool = False, lowercase: bool = False, cn_unit: bool = False, require_unit: bool = False,
 ) -> array[int] | tuple[array[int], array[int]]:
     """The values in nanoseconds of texts, any iterable of str, as an
     `array('Q')`. The options are those of `parse_ns`.
@@ -65,23 +65,23 @@ def parse_many(
     """
     raises, given = raises_errors(errors), values_of(texts)
     nanos = zeros(len(given))
-    refused = _native.read_list(given, nanos, option_bits(no_calc, lowercase, cn_unit), raises, 0, None)
+    refused = _native.read_list(given, nanos, option_bits(no_calc, lowercase, cn_unit, require_unit), raises, 0, None)
     return nanos if raises else (nanos, array("Q", refused))
 
 
 @overload
 def parse_buffers(
     data: Any, offsets: Any, *, errors: Literal["raise"] = ...,
-    no_calc: bool = ..., lowercase: bool = ..., cn_unit: bool = ...,
+    no_calc: bool = ..., lowercase: bool = ..., cn_unit: bool = ..., require_unit: bool = ...,
 ) -> array[int]: ...
 @overload
 def parse_buffers(
     data: Any, offsets: Any, *, errors: Literal["coerce"],
-    no_calc: bool = ..., lowercase: bool = ..., cn_unit: bool = ...,
+    no_calc: bool = ..., lowercase: bool = ..., cn_unit: bool = ..., require_unit: bool = ...,
 ) -> tuple[array[int], array[int]]: ...
 def parse_buffers(
     data: Any, offsets: Any, *, errors: Errors = "raise",
-    no_calc: bool = False, lowercase: bool = False, cn_unit: bool = False,
+    no_calc: bool = False, lowercase: bool = False, cn_unit: bool = False, require_unit: bool = False,
 ) -> array[int] | tuple[array[int], array[int]]:
     """As `parse_many`, of texts in UTF-8 in a buffer: text `k`
     is `data[offsets[k] : offsets[k + 1]]`, so there is one offset more than
@@ -103,5 +103,5 @@ def parse_buffers(
     raises = raises_errors(errors)
     with memoryview(offsets) as row:
         nanos = zeros(max(0, len(row) - 1))
-        refused = _native.read_buffers(data, row, nanos, option_bits(no_calc, lowercase, cn_unit), raises)
+        refused = _native.read_buffers(data, row, nanos, option_bits(no_calc, lowercase, cn_unit, require_unit), raises)
     return nanos if raises else (nanos, array("Q", refused))

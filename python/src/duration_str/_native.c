@@ -12,11 +12,11 @@
 
 /* What the module keeps of Python: the names of the options, in the order of their bits; of what limits printing; of a
  * timedelta's parts; and what it makes and calls. */
-enum kept { NO_CALC, LOWERCASE, CN_UNIT, OPTIONS, LARGEST = OPTIONS, SMALLEST, PARTS, STYLE,
+enum kept { NO_CALC, LOWERCASE, CN_UNIT, REQUIRE_UNIT, OPTIONS, LARGEST = OPTIONS, SMALLEST, PARTS, STYLE,
             DAYS, SECONDS, MICROSECONDS, ERROR, TYPE_ERROR, NANOS_OF, TIMEDELTA, A_MICROSECOND, A_SECOND, KEPT };
 /* Those before ERROR, in their order */
-static const char *const kept_names[] = {"no_calc", "lowercase", "cn_unit", "largest", "smallest", "parts",
-                                         "style", "days", "seconds", "microseconds"};
+static const char *const kept_names[] = {"no_calc", "lowercase", "cn_unit", "require_unit", "largest", "smallest",
+                                         "parts", "style", "days", "seconds", "microseconds"};
 
 /* timedelta64's NaT, and the days that it can have whatever else is added. */
 #define MISSING ((uint64_t)INT64_MIN)
@@ -600,10 +600,11 @@ static PyObject *read_buffers(PyObject *self, PyObject *arguments) {
     return refused;
 }
 
-#define OPTIONS_DOC "($module, text, /, *, no_calc=False, lowercase=False, cn_unit=False)\n--\n\n"
+#define OPTIONS_DOC "($module, text, /, *, no_calc=False, lowercase=False, cn_unit=False, require_unit=False)\n--\n\n"
 PyDoc_STRVAR(parse_ns_doc, "parse_ns" OPTIONS_DOC "The value of a text in nanoseconds.\n\n"
 "`no_calc`: `+` and `*` are not read; terms are added as they come. `lowercase`: words are compared as they stand; else\n"
-"ASCII capitals are folded to small letters. `cn_unit`: the Chinese names of the units are read too.\n\n"
+"ASCII capitals are folded to small letters. `cn_unit`: the Chinese names of the units are read too.\n"
+"`require_unit`: a number without a unit is refused.\n\n"
 "Raises DurationError where the text is refused, and DurationTypeError where it is no str.");
 PyDoc_STRVAR(parse_doc, "parse" OPTIONS_DOC
 "The value of a text as a timedelta, rounded down to whole microseconds; `parse_ns`, which has the same options and\n"

@@ -117,9 +117,9 @@ def _is_clear(text: str) -> bool:
     return True
 
 
-def option_bits(no_calc: bool, lowercase: bool, cn_unit: bool) -> int:
+def option_bits(no_calc: bool, lowercase: bool, cn_unit: bool, require_unit: bool) -> int:
     """The options as the library takes them."""
-    return sum(bool(is_on) << bit for bit, is_on in enumerate((no_calc, lowercase, cn_unit)))
+    return sum(bool(is_on) << bit for bit, is_on in enumerate((no_calc, lowercase, cn_unit, require_unit)))
 
 
 def nanos_a_step(dtype: Any) -> int:
