@@ -15,6 +15,8 @@ export interface Options {
     lowercase?: boolean | undefined;
     /** The Chinese names of the units are read too. */
     cnUnit?: boolean | undefined;
+    /** A number without a unit is refused, as in `90` and `1h 30`; otherwise it counts seconds. */
+    requireUnit?: boolean | undefined;
 }
 
 /** The units by their printed names, the longest first; `us` stands for `µs` too. */

@@ -234,7 +234,7 @@ function ownOptions(options, defaults, hint = "") {
 }
 
 /** The options of reading, in the order of their bits in `enum duration_str_option`. */
-const OFF = { noCalc: false, lowercase: false, cnUnit: false };
+const OFF = { noCalc: false, lowercase: false, cnUnit: false, requireUnit: false };
 const NAMES = Object.keys(OFF);
 
 /** The bits of the options that are on. */

@@ -2,7 +2,7 @@ import assert from "node:assert/strict";
 import test from "node:test";
 import { runInNewContext } from "node:vm";
 
-import { DurationError, parseNs, parse, tryParseNs } from "duration-str";
+import { DurationError, parseNs, parse, tryParse, tryParseNs } from "duration-str";
 import { CHOICES, holds, optionsOf, VECTORS } from "./vectors.js";
 
 const LARGEST = 2n ** 64n - 1n;
@@ -106,6 +106,10 @@ test("reads the nearest number of milliseconds", () => {
     ];
     for (const [text, value] of rows) assert.equal(parse(text), value, text);
     assert.equal(parse("1分", { cnUnit: true }), 60_000);
+    assert.equal(parse("1h 30m", { requireUnit: true }), 5_400_000);
+    const { fault } = tryParse("90", { requireUnit: true });
+    assert.equal(fault.message, "expected a unit at column 3, found the end");
+    assert.deepEqual(fault.expected, { number: false, unit: true, operator: false, end: false });
 });
 
 test("reads 10 MB, and keeps the memory for later texts", (context) => {

@@ -4,7 +4,7 @@ import {
     type Refusal, tryParseNs, tryParse, version,
 } from "duration-str";
 
-const options: Options = { noCalc: true, lowercase: false, cnUnit: undefined };
+const options: Options = { noCalc: true, lowercase: false, cnUnit: undefined, requireUnit: true };
 const nanoseconds: bigint = parseNs("2h 37m", options);
 const milliseconds: number = parse("1m 30s", {});
 const texts: string[] = [formatNs(nanoseconds), format(milliseconds), formatNs(1n, { parts: 2, largest: "d", smallest: "us", style: "long" })];
