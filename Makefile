@@ -82,7 +82,7 @@ library:
 # It depends on crates of others. cargo hashes the absolute path of what lies outside of a workspace, and so gives other
 # bytes in each folder: so out/command is a workspace around both, of copies, since the gate refuses links.
 command = out/cargo/$(host)/release/duration
-crates = clap clap_complete clap_derive libc serde_json
+crates = clap clap_complete clap_derive serde_json
 commanded = shell/Cargo.toml shell/src rust/Cargo.toml rust/macros rust/src
 duration:
 	@if $(call serves,$(command),$(commanded)); then

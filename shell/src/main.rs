@@ -1,80 +1,122 @@
 //! `duration`: reads durations from its arguments or from lines, and prints them for people or as numbers.
+#![no_main]
 mod options;
 mod reading;
 
-use clap::CommandFactory;
-use options::Choices;
+use duration_str::TimeUnit;
+use options::{Choices, Round};
 use reading::Refusal;
-use serde_json::json;
+use std::ffi::{CStr, OsStr, OsString, c_char, c_int};
+use std::fs::File;
 use std::io::{self, BufRead, BufReader, BufWriter, IsTerminal, Read, Write};
-use std::process::ExitCode;
+use std::os::fd::AsFd;
+use std::os::unix::ffi::OsStrExt;
 
 /// The most bytes of a line.
 const LONGEST: usize = 1 << 20;
 
-fn main() -> ExitCode {
-    // SAFETY: no other thread runs. By this signal, which Rust ignores, a program ends once nobody reads its output.
-    unsafe { libc::signal(libc::SIGPIPE, libc::SIG_DFL) };
-    let choices = Choices::get();
+/// C's `main`: Rust's opens /dev/null for a closed stream, and ignores the signal of a pipe that nobody reads.
+#[unsafe(no_mangle)]
+extern "C" fn main(count: c_int, words: *const *const c_char) -> c_int {
+    // SAFETY: C calls it with so many words, each with a zero at its end.
+    let word = |at| OsStr::from_bytes(unsafe { CStr::from_ptr(*words.add(at)) }.to_bytes()).to_os_string();
+    run((0..count as usize).map(word)).unwrap_or_else(|error| {
+        let _ = writeln!(io::stderr(), "duration: {error}");
+        2
+    })
+}
+
+/// Does what the words say, and returns the status.
+fn run(words: impl Iterator<Item = OsString>) -> io::Result<c_int> {
+    let choices = match Choices::of(words) {
+        Ok(choices) => choices,
+        Err(told) => {
+            let (stream, status) = if told.use_stderr() { (file(io::stderr()), 2) } else { (file(io::stdout()), 0) };
+            stream?.write_all(told.to_string().replace('\0', "").as_bytes())?;
+            return Ok(status);
+        }
+    };
+    let output: Box<dyn Write> = if choices.quiet { Box::new(io::sink()) } else { Box::new(file(io::stdout())?) };
     let mut run = Run {
-        output: BufWriter::with_capacity(1 << 16, io::stdout().lock()),
+        output: BufWriter::with_capacity(1 << 16, output),
         end: if choices.zero_terminated { 0 } else { b'\n' },
         choices: &choices,
         has_refused: false,
     };
-    let ended = run.all();
-    if let Err(error) = &ended {
-        let _ = writeln!(io::stderr(), "duration: {error}");
-    }
-    ExitCode::from(ended.map_or(2, |()| run.has_refused.into()))
+    run.all().map(|()| run.has_refused.into())
 }
 
-struct Run<'a, W: Write> {
-    output: W,
+/// A stream as a file, whose errors are not hidden where the stream is closed.
+fn file(stream: impl AsFd) -> io::Result<File> {
+    Ok(stream.as_fd().try_clone_to_owned()?.into())
+}
+
+fn of_input(error: io::Error) -> io::Error {
+    io::Error::other(format!("standard input: {error}"))
+}
+
+struct Run<'a> {
+    output: BufWriter<Box<dyn Write>>,
     end: u8,
     choices: &'a Choices,
     has_refused: bool,
 }
 
-impl<W: Write> Run<'_, W> {
+impl Run<'_> {
     /// Answers each argument, or without any each line of standard input.
     fn all(&mut self) -> io::Result<()> {
         if let Some(shell) = self.choices.completions {
-            clap_complete::generate(shell, &mut Choices::command(), "duration", &mut self.output);
+            clap_complete::generate(shell, &mut options::with_words(), "duration", &mut self.output);
         } else if self.choices.texts.is_empty() {
-            self.lines(BufReader::with_capacity(1 << 16, io::stdin().lock()))?;
+            let input = file(io::stdin()).map_err(of_input)?;
+            self.lines(BufReader::with_capacity(1 << 16, input))?;
         }
         for (text, number) in self.choices.texts.iter().zip(1..) {
-            self.line(options::unescape(text), number)?;
+            self.line(text.as_bytes().strip_prefix(options::ESCAPE).unwrap_or(text.as_bytes()), number)?;
         }
         self.output.flush()
     }
 
-    fn lines(&mut self, mut input: BufReader<impl Read>) -> io::Result<()> {
-        let of_input = |error: io::Error| io::Error::other(format!("standard input: {error}"));
+    fn lines(&mut self, mut input: BufReader<File>) -> io::Result<()> {
         let mut line = Vec::new();
         for number in 1.. {
             // What is answered is written before more is awaited.
             if !input.buffer().contains(&self.end) {
                 self.output.flush()?;
             }
-            line.clear();
-            let mut first = input.by_ref().take(LONGEST as u64 + 1);
-            if first.read_until(self.end, &mut line).map_err(of_input)? == 0 {
+            if !self.next(&mut input, &mut line)? {
                 break;
             }
             let text = line.strip_suffix(&[self.end]).unwrap_or(&line);
+            let is_header = number <= self.choices.header.unwrap_or(0);
             if text.len() > LONGEST {
-                input.skip_until(self.end).map_err(of_input)?;
-                let refusal = Refusal::new("longer than 1,048,576 bytes");
-                self.refuse(refusal, [b""; 3], number)?;
-            } else if number > self.choices.header.unwrap_or(0) {
-                self.line(text, number)?;
+                if !is_header {
+                    self.tell(Refusal::new("line of over 1,048,576 bytes"), b"", number)?;
+                }
+                self.pass(&mut input, &mut line, is_header || self.choices.field.is_some())?;
+            } else if is_header {
+                self.put(&[text])?;
             } else {
-                self.put([text, b"", b""])?;
+                self.line(text, number)?;
             }
         }
         Ok(())
+    }
+
+    /// Reads a line with its end, or the beginning of one that is too long. False at the end of the input.
+    fn next(&self, input: &mut BufReader<File>, line: &mut Vec<u8>) -> io::Result<bool> {
+        line.clear();
+        let read = input.take(LONGEST as u64 + 1).read_until(self.end, line);
+        Ok(read.map_err(of_input)? > 0)
+    }
+
+    /// Reads the rest of a line that is too long, and writes all of it where it stays.
+    fn pass(&mut self, input: &mut BufReader<File>, line: &mut Vec<u8>, stays: bool) -> io::Result<()> {
+        while !line.is_empty() && !line.ends_with(&[self.end]) {
+            self.output.write_all(if stays { line } else { b"" })?;
+            self.next(input, line)?;
+        }
+        if stays { self.put(&[line.strip_suffix(&[self.end]).unwrap_or(line)]) } else { Ok(()) }
     }
 
     fn line(&mut self, line: &[u8], number: u64) -> io::Result<()> {
@@ -83,16 +125,21 @@ impl<W: Write> Run<'_, W> {
         };
         match reading::read(text, self.choices) {
             Err(refusal) => self.refuse(refusal, [before, text, after], number),
-            Ok((text, duration)) => {
-                let printed = self.choices.printed(duration);
-                if !self.choices.json {
-                    return self.put([before, printed.as_bytes(), after]);
-                }
-                let nanos = duration.as_nanos().to_string();
-                let json = json!({"text": text, "nanoseconds": nanos, "printed": printed});
-                self.put([json.to_string().as_bytes(), b"", b""])
-            }
+            Ok((text, nanos)) if self.choices.json => self.object(text, nanos),
+            Ok((_, nanos)) => self.put(&[before, self.choices.printed(nanos).as_bytes(), after]),
         }
+    }
+
+    /// Writes the object of a text that is read. Its nanoseconds are a text, since other programs drop digits of a number.
+    fn object(&mut self, text: &str, nanos: u64) -> io::Result<()> {
+        self.output.write_all(b"{\"text\":")?;
+        serde_json::to_writer(&mut self.output, text)?;
+        let seconds = options::in_unit(nanos, TimeUnit::Second, None, Round::Down);
+        let mark = if self.choices.to.is_some() { "" } else { "\"" };
+        let (nanos, printed) = (nanos.to_string(), self.choices.printed(nanos));
+        let rest =
+            [",\"nanoseconds\":\"", &nanos, "\",\"seconds\":", &seconds, ",\"printed\":", mark, &printed, mark, "}"];
+        self.put(&rest.map(str::as_bytes))
     }
 
     /// The text of a line, all of it or a field without blanks and quotation marks, and what is before and after it.
@@ -100,11 +147,12 @@ impl<W: Write> Run<'_, W> {
         let Some(number) = self.choices.field else {
             return Some([b"", line.strip_suffix(b"\r").unwrap_or(line), b""]);
         };
-        let mut fields = line.split(|byte| *byte == self.choices.delimiter.unwrap_or(b'\t'));
-        let before = fields.by_ref().take(usize::from(number) - 1);
-        let start = before.map(|field| field.len() + 1).sum::<usize>();
-        let field = fields.next()?;
-        let is_inside = |byte: &u8| !b" \t\r\"".contains(byte);
+        let delimiter = self.choices.delimiter;
+        let divides = |byte: &u8| delimiter.map_or(b" \t\r\n".contains(byte), |character| *byte == character);
+        let mut fields = line.split(divides).filter(|field| delimiter.is_some() || !field.is_empty());
+        let field = fields.nth(usize::from(number) - 1)?;
+        let is_inside = |byte: &u8| !b" \t\r\n\"".contains(byte);
+        let start = field.as_ptr().addr() - line.as_ptr().addr();
         let first = start + field.iter().position(is_inside).unwrap_or(0);
         let end = start + field.iter().rposition(is_inside).map_or(0, |last| last + 1);
         Some([&line[..first], &line[first..end], &line[end..]])
@@ -112,37 +160,31 @@ impl<W: Write> Run<'_, W> {
 
     /// Says why a text is refused, and writes its line as it was if a field is converted.
     fn refuse(&mut self, refusal: Refusal, parts: [&[u8]; 3], number: u64) -> io::Result<()> {
-        self.has_refused = true;
-        if self.choices.json {
-            let text = String::from_utf8_lossy(parts[1]);
-            let json = json!({"text": text, "message": refusal.message, "line": number,
-                "column": refusal.column, "found": refusal.found});
-            return self.put([json.to_string().as_bytes(), b"", b""]);
-        }
-        if !self.choices.quiet {
-            // A terminal shows what was answered before that first.
-            self.output.flush()?;
-            let what = ["argument", "line"][usize::from(self.choices.texts.is_empty())];
-            let (gap, said) = match refusal.report.contains('\n') && io::stderr().is_terminal() {
-                true => ('\n', refusal.report),
-                false => (' ', refusal.message),
-            };
-            let said = format!("duration: {what} {number}:{gap}{said}\n");
-            io::stderr().write_all(said.as_bytes())?;
-        }
-        match self.choices.field {
-            Some(_) => self.put(parts),
-            None => Ok(()),
-        }
+        self.tell(refusal, parts[1], number)?;
+        if self.choices.field.is_some() { self.put(&parts) } else { Ok(()) }
     }
 
-    fn put(&mut self, parts: [&[u8]; 3]) -> io::Result<()> {
+    fn tell(&mut self, refusal: Refusal, text: &[u8], number: u64) -> io::Result<()> {
+        self.has_refused = true;
+        let what = ["argument", "line"][usize::from(self.choices.texts.is_empty())];
+        if self.choices.json {
+            return self.put(&[refusal.json(text, what, number).as_bytes()]);
+        }
         if self.choices.quiet {
             return Ok(());
         }
-        for part in [parts[0], parts[1], parts[2], &[self.end]] {
-            self.output.write_all(part)?;
-        }
-        Ok(())
+        // A terminal shows what was answered before that first.
+        self.output.flush()?;
+        let field = self.choices.field.map_or(String::new(), |field| format!(", field {field}"));
+        let (gap, said) = match refusal.report.contains('\n') && io::stderr().is_terminal() {
+            true => ('\n', refusal.report),
+            false => (' ', refusal.message),
+        };
+        io::stderr().write_all(format!("duration: {what} {number}{field}:{gap}{said}\n").as_bytes())
+    }
+
+    fn put(&mut self, parts: &[&[u8]]) -> io::Result<()> {
+        parts.iter().try_for_each(|part| self.output.write_all(part))?;
+        self.output.write_all(&[self.end])
     }
 }

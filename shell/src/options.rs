@@ -1,26 +1,31 @@
 //! The arguments, and how they have durations read and printed.
 use clap::builder::{PossibleValuesParser, TypedValueParser};
 use clap::error::ErrorKind;
-use clap::{Parser, value_parser};
-use duration_str::{Format, Options, STYLED_BUFFER_SIZE, Style, TimeUnit, write_within};
+use clap::{Command, CommandFactory, Parser, ValueEnum, value_parser};
+use duration_str::{Format, STYLED_BUFFER_SIZE, Style, TimeUnit, UnknownUnit, parse_duration, write_within};
 use std::ffi::{OsStr, OsString};
+use std::os::unix::ffi::OsStrExt;
 use std::time::Duration;
 
 /// Read durations such as 1h 30m, and print them for people or as numbers
 #[derive(Parser)]
-#[command(name = "duration", version, after_help = AFTER_HELP)]
+#[command(name = "duration", version, after_help = AFTER_HELP, args_override_self = true, max_term_width = 80)]
 pub struct Choices {
     /// Durations, each an argument of its own; without any, the lines of standard input
     #[arg(value_name = "TEXT")]
     pub texts: Vec<OsString>,
-    /// Print a number of this unit, rounded down to nine decimals
-    #[arg(long, value_name = "UNIT", conflicts_with_all = ["style", "parts", "largest", "smallest"])]
-    to: Option<TimeUnit>,
-    /// Print so many decimals, 0 to 9, in place of those that are needed
+    /// Print a number of this unit, with the decimals that are needed, up to nine
+    #[arg(long, value_name = "UNIT", value_parser = unit,
+        conflicts_with_all = ["style", "parts", "largest", "smallest"])]
+    pub to: Option<TimeUnit>,
+    /// Print so many decimals, 0 to 9
     #[arg(long, value_name = "N", requires = "to", value_parser = value_parser!(u8).range(..=9))]
     decimals: Option<u8>,
-    /// Read a bare number, such as 12.5, as this unit's; other numbers need a unit
-    #[arg(long, value_name = "UNIT")]
+    /// Where a number has more decimals, print the next one below, above, or the nearest
+    #[arg(long, value_name = "WAY", requires = "to", default_value = "down")]
+    round: Round,
+    /// Read a bare number, such as 12.5 or 1e-05, as this unit's; other numbers need a unit
+    #[arg(long, value_name = "UNIT", value_parser = unit)]
     pub from: Option<TimeUnit>,
     /// Print 1h 30min, 1h30min or 1 hour 30 minutes
     #[arg(long, default_value_t, value_parser =
@@ -30,19 +35,21 @@ pub struct Choices {
     #[arg(long, value_name = "N", default_value = "11", value_parser = value_parser!(u8).range(1..))]
     parts: u8,
     /// Print no unit longer than this one
-    #[arg(long, value_name = "UNIT", default_value = "y")]
+    #[arg(long, value_name = "UNIT", default_value = "y", value_parser = unit)]
     largest: TimeUnit,
     /// Print no unit shorter than this one
-    #[arg(long, value_name = "UNIT", default_value = "ns")]
+    #[arg(long, value_name = "UNIT", default_value = "ns", value_parser = unit)]
     smallest: TimeUnit,
     /// Convert the Nth field, and print the line around it; a refused one stays as it is
     #[arg(long, value_name = "N", value_parser = value_parser!(u16).range(1..))]
     pub field: Option<u16>,
-    /// What divides fields, an ASCII character [default: a tab]
-    #[arg(short, long, value_name = "CHAR", requires = "field", value_parser = ascii)]
+    /// What divides fields, an ASCII character [default: runs of blanks]
+    #[arg(short, long, value_name = "CHAR", requires = "field", value_parser = |text: &str|
+        <[u8; 1]>::try_from(text.as_bytes()).map_or(Err("not one ASCII character"), |[byte]| Ok(byte)))]
     pub delimiter: Option<u8>,
     /// Print the first line, or the first N, unchanged
-    #[arg(long, value_name = "N", num_args = ..=1, require_equals = true, default_missing_value = "1")]
+    #[arg(long, value_name = "N", num_args = ..=1, require_equals = true, default_missing_value = "1",
+        conflicts_with = "texts")]
     pub header: Option<u64>,
     /// Print an object of JSON for each text, also for one that is refused
     #[arg(long, conflicts_with_all = ["field", "header"])]
@@ -53,21 +60,25 @@ pub struct Choices {
     /// Lines end with NUL, not with a line feed
     #[arg(short, long)]
     pub zero_terminated: bool,
-    /// Read no operators
-    #[arg(long)]
-    no_calc: bool,
     /// Tell capitals from small letters, so that 1M is refused
     #[arg(long)]
-    lowercase: bool,
+    pub lowercase: bool,
     /// Read the Chinese names of units, too
     #[arg(long)]
-    cn_unit: bool,
+    pub cn_unit: bool,
     /// Refuse a number without a unit, which otherwise is in seconds
     #[arg(long)]
     pub require_unit: bool,
     /// Print the completions for a shell
     #[arg(long, value_name = "SHELL", exclusive = true)]
     pub completions: Option<clap_complete::Shell>,
+}
+
+#[derive(Clone, Copy, ValueEnum)]
+pub enum Round {
+    Down,
+    Up,
+    Nearest,
 }
 
 const AFTER_HELP: &str = "\
@@ -80,55 +91,69 @@ Examples:
   $ duration -d, --field 2 --header --to s <jobs.csv";
 
 impl Choices {
-    /// Those of the command line. Where it is wrong, clap ends the program.
-    pub fn get() -> Choices {
-        let choices = Choices::parse_from(std::env::args_os().map(escape));
+    /// Those of the command line, or what is to be said in place of answers.
+    pub fn of(words: impl Iterator<Item = OsString>) -> Result<Choices, clap::Error> {
+        let choices = Choices::try_parse_from(words.map(escape))?;
         if choices.largest < choices.smallest {
-            let message = "--largest is shorter than --smallest\n";
-            clap::Error::raw(ErrorKind::ArgumentConflict, message).exit();
+            return Err(clap::Error::raw(ErrorKind::ArgumentConflict, "--largest is shorter than --smallest\n"));
         }
-        choices
+        Ok(choices)
     }
 
-    pub fn reading(&self) -> Options {
-        Options { no_calc: self.no_calc, lowercase: self.lowercase, cn_unit: self.cn_unit }
-    }
-
-    pub fn printed(&self, duration: Duration) -> String {
+    pub fn printed(&self, nanos: u64) -> String {
         if let Some(unit) = self.to {
-            return in_unit(duration, unit, self.decimals);
+            return in_unit(nanos, unit, self.decimals, self.round);
         }
         let parts = Format::whole().parts(self.parts.into());
         let within = parts.largest(self.largest).smallest(self.smallest);
         let mut buffer = [0; STYLED_BUFFER_SIZE];
-        write_within(&duration, within.style(self.style), &mut buffer).to_string()
+        write_within(&Duration::from_nanos(nanos), within.style(self.style), &mut buffer).to_string()
     }
 }
 
-/// A number of this unit, with so many decimals, or else those that are needed, up to nine. It is rounded down.
-fn in_unit(duration: Duration, unit: TimeUnit, decimals: Option<u8>) -> String {
-    let (nanos, length) = (duration.as_nanos(), u128::from(unit.nanos()));
-    let billionths = nanos % length * 1_000_000_000 / length;
-    let number = format!("{}.{billionths:09}", nanos / length);
-    let needed = number.trim_end_matches('0').len();
-    let length = decimals.map_or(needed, |count| number.len() - 9 + usize::from(count));
-    number[..length].trim_end_matches('.').to_string()
+/// A number of this unit, with so many decimals, or else those that are needed, up to nine.
+pub fn in_unit(nanos: u64, unit: TimeUnit, decimals: Option<u8>, round: Round) -> String {
+    let length = unit.nanos();
+    let (whole, rest) = (nanos / length, nanos % length);
+    if rest == 0 && decimals.is_none() {
+        return whole.to_string();
+    }
+    let steps = 10_u64.pow(decimals.unwrap_or(9).into());
+    let more = [0, length - 1, length / 2][round as usize];
+    let parts = (u128::from(rest) * u128::from(steps) + u128::from(more)) / u128::from(length);
+    let (whole, part) = (whole + parts as u64 / steps, parts as u64 % steps);
+    // With a one before them, the decimals keep their zeros.
+    let mut number = [&whole.to_string(), ".", &(steps + part).to_string()[1..]].concat();
+    if decimals.is_none_or(|count| count == 0) {
+        number.truncate(number.trim_end_matches('0').trim_end_matches('.').len());
+    }
+    number
 }
 
-/// A minus and a digit with a blank before them, so that clap takes them for no option; [`unescape`] drops it.
+/// The unit that a word names. Another is refused with the help that a text gets.
+fn unit(word: &str) -> Result<TimeUnit, String> {
+    word.parse().map_err(|unknown: UnknownUnit| {
+        let line = parse_duration(&format!("1{word}")).err().map_or(String::new(), |error| error.to_string());
+        let help = line.split_once(" (did").map(|(_, help)| format!("did{}", help.trim_end_matches(')')));
+        help.unwrap_or(unknown.to_string())
+    })
+}
+
+/// The command, in which options of units list their words, for completions.
+pub fn with_words() -> Command {
+    let units = ["y", "q", "mon", "w", "d", "h", "min", "s", "ms", "us", "ns"];
+    let of_unit = |command: Command, name| command.mut_arg(name, |option| option.value_parser(units));
+    ["to", "from", "largest", "smallest"].into_iter().fold(Choices::command(), of_unit)
+}
+
+/// What no word has, before one that begins as a number below zero, so that clap takes it for no option.
+pub const ESCAPE: &[u8] = b"\0";
+
 fn escape(word: OsString) -> OsString {
     match word.as_encoded_bytes() {
-        [b'-', b'0'..=b'9', ..] => [OsStr::new(" "), &word].into_iter().collect(),
+        [b'-', b'.' | b'0'..=b'9', ..] => [OsStr::from_bytes(ESCAPE), &word].into_iter().collect(),
+        // Of which clap would take the sign away.
+        b"-d=" => "-d==".into(),
         _ => word,
     }
-}
-
-pub fn unescape(word: &OsStr) -> &[u8] {
-    let bytes = word.as_encoded_bytes();
-    &bytes[usize::from(bytes.starts_with(b" -"))..]
-}
-
-fn ascii(text: &str) -> Result<u8, &'static str> {
-    let bytes: Result<[u8; 1], _> = text.as_bytes().try_into();
-    bytes.map_or(Err("not one ASCII character"), |[byte]| Ok(byte))
 }

@@ -1,62 +1,71 @@
 //! Reading by the library, and why a text is refused.
 use crate::options::Choices;
-use duration_str::{Fault, TimeUnit, parse_with, parse_with_units};
-use std::time::Duration;
+use duration_str::{Fault, Options, TimeUnit, parse_with, parse_with_units};
+use serde_json::json;
 
-/// Why a text is refused. For a syntax fault there are the column, what stands there, and the text with a caret.
+/// Why a text is refused. For a syntax fault there are its place, what stands there, and the text with a caret.
 #[derive(Default)]
 pub struct Refusal {
     pub message: String,
     pub report: String,
-    pub column: Option<usize>,
-    pub found: Option<String>,
+    place: Option<usize>,
+    found: Option<String>,
 }
 
 impl Refusal {
     pub fn new(message: &str) -> Refusal {
         Refusal { message: message.to_string(), ..Refusal::default() }
     }
+
+    /// The object for the text of a line or an argument.
+    pub fn json(&self, text: &[u8], what: &str, number: u64) -> String {
+        let text = String::from_utf8_lossy(text);
+        let column = json!(self.place.map(|place| text[..place].chars().count() + 1));
+        let (text, found, message) = (json!(text), json!(self.found), json!(self.message));
+        format!(r#"{{"text":{text},"{what}":{number},"column":{column},"found":{found},"message":{message}}}"#)
+    }
 }
 
 impl From<Fault<'_>> for Refusal {
     fn from(fault: Fault<'_>) -> Refusal {
-        let place = fault.expected().and(fault.place());
-        Refusal {
-            message: fault.to_string(),
-            report: fault.report(),
-            column: place.map(|place| fault.text()[..place].chars().count() + 1),
-            found: fault.found().map(str::to_string),
-        }
+        let (place, found) = (fault.expected().and(fault.place()), fault.found().map(str::to_string));
+        Refusal { message: fault.to_string(), report: fault.report(), place, found }
     }
 }
 
 /// Reads a text. Under --from a bare number has that unit, and any other must have its own.
-pub fn read<'a>(bytes: &'a [u8], choices: &Choices) -> Result<(&'a str, Duration), Refusal> {
-    let given = std::str::from_utf8(bytes).map_err(|_| Refusal::new("not UTF-8"))?;
-    let number = choices.from.and_then(|unit| with_unit(given, unit));
-    let text = number.as_deref().unwrap_or(given);
-    let duration = parse_with(text, choices.reading())?;
+pub fn read<'a>(bytes: &'a [u8], choices: &Choices) -> Result<(&'a str, u64), Refusal> {
+    let text = std::str::from_utf8(bytes).map_err(|_| Refusal::new("not UTF-8"))?;
+    if let Some((number, nanos)) = choices.from.and_then(|unit| bare_number(text, unit)) {
+        let dots = if number.len() > 40 { "..." } else { "" };
+        let too_large = |_| Refusal::new(&format!("duration of over 584 years in \"{number:.40}\"{dots}"));
+        return Ok((text, u64::try_from(nanos).map_err(too_large)?));
+    }
+    let options = Options { lowercase: choices.lowercase, cn_unit: choices.cn_unit, ..Options::off() };
+    let duration = parse_with(text, options)?;
     if choices.require_unit || choices.from.is_some() {
         // What is read under any options is refused here only if a unit is missing.
         parse_with_units(text).map_err(|error| Refusal::from(error.as_fault()))?;
     }
-    Ok((given, duration))
+    Ok((text, duration.as_nanos() as u64))
 }
 
-/// A bare number such as `12.34` with this unit, as a text that the library reads: `12s 340000000ns`. The first 18
-/// decimals count, and what they make is rounded down to nanoseconds. `None` if the text is something else.
-fn with_unit(text: &str, unit: TimeUnit) -> Option<String> {
+/// A text without blanks that is a bare number of this unit, such as `12.5`, `.5` or `1.2e-05`, and its nanoseconds. Of the
+/// decimals that it has without an exponent the first 18 count, and what they make is rounded down.
+fn bare_number(text: &str, unit: TimeUnit) -> Option<(&str, u128)> {
     let number = text.trim_matches([' ', '\t', '\r', '\n']);
-    let (whole, decimals) = number.split_once('.').unwrap_or((number, "0"));
-    let whole = if number.starts_with('.') { "0" } else { whole };
-    let is_number = |digits: &str| !digits.is_empty() && digits.bytes().all(|d| d.is_ascii_digit());
-    if !is_number(whole) || !is_number(decimals) {
-        return None;
-    }
+    let (digits, exponent) = number.split_once(['e', 'E']).unwrap_or((number, "0"));
+    let (whole, decimals) = digits.split_once('.').unwrap_or((digits, ""));
+    let is_number = [whole, decimals].concat().bytes().all(|byte| byte.is_ascii_digit());
+    let exponent = exponent.parse::<isize>().ok().filter(|_| is_number && digits.ends_with(|last| last != '.'))?;
+    // So many zeros on both sides that the point can move by the exponent, or beyond all digits that count.
+    let exponent = exponent.clamp(-(digits.len() as isize) - 99, digits.len() as isize + 99);
+    let zeros = "0".repeat(1 + exponent.unsigned_abs());
+    let all = [&zeros, whole, decimals, &zeros].concat();
+    let (whole, decimals) = all.split_at((zeros.len() + whole.len()).checked_add_signed(exponent)?);
     let decimals = &decimals[..decimals.len().min(18)];
-    let part = decimals.parse::<u128>().ok()? * u128::from(unit.nanos());
-    Some(match part / 10_u128.pow(decimals.len() as u32) {
-        0 => format!("{whole}{unit}"),
-        nanos => format!("{whole}{unit} {nanos}ns"),
-    })
+    let length = u128::from(unit.nanos());
+    let part = decimals.parse::<u128>().ok()? * length / 10_u128.pow(decimals.len() as u32);
+    // A whole part that doesn't fit makes more than any duration.
+    Some((number, whole.parse().unwrap_or(u128::MAX).saturating_mul(length).saturating_add(part)))
 }

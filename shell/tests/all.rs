@@ -6,14 +6,23 @@ use std::fs::File;
 use std::io::{BufRead, BufReader, Read, Write};
 use std::os::unix::ffi::OsStrExt;
 use std::os::unix::process::ExitStatusExt;
-use std::process::{Command, Output, Stdio};
+use std::process::{Child, Command, Output, Stdio};
 
 const PROGRAM: &str = env!("CARGO_BIN_EXE_duration");
 
+/// The program, which ends after a minute where it waits for more.
+fn program(words: &[&str]) -> Command {
+    let mut command = Command::new("timeout");
+    command.args(["60", PROGRAM]).args(words);
+    command
+}
+
+fn piped(words: &[&str]) -> Child {
+    program(words).stdin(Stdio::piped()).stdout(Stdio::piped()).stderr(Stdio::piped()).spawn().unwrap()
+}
+
 fn output(words: &[&str], input: &[u8]) -> Output {
-    let mut command = Command::new(PROGRAM);
-    command.args(words).stdin(Stdio::piped());
-    let mut child = command.stdout(Stdio::piped()).stderr(Stdio::piped()).spawn().unwrap();
+    let mut child = piped(words);
     let (mut stdin, input) = (child.stdin.take().unwrap(), input.to_vec());
     // It may end before it has read everything.
     let writer = std::thread::spawn(move || drop(stdin.write_all(&input)));
@@ -54,6 +63,10 @@ fn takes_a_minus_for_a_text() {
         let errors = format!("duration: argument 1: {}\n", line("-5m"));
         assert_eq!(run(words, b""), (1, "60\n".into(), errors));
     }
+    let errors = format!("duration: argument 1: {}\n", line(" -5m"));
+    assert_eq!(run(&[" -5m"], b""), (1, "".into(), errors));
+    let json = run(&["--json", "-.5"], b"").1;
+    assert!(json.starts_with("{\"text\":\"-.5\",\"argument\":1,\"column\":1,\"found\":\"-\","), "{json}");
 }
 
 #[test]
@@ -66,8 +79,7 @@ fn answers_each_line() {
 
 #[test]
 fn prints_as_it_is_told_to() {
-    let rows: [(&[&str], &str); 9] = [
-        (&["--style", "short", "90m"], "1h 30min\n"),
+    let rows: [(&[&str], &str); 8] = [
         (&["--style", "compact", "90m"], "1h30min\n"),
         (&["--style=long", "90m"], "1 hour 30 minutes\n"),
         (&["--parts", "2", "93784"], "1d 2h\n"),
@@ -84,49 +96,54 @@ fn prints_as_it_is_told_to() {
 
 #[test]
 fn prints_numbers() {
-    let rows: [(&[&str], &str); 12] = [
-        (&["s", "500ms"], "0.5"),
-        (&["s", "1h 30m"], "5400"),
-        (&["s", "0"], "0"),
-        (&["s", "100s 1ns"], "100.000000001"),
-        (&["ns", "18446744073709551615ns"], "18446744073709551615"),
-        // 1.99999999999.. hours, 1/3 of a day and a 365th of a year, rounded down
-        (&["h", "7199999999999ns"], "1.999999999"),
-        (&["d", "8h"], "0.333333333"),
-        (&["y", "1d"], "0.002739726"),
-        (&["us", "1500ns"], "1.5"),
-        (&["s", "--decimals", "0", "1999ms"], "1"),
-        (&["s", "--decimals", "3", "1h"], "3600.000"),
-        (&["min", "--decimals", "9", "1s"], "0.016666666"),
-    ];
-    for (words, wanted) in rows {
-        assert_eq!(answer(&[&["--to"], words].concat()), format!("{wanted}\n"), "{words:?}");
+    // 364/365 is 0.997260273972..
+    for (words, [down, up, nearest]) in [
+        ("s 500ms", ["0.5"; 3]),
+        ("s 0", ["0"; 3]),
+        ("s 100s1ns", ["100.000000001"; 3]),
+        ("h 7199999999999ns", ["1.999999999", "2", "2"]),
+        ("h 1ns", ["0", "0.000000001", "0"]),
+        ("y 364d", ["0.997260273", "0.997260274", "0.997260274"]),
+        ("s --decimals 0 20ms", ["0", "1", "0"]),
+        ("s --decimals 3 1h", ["3600.000"; 3]),
+        ("s --decimals 1 9950ms", ["9.9", "10.0", "10.0"]),
+        ("min --decimals 9 1s", ["0.016666666", "0.016666667", "0.016666667"]),
+        ("ns --decimals 2 18446744073709551615ns", ["18446744073709551615.00"; 3]),
+    ] {
+        for (round, wanted) in [("", down), ("--round=down", down), ("--round=up", up), ("--round=nearest", nearest)] {
+            let words: Vec<&str> =
+                ["--to"].into_iter().chain(words.split(' ')).chain(round.split_terminator(' ')).collect();
+            assert_eq!(answer(&words), format!("{wanted}\n"), "{words:?}");
+        }
     }
 }
 
 #[test]
 fn takes_bare_numbers_as_a_unit() {
-    let rows: [(&[&str], &str); 9] = [
-        (&["s", "93784.5"], "1d 2h 3min 4s 500ms\n"),
+    let rows: [(&[&str], &str); 10] = [
+        (&["h", ".50000000000000000000"], "30min\n"),
+        (&["s", "1e-05", "1.2e+06", "12.5E1", "0.00015e4", "0e999"], "10µs\n1w 6d 21h 20min\n2min 5s\n1s 500ms\n0s\n"),
+        (&["ns", "--to", "ns", "18446744073709551.615e3", "1e-99999", "0e99999"], "18446744073709551615\n0\n0\n"),
         (&["min", " 90 ", "2h"], "1h 30min\n2h\n"),
         (&["ms", "0.5", "0.0000009"], "500µs\n0s\n"),
         (&["us", "1", "1.9999"], "1µs\n1µs 999ns\n"),
         (&["h", "0.333333333333333333"], "19min 59s 999ms 999µs 999ns\n"),
         (&["y", "1.5"], "1y 2q 12h\n"),
         (&["ns", "007.99"], "7ns\n"),
-        (&["s", "--no-calc", "1.25"], "1s 250ms\n"),
         (&["s", "1.250000000999999999999999999999999999999999"], "1s 250ms\n"),
     ];
     for (words, wanted) in rows {
         assert_eq!(answer(&[&["--from"], words].concat()), wanted, "{words:?}");
     }
-    for text in ["1h 30", "-5", "1.", ".5", "1,5", "1e3", "", "+1", "\u{a0}1", "1.5.2"] {
+    for text in ["1h 30", "-5", "1.", ".", "1,5", "1e", "e5", "1e5.0", "1.e5", "", "+1", "\u{a0}1", "1.5.2"] {
         let errors = format!("duration: argument 1: {}\n", parse_with_units(text).unwrap_err());
         assert_eq!(run(&["--from", "s", "--", text], b""), (1, "".into(), errors));
     }
-    // 2^64 nanoseconds, and a number of 2^64
-    for text in ["18446744073.709551616", "99999999999999999999"] {
-        assert_eq!(run(&["--from", "s", text], b"").0, 1);
+    // 2^64 nanoseconds, a number of 2^64, and one of which a quote has 40 digits
+    for text in ["18446744073.709551616", "99999999999999999999", "1e12", "1e99999", &"9".repeat(40), &"9".repeat(41)] {
+        let quote = if text.len() > 40 { format!("\"{}\"...", &text[1..]) } else { format!("\"{text}\"") };
+        let errors = format!("duration: argument 1: duration of over 584 years in {quote}\n");
+        assert_eq!(run(&["--from", "s", &format!(" {text}")], b""), (1, "".into(), errors));
     }
     assert_eq!(answer(&["--from", "s", "--to", "ns", "18446744073.709551615"]), "18446744073709551615\n");
 }
@@ -134,11 +151,9 @@ fn takes_bare_numbers_as_a_unit() {
 #[test]
 fn reads_under_options() {
     let off = Options::off();
-    for (option, options, read, refused) in [
-        ("--no-calc", off.with_no_calc(), "1h 30m", "1h+30m"),
-        ("--lowercase", off.with_lowercase(), "1m", "1M"),
-        ("--cn-unit", off.with_cn_unit(), "1分 30秒", "1点"),
-    ] {
+    for (option, options, read, refused) in
+        [("--lowercase", off.with_lowercase(), "1m", "1M"), ("--cn-unit", off.with_cn_unit(), "1分 30秒", "1点")]
+    {
         assert!(parse_with(read, options).is_ok());
         let errors = format!("duration: argument 2: {}\n", parse_with(refused, options).unwrap_err());
         let ended = run(&[option, "--to", "s", read, refused], b"");
@@ -155,7 +170,7 @@ fn reads_under_options() {
 
 #[test]
 fn converts_a_column() {
-    let told = |number, what: &str| format!("duration: line {number}: {what}\n");
+    let told = |number, what: &str| format!("duration: line {number}, field 2: {what}\n");
     let input = b"name,takes,by\nbuild,1h 30m,\xe4\n\"test\",\" 90s\",b\r\nrun,5 mins,c\nstop\n";
     let output = b"name,takes,by\nbuild,5400,\xe4\n\"test\",\" 90\",b\r\nrun,5 mins,c\nstop\n";
     let words = ["-d,", "--field", "2", "--header", "--to", "s"];
@@ -163,32 +178,54 @@ fn converts_a_column() {
     assert_eq!((ended.status.code(), &*ended.stdout), (Some(1), &output[..]));
     let errors = told(4, &line("5 mins")) + &told(5, "no such field");
     assert_eq!(String::from_utf8(ended.stderr).unwrap(), errors);
-    assert_eq!(run(&["--field", "1"], b"60s\t60s\n").1, "1min\t60s\n");
-    assert_eq!(run(&["--field=3"], b"60s\t60s\t60s\r\n").1, "60s\t60s\t1min\r\n");
+    assert_eq!(run(&["--field", "1", "-d="], b"60 s=60s\n").1, "1min=60s\n");
+    assert_eq!(run(&["--field=3", "-d", "\t"], b"60s\t60s\t60 s\r\n").1, "60s\t60s\t1min\r\n");
     assert_eq!(run(&["--field=2", "-d:"], b"a::b\na:\"\":b\n").1, "a::b\na:\"\":b\n");
     assert_eq!(run(&["--header=2"], b"60s\n60s\n60s\n").1, "60s\n60s\n1min\n");
 }
 
 #[test]
+fn converts_a_column_between_blanks() {
+    // As of `ps -eo etimes,comm` and `ls -l`
+    for (words, input, output) in [
+        (
+            &["--header"][..],
+            "ELAPSED COMMAND\n     90 init\n   3600 sh",
+            "ELAPSED COMMAND\n     1min 30s init\n   1h sh\n",
+        ),
+        (&["--field=5"], "-rw-r--r-- 1 root  root    60 May  1 a b", "-rw-r--r-- 1 root  root    1min May  1 a b\n"),
+        (&["--field=2"], "\ta \t 60  b \r\na \"60\"\r\n", "\ta \t 1min  b \r\na \"1min\"\r\n"),
+        (&["--field=2", "-z"], "a\n60\n", "a\n1min\n\0"),
+    ] {
+        assert_eq!(run(&[&["--field=1"], words].concat(), input.as_bytes()), (0, output.into(), "".into()));
+    }
+    let errors = [1, 2, 3].map(|number| format!("duration: line {number}, field 2: no such field\n")).concat();
+    assert_eq!(run(&["--field=2"], b"a \n\n \r\n"), (1, "a \n\n \r\n".into(), errors));
+}
+
+#[test]
 fn prints_json() {
-    let input = "1h 30m\r\n5 mins\n90\n1h+\n2*1h 30m".as_bytes();
+    let input = "1h 30m\r\n5 mins\n90\n1h+\n2*1h 30m\n\u{1}\"1h".as_bytes();
     let (status, output, errors) = run(&["--json", "--to", "min"], input);
-    assert_eq!((status, &*errors), (1, ""));
-    let objects: Vec<Value> = output.lines().map(|line| serde_json::from_str(line).unwrap()).collect();
+    assert!(status == 1 && errors.is_empty());
     let refused = |text, number, column: Option<u8>, found: Option<&str>| {
-        let message = line(text);
-        json!({"text": text, "message": message, "line": number, "column": column, "found": found})
+        let [text, column, found, message] = [json!(text), json!(column), json!(found), json!(line(text))];
+        format!(r#"{{"text":{text},"line":{number},"column":{column},"found":{found},"message":{message}}}"#)
     };
     let wanted = [
-        json!({"text": "1h 30m", "nanoseconds": "5400000000000", "printed": "90"}),
+        r#"{"text":"1h 30m","nanoseconds":"5400000000000","seconds":5400,"printed":90}"#.to_string(),
         refused("5 mins", 2, Some(3), Some("mins")),
-        json!({"text": "90", "nanoseconds": "90000000000", "printed": "1.5"}),
+        r#"{"text":"90","nanoseconds":"90000000000","seconds":90,"printed":1.5}"#.to_string(),
         refused("1h+", 4, Some(4), None),
         refused("2*1h 30m", 5, None, None),
+        refused("\u{1}\"1h", 6, Some(1), Some("\u{1}")),
     ];
-    assert_eq!(objects, wanted);
-    let missing: Value = serde_json::from_str(&run(&["--json", "--require-unit", "1+2m"], b"").1).unwrap();
-    assert_eq!((&missing["column"], &missing["found"], &missing["line"]), (&json!(2), &json!("+"), &json!(1)));
+    assert_eq!(output.lines().collect::<Vec<_>>(), wanted);
+    let wanted = r#"{"text":" 20ms","nanoseconds":"20000000","seconds":0.02,"printed":"20 milliseconds"}"#;
+    assert_eq!(answer(&["--json", "--style", "long", " 20ms"]), format!("{wanted}\n"));
+    let output = run(&["--json", "--require-unit", "1h", "1+2m"], b"").1;
+    let missing: Value = serde_json::from_str(output.lines().last().unwrap()).unwrap();
+    assert_eq!((&missing["column"], &missing["found"], &missing["argument"]), (&json!(2), &json!("+"), &json!(2)));
     let wide: Value = serde_json::from_str(&run(&["--json", "1\u{b5}s \u{5206}"], b"").1).unwrap();
     assert_eq!((&wide["column"], &wide["found"]), (&json!(5), &json!("\u{5206}")));
     let bytes: Value = serde_json::from_str(&run(&["--json"], b"1h\xff\n").1).unwrap();
@@ -199,7 +236,7 @@ fn prints_json() {
 fn says_nothing_if_it_is_to_be_quiet() {
     let early = format!("1h\n5 mins\n{}", "1h\n".repeat(20));
     for (input, status) in [("1h\n2h\n", 0), ("1h\n5 mins\n", 1), (&early, 1), ("5 mins", 1), ("", 0)] {
-        for words in [&["-q"][..], &["-q", "--json"], &["--quiet", "--field=1", "--header"]] {
+        for words in [&["-q"][..], &["-q", "--json"], &["--quiet", "-d,", "--field=1", "--header"]] {
             let status = if words.contains(&"--header") && input == "5 mins" { 0 } else { status };
             assert_eq!(run(words, input.as_bytes()), (status, "".into(), "".into()), "{input:?} {words:?}");
         }
@@ -215,38 +252,28 @@ fn cuts_at_nul_if_it_is_told_to() {
 
 #[test]
 fn refuses_wrong_usage() {
-    for words in [
-        "--unknown",
-        "-x",
-        "-5 --to",
-        "--to x 1h",
-        "--to s --parts 2 1h",
-        "--to s --style long 1h",
-        "--decimals 2 1h",
-        "--to s --decimals 10 1h",
-        "--parts 0 1h",
-        "--style none 1h",
-        "--largest s --smallest h 1h",
-        "-d, 1h",
-        "--field 1 -d ,, 1h",
-        "--field 1 -d ä 1h",
-        "--field 0 1h",
-        "--json --field 1 1h",
-        "--json --header 1h",
-        "--completions none",
-        "--completions bash 1h",
-        "--from x 1",
-        "-q -q 1h",
-    ] {
+    const WRONG: &str = "--unknown|-x|-5 --to|--to x 1h|--to s --parts 2 1h|--to s --style long 1h|--decimals 2 1h|\
+        --to s --decimals 10 1h|--parts 0 1h|--style none 1h|--largest s --smallest h 1h|-d, 1h|--field 1 -d ,, 1h|\
+        --field 1 -d ä 1h|--field 0 1h|--json --field 1 1h|--json --header|--completions none|--completions bash 1h|\
+        --from x 1|--header 1|--header -- 1h|--round up 1h|--to s --round x 1h";
+    for words in WRONG.split('|') {
         let words: Vec<&str> = words.split(' ').collect();
         let (status, output, errors) = run(&words, b"");
         assert_eq!((status, &*output), (2, ""), "{words:?}");
         assert!(errors.starts_with("error: "), "{words:?}: {errors}");
     }
-    // A number for the header stands behind a sign of equality.
-    assert_eq!(answer(&["--header", "1", "1h"]), "1s\n1h\n");
+    for (words, wanted) in [
+        (["--to", "mins", "1h"], "Invalid value 'mins' for '--to <UNIT>': did you mean \"min\"?"),
+        (["--from", "foo", "1h"], "Invalid value 'foo' for '--from <UNIT>': no unit"),
+        (["--parts", "-1", "1h"], "Invalid value '-1' for '--parts <N>': invalid digit found in string"),
+    ] {
+        assert!(run(&words, b"").2.starts_with(&format!("error: {wanted}")));
+    }
+    // The last of an option's values counts, as for an alias that has another.
+    assert_eq!(answer(&["--to", "s", "-q", "--to", "ms", "1h", "-q"]), "");
+    assert_eq!(answer(&["--to", "s", "--to", "ms", "1h"]), "3600000\n");
     let word = OsStr::from_bytes(b"1h\xff");
-    let ended = Command::new(PROGRAM).args([word, OsStr::new("1h")]).output().unwrap();
+    let ended = program(&[]).args([word, OsStr::new("1h")]).output().unwrap();
     assert_eq!((ended.status.code(), &*ended.stdout), (Some(1), &b"1h\n"[..]));
     assert_eq!(ended.stderr, b"duration: argument 1: not UTF-8\n");
 }
@@ -258,15 +285,24 @@ fn reads_hostile_lines() {
     let longest = [b"1h".to_vec(), b" ".repeat((1 << 20) - 2)].concat();
     assert_eq!(run(&[], &longest).1, "1h\n");
     let lines = [&longest[..], b"\n", &longest, b" \n1m\n", &longest.repeat(2), b"\n2m"].concat();
-    let errors = [2, 4].map(|number| told(number, "longer than 1,048,576 bytes")).concat();
+    let errors = [2, 4].map(|number| told(number, "line of over 1,048,576 bytes")).concat();
     assert_eq!(run(&[], &lines), (1, "1h\n1min\n2min\n".into(), errors));
-    assert_eq!(run(&[], &longest.repeat(2)).2, told(1, "longer than 1,048,576 bytes"));
+    assert_eq!(run(&[], &longest.repeat(2)).2, told(1, "line of over 1,048,576 bytes"));
+    // Such a line stays if a field is converted or if it is a header.
+    let [long, exact] = [3 << 20, (1 << 20) - 1].map(|count| format!("a,{}", "x".repeat(count)));
+    let lines = format!("{long}\nb,60s\n{exact}\n{long}");
+    for (word, numbers) in [("--field=2", &[1, 3, 4][..]), ("--header", &[3, 4])] {
+        let (status, output, errors) = run(&["-d,", "--field=2", word], lines.as_bytes());
+        assert!(status == 1 && output == format!("{long}\nb,1min\n{exact}\n{long}\n"), "{word}");
+        let told = |number| format!("duration: line {number}, field 2: line of over 1,048,576 bytes\n");
+        assert_eq!(errors, numbers.iter().map(told).collect::<String>());
+    }
+    assert_eq!(run(&["-q", "--field=2"], lines.as_bytes()), (1, "".into(), "".into()));
 }
 
 #[test]
 fn answers_before_it_waits() {
-    let mut command = Command::new(PROGRAM);
-    let mut child = command.stdin(Stdio::piped()).stdout(Stdio::piped()).spawn().unwrap();
+    let mut child = piped(&[]);
     let (mut stdin, mut lines) = (child.stdin.take().unwrap(), BufReader::new(child.stdout.take().unwrap()).lines());
     // The beginning of the next line is there already.
     stdin.write_all(b"1h\n1m ").unwrap();
@@ -281,34 +317,44 @@ fn answers_before_it_waits() {
 #[test]
 fn tells_of_failing_devices() {
     let full = || File::options().write(true).open("/dev/full").unwrap();
-    for words in [&["1h"][..], &["5 mins", "1h"], &["--completions", "zsh"], &["--json", "1h"]] {
-        let ended = Command::new(PROGRAM).args(words).stdout(full()).output().unwrap();
+    for words in [&["1h"][..], &["5 mins", "1h"], &["--completions", "zsh"], &["--json", "1h"], &["--help"], &["-V"]] {
+        let ended = program(words).stdout(full()).output().unwrap();
         assert_eq!(ended.status.code(), Some(2), "{words:?}");
         assert!(String::from_utf8(ended.stderr).unwrap().ends_with("No space left on device (os error 28)\n"));
     }
-    let ended = Command::new(PROGRAM).args(["5 mins", "1h"]).stderr(full()).output().unwrap();
+    for (words, status, errors) in [
+        ("1h >&-", 2, "duration: Bad file descriptor (os error 9)\n"),
+        ("<&-", 2, "duration: standard input: Bad file descriptor (os error 9)\n"),
+        ("-q 1h >&-", 0, ""),
+        ("-q 1x >&-", 1, ""),
+        ("1h >/dev/null", 0, ""),
+        ("-x 2>/dev/full", 2, ""),
+    ] {
+        let ended = Command::new("sh").args(["-c", &format!("timeout 60 {PROGRAM} {words}")]).output().unwrap();
+        assert_eq!((ended.status.code(), &*ended.stderr), (Some(status), errors.as_bytes()), "{words}");
+    }
+    let ended = program(&["5 mins", "1h"]).stderr(full()).output().unwrap();
     assert_eq!((ended.status.code(), &*ended.stdout), (Some(2), &b""[..]));
-    let ended = Command::new(PROGRAM).stdin(File::open("/").unwrap()).output().unwrap();
+    let ended = program(&[]).stdin(File::open("/").unwrap()).output().unwrap();
     assert_eq!(ended.status.code(), Some(2));
     assert_eq!(ended.stderr, b"duration: standard input: Is a directory (os error 21)\n");
 }
 
 #[test]
 fn ends_by_the_signal_of_a_closed_pipe() {
-    let mut command = Command::new(PROGRAM);
-    let mut child = command.stdin(Stdio::piped()).stdout(Stdio::piped()).stderr(Stdio::piped()).spawn().unwrap();
+    let mut child = piped(&[]);
     let mut stdin = child.stdin.take().unwrap();
     let writer = std::thread::spawn(move || while stdin.write_all(b"1h\n").is_ok() {});
     child.stdout.take().unwrap().read_exact(&mut [0; 3]).unwrap();
     let ended = child.wait_with_output().unwrap();
     writer.join().unwrap();
-    assert_eq!((ended.status.signal(), &*ended.stderr), (Some(libc::SIGPIPE), &b""[..]));
+    assert_eq!((ended.status.signal(), &*ended.stderr), (Some(13), &b""[..]));
 }
 
 #[test]
 fn shows_a_caret_on_a_terminal() {
     let command = format!("printf '5 mins\\r\\n600y\\n1h' | {PROGRAM}");
-    let ended = Command::new("script").args(["-qec", &command, "/dev/null"]).output().unwrap();
+    let ended = Command::new("timeout").args(["60", "script", "-qec", &command, "/dev/null"]).output().unwrap();
     let faults = ["5 mins", "600y"].map(|text| parse_duration(text).unwrap_err());
     let wanted = format!("duration: line 1:\n{}\nduration: line 2: {}\n1h\n", faults[0].report(), faults[1]);
     assert!(faults[0].report().starts_with("5 mins\n  ^\n"));
@@ -321,9 +367,7 @@ fn tells_of_itself() {
     assert_eq!(answer(&["--version"]), concat!("duration ", env!("CARGO_PKG_VERSION"), "\n"));
     let help = answer(&["--help"]);
     assert_eq!(help, answer(&["-h"]));
-    for example in help.lines().filter_map(|line| line.strip_prefix("  $ ")) {
-        assert!(example.contains("duration "));
-    }
+    assert!(help.lines().all(|line| line.len() <= 80));
     for shell in ["bash", "elvish", "fish", "powershell", "zsh"] {
         assert!(answer(&["--completions", shell]).contains("smallest"));
     }
@@ -331,8 +375,9 @@ fn tells_of_itself() {
 
 #[test]
 fn completes_in_bash() {
-    let words = "COMP_WORDS=(duration --sma) COMP_CWORD=1; _duration duration; echo ${COMPREPLY[@]}";
+    let words = "for words in --sma '--to m' '--style l' '--round u'; do
+        COMP_WORDS=(duration $words) COMP_CWORD=$((${#COMP_WORDS[@]} - 1)); _duration duration; echo ${COMPREPLY[@]}; done";
     let script = answer(&["--completions", "bash"]) + words;
     let ended = Command::new("bash").args(["-c", &script, "--"]).output();
-    assert_eq!(ended.unwrap().stdout, b"--smallest\n");
+    assert_eq!(ended.unwrap().stdout, b"--smallest\nmon min ms\nlong\nup\n");
 }
