@@ -5,4 +5,5 @@ pub mod PrintingLemmas
 pub mod DigitLemmas
 pub mod PrintedBytesLemmas
 pub mod LimitsLemmas
+pub mod SpacedLemmas
 pub mod NearLemmas

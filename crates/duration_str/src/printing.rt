@@ -5,19 +5,20 @@
 //! is too. The duration 0 is `0s`.
 //!
 //! A function that writes begins after the first `at` bytes of the buffer, and returns where its part ends.
-ghost use Rattle.std.specs.Prelude.{ℕ, List, ◌≡◌, ◌+◌, ◌<◌, ◌≤◌, ◌++◌, ◌^◌, [], take, length, decimal, encode_utf8_all, chars, IsUtf8, map};
+ghost use Rattle.std.specs.Prelude.{ℕ, List, ◌≡◌, ◌+◌, ◌-◌, ◌<◌, ◌≤◌, ◌++◌, ◌^◌, ◌∷◌, [], take, length, decimal, encode_utf8_all, chars, IsUtf8, map};
 ghost use Rattle.std.specs.Duration.{as_nanos};
 ghost use Rattle.duration_str.specs.declared.format.Style.{Style};
 ghost use Rattle.duration_str.specs.declared.format.Style.TheVariants.{Long, Short};
+ghost use Rattle.duration_str.specs.declared.unit.TimeUnit.TheVariants.{Day};
 ghost use Rattle.duration_str.specs.declared.printing.TheConstants.{MAX_PRINTED_LEN};
-ghost use Rattle.duration_str.specs.Units.{nanos_of, row_of};
-ghost use Rattle.duration_str.specs.Printing.{IsPrinted};
+ghost use Rattle.duration_str.specs.Units.{nanos_of, row_of, unit_lengths, units};
+ghost use Rattle.duration_str.specs.Printing.{IsPrinted, counts_of};
 ghost use Rattle.duration_str.specs.Limits.{IsPrintedWithin, counts_within, lengths_within, most_len, text_within, units_within, zero_unit};
 ghost use Rattle.duration_str.specs.Internal.PrintedBytes.{name_part, part_bytes, with_counts, with_gap, with_part};
 ghost use Rattle.duration_str.specs.Internal.UnitTable.{AreRight, printed_row, units_in};
 
 use crate::format::{Format, Style};
-use crate::unit::{Printed, TimeUnit};
+use crate::unit::{Printed, TimeUnit, UNITS};
 use std::time::Duration;
 
 /// The most bytes in a printed duration that is not in the long style:
@@ -139,6 +140,21 @@ fn put_tens(buffer: &mut [u8], at: usize, n: u64) -> usize
     put_digit(buffer, last, n - 10 * tens)
 }
 
+/// The same with up to three digits.
+#[inline(always)]
+#[tactic(auto, using(crate::proofs::Printer::DigitLemmas::put_steps))]
+fn put_hundreds(buffer: &mut [u8], at: usize, n: u64) -> usize
+    requires room { at + length (decimal n) ≤ length buffer.old }
+    requires short { n < 1000 }
+    ensures text { take result buffer.new ≡ take at buffer.old ++ decimal n }
+    ensures end { result ≡ at + length (decimal n) }
+{
+    let tens = n / 10;
+    let end = put_tens(buffer, at, tens);
+    let last = if n < 10 { at } else { end };
+    put_digit(buffer, last, n - 10 * tens)
+}
+
 /// Most counts have up to three digits, which need no call.
 #[inline(always)]
 #[tactic(auto, using(crate::proofs::Printer::DigitLemmas::put_steps))]
@@ -197,7 +213,7 @@ fn put_wide(buffer: &mut [u8], at: usize, n: u128) -> usize
 }
 
 /// Copies each name with what follows it in four bytes, which takes no call and no branch.
-#[tactic(auto, using(crate::proofs::Printer::LimitsLemmas::name_copied))]
+#[tactic(auto, using(crate::proofs::Printer::LimitsLemmas::name_copied, crate::proofs::Printer::LimitsLemmas::name_spaced))]
 #[inline(always)]
 fn put_name(buffer: &mut [u8], at: usize, row: &Printed) -> usize
     requires right { row.now ≡ printed_row row.now.unit }
@@ -205,6 +221,8 @@ fn put_name(buffer: &mut [u8], at: usize, row: &Printed) -> usize
     ensures text { take result buffer.new
         ≡ take at buffer.old ++ encode_utf8_all (row_of row.now.unit).printed }
     ensures end { result ≡ at + length (encode_utf8_all (row_of row.now.unit).printed) }
+    ensures space { take (result + 1) buffer.new
+        ≡ take at buffer.old ++ encode_utf8_all (row_of row.now.unit).printed ++ 32 ∷ [] }
 {
     buffer[at..at + 4].copy_from_slice(&row.letters);
     at + usize::from(row.width)
@@ -295,6 +313,51 @@ fn put_parts(
     end
 }
 
+/// Writes a part and a space after it, which stay only if the count is not 0: without a branch, since nobody can foresee
+/// whether it is.
+#[inline(always)]
+fn put_spaced(buffer: &mut [u8], at: usize, count: u32, unit: TimeUnit) -> usize
+    requires short { count < 1000 }
+    requires room { at + 8 ≤ length buffer.old }
+    requires spaced { take at buffer.old ≡ with_gap Short (take (at - 1) buffer.old) }
+    ensures text { take (result - 1) buffer.new
+        ≡ with_part Short (take (at - 1) buffer.old) unit count }
+    ensures spaced { take result buffer.new ≡ with_gap Short (take (result - 1) buffer.new) }
+    ensures end { result ≤ at + 8 }
+{
+    let part = &mut buffer[at..at + 8];
+    let end = put_hundreds(part, 0, u64::from(count));
+    let next = put_name(part, end, unit.printed()) + 1;
+    if count == 0 { at } else { at + next }
+}
+
+/// Writes all parts of a duration below a day. Each count is a quotient of the seconds or of the nanoseconds, none of which
+/// waits for the one before.
+#[inline(never)]
+fn put_below_day(buffer: &mut [u8], d: Duration) -> usize
+    requires short { as_nanos d < nanos_of Day }
+    requires room { 48 ≤ length buffer.old }
+    ensures text { take result buffer.new
+        ≡ with_counts Short [] units (counts_of unit_lengths (as_nanos d)) }
+    ensures end { result ≤ length buffer.old }
+{
+    let secs = d.as_secs() as u32;
+    let nanos = d.subsec_nanos();
+    let counts = [
+        secs / 3_600,
+        secs / 60 % 60,
+        secs % 60,
+        nanos / 1_000_000,
+        nanos / 1_000 % 1_000,
+        nanos % 1_000,
+    ];
+    let mut end = 0;
+    for (i, count) in counts.iter().enumerate() {
+        end = put_spaced(buffer, end, *count, UNITS[TimeUnit::Hour.rank() + i]);
+    }
+    end.saturating_sub(1)
+}
+
 /// Writes the first part, whose count may be above 64 bits.
 #[inline(always)]
 fn put_first(buffer: &mut [u8], count: u128, row: &Printed, style: Style) -> usize
@@ -333,16 +396,21 @@ fn put_long(buffer: &mut [u8], rows: &[Printed], most: usize, nanos: u128, style
 
 #[tactic(auto, using(crate::proofs::Printer::LimitsLemmas::with_nothing))]
 #[inline(always)]
-fn put_within(buffer: &mut [u8], format: Format, nanos: u128) -> usize
-    requires room { length (with_counts format.style [] (units_within format)
-        (counts_within (lengths_within format) format.parts nanos)) + 4 ≤ length buffer.old }
+fn put_within(buffer: &mut [u8], format: Format, d: Duration) -> usize
+    requires room { most_len format.style + 4 ≤ length buffer.old }
     ensures text { take result buffer.new ≡ with_counts format.style [] (units_within format)
-        (counts_within (lengths_within format) format.parts nanos) }
+        (counts_within (lengths_within format) format.parts (as_nanos d)) }
     ensures end { result ≤ length buffer.old }
 {
+    // The zero has no parts to look for.
+    if d.is_zero() {
+        return 0;
+    }
+    if d.as_secs() < 24 * 3_600 && format == Format::whole() {
+        return put_below_day(buffer, d);
+    }
+    let nanos = d.as_nanos();
     match u64::try_from(nanos) {
-        // The zero has no parts to look for.
-        Ok(0) => 0,
         Ok(small) => {
             let units = format.units_for(small);
             put_parts(buffer, 0, units, format.parts, small, format.style)
@@ -375,7 +443,7 @@ fn fill(d: Duration, format: Format, buffer: &mut [u8]) -> usize
     ensures short { result ≤ most_len format.style }
     ensures utf8 { IsUtf8 (take result buffer.new) }
 {
-    let end = put_within(buffer, format, d.as_nanos());
+    let end = put_within(buffer, format, d);
     if end == 0 {
         return put_zero(buffer, format.smallest, format.style);
     }

@@ -8,7 +8,7 @@
 //! A function that writes begins after the first `at` bytes of the buffer, and returns where its part ends.
 
 use crate::format::{Format, Style};
-use crate::unit::{Printed, TimeUnit};
+use crate::unit::{Printed, TimeUnit, UNITS};
 use core::time::Duration;
 
 /// The most bytes in a printed duration that is not in the long style:
@@ -101,6 +101,15 @@ pub(crate) fn put_number(buffer: &mut [u8], at: usize, n: u64) -> usize {
 fn put_tens(buffer: &mut [u8], at: usize, n: u64) -> usize {
     let tens = n / 10;
     let end = put_digit(buffer, at, tens);
+    let last = if n < 10 { at } else { end };
+    put_digit(buffer, last, n - 10 * tens)
+}
+
+/// The same with up to three digits.
+#[inline(always)]
+fn put_hundreds(buffer: &mut [u8], at: usize, n: u64) -> usize {
+    let tens = n / 10;
+    let end = put_tens(buffer, at, tens);
     let last = if n < 10 { at } else { end };
     put_digit(buffer, last, n - 10 * tens)
 }
@@ -205,6 +214,37 @@ fn put_parts(
     end
 }
 
+/// Writes a part and a space after it, which stay only if the count is not 0: without a branch, since nobody can foresee
+/// whether it is.
+#[inline(always)]
+fn put_spaced(buffer: &mut [u8], at: usize, count: u32, unit: TimeUnit) -> usize {
+    let part = &mut buffer[at..at + 8];
+    let end = put_hundreds(part, 0, u64::from(count));
+    let next = put_name(part, end, unit.printed()) + 1;
+    if count == 0 { at } else { at + next }
+}
+
+/// Writes all parts of a duration below a day. Each count is a quotient of the seconds or of the nanoseconds, none of which
+/// waits for the one before.
+#[inline(never)]
+fn put_below_day(buffer: &mut [u8], d: Duration) -> usize {
+    let secs = d.as_secs() as u32;
+    let nanos = d.subsec_nanos();
+    let counts = [
+        secs / 3_600,
+        secs / 60 % 60,
+        secs % 60,
+        nanos / 1_000_000,
+        nanos / 1_000 % 1_000,
+        nanos % 1_000,
+    ];
+    let mut end = 0;
+    for (i, count) in counts.iter().enumerate() {
+        end = put_spaced(buffer, end, *count, UNITS[TimeUnit::Hour.rank() + i]);
+    }
+    end.saturating_sub(1)
+}
+
 /// Writes the first part, whose count may be above 64 bits.
 #[inline(always)]
 fn put_first(buffer: &mut [u8], count: u128, row: &Printed, style: Style) -> usize {
@@ -228,10 +268,16 @@ fn put_long(buffer: &mut [u8], rows: &[Printed], most: usize, nanos: u128, style
 }
 
 #[inline(always)]
-fn put_within(buffer: &mut [u8], format: Format, nanos: u128) -> usize {
+fn put_within(buffer: &mut [u8], format: Format, d: Duration) -> usize {
+    // The zero has no parts to look for.
+    if d.is_zero() {
+        return 0;
+    }
+    if d.as_secs() < 24 * 3_600 && format == Format::whole() {
+        return put_below_day(buffer, d);
+    }
+    let nanos = d.as_nanos();
     match u64::try_from(nanos) {
-        // The zero has no parts to look for.
-        Ok(0) => 0,
         Ok(small) => {
             let units = format.units_for(small);
             put_parts(buffer, 0, units, format.parts, small, format.style)
@@ -253,7 +299,7 @@ fn put_zero(buffer: &mut [u8], smallest: TimeUnit, style: Style) -> usize {
 
 #[inline(always)]
 fn fill(d: Duration, format: Format, buffer: &mut [u8]) -> usize {
-    let end = put_within(buffer, format, d.as_nanos());
+    let end = put_within(buffer, format, d);
     if end == 0 {
         return put_zero(buffer, format.smallest, format.style);
     }

@@ -1,5 +1,5 @@
 -- The steps of printing within limits, and the most bytes that it takes.
-use Rattle.duration_str.proofs.Common.{All, ap, arith, between, Bool, byte_len, cases_Bool, chars, chars_from_encodes, common_steps, counts_within, Day, decimal, div-le_self, drop, drop_more, encode_utf8_all, Format, Hour, inl, inr, IsPrintedWithin, IsUtf8, le-div_iff_mul-le, leb, leb-true, length, length-append, lengths_within, List, list_all, ltb, ltb-true, map, Month, most_len, nanos_of, nat_tests, part_bytes, Printed, printed_row, Quarter, rank_of, refl, row_of, rules, Short, slice_index_or, Style, sym, take, take-append-add, text_within, TimeUnit, true, units, units_down_to, units_from, units_in, units_within, Week, with_counts, with_gap, with_part, Year, zero-div, zero_unit, [], ℕ, ◌%◌, ◌*◌, ◌++◌, ◌+◌, ◌-◌, ◌/◌, ◌<◌, ◌==◌, ◌^◌, ◌∷◌, ◌≡◌, ◌≤◌}
+use Rattle.duration_str.proofs.Common.{add_assoc, All, append_assoc, ap, arith, between, byte_len, cases_Bool, chars, chars_from_encodes, counts_within, decimal, div-le_self, drop, drop_more, encode_utf8_all, Format, inl, inr, IsPrintedWithin, IsUtf8, le-div_iff_mul-le, leb, leb-true, length, length-append, lengths_within, List, ltb, ltb-true, map, most_len, nanos_of, nat_tests, part_bytes, Printed, printed_row, rank_of, refl, row_of, rules, Short, slice_index_or, Style, sym, take, take-append-add, text_within, TimeUnit, units, units_in, units_within, with_counts, with_gap, with_part, Year, zero-div, zero_unit, [], ℕ, ◌%◌, ◌*◌, ◌++◌, ◌+◌, ◌-◌, ◌∙◌, ◌/◌, ◌<◌, ◌==◌, ◌^◌, ◌∷◌, ◌≡◌, ◌≤◌, Bool, common_steps, Day, Hour, list_all, Month, Quarter, true, units_down_to, units_from, Week}
 use Rattle.duration_str.proofs.Characters.UnitLemmas.{all_units, Each, each_unit, length_name, length_part, name_len}
 use Rattle.duration_str.proofs.Printer.DigitLemmas.{length_smaller}
 use Rattle.duration_str.proofs.Printer.PrintedBytesLemmas.{AreShort, ended, ended_parts, IsUtf8-joined, no_gap}
@@ -241,20 +241,42 @@ row_from rows at inside right = search (rules, drop_more)
 pub row_at : (u : TimeUnit) → slice_index_or (map printed_row units) (rank_of u) beyond ≡ printed_row u
 row_at = each_unit (λ u. slice_index_or (map printed_row units) (rank_of u) beyond ≡ printed_row u) assumption
 
-pub name_short : (u : TimeUnit) → length (encode_utf8_all (row_of u).printed) ≤ 4
-name_short u = rw (length_name u) (leb-true _ 4 (all_units (λ u. leb (byte_len (row_of u).printed) 4) refl u))
+pub name_short : (u : TimeUnit) → length (encode_utf8_all (row_of u).printed) ≤ 3
+name_short u = rw (length_name u) (leb-true _ 3 (all_units (λ u. leb (byte_len (row_of u).printed) 3) refl u))
 
 name_first : (u : TimeUnit)
     → take (length (encode_utf8_all (row_of u).printed)) (printed_row u).letters ≡ encode_utf8_all (row_of u).printed
 unfolding lib.Utf8.encode
 name_first = search rules
 
+name_space : (u : TimeUnit)
+    → take (length (encode_utf8_all (row_of u).printed) + 1) (printed_row u).letters
+    ≡ encode_utf8_all (row_of u).printed ++ 32 ∷ []
+unfolding lib.Utf8.encode
+name_space = each_unit (λ u. take (length (encode_utf8_all (row_of u).printed) + 1) (printed_row u).letters
+    ≡ encode_utf8_all (row_of u).printed ++ 32 ∷ []) assumption
+
 letters_len : (u : TimeUnit) → length (printed_row u).letters ≡ 4
 unfolding lib.Utf8.encode
 letters_len = each_unit (λ u. length (printed_row u).letters ≡ 4) assumption
+
+-- The bytes written into a part of others.
+pub take_part : (at k end : ℕ) (bytes part : List ℕ) → at ≤ length bytes → end ≤ length part
+    → take (at + end) (put_mid at k bytes part) ≡ take at bytes ++ take end part
+take_part at k end bytes part inside short = search (rules, take-append-add, take-append-le)
 
 -- The name, copied with what follows it.
 pub name_copied : (at k : ℕ) (bytes : List ℕ) (u : TimeUnit) → at ≤ length bytes
     → take (at + length (encode_utf8_all (row_of u).printed)) (put_mid at k bytes (printed_row u).letters)
     ≡ take at bytes ++ encode_utf8_all (row_of u).printed
-name_copied at k bytes u inside = search (rules, letters_len, name_first, name_short, take-append-add, take-append-le)
+name_copied at k bytes u inside = search (rules, letters_len, name_first, name_short, take_part)
+
+-- The same with the space behind it.
+pub name_spaced : (at k : ℕ) (bytes : List ℕ) (u : TimeUnit) → at ≤ length bytes
+    → take (at + length (encode_utf8_all (row_of u).printed) + 1) (put_mid at k bytes (printed_row u).letters)
+    ≡ take at bytes ++ encode_utf8_all (row_of u).printed ++ 32 ∷ []
+name_spaced at k bytes u inside =
+    let width = length (encode_utf8_all (row_of u).printed) in
+    rw add_assoc
+    (take_part at k (width + 1) bytes (printed_row u).letters inside (omega (arith, letters_len u, name_short u))
+    ∙ rw (name_space u, append_assoc))

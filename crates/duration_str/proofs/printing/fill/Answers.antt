@@ -3,10 +3,6 @@ use Rattle.duration_str.proofs.Printer.PrintedBytesLemmas.{ended_take}
 use Rattle.duration_str.proofs.Printer.LimitsLemmas.{within_ended, within_fits, within_utf8}
 use Rattle.duration_str.proofs.printing.fill.Goals as goal
 
-pub put_within-end-requires : goal.put_within-end-requires
-put_within-end-requires c =
-    rw c.as_nanos.ensures (omega (arith, within_fits c.args.format (as_nanos c.args.d) (omega arith), c.requires))
-
 pub returns-then-end-eq0-clause-text : goal.returns-then-end-eq0-clause-text
 returns-then-end-eq0-clause-text c = grind (arith, common_steps, within_ended)
 
@@ -22,6 +18,5 @@ returns-clause-utf8 c = rw (returns-clause-text c) (within_utf8 c.args.format (a
 
 pub returns-clause-short : goal.returns-clause-short
 returns-clause-short c =
-    let parts = rw c.as_nanos.ensures at c.put_within-end.ensures.text in
     let end = length-take-le c.put_within-end.result c.put_within-end.new.buffer (omega arith) in
-    omega (arith, end, ap length parts, within_fits c.args.format (as_nanos c.args.d) (omega arith))
+    omega (arith, end, ap length c.put_within-end.ensures.text, within_fits c.args.format (as_nanos c.args.d) (omega arith))

@@ -1,0 +1,100 @@
+-- Parts that each have a space behind them, and the counts of less than a day.
+use Rattle.duration_str.proofs.Common.{append_assoc, arith, counts_of, decimal, encode_utf8_all, length, length-append, length-decimal-le_wide, length-take-le, List, take-append_seam, row_of, rules, Short, sym, take, TimeUnit, unit_lengths, with_gap, with_part, [], ℕ, ◌%◌, ◌*◌, ◌++◌, ◌+◌, ◌-◌, ◌/◌, ◌<◌, ◌^◌, ◌∙◌, ◌∷◌, ◌≡◌, ◌≤◌, All, ap, drop, drop_more, get_or, with_counts, Year}
+use Rattle.duration_str.proofs.Printer.DigitLemmas.{some_decimal}
+use Rattle.std.proofs.lemmas.List.{take-take}
+use Rattle.std.proofs.lemmas.List.Elements.{All-cons, All-nil}
+
+pub three_digits : (n : ℕ) → n < 1000 → length (decimal n) ≤ 3
+three_digits n h = length-decimal-le_wide 3 n (omega arith) (omega arith) (omega arith)
+
+spaced_some : (bytes : List ℕ) → 0 < length bytes → with_gap Short bytes ≡ bytes ++ 32 ∷ []
+spaced_some bytes h = search rules
+
+-- A part with a space behind it.
+pub spaced_part : (bytes : List ℕ) (u : TimeUnit) (n : ℕ) → 0 < n → n < 10 ^ 64
+    → with_gap Short bytes ++ (decimal n ++ encode_utf8_all (row_of u).printed ++ 32 ∷ [])
+    ≡ with_gap Short (with_part Short bytes u n)
+spaced_part bytes u n some short = search (rules, length-append, some_decimal, spaced_some, append_assoc)
+
+-- The last space is left out.
+pub last_space : (end : ℕ) (buffer bytes : List ℕ) → end ≤ length buffer → take end buffer ≡ with_gap Short bytes
+    → take (end - 1) buffer ≡ bytes
+last_space end buffer [] inside same =
+    let none : end ≡ 0 = omega (arith, ap length same, length-take-le end buffer inside) in rw none
+last_space end buffer (b ∷ bytes) inside same =
+    let whole = b ∷ bytes in
+    let before : end - 1 ≡ length whole =
+    omega (arith, ap length same, length-take-le end buffer inside, length-append whole (32 ∷ [])) in
+    sym (take-take (end - 1) end buffer (omega arith)) ∙ rw (same, before) (take-append_seam whole (32 ∷ []))
+
+-- The counts of less than a day.
+pub counts_below_day : (secs nanos : ℕ) → secs < 24 * 3600 → nanos < 10 ^ 9
+    → counts_of unit_lengths (secs * 10 ^ 9 + nanos)
+    ≡ 0 ∷ 0 ∷ 0 ∷ 0 ∷ 0 ∷ secs / 3600 ∷ secs / 60 % 60 ∷ secs % 60
+    ∷ nanos / 1000000 ∷ nanos / 1000 % 1000 ∷ nanos % 1000 ∷ []
+counts_below_day secs nanos day second =
+    let year : (secs * 10 ^ 9 + nanos) / 31536000000000000 ≡ 0 = omega arith in
+    let after_year : (secs * 10 ^ 9 + nanos) % 31536000000000000 ≡ secs * 10 ^ 9 + nanos = omega arith in
+    let quarter : (secs * 10 ^ 9 + nanos) / 7862400000000000 ≡ 0 = omega arith in
+    let after_quarter : (secs * 10 ^ 9 + nanos) % 7862400000000000 ≡ secs * 10 ^ 9 + nanos = omega arith in
+    let month : (secs * 10 ^ 9 + nanos) / 2592000000000000 ≡ 0 = omega arith in
+    let after_month : (secs * 10 ^ 9 + nanos) % 2592000000000000 ≡ secs * 10 ^ 9 + nanos = omega arith in
+    let week : (secs * 10 ^ 9 + nanos) / 604800000000000 ≡ 0 = omega arith in
+    let after_week : (secs * 10 ^ 9 + nanos) % 604800000000000 ≡ secs * 10 ^ 9 + nanos = omega arith in
+    let days : (secs * 10 ^ 9 + nanos) / 86400000000000 ≡ 0 = omega arith in
+    let after_days : (secs * 10 ^ 9 + nanos) % 86400000000000 ≡ secs * 10 ^ 9 + nanos = omega arith in
+    let hours : (secs * 10 ^ 9 + nanos) / 3600000000000 ≡ secs / 3600 = omega arith in
+    let after_hours : (secs * 10 ^ 9 + nanos) % 3600000000000 ≡ secs % 3600 * 10 ^ 9 + nanos = omega arith in
+    let minutes : (secs % 3600 * 10 ^ 9 + nanos) / 60000000000 ≡ secs / 60 % 60 = omega arith in
+    let after_minutes : (secs % 3600 * 10 ^ 9 + nanos) % 60000000000 ≡ secs % 60 * 10 ^ 9 + nanos = omega arith in
+    let seconds : (secs % 60 * 10 ^ 9 + nanos) / 1000000000 ≡ secs % 60 = omega arith in
+    let after_seconds : (secs % 60 * 10 ^ 9 + nanos) % 1000000000 ≡ nanos = omega arith in
+    let micros : nanos % 1000000 / 1000 ≡ nanos / 1000 % 1000 = omega arith in
+    let rest : nanos % 1000000 % 1000 / 1 ≡ nanos % 1000 = omega arith in
+    rw (
+      year,
+      after_year,
+      quarter,
+      after_quarter,
+      month,
+      after_month,
+      week,
+      after_week,
+      days,
+      after_days,
+      hours,
+      after_hours,
+      minutes,
+      after_minutes,
+      seconds,
+      after_seconds,
+      micros,
+      rest,
+    )
+
+abbrev IsShort : ℕ → Type 0
+IsShort n = n < 1000
+
+six_short : (a b c d e f : ℕ) → a < 1000 → b < 1000 → c < 1000 → d < 1000 → e < 1000 → f < 1000
+    → All IsShort (a ∷ b ∷ c ∷ d ∷ e ∷ f ∷ [])
+six_short a b c d e f short_a short_b short_c short_d short_e short_f =
+    All-cons IsShort a (b ∷ c ∷ d ∷ e ∷ f ∷ []) short_a (All-cons IsShort b (c ∷ d ∷ e ∷ f ∷ []) short_b
+    (All-cons IsShort c (d ∷ e ∷ f ∷ []) short_c (All-cons IsShort d (e ∷ f ∷ []) short_d
+    (All-cons IsShort e (f ∷ []) short_e (All-cons IsShort f [] short_f (All-nil IsShort))))))
+
+-- They have at most three digits.
+pub counts_short : (secs nanos : ℕ) → secs < 24 * 3600 → nanos < 10 ^ 9
+    → All IsShort
+    (secs / 3600 ∷ secs / 60 % 60 ∷ secs % 60 ∷ nanos / 1000000 ∷ nanos / 1000 % 1000 ∷ nanos % 1000 ∷ [])
+counts_short secs nanos day second =
+    six_short (secs / 3600) (secs / 60 % 60) (secs % 60) (nanos / 1000000) (nanos / 1000 % 1000) (nanos % 1000)
+    (omega arith) (omega arith) (omega arith) (omega arith) (omega arith) (omega arith)
+
+-- The next part of several.
+pub next_part : (bytes : List ℕ) (us : List TimeUnit) (counts : List ℕ) (i j : ℕ) → j ≡ 5 + i → i < length counts
+    → 5 + i < length us
+    → with_counts Short (with_part Short bytes (get_or us j Year) (get_or counts i 0)) (drop (5 + (i + 1)) us)
+    (drop (i + 1) counts) ≡ with_counts Short bytes (drop (5 + i) us) (drop i counts)
+next_part bytes us counts i j same in_counts in_units =
+    let next : 5 + (i + 1) ≡ 5 + i + 1 = omega arith in
+    rw (same, next, drop_more us (5 + i) Year in_units, drop_more counts i 0 in_counts)
