@@ -34,7 +34,7 @@ pub use Rattle.duration_str.specs.Answer.{allows, answer, answer_at, expected_af
 pub use Rattle.duration_str.specs.Messages.{byte_text, caret_text, EndsInsideLine, has_line_feed, line_of, message_of, placed_text}
 pub use Rattle.duration_str.specs.Faults.{found_token, IsMissingAtEnd, IsSliceOf, place_of, token_at}
 pub use Rattle.duration_str.specs.Grammar.{BeginsWith, IsSentence, IsSentenceOf, number, operator, operator_or_other, other, sign_terminal, Spells, Terminal, terminal_by, terminal_of, word}
-pub use Rattle.duration_str.specs.Laws.{AllParts, AnswerIsReading, BlanksFree, EqualTexts, GreatestBreakdown, HasNoCapital, HasNoChinese, HasNoOperator, HasNoStar, is_operator, IsIdle, IsMostWithin, KeepsWithin, NearWords, NeverMore, NoCalcAgrees, OlderTexts, OneCut, OneReading, OneSentence, OptionsIdle, PlaceAndKinds, ReadsBack, Reorder, SumOfTexts, times_in, TwoFactors}
+pub use Rattle.duration_str.specs.Laws.{AllParts, AnswerIsReading, BlanksFree, EqualTexts, GreatestBreakdown, HasNoCapital, HasNoChinese, HasNoOperator, HasNoStar, is_operator, IsIdle, IsMostWithin, KeepsWithin, NearWords, NeverMore, NoCalcAgrees, OlderTexts, OneCut, OneReading, OneSentence, OptionsIdle, PlaceAndKinds, ReadsBack, Reorder, SumOfTexts, times_in, TwoFactors, counts_of, AllPlus, AreTokens, EndsRun, IsLexeme}
 pub use Rattle.duration_str.specs.Older.{older_nanos_of, older_row_of, older_terminals, older_terms, older_unit_of_word, older_units, sentence_fault, was_named, WasRead, WasRefused, WasSentenceOf}
 pub use Rattle.duration_str.specs.declared.format.Format.{Format}
 pub use Rattle.duration_str.specs.declared.format.Style.{Style}
@@ -42,15 +42,17 @@ pub use Rattle.duration_str.specs.declared.format.Style.TheVariants.{Compact, Lo
 pub use Rattle.duration_str.specs.declared.printing.TheConstants.{MAX_LONG_LEN, MAX_PRINTED_LEN}
 pub use Rattle.duration_str.specs.Limits.{counts_within, IsGreatestWithin, IsPrintedWithin, IsWithin, lengths_within, most_len, part_count, text_within, units_down_to, units_from, units_within, whole_format, zero_unit}
 pub use Rattle.duration_str.specs.Place.{BeginsSentence, CanFollow, IsFront, start_after, terminals_of}
-pub use Rattle.duration_str.specs.Printing.{before_name, between, counts_of, IsBefore, IsGreatestBreakdown, IsPrinted, IsPrintedIn, joined_parts, long_name, name_in, printed_counts, printed_part, printed_parts, weighted_sum}
+pub use Rattle.duration_str.specs.Printing.{before_name, between, IsBefore, IsGreatestBreakdown, IsPrinted, IsPrintedIn, joined_parts, long_name, name_in, printed_counts, printed_part, printed_parts, weighted_sum}
+pub use Rattle.duration_str.specs.OneTerm.{fault_or, term_of, IsNumber}
+pub use Rattle.duration_str.specs.Internal.Positions.{ahead, Between, letter_number, number_in, packed_number, packed_number_after, Passes, Stands, StandsAt, Stops, TakesDigits, TakesLetters, wide_number}
+pub use Rattle.duration_str.specs.Options.{off}
 pub use Rattle.duration_str.specs.Reading.{complete_terminals, complete_terms, early, early_fault, first_fault, IsRead, IsRefused, IsRefusedAt, late, late_fault, place_after, running_fault, syntax_fault, without_last_number}
 pub use Rattle.duration_str.specs.Results.{ParsesText}
-pub use Rattle.duration_str.specs.Value.{AllPlus, combination, Evaluates, evaluation_fault, fault_of_terms, fault_or, fits, is_same_operator, later_total, or_else, second, sum_of, Term, term_fault, term_of, terms_after, terms_by, terms_of, unless, value_of, value_of_term}
-pub use Rattle.duration_str.specs.Text.{ahead, byte_len, chinese_letters, is_blank, is_chinese, is_digit, is_unit_letter, IsBlank, IsNumber, number_after, number_of, operator_of, width}
+pub use Rattle.duration_str.specs.Value.{combination, Evaluates, evaluation_fault, fault_of_terms, fits, is_same_operator, later_total, or_else, second, sum_of, Term, term_fault, terms_after, terms_by, terms_of, unless, value_of, value_of_term}
+pub use Rattle.duration_str.specs.Text.{byte_len, chinese_letters, is_blank, is_chinese, is_digit, is_unit_letter, IsBlank, number_after, number_of, operator_of, width}
 pub use Rattle.duration_str.specs.Iteration.{cut_place, KeepsInput, options_of, source, tokens_left, what_of, YieldsNextToken}
-pub use Rattle.duration_str.specs.Tokens.{are_of_one_run, AreTokens, EndsRun, goes_on, IsLexeme, lexemes_of, Token, tokens_from, tokens_of, with_first_character}
-pub use Rattle.duration_str.specs.Units.{comparison_form, is_named, nanos_of, off, row_of, unit_lengths, unit_of_word, UnitRow, units}
-pub use Rattle.duration_str.specs.Internal.Positions.{Between, letter_number, number_in, packed_number, packed_number_after, Passes, Stands, StandsAt, Stops, TakesDigits, TakesLetters, wide_number}
+pub use Rattle.duration_str.specs.Tokens.{are_of_one_run, goes_on, lexemes_of, Token, tokens_from, tokens_of, with_first_character}
+pub use Rattle.duration_str.specs.Units.{comparison_form, is_named, nanos_of, row_of, unit_lengths, unit_of_word, UnitRow, units}
 pub use Rattle.duration_str.specs.Internal.Numbers.{checked_term, u64_from}
 pub use Rattle.duration_str.specs.Internal.UnitTable.{all_names, packs_to, unit_of_packed, AreEncoded, printed_row, rank_of, units_in}
 pub use Rattle.duration_str.specs.Internal.PrintedBytes.{name_part, part_bytes, with_counts, with_gap, with_part}

@@ -8,7 +8,8 @@ use Rattle.duration_str.specs.Text.{Characters, byte_len}
 use Rattle.duration_str.specs.Grammar.{Terminal, number, word, operator, other}
 use Rattle.duration_str.specs.Tokens.{tokens_of}
 use Rattle.duration_str.specs.Place.{start_after, terminals_of}
-use Rattle.duration_str.specs.Value.{terms_of, value_of, fault_or}
+use Rattle.duration_str.specs.Value.{terms_of, value_of}
+use Rattle.duration_str.specs.OneTerm.{fault_or}
 use Rattle.duration_str.specs.Reading.{early_fault, late_fault}
 
 -- what may start a text or follow an operator: a number

@@ -4,9 +4,9 @@ use Rattle.serde_json.specs.Data.{Data, null, string}
 use Rattle.duration_str.specs.declared.cause.Cause.TheVariants.{NotText}
 use Rattle.duration_str.specs.declared.fault.Fault.{Fault}
 use Rattle.duration_str.specs.Text.{Bytes}
-use Rattle.duration_str.specs.Units.{off}
+use Rattle.duration_str.specs.Options.{off}
+use Rattle.duration_str.specs.OtherResults.{IsValueOrFault}
 use Rattle.duration_str.specs.Reading.{IsRead, IsRefused}
-use Rattle.duration_str.specs.Results.{IsValueOrFault}
 
 -- With all options off, the bytes are read as a value that the result shows, or refused for its cause.
 abbrev pub ParsesBy : {T : Type 0} → (T → ℕ → Type 0) → Bytes → Result T Fault → Type 0

@@ -6,9 +6,9 @@ use Rattle.duration_str.specs.declared.cause.Cause.{Cause}
 use Rattle.duration_str.specs.declared.cause.Cause.TheVariants.{OutOfRange}
 use Rattle.duration_str.specs.declared.fault.Fault.{Fault}
 use Rattle.duration_str.specs.Text.{Bytes}
-use Rattle.duration_str.specs.Units.{off}
+use Rattle.duration_str.specs.Options.{off}
+use Rattle.duration_str.specs.OtherResults.{IsValueOrFault}
 use Rattle.duration_str.specs.Reading.{IsRead, IsRefused}
-use Rattle.duration_str.specs.Results.{IsValueOrFault}
 
 -- the length of a day in nanoseconds
 abbrev pub day_nanos : ℕ

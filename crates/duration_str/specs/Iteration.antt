@@ -1,12 +1,12 @@
 -- What callers see of the iterator `Tokens`: the text, how far it is cut, and the tokens that are left.
-use Rattle.std.specs.Prelude.{◌≡◌, ℕ, ◌+◌, List, length, Option, IfSome, IfNone, slice_range, chars}
+use Rattle.std.specs.Prelude.{◌≡◌, ℕ, ◌+◌, List, length, Option, IfSome, IfNone, slice_range, chars, drop}
 use Rattle.std.specs.Iterator.{YieldsFirstBy}
 use Rattle.duration_str.specs.declared.options.Options.{Options}
 use Rattle.duration_str.specs.declared.token.What.{What}
 use Rattle.duration_str.specs.declared.token.What.TheVariants as whats
 use Rattle.duration_str.specs.declared.token.Token.{Token as RustToken}
 use Rattle.duration_str.specs.declared.token.Tokens.{Tokens}
-use Rattle.duration_str.specs.Text.{Bytes, ahead}
+use Rattle.duration_str.specs.Text.{Bytes}
 use Rattle.duration_str.specs.Grammar.{Terminal, number, word, operator, other, terminal_of}
 use Rattle.duration_str.specs.Tokens.{Token, tokens_from}
 
@@ -35,7 +35,7 @@ looks_of s = s.eye.looks
 
 -- the tokens that are left
 abbrev pub tokens_left : Tokens → List Token
-tokens_left s = tokens_from s.options s.eye.place (ahead s.eye.text.now s.eye.place)
+tokens_left s = tokens_from s.options s.eye.place (chars (drop s.eye.place s.eye.text.now))
 
 -- a Rust token as its start and its characters
 abbrev pub token_of : RustToken → Token

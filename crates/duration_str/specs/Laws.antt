@@ -1,28 +1,28 @@
 -- The laws, each as one statement about the definitions.
-use Rattle.std.specs.Prelude.{◌≡◌, ℕ, ◌+◌, ◌*◌, ◌/◌, ◌^◌, ◌<◌, ◌≤◌, Bool, true, false, if◌then◌else◌, List, [], ◌∷◌, ◌++◌, Some, None, is_some, map, ◌↔◌, ◌≢◌, take, drop, codes, encode_utf8_all, Ok, Err, ◌⊎◌, IsTrue, not, ◌==◌, length}
+use Rattle.std.specs.Prelude.{◌≡◌, ℕ, ◌+◌, ◌*◌, ◌/◌, ◌^◌, ◌<◌, ◌≤◌, Bool, true, false, if◌then◌else◌, List, [], ◌∷◌, ◌++◌, Some, None, is_some, map, ◌%◌, ⊤, ◌↔◌, ◌≢◌, take, drop, codes, encode_utf8_all, Ok, Err, ◌⊎◌, IsTrue, not, ◌==◌, length}
 use Rattle.std.specs.Char.{is_ascii_uppercase, to_ascii_lowercase}
 use Rattle.std.specs.List.{list_all}
 use Rattle.std.specs.Duration.{FitsDuration}
 use Rattle.duration_str.specs.declared.options.Options.{Options}
 use Rattle.duration_str.specs.declared.operator.CondUnit.{CondUnit}
-use Rattle.duration_str.specs.declared.operator.CondUnit.TheVariants.{Star}
+use Rattle.duration_str.specs.declared.operator.CondUnit.TheVariants.{Plus, Star}
 use Rattle.duration_str.specs.declared.unit.TimeUnit.{TimeUnit}
 use Rattle.duration_str.specs.declared.unit.TimeUnit.TheVariants.{Year}
 use Rattle.duration_str.specs.declared.cause.Cause.{Cause}
 use Rattle.duration_str.specs.declared.cause.Cause.TheVariants.{Overflow}
 use Rattle.duration_str.specs.declared.cause.Expected.{Expected}
-use Rattle.duration_str.specs.Text.{Bytes, Characters, operator_of, is_chinese}
+use Rattle.duration_str.specs.Text.{Bytes, Characters, operator_of, is_chinese, IsBlank, is_blank, byte_len}
 use Rattle.duration_str.specs.Units.{UnitRow, row_of, unit_lengths, nanos_of, units, unit_of_word}
 use Rattle.duration_str.specs.OneLine.{is_among, near_name, near_words}
 use Rattle.duration_str.specs.Grammar.{Terminal, operator, IsSentence, IsSentenceOf, Spells, terminal_of}
-use Rattle.duration_str.specs.Tokens.{Token, tokens_of, lexemes_of, AreTokens}
+use Rattle.duration_str.specs.Tokens.{Token, tokens_of, lexemes_of, are_of_one_run, goes_on}
 use Rattle.duration_str.specs.Place.{BeginsSentence, CanFollow, IsFront}
-use Rattle.duration_str.specs.Value.{AllPlus, Term, value_of_term, written_terms, second}
+use Rattle.duration_str.specs.Value.{Term, value_of_term, written_terms, second}
 use Rattle.duration_str.specs.Reading.{IsRead, IsRefused}
 use Rattle.duration_str.specs.Messages.{EndsInsideLine, message_of, line_of}
 use Rattle.duration_str.specs.Answer.{answer, expected_after, last_of, front_of}
 use Rattle.duration_str.specs.Older.{older_row_of, older_terminals, WasSentenceOf, WasRead, WasRefused}
-use Rattle.duration_str.specs.Printing.{IsPrintedIn, IsGreatestBreakdown, counts_of, weighted_sum}
+use Rattle.duration_str.specs.Printing.{IsPrintedIn, IsGreatestBreakdown, weighted_sum}
 use Rattle.duration_str.specs.declared.format.Format.{Format}
 use Rattle.duration_str.specs.declared.format.Style.{Style}
 use Rattle.duration_str.specs.Limits.{whole_format, units_from, lengths_within, part_count, IsPrintedWithin}
@@ -54,6 +54,32 @@ pub record OneSentence : Type 0 where
   pub tokens : (o : Options) (text : Characters) (lexemes : List Characters)
       → IsSentence o.no_calc (map (terminal_of o) lexemes)
       → (Spells lexemes text ↔ (lexemes ≡ lexemes_of (tokens_of o text)))
+
+-- One character that is not a blank, or a run of digits or of unit letters.
+abbrev pub IsLexeme : Options → Characters → Type 0
+IsLexeme o [] = ⊥
+IsLexeme o (c ∷ cs) = (is_blank c ≡ false) × IsTrue (list_all (are_of_one_run o c) cs)
+
+-- The run of these characters ends before the rest.
+abbrev pub EndsRun : Options → Characters → Characters → Type 0
+EndsRun o [] rest = ⊤
+EndsRun o (c ∷ cs) rest = goes_on o c rest ≡ false
+
+-- The text, which starts at byte `at`, is blanks, the token, as long as possible, and the rest.
+pub record IsNextToken (o : Options) (at : ℕ) (text : Characters) (token : Token) (rest : Characters) : Type 0 where
+  pub blanks : Characters
+  pub blank : IsBlank blanks
+  pub parts : text ≡ blanks ++ (token.characters ++ rest)
+  pub start : token.start ≡ at + byte_len blanks
+  pub is_lexeme : IsLexeme o token.characters
+  pub ends : EndsRun o token.characters rest
+
+-- The text, which starts at byte `at`, is blanks, then each token followed by blanks.
+abbrev pub AreTokens : Options → ℕ → Characters → List Token → Type 0
+AreTokens o at text [] = IsBlank text
+AreTokens o at text (token ∷ tokens) =
+    (rest : Characters) × IsNextToken o at text token rest
+    × AreTokens o (token.start + byte_len token.characters) rest tokens
 
 -- The tokens of a text are those that `tokens_of` gives, and no others.
 pub record OneCut : Type 0 where
@@ -122,6 +148,12 @@ abbrev pub times_in : ℕ → List ℕ → ℕ
 times_in n [] = 0
 times_in n (m ∷ ms) = (if m == n then 1 else 0) + times_in n ms
 
+-- Every operator that is written is plus.
+abbrev pub AllPlus : List Terminal → Type 0
+AllPlus [] = ⊤
+AllPlus (operator op ∷ terminals) = (op ≡ Plus) × AllPlus terminals
+AllPlus (terminal ∷ terminals) = AllPlus terminals
+
 -- Two sums with the same values of terms, each equally often, are accepted alike and have the same value.
 abbrev pub Reorder : Type 0
 Reorder = (o : Options) (a b : Characters) (lexemes others : List Characters) (nanos : ℕ)
@@ -146,6 +178,11 @@ pub record TwoFactors : Type 0 where
       → written_terms o others ≡ v ∷ w ∷ [] → w.operator ≡ Star
       → v.number ≡ u.number → v.length ≡ u.length → w.number ≡ t.number → w.length ≡ t.length
       → IsRead o a nanos → IsRead o b nanos
+
+-- how often each length goes into what the longer lengths leave
+abbrev pub counts_of : List ℕ → ℕ → List ℕ
+counts_of [] nanos = []
+counts_of (l ∷ lengths) nanos = nanos / l ∷ counts_of lengths (nanos % l)
 
 -- The counts by quotients and remainders are the greatest breakdown.
 abbrev pub GreatestBreakdown : Type 0

@@ -1,5 +1,5 @@
 -- A fault in one line: what is wrong, at which column, and what stands there.
-use Rattle.std.specs.Prelude.{ℕ, ◌+◌, ◌-◌, Bool, false, not, ◌&&◌, ◌||◌, List, [], ◌∷◌, ◌++◌, Option, Some, None, if◌then◌else◌, ◌==◌, nat_le, decimal, encode_utf8_all, map, take, length, slice_index, option_map, chars, bytes_eq, codes}
+use Rattle.std.specs.Prelude.{ℕ, ◌+◌, ◌-◌, Bool, false, not, ◌&&◌, ◌||◌, List, [], ◌∷◌, ◌++◌, Option, Some, None, if◌then◌else◌, ◌==◌, nat_le, decimal, encode_utf8_all, map, take, drop, length, slice_index, option_map, chars, bytes_eq, codes}
 use Rattle.std.specs.Char.{is_ascii_alphabetic, is_control, to_ascii_lowercase}
 use Rattle.std.specs.Char.Escape.{escape_default}
 use Rattle.std.specs.Int.{is_in_range}
@@ -9,7 +9,7 @@ use Rattle.duration_str.specs.declared.cause.Cause.{Cause}
 use Rattle.duration_str.specs.declared.cause.Cause.TheVariants.{Empty, Syntax, NumberTooLarge, Overflow, Mixed}
 use Rattle.duration_str.specs.declared.unit.TimeUnit.{TimeUnit}
 use Rattle.duration_str.specs.declared.unit.TimeUnit.TheVariants.{Year, Quarter, Month, Week, Day, Hour, Minute, Second, MilliSecond, MicroSecond, NanoSecond}
-use Rattle.duration_str.specs.Text.{Bytes, Characters, is_blank, is_digit, ahead}
+use Rattle.duration_str.specs.Text.{Bytes, Characters, is_blank, is_digit}
 use Rattle.duration_str.specs.Units.{units, row_of}
 use Rattle.duration_str.specs.Messages.{line_of, chars_before}
 
@@ -196,7 +196,7 @@ overflow_line text =
 -- the bytes of the line, given those of the text that was read
 abbrev pub one_line_of : Bytes → Cause → Bytes
 one_line_of text Empty = codes "empty text"
-one_line_of text (Syntax place expected) = syntax_line text place expected (first_piece (ahead text place))
+one_line_of text (Syntax place expected) = syntax_line text place expected (first_piece (chars (drop place text)))
 one_line_of text (NumberTooLarge place) = text_line (codes "number of 2^64 or more") text []
 one_line_of text (Overflow place) = overflow_line text
 one_line_of text (Mixed first later) = text_line (codes "sum and product mixed") text []

@@ -1,5 +1,5 @@
 -- The breakdown of a duration, and its printed text.
-use Rattle.std.specs.Prelude.{◌≡◌, ℕ, Bool, ◌+◌, ◌*◌, ◌/◌, ◌%◌, ◌<◌, List, [], ◌∷◌, ◌++◌, if◌then◌else◌, length, ◌⊎◌, ◌==◌, codes, decimal, flat_map}
+use Rattle.std.specs.Prelude.{◌≡◌, ℕ, Bool, ◌+◌, ◌*◌, ◌<◌, List, [], ◌∷◌, ◌++◌, if◌then◌else◌, length, ◌⊎◌, ◌==◌, codes, decimal, flat_map}
 use Rattle.duration_str.specs.declared.unit.TimeUnit.{TimeUnit}
 use Rattle.duration_str.specs.declared.unit.TimeUnit.TheVariants.{Second}
 use Rattle.duration_str.specs.declared.format.Style.{Style}
@@ -79,8 +79,3 @@ IsPrintedIn style nanos text =
 -- The same in the short style.
 abbrev pub IsPrinted : ℕ → Characters → Type 0
 IsPrinted = IsPrintedIn Short
-
--- how often each length goes into what the longer lengths leave
-abbrev pub counts_of : List ℕ → ℕ → List ℕ
-counts_of [] nanos = []
-counts_of (l ∷ lengths) nanos = nanos / l ∷ counts_of lengths (nanos % l)

@@ -1,5 +1,5 @@
 -- Texts as lists of character codes, the classes of characters, and the numbers that digits write.
-use Rattle.std.specs.Prelude.{ℕ, ◌+◌, ◌*◌, ◌-◌, ◌<◌, Bool, ◌&&◌, ◌||◌, List, [], ◌∷◌, nat_le, ◌==◌, IsTrue, Option, Some, None, length, drop, if◌then◌else◌, chars, codes}
+use Rattle.std.specs.Prelude.{ℕ, ◌+◌, ◌*◌, ◌-◌, Bool, ◌&&◌, ◌||◌, List, [], ◌∷◌, nat_le, ◌==◌, IsTrue, Option, Some, None, if◌then◌else◌, codes}
 use Rattle.std.specs.Char.{is_ascii_digit, is_ascii_alphabetic, len_utf8}
 use Rattle.std.specs.List.{list_any, list_all}
 use Rattle.duration_str.specs.declared.options.Options.{Options}
@@ -42,10 +42,6 @@ operator_of c = if c == 43 then Some Plus else if c == 42 then Some Star else No
 abbrev pub IsBlank : Characters → Type 0
 IsBlank text = IsTrue (list_all is_blank text)
 
--- A nonempty run of digits.
-abbrev pub IsNumber : Characters → Type 0
-IsNumber text = (0 < length text) × IsTrue (list_all is_digit text)
-
 -- the decimal number with the digits of n and then these
 abbrev pub number_after : ℕ → Characters → ℕ
 number_after n [] = n
@@ -63,7 +59,3 @@ width c = if nat_le 0xD800 c && nat_le c 0xDFFF then 4 else len_utf8 c
 abbrev pub byte_len : Characters → ℕ
 byte_len [] = 0
 byte_len (c ∷ text) = width c + byte_len text
-
--- the characters of these bytes from byte `place` on
-abbrev pub ahead : Bytes → ℕ → Characters
-ahead text place = chars (drop place text)

@@ -1,8 +1,7 @@
 -- The tokens of a text: the longest runs of digits and of unit letters, and other single characters except blanks.
-use Rattle.std.specs.Prelude.{◌≡◌, ℕ, ◌+◌, Bool, false, ◌&&◌, ◌||◌, List, [], ◌∷◌, ◌++◌, if◌then◌else◌, map, ⊤, IsTrue}
-use Rattle.std.specs.List.{list_all}
+use Rattle.std.specs.Prelude.{ℕ, ◌+◌, Bool, false, ◌&&◌, ◌||◌, List, [], ◌∷◌, if◌then◌else◌, map}
 use Rattle.duration_str.specs.declared.options.Options.{Options}
-use Rattle.duration_str.specs.Text.{Characters, width, is_blank, is_digit, is_unit_letter, IsBlank, byte_len}
+use Rattle.duration_str.specs.Text.{Characters, width, is_blank, is_digit, is_unit_letter}
 
 -- a token: its characters, and the byte at which it starts
 pub record Token : Type 0 where
@@ -17,32 +16,6 @@ are_of_one_run o c d = (is_digit c && is_digit d) || (is_unit_letter o c && is_u
 abbrev pub goes_on : Options → ℕ → Characters → Bool
 goes_on o c [] = false
 goes_on o c (d ∷ _) = are_of_one_run o c d
-
--- One character that is not a blank, or a run of digits or of unit letters.
-abbrev pub IsLexeme : Options → Characters → Type 0
-IsLexeme o [] = ⊥
-IsLexeme o (c ∷ cs) = (is_blank c ≡ false) × IsTrue (list_all (are_of_one_run o c) cs)
-
--- The run of these characters ends before the rest.
-abbrev pub EndsRun : Options → Characters → Characters → Type 0
-EndsRun o [] rest = ⊤
-EndsRun o (c ∷ cs) rest = goes_on o c rest ≡ false
-
--- The text, which starts at byte `at`, is blanks, the token, as long as possible, and the rest.
-pub record IsNextToken (o : Options) (at : ℕ) (text : Characters) (token : Token) (rest : Characters) : Type 0 where
-  pub blanks : Characters
-  pub blank : IsBlank blanks
-  pub parts : text ≡ blanks ++ (token.characters ++ rest)
-  pub start : token.start ≡ at + byte_len blanks
-  pub is_lexeme : IsLexeme o token.characters
-  pub ends : EndsRun o token.characters rest
-
--- The text, which starts at byte `at`, is blanks, then each token followed by blanks.
-abbrev pub AreTokens : Options → ℕ → Characters → List Token → Type 0
-AreTokens o at text [] = IsBlank text
-AreTokens o at text (token ∷ tokens) =
-    (rest : Characters) × IsNextToken o at text token rest
-    × AreTokens o (token.start + byte_len token.characters) rest tokens
 
 -- the tokens with the character c, at byte `at`, added to the front of the first one
 abbrev pub with_first_character : ℕ → ℕ → List Token → List Token

@@ -1,15 +1,11 @@
 -- The units: their lengths, the names that are printed, and the names that are read.
-use Rattle.std.specs.Prelude.{ℕ, Bool, false, ◌&&◌, ◌||◌, List, [], ◌∷◌, Option, if◌then◌else◌, map, bytes_eq, codes}
+use Rattle.std.specs.Prelude.{ℕ, Bool, ◌&&◌, ◌||◌, List, [], ◌∷◌, Option, if◌then◌else◌, map, bytes_eq, codes}
 use Rattle.std.specs.Char.{to_ascii_lowercase}
 use Rattle.std.specs.List.{list_any, find}
 use Rattle.duration_str.specs.declared.options.Options.{Options}
 use Rattle.duration_str.specs.declared.unit.TimeUnit.{TimeUnit}
 use Rattle.duration_str.specs.declared.unit.TimeUnit.TheVariants.{Year, Quarter, Month, Week, Day, Hour, Minute, Second, MilliSecond, MicroSecond, NanoSecond}
 use Rattle.duration_str.specs.Text.{Characters}
-
--- all options off
-abbrev pub off : Options
-off = record { no_calc = false; lowercase = false; cn_unit = false }
 
 -- a unit's length in nanoseconds, the name that is printed, the names that are read, and those read only with `cn_unit`
 pub record UnitRow : Type 0 where

@@ -1,5 +1,5 @@
 -- The terms of a sentence, their value, and their faults.
-use Rattle.std.specs.Prelude.{◌≡◌, ℕ, ◌+◌, ◌*◌, ◌/◌, ◌^◌, Bool, true, false, List, [], ◌∷◌, ◌++◌, Option, Some, None, if◌then◌else◌, nat_lt, ⊤, map, Result, Ok, Err}
+use Rattle.std.specs.Prelude.{◌≡◌, ℕ, ◌+◌, ◌*◌, ◌/◌, ◌^◌, Bool, true, false, List, [], ◌∷◌, ◌++◌, Option, Some, None, if◌then◌else◌, nat_lt, map}
 use Rattle.std.specs.List.{list_all, fold}
 use Rattle.duration_str.specs.declared.options.Options.{Options}
 use Rattle.duration_str.specs.declared.unit.TimeUnit.{TimeUnit}
@@ -46,12 +46,6 @@ terms_of terminals = terms_after Plus terminals
 -- the terms that the lexemes of a sentence write
 abbrev pub written_terms : Options → List Characters → List Term
 written_terms o lexemes = terms_of (map (terminal_of o) lexemes)
-
--- Every operator that is written is plus.
-abbrev pub AllPlus : List Terminal → Type 0
-AllPlus [] = ⊤
-AllPlus (operator op ∷ terminals) = (op ≡ Plus) × AllPlus terminals
-AllPlus (terminal ∷ terminals) = AllPlus terminals
 
 -- whether two operators are the same
 abbrev pub is_same_operator : CondUnit → CondUnit → Bool
@@ -127,18 +121,3 @@ evaluation_fault _ = None
 abbrev pub Evaluates : List Term → Type 0
 Evaluates [] = ⊥
 Evaluates (t ∷ later) = (term_fault None t ≡ None) × (evaluation_fault (t ∷ later) ≡ None)
-
--- ---- One term by itself
-
--- the term of a number and a unit
-abbrev pub term_of : ℕ → TimeUnit → Term
-term_of n u = record { operator = Plus; number = n; length = nanos_of u }
-
--- the fault if there is one, otherwise the result
-abbrev pub fault_or : {A : Type 0} → Option Cause → Result A Cause → Result A Cause
-fault_or (Some cause) result = Err cause
-fault_or None result = result
-
--- the value of a term, or its fault
-abbrev pub term_answer : Option ℕ → Term → Result ℕ Cause
-term_answer place t = fault_or (term_fault place t) (Ok (value_of_term t))

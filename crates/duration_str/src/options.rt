@@ -1,6 +1,6 @@
 //! The choice of options.
 ghost use Rattle.std.specs.Prelude.{◌≡◌, ◌↔◌, IsTrue};
-ghost use Rattle.duration_str.specs.Units.{off};
+ghost use Rattle.duration_str.specs.Options.{off};
 
 /// Which grammar is read, and which words name units. A literal ends with `..Options::off()`, as here, so that it
 /// stands when a later version has another option.

@@ -1,8 +1,9 @@
 //! Reading: the duration that a text means, or why it means none.
 ghost use Rattle.std.specs.Prelude.{◌≡◌, ◌≤◌, length, IfErr, OnOk};
 ghost use Rattle.std.specs.Str.{chars};
-ghost use Rattle.duration_str.specs.Results.{ParsesText, ReadsText, ReachesPlace};
-ghost use Rattle.duration_str.specs.Units.{off};
+ghost use Rattle.duration_str.specs.Results.{ParsesText};
+ghost use Rattle.duration_str.specs.OtherResults.{ReadsText, ReachesPlace};
+ghost use Rattle.duration_str.specs.Options.{off};
 
 pub use crate::cause::{Cause, Expected};
 pub use crate::fault::Fault;

@@ -12,7 +12,8 @@ ghost use Rattle.duration_str.specs.declared.format.Style.TheVariants.{Long, Sho
 ghost use Rattle.duration_str.specs.declared.unit.TimeUnit.TheVariants.{Day};
 ghost use Rattle.duration_str.specs.declared.printing.TheConstants.{MAX_PRINTED_LEN};
 ghost use Rattle.duration_str.specs.Units.{nanos_of, row_of, unit_lengths, units};
-ghost use Rattle.duration_str.specs.Printing.{IsPrinted, counts_of};
+ghost use Rattle.duration_str.specs.Printing.{IsPrinted};
+ghost use Rattle.duration_str.specs.Laws.{counts_of};
 ghost use Rattle.duration_str.specs.Limits.{IsPrintedWithin, counts_within, lengths_within, most_len, text_within, units_within, zero_unit};
 ghost use Rattle.duration_str.specs.Internal.PrintedBytes.{name_part, part_bytes, with_counts, with_gap, with_part};
 ghost use Rattle.duration_str.specs.Internal.UnitTable.{AreRight, printed_row, units_in};

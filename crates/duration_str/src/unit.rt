@@ -3,14 +3,14 @@ ghost use Rattle.std.specs.Prelude.{◌≡◌, ◌/◌, ◌%◌, None, Some, tru
 ghost use Rattle.std.specs.List.{list_any};
 ghost use Rattle.std.specs.Fmt.{padded};
 ghost use Rattle.std.specs.Str.{bytes_eq, chars};
-ghost use Rattle.duration_str.specs.Text.{IsNumber, number_of};
+ghost use Rattle.duration_str.specs.Text.{number_of};
+ghost use Rattle.duration_str.specs.OneTerm.{IsNumber, term_of, term_answer};
 ghost use Rattle.duration_str.specs.declared.unit.TimeUnit.{TimeUnit};
 ghost use Rattle.duration_str.specs.declared.unit.TimeUnit.TheVariants.{Second};
 ghost use Rattle.duration_str.specs.Units.{nanos_of, row_of, comparison_form, is_named, unit_of_word};
 ghost use Rattle.duration_str.specs.Printing.{long_name};
 ghost use Rattle.duration_str.specs.Internal.UnitTable.{IsRow, printed_row, rank_of};
 ghost use Rattle.duration_str.specs.Internal.Numbers.{checked_term};
-ghost use Rattle.duration_str.specs.Value.{term_of, term_answer};
 
 use crate::cause::Cause;
 pub use crate::operator::CondUnit;

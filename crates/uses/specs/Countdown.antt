@@ -7,7 +7,8 @@ use Rattle.duration_str.specs.Laws.{KeepsWithin}
 use Rattle.duration_str.specs.Limits.{IsPrintedWithin, part_count}
 use Rattle.duration_str.specs.Printing.{IsGreatestBreakdown}
 use Rattle.duration_str.specs.Reading.{IsRead}
-use Rattle.duration_str.specs.Units.{off, unit_lengths}
+use Rattle.duration_str.specs.Units.{unit_lengths}
+use Rattle.duration_str.specs.Options.{off}
 
 -- two parts at most, and none of a unit below the second
 abbrev pub coarse : Format

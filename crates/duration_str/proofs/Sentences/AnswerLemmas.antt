@@ -5,7 +5,7 @@ use Rattle.duration_str.proofs.Sentences.SpellingLemmas.{empty_no_sentence, sent
 use Rattle.duration_str.proofs.Sentences.SumLemmas.{added_overflow, AreAdded, below_evaluate, evaluate_below, has_terms, no_fault, or_else-none, running_below, running_none, running_overflow, terms_added, value_is_sum}
 pub use Rattle.duration_str.proofs.Sentences.SumLemmas.{EachFits, sum_fits_each}
 use Rattle.std.specs.declared.time.Duration.{Duration}
-use Rattle.duration_str.specs.Results.{IsValueOrFault, ReadsText}
+use Rattle.duration_str.specs.OtherResults.{IsValueOrFault, ReadsText}
 
 -- ---- The faults of a sentence
 

@@ -1,9 +1,13 @@
 -- Positions in a text: the character at a byte, and the characters between two bytes.
-use Rattle.std.specs.Prelude.{◌≡◌, ℕ, ◌+◌, ◌*◌, ◌%◌, ◌^◌, Bool, false, ◌&&◌, [], ◌∷◌, ◌++◌, IsTrue, ⊤, ◌==◌, if◌then◌else◌}
+use Rattle.std.specs.Prelude.{◌≡◌, ℕ, ◌+◌, ◌*◌, ◌%◌, ◌^◌, Bool, false, ◌&&◌, [], ◌∷◌, ◌++◌, IsTrue, ⊤, ◌==◌, if◌then◌else◌, chars, drop}
 use Rattle.std.specs.List.{list_all}
 use Rattle.std.specs.Char.{is_ascii_alphabetic, is_ascii_uppercase}
-use Rattle.duration_str.specs.Text.{Bytes, Characters, ahead, width, byte_len, chinese_letters, is_digit, is_unit_letter, number_of}
+use Rattle.duration_str.specs.Text.{Bytes, Characters, width, byte_len, chinese_letters, is_digit, is_unit_letter, number_of}
 use Rattle.duration_str.specs.declared.options.Options.{Options}
+
+-- the characters of these bytes from byte `place` on
+abbrev pub ahead : Bytes → ℕ → Characters
+ahead text place = chars (drop place text)
 
 -- The character c is at byte `place`, and `next` is the byte after it.
 pub record StandsAt (text : Bytes) (place next c : ℕ) : Type 0 where

@@ -12,7 +12,8 @@ use Rattle.duration_str.specs.declared.cause.Expected.{Expected}
 use Rattle.duration_str.specs.declared.token.Tokens.{Tokens}
 use Rattle.duration_str.specs.Grammar.{Terminal, number, word, operator, terminal_of}
 use Rattle.duration_str.specs.Tokens.{Token}
-use Rattle.duration_str.specs.Value.{combination, is_same_operator, unless, fault_or}
+use Rattle.duration_str.specs.Value.{combination, is_same_operator, unless}
+use Rattle.duration_str.specs.OneTerm.{fault_or}
 use Rattle.duration_str.specs.Internal.Numbers.{u64_from, checked_term}
 use Rattle.duration_str.specs.Answer.{answer_at, expected_at_start, expected_after_number, expected_after_unit, front_of}
 use Rattle.duration_str.specs.Faults.{place_of}

@@ -7,7 +7,8 @@ use Rattle.duration_str.specs.declared.unit.Row.{Row}
 use Rattle.duration_str.specs.declared.unit.Printed.{Printed}
 use Rattle.duration_str.specs.declared.unit.TimeUnit.{TimeUnit}
 use Rattle.duration_str.specs.Text.{Bytes, Characters}
-use Rattle.duration_str.specs.Units.{UnitRow, nanos_of, off, row_of, units}
+use Rattle.duration_str.specs.Units.{UnitRow, nanos_of, row_of, units}
+use Rattle.duration_str.specs.Options.{off}
 use Rattle.duration_str.specs.Printing.{long_name}
 use Rattle.duration_str.specs.OneLine.{is_among, small_words}
 use Rattle.duration_str.specs.Internal.Positions.{packed_number}

@@ -1,5 +1,5 @@
 use Rattle.duration_str.proofs.Sentences.AnswerLemmas.{parses_text, same_on_err}
-use Rattle.duration_str.specs.Results.{ReachesPlace}
+use Rattle.duration_str.specs.OtherResults.{ReachesPlace}
 use Rattle.duration_str.proofs.parser.parse_looked.Goals as goal
 
 pub returns-clause-parsed : goal.returns-clause-parsed

@@ -1,7 +1,7 @@
 use Rattle.std.proofs.Common.{Err, IsErrAnd, IsOkAnd, List, mul-le-mul_right, Ok, OnOk, refl, Result, ℕ, ◌≡◌}
 use Rattle.std.specs.Prelude.{IfErr}
 use Rattle.uses.proofs.Common.{Cause, Duration, Fault, Syntax}
-use Rattle.duration_str.specs.Results.{ReachesPlace}
+use Rattle.duration_str.specs.OtherResults.{ReachesPlace}
 use Rattle.uses.proofs.StoredLemmas.{cause_answered, value_answered}
 use Rattle.uses.proofs.cost.price.Goals as goal
 

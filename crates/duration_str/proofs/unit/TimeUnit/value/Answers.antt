@@ -1,7 +1,7 @@
 use Rattle.duration_str.proofs.Common.{chars, None, ◌∙◌}
 use Rattle.duration_str.proofs.Characters.NumberLemmas.{parsed_u64}
 use Rattle.duration_str.proofs.OnePass.EvaluationLemmas.{checked_term_is}
-use Rattle.duration_str.specs.Value.{term_of}
+use Rattle.duration_str.specs.OneTerm.{term_of}
 use Rattle.duration_str.specs.Text.{number_of}
 use Rattle.duration_str.proofs.unit.TimeUnit.value.Goals as goal
 
