@@ -21,8 +21,8 @@ use Rattle.duration_str.specs.Value.{Term, value_of_term, written_terms, second}
 use Rattle.duration_str.specs.Reading.{IsRead, IsRefused}
 use Rattle.duration_str.specs.Messages.{EndsInsideLine, message_of, line_of}
 use Rattle.duration_str.specs.Answer.{answer, expected_after, last_of, front_of}
-use Rattle.duration_str.specs.Older.{older_row_of, older_terminals, WasSentenceOf, WasRead, WasRefused}
-use Rattle.duration_str.specs.Printing.{IsPrintedIn, IsGreatestBreakdown, weighted_sum}
+use Rattle.duration_str.specs.Older.{older_row_of, older_terminals, older_unit_of_word, WasSentenceOf, WasRead, WasRefused}
+use Rattle.duration_str.specs.Printing.{IsPrintedIn, IsGreatestBreakdown, long_name, weighted_sum}
 use Rattle.duration_str.specs.declared.format.Format.{Format}
 use Rattle.duration_str.specs.declared.format.Style.{Style}
 use Rattle.duration_str.specs.Limits.{whole_format, units_from, lengths_within, part_count, IsPrintedWithin}
@@ -207,11 +207,19 @@ pub record LastLine : Type 0 where
   pub line : (cause : Cause) → EndsInsideLine (encode_utf8_all (line_of cause))
   pub text : (text : Bytes) (cause : Cause) → EndsInsideLine (message_of text cause)
 
--- Each row of the table before the quarter is a row of today's. A sentence over those units is a sentence over all
--- units, with the same terminals. So a text that was read is read as the same value, and one whose evaluation was
--- refused is refused for the same cause.
+-- Of two rows of a unit the length and the printed names are the same.
+pub record IsSameUnit (older row : UnitRow) : Type 0 where
+  pub length : row.nanos ≡ older.nanos
+  pub printed : row.printed ≡ older.printed
+  pub long : long_name row ≡ long_name older
+
+-- Each name in the table before the quarter still names its unit, which has the same length and printed names. A sentence
+-- over those units is a sentence over all units, with the same terminals. So a text that was read is read as the same
+-- value, and one whose evaluation was refused is refused for the same cause.
 pub record OlderTexts : Type 0 where
-  pub rows : (u : TimeUnit) (row : UnitRow) → older_row_of u ≡ Some row → row_of u ≡ row
+  pub names : (o : Options) (name : Characters) (u : TimeUnit) → older_unit_of_word o name ≡ Some u
+      → unit_of_word o name ≡ Some u
+  pub units : (u : TimeUnit) (row : UnitRow) → older_row_of u ≡ Some row → IsSameUnit row (row_of u)
   pub terminals : (o : Options) (lexemes : List Characters) (text : Characters)
       → WasSentenceOf o lexemes text → older_terminals o lexemes ≡ map (terminal_of o) lexemes
   pub sentence : (o : Options) (lexemes : List Characters) (text : Characters)

@@ -92,10 +92,11 @@ pub fn last_line()
     ensures { LastLine }
 {}
 
-/// A text that was read before the quarter was added is read as the same value, under every choice of options, and one
-/// that a sentence spelled but whose evaluation was refused is refused for the same cause. So a stored `1y 2mon` keeps
-/// its 425 days. Nothing is promised about other texts, such as `1q`, which was a syntax fault and is read now, nor
-/// about printed ones: 91 days were printed as `3mon 1d`.
+/// Each name from before the quarter was added still names its unit, whose length and printed names are the same. A
+/// text that was read then is read as the same value, under every choice of options, and one that a sentence spelled
+/// but whose evaluation was refused is refused for the same cause. So a stored `1y 2mon` keeps its 425 days. Nothing is
+/// promised about other texts, such as `1q`, which was a syntax fault and is read now, nor about printed ones: 91 days
+/// were printed as `3mon 1d`.
 #[tactic(auto, using(crate::proofs::LawProofs::OlderTexts::older_texts_hold))]
 pub fn older_texts()
     ensures { OlderTexts }

@@ -1,13 +1,18 @@
 -- The law `older_texts`: a sentence over the units without the quarter is a sentence over all units.
-use Rattle.duration_str.proofs.Common.{allows, ap, append-nil, ap₂, Bool, cases_Bool, Cause, CondUnit, expected_after, inl, inr, is_digit, is_unit_letter, IsRead, IsRefused, IsRefusedAt, IsSentence, IsSentenceOf, IsTrue, List, list_all, map, nanos_of, None, number, older_nanos_of, older_row_of, older_terminals, older_terms, older_unit_of_word, OlderTexts, operator, Option, Options, Plus, refl, row_of, rules, sentence_fault, sign_terminal, Some, Terminal, terminal_by, terminal_of, terms_by, terms_of, TimeUnit, unit_of_word, WasRead, WasRefused, WasSentenceOf, word, [], ℕ, ⊤, ◌∙◌, ◌∷◌, ◌≡◌, ◌⊎◌}
+use Rattle.duration_str.proofs.Common.{allows, ap, append-nil, ap₂, Bool, cases_Bool, Cause, CondUnit, expected_after, inl, inr, is_digit, is_unit_letter, IsRead, IsRefused, IsRefusedAt, IsSentence, IsSentenceOf, IsTrue, List, list_all, map, nanos_of, None, number, older_nanos_of, older_row_of, older_terminals, older_terms, older_unit_of_word, OlderTexts, operator, Option, Options, Plus, refl, row_of, rules, sentence_fault, sign_terminal, Some, Terminal, terminal_by, terminal_of, terms_by, terms_of, TimeUnit, unit_of_word, WasRead, WasRefused, WasSentenceOf, word, [], ℕ, ⊤, ◌∙◌, ◌∷◌, ◌≡◌}
+use Rattle.duration_str.specs.Laws.{IsSameUnit}
+use Rattle.duration_str.specs.Units.{UnitRow}
 use Rattle.duration_str.proofs.Sentences.AnswerLemmas.{sentence_refused}
 use Rattle.duration_str.proofs.Sentences.FrontLemmas.{AreAllowed, sentence_allowed}
 
--- ---- Rows
+-- ---- Names and units
 
--- A unit had no row, or the one that it has.
-kept : (u : TimeUnit) → (older_row_of u ≡ None) ⊎ (older_row_of u ≡ Some (row_of u))
-kept u = search rules
+name_kept : (o : Options) (name : List ℕ) (u : TimeUnit) → older_unit_of_word o name ≡ Some u
+    → unit_of_word o name ≡ Some u
+name_kept o name u e = search rules
+
+unit_kept : (u : TimeUnit) (row : UnitRow) → older_row_of u ≡ Some row → IsSameUnit row (row_of u)
+unit_kept u row e = search rules
 
 -- ---- Terminals and terms
 
@@ -85,4 +90,4 @@ older_cause o text cause was =
     (rw (older_terms_same o was.lexemes text was.spells) at was.refused))
 
 pub older_texts_hold : OlderTexts
-older_texts_hold = search (rules, older, older_value, older_cause)
+older_texts_hold = search (rules, name_kept, unit_kept, older, older_value, older_cause)
