@@ -10,6 +10,7 @@ import functools
 import itertools
 import re
 import typing
+import unicodedata
 
 SECOND = 10**9
 DAY = 86_400 * SECOND
@@ -581,6 +582,15 @@ def expected_in_line(expected):
     kinds = [("unit", "a unit"), ("number", "a number"), ("operator", "'+', '*'"), ("end", "the end")]
     words = ", ".join(word for kind, word in kinds if kind in expected)
     return "expected " + re.sub(", the end", " or the end", words)
+
+
+def report(text, answer):
+    """What is told of a refused text in a terminal: below the text and a caret, where a quote would show all of it."""
+    line = one_line(text, answer)
+    if answer.cause != "syntax" or len(text) > 80 or any(escape(each) != each for each in text):
+        return line
+    columns = (2 if unicodedata.east_asian_width(each) == "W" else 1 for each in text[: answer.place])
+    return f"{text}\n{' ' * sum(columns)}^\n{line}"
 
 
 def one_line(text, answer):

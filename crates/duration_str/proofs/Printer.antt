@@ -1,6 +1,7 @@
 -- The printer writes the printed text.
 pub mod MessageLemmas
 pub mod OneLineLemmas
+pub mod ReportLemmas
 pub mod PrintingLemmas
 pub mod DigitLemmas
 pub mod PrintedBytesLemmas

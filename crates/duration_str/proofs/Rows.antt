@@ -4,6 +4,7 @@ use Rattle.duration_str.specs.declared.format.Format.{Format}
 use Rattle.duration_str.specs.declared.unit.TimeUnit.TheVariants.{Day, Hour, Minute}
 use Rattle.duration_str.specs.Limits.{counts_within, lengths_within, text_within, whole_format}
 use Rattle.duration_str.specs.OneLine.{one_line_of}
+use Rattle.duration_str.specs.Report.{report_of}
 use Rattle.duration_str.specs.Place.{terminals_of}
 use Rattle.duration_str.specs.WithUnits.{expected_unit, HasUnits, LacksUnit}
 use Rattle.duration_str.proofs.OnePass.MissingLemmas.{has_units, lacks_unit}
@@ -316,6 +317,32 @@ pub record Lines : Type 0 where
 pub lines : Lines
 unfolding chars digits encode
 lines = assumption
+
+-- ---- Reports
+
+pub record Reports : Type 0 where
+  pub report-unit : report_of (codes "5 mins") (Syntax 2 after_number)
+      ≡ codes "5 mins\n  ^\nunknown unit \"mins\" at column 3 (did you mean \"min\"?)"
+  pub report-end : report_of (codes "3+") (Syntax 2 number_alone)
+      ≡ codes "3+\n  ^\nexpected a number at column 3, found the end"
+  pub report-micro_sign : report_of (encode_utf8_all (codes "1µs -")) (Syntax 5 after_unit)
+      ≡ encode_utf8_all (codes "1µs -\n    ^\nexpected a number, '+', '*' or the end at column 5, found \"-\"")
+  pub report-two_columns : report_of (encode_utf8_all (codes "3天 -天")) (Syntax 5 after_unit)
+      ≡ encode_utf8_all (codes "3天 -天\n    ^\nexpected a number, '+', '*' or the end at column 4, found \"-\"")
+  pub report-eighty : report_of (codes "1h " ++ replicate 77 45) (Syntax 3 after_unit)
+      ≡ (codes "1h " ++ replicate 77 45)
+      ++ codes "\n   ^\nexpected a number, '+', '*' or the end at column 4, found \"-\""
+  pub report-eighty_one : report_of (codes "1h " ++ replicate 78 45) (Syntax 3 after_unit)
+      ≡ codes "expected a number, '+', '*' or the end at column 4, found \"-\""
+  pub report-tab : report_of (codes "1h\t-") (Syntax 3 after_unit)
+      ≡ codes "expected a number, '+', '*' or the end at column 4, found \"-\""
+  pub report-quote : report_of (codes "1h -\"") (Syntax 3 after_unit)
+      ≡ codes "expected a number, '+', '*' or the end at column 4, found \"-\""
+  pub report-overflow : report_of (codes "600y") (Overflow (Some 0)) ≡ codes "duration of over 584 years in \"600y\""
+
+pub reports : Reports
+unfolding chars digits encode
+reports = assumption
 
 -- ---- The names of the units
 

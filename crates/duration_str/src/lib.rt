@@ -18,6 +18,7 @@ mod packed;
 pub mod parser;
 pub mod printing;
 mod reader;
+mod report;
 mod signed;
 pub mod token;
 pub mod top;
@@ -33,6 +34,7 @@ pub use printing::{
     FORMAT_BUFFER_SIZE, MAX_LONG_LEN, MAX_PRINTED_LEN, STYLED_BUFFER_SIZE, write_human,
     write_within,
 };
+pub use report::REPORT_BUFFER_SIZE;
 pub use token::{Token, Tokens, What};
 pub use top::{
     DeserializeDuration, after_naive_date, after_naive_date_time, before_naive_date,

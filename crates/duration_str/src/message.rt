@@ -136,7 +136,7 @@ impl Layout {
         }
     }
 
-    fn message<'b>(self, buffer: &'b mut [u8], text: &str, line: &str) -> Option<&'b str>
+    pub(crate) fn message<'b>(self, buffer: &'b mut [u8], text: &str, line: &str) -> Option<&'b str>
         ensures text { IfSome result
             (λ message. message.now ≡ laid_out self text.now line.now) }
         ensures long { IfNone result

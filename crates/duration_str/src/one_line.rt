@@ -287,7 +287,7 @@ fn is_letter(c: char) -> bool
     is_plain(c) && !is_sign
 }
 
-fn is_clear(c: char) -> bool
+pub(crate) fn is_clear(c: char) -> bool
     ensures { result ≡ is_clear c }
 {
     is_plain(c) && c != '"' && c != '\\'

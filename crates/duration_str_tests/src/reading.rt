@@ -127,7 +127,13 @@ fn reads_values(rt: HostRuntime) {
 
 #[test]
 fn requires_units(rt: HostRuntime) {
-    for (text, at) in [("90", 2), ("1h 30", 5), ("5 + 1h 30", 2), ("2s*3 ", 5), ("1m*60*20s", 5)] {
+    for (text, at) in [
+        ("90", 2),
+        ("1h 30", 5),
+        ("5 + 1h 30", 2),
+        ("2s*3 ", 5),
+        ("1m*60*20s", 5),
+    ] {
         assert!(rt; parse_with(text, OFF).is_ok(), "{text}");
         let Err(fault) = parse_with_units(text, OFF) else {
             panic!(rt; "{text} is read");
@@ -135,10 +141,24 @@ fn requires_units(rt: HostRuntime) {
         let Cause::Syntax { place, expected } = fault.cause() else {
             panic!(rt; "{text} has another fault");
         };
-        assert!(rt; place == at && expected.unit_word && !expected.text_end, "{text}");
+        assert!(rt;
+            place == at && expected.unit_word && !expected.text_end,
+            "{text}"
+        );
     }
-    for text in ["1h 30m", "1 m*60s", "1m 3-5", "", "99999999999999999999", "600y", "1s 2*3"] {
-        assert!(rt; parse_with_units(text, OFF) == parse_with(text, OFF), "{text}");
+    for text in [
+        "1h 30m",
+        "1 m*60s",
+        "1m 3-5",
+        "",
+        "99999999999999999999",
+        "600y",
+        "1s 2*3",
+    ] {
+        assert!(rt;
+            parse_with_units(text, OFF) == parse_with(text, OFF),
+            "{text}"
+        );
     }
 }
 

@@ -32,6 +32,8 @@ mod printing;
 #[forbid(unsafe_code)]
 mod reader;
 #[forbid(unsafe_code)]
+mod report;
+#[forbid(unsafe_code)]
 mod token;
 #[forbid(unsafe_code)]
 mod unit;
@@ -45,6 +47,7 @@ pub use self::printing::{
     FORMAT_BUFFER_SIZE, MAX_LONG_LEN, MAX_PRINTED_LEN, STYLED_BUFFER_SIZE, write_human,
     write_within,
 };
+pub use self::report::REPORT_BUFFER_SIZE;
 pub use self::token::{Token, Tokens, What};
 pub use self::unit::{CondUnit, Options, TimeUnit, UNITS};
 pub use self::with_units::{missing_unit, parse_with_units};

@@ -112,7 +112,7 @@ impl Layout {
         }
     }
 
-    fn message<'b>(self, buffer: &'b mut [u8], text: &str, line: &str) -> Option<&'b str> {
+    pub(crate) fn message<'b>(self, buffer: &'b mut [u8], text: &str, line: &str) -> Option<&'b str> {
         match self.put(buffer, text, line) {
             // SAFETY: `put` writes UTF-8 up to `end`, by its clause `utf8`.
             Some(end) => Some(unsafe { core::str::from_utf8_unchecked(&buffer[..end]) }),

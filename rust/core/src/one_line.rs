@@ -223,7 +223,7 @@ fn is_letter(c: char) -> bool {
     is_plain(c) && !is_sign
 }
 
-fn is_clear(c: char) -> bool {
+pub(crate) fn is_clear(c: char) -> bool {
     is_plain(c) && c != '"' && c != '\\'
 }
 

@@ -1,0 +1,74 @@
+-- The columns of a text, and the length of a report.
+use Rattle.duration_str.proofs.Common.{and_parts, ap, arith, caret_text, cases_Bool, Cause, chars, chars-append, chars_past_char, common_steps, cond, drop, encode_utf8, encode_utf8_all, encodes-chars, ForSome, inl, inr, IsCharBoundary, IsUtf8, IsUtf8-take, leb-true, len_utf8_bounds, length, length-append, length-encode, length-le-encodes, List, place_of, refl, sum_by-cons, Syntax, take, take-append-drop, ℕ, [], ◌*◌, ◌++◌, ◌+◌, ◌<◌, ◌^◌, ◌∷◌, ◌≡◌, ◌≤◌}
+use Rattle.duration_str.proofs.Printer.OneLineLemmas.{chars_of_none, one_line_short}
+use Rattle.duration_str.specs.OneLine.{one_line_of}
+use Rattle.std.proofs.lemmas.List.Sums.{count_by-le-length}
+use Rattle.duration_str.specs.Report.{columns_of, is_clear_text, is_wide, report_of}
+
+-- A character is passed.
+pub columns_more : (rest after : List ℕ) (c n whole : ℕ) → IsUtf8 rest → rest ≡ encode_utf8 c ++ after
+    → n + columns_of (chars rest) ≡ whole → (n + (1 + cond (is_wide c) 1 0)) + columns_of (chars after) ≡ whole
+columns_more rest after c n whole utf8 parts all =
+    omega (
+      arith,
+      sum_by-cons (λ d. cond (is_wide d) 1 0) c (chars after),
+      rw (chars_past_char rest after c utf8 parts) at all,
+    )
+
+-- The text ends.
+pub columns_all : (rest : List ℕ) (n whole : ℕ) → length rest ≡ 0 → n + columns_of (chars rest) ≡ whole → n ≡ whole
+columns_all rest n whole none all = omega (arith, rw (chars_of_none rest none) at all)
+
+-- A text takes at most two columns for each character.
+columns_le : (text : List ℕ) → columns_of text ≤ 2 * length text
+columns_le text = omega (arith, count_by-le-length is_wide text)
+
+-- The columns of a text that memory holds fit.
+pub columns_fit : (text : List ℕ) → IsUtf8 text → length text < 2 ^ 63 → columns_of (chars text) < 2 ^ 64
+columns_fit text utf8 small =
+    let bytes : length (chars text) ≤ length text = rw (encodes-chars text utf8) at (length-le-encodes (chars text)) in
+    omega (arith, columns_le (chars text), bytes, small)
+
+bytes_le : (cs : List ℕ) → length (encode_utf8_all cs) ≤ 4 * length cs
+bytes_le [] = omega arith
+bytes_le (c ∷ cs) =
+    omega (arith, length-encode c, len_utf8_bounds c, length-append (encode_utf8 c) (encode_utf8_all cs), bytes_le cs)
+
+-- What stands before a place takes at most two columns for each character of the text.
+columns_before_le : (text : List ℕ) (place : ℕ) → IsUtf8 text → IsCharBoundary text place
+    → columns_of (chars (take place text)) ≤ 2 * length (chars text)
+columns_before_le text place utf8 boundary =
+    let front = chars-append (take place text) (drop place text) (IsUtf8-take text place utf8 boundary) in
+    let whole = ap chars (take-append-drop place text) in
+    omega (
+      arith,
+      columns_le (chars (take place text)),
+      ap length front,
+      ap length whole,
+      length-append (chars (take place text)) (chars (drop place text)),
+    )
+
+caret_length : (text : List ℕ) (spaces : ℕ) (line : List ℕ)
+    → length (caret_text text spaces line) ≡ length text + (spaces + (3 + length line))
+caret_length text spaces line = grind (arith, common_steps)
+
+-- A report has at most 777 bytes.
+pub report_le : (text : List ℕ) (cause : Cause) → IsUtf8 text → length text < 2 ^ 63
+    → ForSome (place_of cause) (IsCharBoundary text) → length (report_of text cause) ≤ 777
+report_le text (Syntax place expected) utf8 small placed = elim (cases_Bool (is_clear_text (chars text))) [
+  | inl clear ↦
+      let short = leb-true (length (chars text)) 80 (and_parts _ _ clear).0 in
+      let line = one_line_of text (Syntax place expected) in
+      let bound = (one_line_short text (Syntax place expected) utf8 small placed).short in
+      let bytes : length text ≤ 4 * length (chars text) = rw (encodes-chars text utf8) at (bytes_le (chars text)) in
+      rw clear (omega (
+        arith,
+        short,
+        bound,
+        bytes,
+        columns_before_le text place utf8 (placed place refl),
+        caret_length text (columns_of (chars (take place text))) line,
+      ))
+  | inr other ↦ rw other (omega (arith, (one_line_short text (Syntax place expected) utf8 small placed).short))
+]
+report_le text cause utf8 small placed = omega (arith, (one_line_short text cause utf8 small placed).short)

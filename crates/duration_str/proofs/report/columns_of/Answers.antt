@@ -1,0 +1,28 @@
+use Rattle.duration_str.proofs.Common.{arith, chars, chars_rest, cond, IsUtf8-past_char, rules, ◌+◌, ◌<◌, ◌^◌, ◌≡◌}
+use Rattle.duration_str.specs.Report.{columns_of, is_wide}
+use Rattle.duration_str.proofs.Printer.ReportLemmas.{columns_all, columns_fit, columns_more}
+use Rattle.duration_str.proofs.report.columns_of.Goals.{After-from}
+use Rattle.duration_str.proofs.report.columns_of.Goals as goal
+
+-- the columns with the character, and of what is left after it, make the whole
+more : (c : After-from)
+    → (c.loop-c.columns + (1 + c.from.result)) + columns_of (chars (chars_rest c.next.new.self))
+    ≡ columns_of (chars c.args.text.now)
+more c =
+    let held = c.loop-c.invariant in
+    let one : c.from.result ≡ cond (is_wide c.in-Some.c) 1 0 = search rules in
+    rw one (columns_more _ _ c.in-Some.c c.loop-c.columns _ held.utf8 (c.in-Some.ensures {u = tt}).steps.0 held.whole)
+
+pub overflow_add-columns-in-Some : goal.overflow_add-columns-in-Some
+overflow_add-columns-in-Some c =
+    let fits : columns_of (chars c.args.text.now) < 2 ^ 64 = search (rules, columns_fit) in
+    omega (arith, fits, more (goal.at.overflow_add-columns-in-Some c).After-from)
+
+pub loop-c-preserved : goal.loop-c-preserved
+loop-c-preserved c = record {
+  utf8 = IsUtf8-past_char _ _ c.in-Some.c c.loop-c.invariant.utf8 (c.in-Some.ensures {u = tt}).steps.0;
+  whole = more (goal.at.loop-c-preserved c).After-from;
+}
+
+pub returns : goal.returns
+returns c = columns_all _ c.loop-c.columns _ (c.in_default.ensures {u = tt}).steps.0.0 c.loop-c.invariant.whole

@@ -1,0 +1,29 @@
+-- A fault for a terminal: the text, a caret below its place, and the line.
+use Rattle.std.specs.Prelude.{ℕ, ◌+◌, Bool, ◌&&◌, if◌then◌else◌, nat_le, length, take, chars}
+use Rattle.std.specs.List.{list_all, count_by}
+use Rattle.duration_str.specs.declared.cause.Cause.{Cause}
+use Rattle.duration_str.specs.declared.cause.Cause.TheVariants.{Syntax}
+use Rattle.duration_str.specs.Text.{Bytes, Characters}
+use Rattle.duration_str.specs.Messages.{caret_text}
+use Rattle.duration_str.specs.OneLine.{is_clear, one_line_of}
+
+-- whether a text can stand above a caret: it has at most 80 characters, and a line escapes none of them
+abbrev pub is_clear_text : Characters → Bool
+is_clear_text text = nat_le (length text) 80 && list_all is_clear text
+
+-- whether a character takes two columns of a terminal: of those that stand before a syntax fault, which are digits,
+-- operators, the space and the letters of units, these are the Chinese ones
+abbrev pub is_wide : ℕ → Bool
+is_wide c = nat_le 0x2E80 c
+
+-- how many columns a text takes
+abbrev pub columns_of : Characters → ℕ
+columns_of text = length text + count_by is_wide text
+
+-- the bytes of the report, given those of the text that was read: the line, for a syntax fault below the text and a
+-- caret
+abbrev pub report_of : Bytes → Cause → Bytes
+report_of text (Syntax place expected) =
+    let line = one_line_of text (Syntax place expected) in
+    if is_clear_text (chars text) then caret_text text (columns_of (chars (take place text))) line else line
+report_of text cause = one_line_of text cause

@@ -1,0 +1,69 @@
+// Made by tools/erase of crates/duration_str/src/report.rt.
+//! A fault for a terminal: the text, a caret below its place, and the line.
+
+use crate::cause::Cause;
+use crate::fault::Fault;
+use crate::message::Layout;
+use crate::one_line::{ONE_LINE_BUFFER_SIZE, is_clear};
+
+/// The bytes of a buffer for a report: 80 characters of four bytes, two columns for each, two line feeds, the caret and
+/// a line.
+pub const REPORT_BUFFER_SIZE: usize = 80 * 4 + 80 * 2 + 3 + ONE_LINE_BUFFER_SIZE;
+
+/// The most characters of a text above a caret.
+const MOST_ABOVE: usize = 80;
+
+impl Fault<'_> {
+    /// Writes the fault for a terminal to the start of a buffer, whatever the buffer holds: the text, below it a caret
+    /// at the place of a syntax fault, and below that the line of `write_one_line`. It is the line alone for another
+    /// cause, for a text of more than 80 characters, and for one with characters that the line would escape. Allocates
+    /// nothing and cannot fail.
+    ///
+    /// ```
+    /// use duration_str_core::{Options, REPORT_BUFFER_SIZE, parse_with};
+    ///
+    /// let mut buffer = [0; REPORT_BUFFER_SIZE];
+    /// let fault = parse_with("5 mins", Options::off()).unwrap_err();
+    /// let report = "5 mins\n  ^\nunknown unit \"mins\" at column 3 (did you mean \"min\"?)";
+    /// assert_eq!(fault.write_report(&mut buffer), report);
+    /// ```
+    #[must_use]
+    pub fn write_report<'b>(&self, buffer: &'b mut [u8; REPORT_BUFFER_SIZE]) -> &'b str {
+        let mut line = [0; ONE_LINE_BUFFER_SIZE];
+        let line = self.write_one_line(&mut line);
+        match self.report_layout().message(buffer, self.text, line) {
+            Some(report) => report,
+            // The longest report fits.
+            None => unreachable!(),
+        }
+    }
+
+    fn report_layout(&self) -> Layout {
+        match self.cause {
+            Cause::Syntax { place, .. } if is_clear_text(self.text) => Layout::Caret {
+                spaces: columns_of(&self.text[..place]),
+            },
+            _ => Layout::Line,
+        }
+    }
+}
+
+/// Whether a text can stand above a caret.
+fn is_clear_text(text: &str) -> bool {
+    text.chars().count() <= MOST_ABOVE && are_clear(text)
+}
+
+fn are_clear(text: &str) -> bool {
+    text.chars().all(is_clear)
+}
+
+/// How many columns of a terminal a text takes. What stands before a syntax fault has no wide characters but Chinese
+/// ones.
+fn columns_of(text: &str) -> usize {
+    let mut columns = 0;
+    let mut chars = text.chars();
+    while let Some(c) = chars.next() {
+        columns += 1 + usize::from(c >= '\u{2e80}');
+    }
+    columns
+}
