@@ -129,6 +129,12 @@ static void check_one_line(void)
     expect(is_written(line, duration_str_one_line(text, 9, 0, &answer, line),
                       "unknown unit \"mins\" at column 6 (did you mean \"min\"?)"), "one line");
     expect(answer.cause == DURATION_STR_SYNTAX && answer.place == 5, "the answer beside the line");
+    char report[DURATION_STR_REPORT_BUFFER_SIZE];
+    memset(report, '#', sizeof report);
+    memset(&answer, '#', sizeof answer);
+    expect(is_written(report, duration_str_report(text, 9, 0, &answer, report),
+                      "3h 2 mins\n     ^\nunknown unit \"mins\" at column 6 (did you mean \"min\"?)"), "a report");
+    expect(answer.cause == DURATION_STR_SYNTAX && answer.place == 5, "the answer beside the report");
     expect(duration_str_one_line(text, 2, 0, &answer, line) == 0 && line[0] == 0, "no line of a text that is read");
     expect(answer.nanos == 10800000000000 && line[1] == 'n', "the answer that is read");
     expect(duration_str_one_line("1\xff", 2, 0, &answer, line) == 9 && strcmp(line, "not UTF-8") == 0, "what is no UTF-8");

@@ -12,15 +12,13 @@ int main(int count, char **words)
         return 2;
     }
     struct duration_str_answer answer;
-    char line[DURATION_STR_ONE_LINE_BUFFER_SIZE];
-    if (duration_str_one_line(words[1], strlen(words[1]), 0, &answer, line) > 0) {
-        if (answer.cause == DURATION_STR_SYNTAX)
-            printf("%s\n%*s^\n", words[1], (int)answer.place, "");
-        puts(line);
+    char told[DURATION_STR_REPORT_BUFFER_SIZE];
+    if (duration_str_report(words[1], strlen(words[1]), 0, &answer, told) > 0) {
+        puts(told);
         return 1;
     }
-    duration_str_format(answer.nanos, line);
+    duration_str_format(answer.nanos, told);
     unsigned long long nanos = answer.nanos, secs = 946684800 + nanos / 1000000000;
-    printf("%llu %s %llu.%09llu\n", nanos, line, secs, nanos % 1000000000);
+    printf("%llu %s %llu.%09llu\n", nanos, told, secs, nanos % 1000000000);
     return 0;
 }

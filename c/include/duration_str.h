@@ -43,13 +43,15 @@
 
 /* The most bytes that a printed duration has, and the bytes of the buffer
  * into which it is printed; then those in any style; then a bound for a
- * refusal in one line, and its buffer. */
+ * refusal in one line, and its buffer; then the buffer for a refusal with a
+ * caret. */
 #define DURATION_STR_MAX_PRINTED_LEN 60
 #define DURATION_STR_FORMAT_BUFFER_SIZE 64
 #define DURATION_STR_MAX_STYLED_LEN 134
 #define DURATION_STR_STYLED_BUFFER_SIZE 144
 #define DURATION_STR_MAX_ONE_LINE_LEN 294
 #define DURATION_STR_ONE_LINE_BUFFER_SIZE 384
+#define DURATION_STR_REPORT_BUFFER_SIZE 867
 
 /* What GCC and Clang are told: how many bytes a buffer has, in C, which
  * pointers may not be null, and which results must be used. */
@@ -222,6 +224,19 @@ size_t duration_str_one_line(
     const char *text, size_t length, uint32_t options,
     struct duration_str_answer *answer,
     char buffer[DURATION_STR_STATIC DURATION_STR_ONE_LINE_BUFFER_SIZE]);
+
+/* The same, and writes a refusal for a terminal: the text, below it a caret
+ * under the place, and below that the line of duration_str_one_line. It is
+ * the line alone if the cause is not DURATION_STR_SYNTAX, if the text has more
+ * than 80 characters, or if the line would escape something in it. A caret
+ * stands after as many spaces as the text before it takes columns. `buffer`
+ * has DURATION_STR_REPORT_BUFFER_SIZE bytes, which the report and its zero
+ * don't exceed. */
+DURATION_STR_NONNULL(4, 5)
+size_t duration_str_report(
+    const char *text, size_t length, uint32_t options,
+    struct duration_str_answer *answer,
+    char buffer[DURATION_STR_STATIC DURATION_STR_REPORT_BUFFER_SIZE]);
 
 /* The version of the library, in the form of DURATION_STR_VERSION_NUMBER. */
 uint32_t duration_str_version(void);

@@ -43,6 +43,13 @@ unsafe extern "C" fn duration_str_one_line(
 }
 
 #[unsafe(no_mangle)]
+unsafe extern "C" fn duration_str_report(
+    text: *const u8, len: usize, bits: u32, answer: &mut MaybeUninit<Answer>, out: &mut [u8; 867],
+) -> usize {
+    unsafe { message::duration_str_report(bytes(text, len), bits, answer.write(zeroed()), out) }
+}
+
+#[unsafe(no_mangle)]
 extern "C" fn duration_str_version() -> u32 {
     crate::duration_str_version()
 }

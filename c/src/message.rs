@@ -3,7 +3,7 @@
 
 use crate::answer::{Answer, refused};
 use crate::{options_of_bits, put, read_by, text_of};
-use duration_str_core::{Cause, Fault, ONE_LINE_BUFFER_SIZE};
+use duration_str_core::{Cause, Fault, ONE_LINE_BUFFER_SIZE, REPORT_BUFFER_SIZE};
 
 /// Reads a text under the options whose bits are set, as `duration_str_parse_with` does, and writes what is wrong with
 /// a refused one in one line, and a zero byte, to the start of the buffer. Returns the length of the line in bytes,
@@ -14,19 +14,44 @@ pub fn duration_str_one_line(
     answer: &mut Answer,
     buffer: &mut [u8; ONE_LINE_BUFFER_SIZE],
 ) -> usize {
-    let Some(text) = text_of(text) else {
+    match refusal_of(text, options, answer) {
+        Ok(fault) => show_one_line(&fault, buffer),
+        Err(line) => show(line, buffer),
+    }
+}
+
+/// The same, with the report in place of the line: the text, a caret below the place of a syntax fault, and the line;
+/// or the line alone.
+pub fn duration_str_report(
+    text: &[u8],
+    options: u32,
+    answer: &mut Answer,
+    buffer: &mut [u8; REPORT_BUFFER_SIZE],
+) -> usize {
+    match refusal_of(text, options, answer) {
+        Ok(fault) => show_report(&fault, buffer),
+        Err(line) => show(line, buffer),
+    }
+}
+
+/// Reads a text and writes the answer. Returns the fault, or what is shown where there is none.
+fn refusal_of<'a>(
+    bytes: &'a [u8],
+    options: u32,
+    answer: &mut Answer,
+) -> Result<Fault<'a>, &'static str> {
+    let Some(text) = text_of(bytes) else {
         *answer = Answer::refusal(Cause::NotText { optional: false }, 0);
-        return show("not UTF-8", buffer);
+        return Err("not UTF-8");
     };
     match read_by(text, options) {
         Ok(nanos) => {
             *answer = Answer::value(nanos);
-            show("", buffer)
+            Err("")
         }
         Err(fault) => {
-            let length = show_one_line(&fault, buffer);
             *answer = refused(fault, options_of_bits(options));
-            length
+            Ok(fault)
         }
     }
 }
@@ -35,6 +60,12 @@ pub fn duration_str_one_line(
 fn show_one_line(fault: &Fault<'_>, buffer: &mut [u8; ONE_LINE_BUFFER_SIZE]) -> usize {
     let mut line = [0; ONE_LINE_BUFFER_SIZE];
     put(fault.write_one_line(&mut line), buffer)
+}
+
+/// Writes the fault's report and a zero byte, and returns the report's length in bytes.
+fn show_report(fault: &Fault<'_>, buffer: &mut [u8; REPORT_BUFFER_SIZE]) -> usize {
+    let mut report = [0; REPORT_BUFFER_SIZE];
+    put(fault.write_report(&mut report), buffer)
 }
 
 /// Writes a text and a zero byte if there is room, and returns the text's length in bytes.

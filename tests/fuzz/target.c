@@ -132,6 +132,16 @@ static void check_printed(uint64_t nanos)
     }
 }
 
+/* A report and a zero stand in its buffer, which it fits, beside the same answer; it is empty where the text is read. */
+static void check_report(struct text text, uint32_t options, struct duration_str_answer wanted)
+{
+    struct duration_str_answer answer;
+    uint8_t *buffer = buffer_at(output_end, DURATION_STR_REPORT_BUFFER_SIZE);
+    size_t length = duration_str_report((const char *)text.bytes, text.length, options, &answer, (char *)buffer);
+    HOLDS(are_equal(answer, wanted) && (length == 0) == (answer.cause == DURATION_STR_READ) && buffer[length] == 0);
+    HOLDS(is_untouched(buffer - CANARIES, buffer) && is_untouched(buffer + length + 1, output_end));
+}
+
 /* ---- All together */
 
 /* The plain call agrees with the full one. */
@@ -168,6 +178,7 @@ static void check(struct text text)
             check_printed(answer.nanos);
         if (options > 0 && are_equal(answer, answers[0]))
             continue;
+        check_report(text, options, answer);
     }
     check_plain(text, answers[0]);
 }

@@ -1,11 +1,10 @@
 -- What is told of one text is told of an equal text.
-use Rattle.std.proofs.Common.{[], ◌≡◌, ℕ, List, inl, inr, subst}
+use Rattle.std.proofs.Common.{◌≡◌, ℕ, List, inl, inr, subst}
 use Rattle.std.specs.Str.{chars}
 use Rattle.duration_str.specs.declared.options.Options.{Options}
 use Rattle.duration_str.specs.declared.cause.Cause.{Cause}
 use Rattle.duration_str_c.specs.declared.answer.Answer.{Answer}
 use Rattle.duration_str_c.specs.Answers.{IsAnswerTo, IsReadBy, IsRefusedBy, options_of_bits, TellsFault, value_answer}
-use Rattle.duration_str_c.specs.Messages.{IsShown, ShowsRefusal}
 
 pub value_answers : (bits nanos : ℕ) (bytes same : List ℕ) (answer : Answer) → bytes ≡ same
     → IsReadBy bits (chars bytes) nanos → answer ≡ value_answer nanos → IsAnswerTo bits same answer
@@ -19,15 +18,5 @@ refusal_answers o bits bytes same cause answer e f refused tells =
       cause,
       refused,
       subst (λ (b : List ℕ). TellsFault (options_of_bits bits) b cause answer) f
-      (subst (λ (q : Options). TellsFault q bytes cause answer) e tells),
+          (subst (λ (q : Options). TellsFault q bytes cause answer) e tells),
     )
-
-pub shows_value : (shown : Cause → List ℕ) (bits nanos : ℕ) (bytes same : List ℕ) {len : ℕ} {old new : List ℕ}
-    → bytes ≡ same → IsReadBy bits (chars bytes) nanos → IsShown [] old len new
-    → ShowsRefusal shown bits same old len new
-shows_value shown bits nanos bytes same e read shows = inl (nanos, rw e at read, shows)
-
-pub shows_refusal : (shown : Cause → List ℕ) (bits : ℕ) (bytes same : List ℕ) (cause : Cause) {len : ℕ} {old new : List ℕ}
-    → bytes ≡ same → IsRefusedBy bits (chars bytes) cause → IsShown (shown cause) old len new
-    → ShowsRefusal shown bits same old len new
-shows_refusal shown bits bytes same cause e refused shows = inr (cause, rw e at refused, shows)

@@ -1,5 +1,5 @@
 -- The message about a refused text, in a caller's buffer.
-use Rattle.std.specs.Prelude.{◌≡◌, ℕ, ◌+◌, ◌^◌, ◌-◌, ◌<◌, ◌≤◌, ◌⊎◌, List, [], ◌∷◌, ◌++◌, length, drop, min}
+use Rattle.std.specs.Prelude.{◌≡◌, ℕ, ◌+◌, ◌^◌, ◌-◌, ◌<◌, ◌≤◌, ◌⊎◌, List, [], ◌∷◌, ◌++◌, length, drop, min, IsUtf8, codes}
 use Rattle.std.specs.Str.{chars}
 use Rattle.duration_str.specs.declared.cause.Cause.{Cause}
 use Rattle.duration_str_c.specs.Answers.{IsReadBy, IsRefusedBy}
@@ -18,3 +18,9 @@ abbrev pub ShowsRefusal : (Cause → List ℕ) → ℕ → List ℕ → List ℕ
 ShowsRefusal shown bits text old len new =
     ((nanos : ℕ) × IsReadBy bits (chars text) nanos × IsShown [] old len new)
     ⊎ ((cause : Cause) × IsRefusedBy bits (chars text) cause × IsShown (shown cause) old len new)
+
+-- The text is read and nothing is said, or the bytes are no text and that is said.
+abbrev pub IsSaidOf : ℕ → List ℕ → List ℕ → Type 0
+IsSaidOf bits bytes line =
+    (IsUtf8 bytes × ((nanos : ℕ) × IsReadBy bits (chars bytes) nanos) × (line ≡ []))
+    ⊎ ((¬ (IsUtf8 bytes)) × (line ≡ codes "not UTF-8"))

@@ -7,10 +7,10 @@ ghost use Rattle.std.specs.Prelude.{◌≡◌, ℕ, ◌+◌, ◌<◌, ◌≤◌,
 ghost use Rattle.std.specs.Bool.{MatchBool};
 ghost use Rattle.std.specs.Int.Bits.{bit_and};
 ghost use Rattle.std.specs.Str.{chars};
-ghost use Rattle.duration_str.specs.Units.{off};
+ghost use Rattle.duration_str.specs.Options.{off};
+ghost use Rattle.duration_str.specs.OtherResults.{ReadsText};
 ghost use Rattle.duration_str.specs.Reading.{IsRead};
 ghost use Rattle.duration_str.specs.Printing.{IsPrinted};
-ghost use Rattle.duration_str.specs.Results.{ReadsText};
 ghost use Rattle.duration_str.specs.declared.printing.TheConstants.{MAX_PRINTED_LEN};
 ghost use Rattle.duration_str.specs.declared.cause.Cause.TheVariants.{NotText};
 ghost use Rattle.duration_str_c.specs.Answers.{options_of_bits, refusal_answer, IsAnswerTo, IsReadBy, IsRefusedBy};

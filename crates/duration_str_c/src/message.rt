@@ -1,14 +1,17 @@
 //! What is said about a refused text.
-ghost use Rattle.std.specs.Prelude.{◌≡◌, ◌+◌, ◌<◌, ◌≤◌, ◌∷◌, length, take, drop, false, IsUtf8, codes};
+ghost use Rattle.std.specs.Prelude.{◌≡◌, ◌+◌, ◌<◌, ◌≤◌, ◌∷◌, length, take, drop, false, IsUtf8, IfOk, IfErr, codes};
+ghost use Rattle.std.specs.Str.{chars};
 ghost use Rattle.duration_str.specs.declared.cause.Cause.TheVariants.{NotText};
 ghost use Rattle.duration_str.specs.declared.one_line.TheConstants.{MAX_ONE_LINE_LEN};
+ghost use Rattle.duration_str.specs.declared.report.TheConstants.{REPORT_BUFFER_SIZE};
 ghost use Rattle.duration_str.specs.OneLine.{one_line_of};
-ghost use Rattle.duration_str_c.specs.Answers.{refusal_answer, IsAnswerTo};
-ghost use Rattle.duration_str_c.specs.Messages.{IsShown, ShowsRefusal};
+ghost use Rattle.duration_str.specs.Report.{report_of};
+ghost use Rattle.duration_str_c.specs.Answers.{refusal_answer, IsAnswerTo, IsRefusedBy};
+ghost use Rattle.duration_str_c.specs.Messages.{IsShown, IsSaidOf, ShowsRefusal};
 
 use crate::answer::{Answer, refused};
 use crate::{options_of_bits, put, read_by, text_of};
-use duration_str::{Cause, Fault, ONE_LINE_BUFFER_SIZE};
+use duration_str::{Cause, Fault, ONE_LINE_BUFFER_SIZE, REPORT_BUFFER_SIZE};
 
 /// Reads a text under the options whose bits are set, as `duration_str_parse_with` does, and writes what is wrong with
 /// a refused one in one line, and a zero byte, to the start of the buffer. Returns the length of the line in bytes,
@@ -28,19 +31,59 @@ pub fn duration_str_one_line(
     ensures rest { drop result buffer.new ≡ 0 ∷ drop (result + 1) buffer.old }
     ensures short { result ≤ MAX_ONE_LINE_LEN }
 {
-    let Some(text) = text_of(text) else {
+    match refusal_of(text, options, answer) {
+        Ok(fault) => show_one_line(&fault, buffer),
+        Err(line) => show(line, buffer),
+    }
+}
+
+/// The same, with the report in place of the line: the text, a caret below the place of a syntax fault, and the line;
+/// or the line alone.
+pub fn duration_str_report(
+    text: &[u8],
+    options: u32,
+    answer: &mut Answer,
+    buffer: &mut [u8; REPORT_BUFFER_SIZE],
+) -> usize
+    ensures answers { IsUtf8 text.now → IsAnswerTo options text.now answer.new }
+    ensures text { IsUtf8 text.now → ShowsRefusal (report_of text.now)
+        options text.now buffer.old result buffer.new }
+    ensures not_text { ¬ (IsUtf8 text.now) → (answer.new ≡ refusal_answer (NotText false) 0)
+        × IsShown (codes "not UTF-8") buffer.old result buffer.new }
+    ensures utf8 { IsUtf8 (take result buffer.new) }
+    ensures rest { drop result buffer.new ≡ 0 ∷ drop (result + 1) buffer.old }
+    ensures short { result < REPORT_BUFFER_SIZE }
+{
+    match refusal_of(text, options, answer) {
+        Ok(fault) => show_report(&fault, buffer),
+        Err(line) => show(line, buffer),
+    }
+}
+
+/// Reads a text and writes the answer. Returns the fault, or what is shown where there is none.
+fn refusal_of<'a>(
+    bytes: &'a [u8],
+    options: u32,
+    answer: &mut Answer,
+) -> Result<Fault<'a>, &'static str>
+    ensures answers { IsUtf8 bytes.now → IsAnswerTo options bytes.now answer.new }
+    ensures not_text { ¬ (IsUtf8 bytes.now) → answer.new ≡ refusal_answer (NotText false) 0 }
+    ensures refused { IfOk result (λ fault. (fault.text.now ≡ bytes.now) × IsUtf8 bytes.now
+        × IsRefusedBy options (chars bytes.now) fault.cause) }
+    ensures said { IfErr result (λ line. IsSaidOf options bytes.now line.now) }
+{
+    let Some(text) = text_of(bytes) else {
         *answer = Answer::refusal(Cause::NotText { optional: false }, 0);
-        return show("not UTF-8", buffer);
+        return Err("not UTF-8");
     };
     match read_by(text, options) {
         Ok(nanos) => {
             *answer = Answer::value(nanos);
-            show("", buffer)
+            Err("")
         }
         Err(fault) => {
-            let length = show_one_line(&fault, buffer);
             *answer = refused(fault, options_of_bits(options));
-            length
+            Ok(fault)
         }
     }
 }
@@ -54,6 +97,17 @@ fn show_one_line(fault: &Fault<'_>, buffer: &mut [u8; ONE_LINE_BUFFER_SIZE]) -> 
 {
     let mut line = [0; ONE_LINE_BUFFER_SIZE];
     put(fault.write_one_line(&mut line), buffer)
+}
+
+/// Writes the fault's report and a zero byte, and returns the report's length in bytes.
+fn show_report(fault: &Fault<'_>, buffer: &mut [u8; REPORT_BUFFER_SIZE]) -> usize
+    ensures shown { IsShown (report_of fault.now.text.now fault.now.cause)
+        buffer.old result buffer.new }
+    ensures utf8 { IsUtf8 (take result buffer.new) }
+    ensures short { result < REPORT_BUFFER_SIZE }
+{
+    let mut report = [0; REPORT_BUFFER_SIZE];
+    put(fault.write_report(&mut report), buffer)
 }
 
 /// Writes a text and a zero byte if there is room, and returns the text's length in bytes.
