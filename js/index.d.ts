@@ -106,7 +106,7 @@ interface Told {
     /** What is wrong, where, and often what to write, in one line that a terminal and a log can show. */
     readonly message: string;
     /**
-     * For a terminal: the text, a caret under the place, and the message; or the message alone for other faults than
+     * For a terminal: the text, a caret below the place, and the message; or the message alone for other faults than
      * `SYNTAX`, for a text of more than 80 characters, and for one with characters that the message would escape.
      */
     readonly report: string;

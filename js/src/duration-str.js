@@ -25,7 +25,7 @@ const PARTS = [
 const STYLES = ["short", "compact", "long"];
 
 /** The bytes of the buffer for what is written of a text or a value, which is more than any needs. */
-const WRITTEN_SIZE = 384;
+const WRITTEN_SIZE = 867;
 /** Texts of at most so many UTF-16 units are written without an encoder, and of so many bytes read without a decoder, for
  * which these take longer to call. */
 const SHORT = 40;
@@ -98,26 +98,17 @@ function output(length) {
     return text;
 }
 
-/** Whether a line would escape nothing of a text. A line quotes 40 characters of one that is too large. */
-function isClear(text) {
-    const parts = text.match(/.{1,35}/gsu);
-    return parts.every((part) => tryParseNs(`585y ${part}`).fault.message.endsWith(` in "585y ${part}"`));
-}
-
-/** The text, a caret below the place and the line, where the text is short and can't do harm in a terminal. */
-function reportOf({ code, text, index }, line) {
-    const isShort = code === "SYNTAX" && text.length <= 160 && Array.from(text).length <= 80;
-    return isShort && isClear(text) ? `${text}\n${" ".repeat(index)}^\n${line}` : line;
-}
-
-/** What is wrong with a text, and the line that says so. */
+/** What is wrong with a text, and the report, whose last line says so. */
 class Fault {
-    constructor(cause, message) {
-        Object.assign(this, cause, { message });
+    #report;
+
+    constructor(cause, report) {
+        Object.assign(this, cause, { message: report.slice(report.lastIndexOf("\n") + 1) });
+        this.#report = report;
     }
 
     get report() {
-        return reportOf(this, this.message);
+        return this.#report;
     }
 
     toString() {
@@ -128,14 +119,17 @@ class Fault {
 /** A refused text. What is wrong but for the line is the error's cause, since a structured clone of an error keeps no other
  * field. */
 export class DurationError extends Error {
+    #report;
+
     constructor(fault) {
         if (!(fault instanceof Fault)) throw new TypeError("a DurationError is made of a fault, as tryParse returns it");
         const { message, ...cause } = fault;
         super(message, { cause });
+        this.#report = fault.report;
     }
 
     get report() {
-        return reportOf(this.cause, this.message);
+        return this.#report;
     }
 
     toJSON() {
@@ -153,8 +147,8 @@ function expectedOf(kinds) {
     return { number: (kinds & 1) !== 0, unit: (kinds & 2) !== 0, operator: (kinds & 4) !== 0, end: (kinds & 8) !== 0 };
 }
 
-/** Why the text at TEXT is refused, after the call that refused it and wrote a line of `lineLength` bytes. */
-function faultOf(text, length, lineLength) {
+/** Why the text at TEXT is refused, after the call that refused it and wrote a report of `reportLength` bytes. */
+function faultOf(text, length, reportLength) {
     const byte = fields.getUint8(HAS_PLACE) ? fields.getUint32(PLACE, true) : null;
     const foundLength = fields.getUint32(FOUND_LENGTH, true);
     // Of ASCII alone, bytes and UTF-16 units are the same.
@@ -164,7 +158,7 @@ function faultOf(text, length, lineLength) {
     const code = CODES[fields.getUint32(CAUSE, true)];
     const found = foundLength ? token() : null;
     const expected = expectedOf(fields.getUint32(EXPECTED, true));
-    return new Fault({ code, text, index, byte, found, expected }, output(lineLength));
+    return new Fault({ code, text, index, byte, found, expected }, output(reportLength));
 }
 
 /** Why a text is refused whose character at this index is half of a surrogate pair. */
@@ -255,8 +249,8 @@ function faultIn(text, options) {
     if (!calls) start();
     const { length, lone } = write(text);
     if (lone >= 0) return noText(text, lone);
-    const lineLength = calls.duration_str_one_line(TEXT, length, bits, ANSWER, WRITTEN);
-    return lineLength > 0 ? faultOf(text, length, lineLength) : null;
+    const reportLength = calls.duration_str_report(TEXT, length, bits, ANSWER, WRITTEN);
+    return reportLength > 0 ? faultOf(text, length, reportLength) : null;
 }
 
 const nanoseconds = () => fields.getBigUint64(ANSWER, true);

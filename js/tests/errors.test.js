@@ -19,7 +19,7 @@ function errorOf(text, options) {
 }
 
 test("tells all of a refusal", () => {
-    for (const [text, names, code, byte, found, kinds, line] of VECTORS.refused) {
+    for (const [text, names, code, byte, found, kinds, line, spaces] of VECTORS.refused) {
         const options = optionsOf(names);
         const error = errorOf(text, options);
         const index = byte === null ? null : Buffer.from(text).subarray(0, byte).toString().length;
@@ -27,19 +27,8 @@ test("tells all of a refusal", () => {
         assert.deepEqual(error.expected, { ...NOTHING, ...Object.fromEntries(kinds.map((kind) => [kind, true])) }, text);
         const { fault } = tryParseNs(text, options);
         assert.deepEqual([error.message, fault.message, String(fault)], [line, line, line]);
-        assert.equal(fault.report, error.report);
-    }
-});
-
-test("reports with a caret, or by the message alone", () => {
-    const long = `1µs ${"x".repeat(75)}x`;
-    for (const [text, index] of [["5 mins", 2], ["1m+", 3], ["1分 2µ…", 1], [long, 4], [`1h ${"😀".repeat(77)}`, 3]]) {
-        const { message, report } = errorOf(text);
-        assert.equal(report, `${text}\n${" ".repeat(index)}^\n${message}`);
-    }
-    for (const text of ["", "600y", "580y*2", "99999999999999999999", "1m+2*3", `${long}x`, '1h "', "1h \\", "1h\n-", "1h \x1b[31m", "1\ud800"]) {
-        const { message, report } = errorOf(text);
-        assert.equal(report, message);
+        const report = spaces === null ? line : `${text}\n${" ".repeat(spaces)}^\n${line}`;
+        assert.deepEqual([error.report, fault.report], [report, report]);
     }
 });
 

@@ -46,7 +46,7 @@ class Columns(unittest.TestCase):
                         error = error_of(call, *arguments, **options)
                         line = f"at index 3: {alone}"
                         self.assertEqual((str(error), error.report), (line, alone.report.replace(str(alone), line)))
-                        self.assertEqual({**vars(error), "index": None}, vars(alone))
+                        self.assertEqual({**vars(error), "index": None, "report": alone.report}, vars(alone))
                         self.assertEqual(error.index, 3)
                         again = pickle.loads(pickle.dumps(error))
                         self.assertEqual((str(again), vars(again)), (str(error), vars(error)))

@@ -17,7 +17,7 @@ error_of = functools.partial(vectors.error_of, parse_ns)
 
 class Errors(unittest.TestCase):
     def test_tells_what_is_wrong(self):
-        for text, names, cause, place, found, expected, line in VECTORS["refused"]:
+        for text, names, cause, place, found, expected, line, spaces in VECTORS["refused"]:
             with self.subTest(text=text):
                 error = error_of(text, **dict.fromkeys(names, True))
                 self.assertIsInstance(error, ValueError)
@@ -25,16 +25,8 @@ class Errors(unittest.TestCase):
                 self.assertEqual((error.cause.name, error.place, error.pos, error.found), (cause, place, pos, found))
                 kinds = (Expected[name.upper()] for name in expected)
                 self.assertEqual(error.expected, functools.reduce(operator.or_, kinds, Expected(0)))
-                self.assertEqual(str(error), line)
-
-    def test_reports_with_a_caret(self):
-        long = f"1µs {'x' * 75}x"
-        for text, pos in [("5 mins", 2), ("1m+", 3), ("1分 2µ…", 1), (long, 4)]:
-            error = error_of(text)
-            self.assertEqual(error.report, f"{text}\n{' ' * pos}^\n{error}")
-        for text in ["", "600y", "580y*2", "99999999999999999999", "1m+2*3", f"{long}x", '1h "', "1h \\", "1\ud800"]:
-            error = error_of(text)
-            self.assertEqual(error.report, str(error))
+                above = "" if spaces is None else f"{text}\n{' ' * spaces}^\n"
+                self.assertEqual((str(error), error.report), (line, above + line))
 
     def test_reports_nothing_unsafe(self):
         unsafe = "[\0-\t\v-\x1f\x7f-\xa0\xad\u061c\u1680\u2000-\u200f\u2028-\u202f\u2060-\u206f\u3000\ufeff\U000e0001-\U000e007f]"

@@ -121,8 +121,9 @@ impl<'a> Fault<'a> {
         self.fault.write_one_line(buffer)
     }
 
-    /// The text, below it a caret at the place of a syntax fault, and below that the line; or the line alone for another
-    /// cause, for a text of more than 80 characters, and for one with characters that the line would escape.
+    /// For a terminal: the text, below it a caret at the place of a syntax fault, and below that the line; or the line
+    /// alone for another cause, for a text of more than 80 characters, and for one with characters that the line would
+    /// escape.
     ///
     /// ```
     /// use duration_str::{Options, parse_with};
@@ -132,14 +133,7 @@ impl<'a> Fault<'a> {
     /// ```
     #[must_use]
     pub fn report(&self) -> String {
-        let (text, line) = (self.text(), self.to_string());
-        match self.expected().and(self.place()) {
-            Some(place) if is_clear(text) => {
-                let spaces = " ".repeat(text[..place].chars().count());
-                [text, "\n", &spaces, "^\n", &line].concat()
-            }
-            _ => line,
-        }
+        self.fault.write_report(&mut [0; duration_str_core::REPORT_BUFFER_SIZE]).to_string()
     }
 
     /// The message with which the calls of `duration-str` 0.19.0 refuse.
@@ -303,21 +297,4 @@ impl From<Fault<'_>> for DurationError {
     fn from(fault: Fault<'_>) -> DurationError {
         fault.into_owned()
     }
-}
-
-/// Whether a text has at most 80 characters, of which a line would escape none. A line quotes 40 of them, so each half is
-/// quoted in one of its own.
-fn is_clear(text: &str) -> bool {
-    let half = text.char_indices().nth(40);
-    let (first, second) = text.split_at(half.map_or(text.len(), |(start, _)| start));
-    is_quoted_as_it_is(first) && is_quoted_as_it_is(second)
-}
-
-/// Whether a line that ends with this text in quotes has it as it is: nothing escaped, and all of it.
-fn is_quoted_as_it_is(text: &str) -> bool {
-    let fault = proved::Fault::new(text, Cause::NumberTooLarge { place: None });
-    let mut buffer = [0; Fault::BUFFER_LEN];
-    let line = fault.map_or("", |fault| fault.write_one_line(&mut buffer));
-    let before = line.strip_suffix('"').and_then(|line| line.strip_suffix(text));
-    before.is_some_and(|line| line.ends_with('"'))
 }

@@ -37,11 +37,11 @@ static PyObject *size_or_none(bool is_there, size_t size) {
     return is_there ? PyLong_FromSize_t(size) : Py_NewRef(Py_None);
 }
 
-/* Raises the package's error of a text, with this line about it, references that it takes. Index -1 is none. */
-static void raise_error(struct state *state, PyObject *line, PyObject *text, const struct duration_str_answer *answer,
+/* Raises the package's error of a text, with this report, references that it takes. Index -1 is none. */
+static void raise_error(struct state *state, PyObject *report, PyObject *text, const struct duration_str_answer *answer,
                         const char *bytes, Py_ssize_t index) {
     const char *found = answer->found_length ? bytes + answer->place : NULL;
-    PyObject *error = PyObject_CallFunction(state->kept[ERROR], "NNINIz#N", line, text, answer->cause,
+    PyObject *error = PyObject_CallFunction(state->kept[ERROR], "NNINIz#N", report, text, answer->cause,
                                             size_or_none(answer->has_place, answer->place), answer->expected, found,
                                             (Py_ssize_t)answer->found_length,
                                             size_or_none(index >= 0, (size_t)index));
@@ -75,11 +75,11 @@ static void raise_surrogate(struct state *state, PyObject *text, Py_ssize_t inde
     Py_XDECREF(traceback);
 }
 
-/* The line about a text that the library refuses, and its answer; null, and no error, if the text is read. */
-static PyObject *line_of(struct text text, uint32_t options, struct duration_str_answer *answer) {
-    char line[DURATION_STR_ONE_LINE_BUFFER_SIZE];
-    const size_t length = duration_str_one_line(text.bytes, text.length, options, answer, line);
-    return length ? PyUnicode_FromStringAndSize(line, (Py_ssize_t)length) : NULL;
+/* The report of a text that the library refuses, and its answer; null, and no error, if the text is read. */
+static PyObject *report_of(struct text text, uint32_t options, struct duration_str_answer *answer) {
+    char report[DURATION_STR_REPORT_BUFFER_SIZE];
+    const size_t length = duration_str_report(text.bytes, text.length, options, answer, report);
+    return length ? PyUnicode_FromStringAndSize(report, (Py_ssize_t)length) : NULL;
 }
 
 /* Reads the text of a str, whatever a subclass says of itself. Returns 1 if it is read, 0 if it is refused, and -1 with an
@@ -100,13 +100,13 @@ static int read_str(struct state *state, PyObject *given, uint32_t options, uint
         return 1;
     if (!options && !raises)
         return 0;
-    PyObject *line = raises ? line_of(text, options, &answer) : NULL;
+    PyObject *report = raises ? report_of(text, options, &answer) : NULL;
     if (!raises)
         duration_str_parse_with(text.bytes, text.length, options, &answer);
     *nanos = answer.nanos;
     if (answer.cause == DURATION_STR_READ || !raises)
         return answer.cause == DURATION_STR_READ;
-    raise_error(state, line, PyUnicode_FromObject(given), &answer, text.bytes, index);
+    raise_error(state, report, PyUnicode_FromObject(given), &answer, text.bytes, index);
     return -1;
 }
 
@@ -529,12 +529,12 @@ static void raise_between(struct state *state, const Py_buffer *data, const size
         return;
     struct duration_str_answer answer;
     const struct text text = {PyBytes_AsString(copy), end - start};
-    PyObject *line = line_of(text, options, &answer);
+    PyObject *report = report_of(text, options, &answer);
     if (answer.cause == DURATION_STR_READ) {
         PyErr_Format(PyExc_RuntimeError, "at index %zd: the text changed while it was read", index);
     } else {
         PyObject *given = PyUnicode_DecodeUTF8(text.bytes, (Py_ssize_t)text.length, "surrogateescape");
-        raise_error(state, line, given, &answer, text.bytes, index);
+        raise_error(state, report, given, &answer, text.bytes, index);
     }
     Py_DECREF(copy);
 }

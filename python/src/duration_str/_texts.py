@@ -83,38 +83,24 @@ class DurationError(ValueError):
     """The token at the place of a syntax fault, or None at the end and for other faults."""
     index: int | None
     """The position of the text in the column that was read, or None where it was read by itself."""
+    report: str
+    """For a terminal: the text, a caret below the place of a syntax fault, and the line; or the line alone for other faults,
+    for a text of more than 80 characters, and for one with characters that the line would escape."""
 
     def __init__(
-        self, line: str, text: str, cause: int, place: int | None = None, expected: int = 0,
+        self, report: str, text: str, cause: int, place: int | None = None, expected: int = 0,
         found: str | None = None, index: int | None = None,
     ) -> None:  # fmt: skip
-        super().__init__(line if index is None else f"at index {index}: {line}")
+        above, feed, line = report.rpartition("\n")
+        line = line if index is None else f"at index {index}: {line}"
+        super().__init__(line)
+        self.report = above + feed + line
         self.text, self.cause, self.place, self.expected = text, _CAUSES[cause], place, _EXPECTED[expected]
         self.found, self.index = found, index
         self.pos = place if place is None or text.isascii() else len(text.encode()[:place].decode())
 
-    @property
-    def report(self) -> str:
-        """For a terminal: the text, a caret below the place of a syntax fault, and the line; or the line alone for other
-        faults, for a text of more than 80 characters, and for one with characters that the line would escape."""
-        if self.cause is not Cause.SYNTAX or len(self.text) > 80 or not _is_clear(self.text):
-            return str(self)
-        return f"{self.text}\n{' ' * (self.pos or 0)}^\n{self}"
-
     def __reduce__(self) -> tuple[type[DurationError], tuple[object, ...], dict[str, object]]:
         return type(self), (str(self), self.text, self.cause), self.__dict__
-
-
-def _is_clear(text: str) -> bool:
-    """Whether a line would escape nothing of a text. A line quotes 40 characters of one that is too large."""
-    for start in range(0, len(text), 35):
-        quoted = f"585y {text[start : start + 35]}"
-        try:
-            import_module("duration_str._native").parse_ns(quoted)
-        except DurationError as error:
-            if not str(error).endswith(f' in "{quoted}"'):
-                return False
-    return True
 
 
 def option_bits(no_calc: bool, lowercase: bool, cn_unit: bool, require_unit: bool) -> int:

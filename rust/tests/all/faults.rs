@@ -44,7 +44,7 @@ fn checks_message(text: &str, options: Options, place: Option<usize>, line: &str
 #[test]
 fn tells_all_of_a_refusal() {
     for row in &vectors().refused {
-        let Refused(text, names, cause, place, found, kinds, line) = row;
+        let Refused(text, names, cause, place, found, kinds, line, spaces) = row;
         let options = options_of(names);
         let fault = fault(text, options);
         let told = (fault.place(), fault.found());
@@ -53,7 +53,9 @@ fn tells_all_of_a_refusal() {
         assert_eq!(fault.expected().map_or(vec![], kinds_of), *kinds, "{text}");
         let error = fault.into_owned();
         assert_eq!([fault.to_string(), error.to_string()], [&line[..]; 2]);
-        assert_eq!(fault.report(), error.report());
+        let above = spaces.map_or(String::new(), |spaces| format!("{text}\n{}^\n", " ".repeat(spaces)));
+        let report = above + line;
+        assert_eq!([fault.report(), error.report()], [&report[..]; 2]);
         if cause != "MIXED" {
             checks_message(text, options, *place, last_line(cause, kinds));
         }
@@ -118,34 +120,6 @@ fn takes_as_much_memory_as_the_message_is_long() {
     for text in ["", "1m 3-5", "1分 ?", "600y", "580y 580y", "99999999999999999999"] {
         let told = parse(text).unwrap_err();
         assert_eq!((told.capacity(), &told), (told.len(), &message(text, FEATURES)));
-    }
-}
-
-#[test]
-fn shows_a_caret_where_a_terminal_is_safe() {
-    let has_caret = |text: &str| {
-        let fault = fault(text, Options::off());
-        let spaces = " ".repeat(text.chars().count() - 1);
-        let whole = format!("{text}\n{spaces}^\n{fault}");
-        let report = fault.report();
-        assert!(report == whole || report == fault.to_string(), "{report}");
-        report == whole
-    };
-    for text in ["1m-", "1µs ?", "1s 分", &format!("{}?", "1ns ".repeat(19))] {
-        assert!(has_caret(text), "{text}");
-    }
-    // 80 characters, and 81; the last, or one of the first 40, is escaped.
-    assert!(has_caret(&format!("1s{}?", " ".repeat(77))));
-    assert!(!has_caret(&format!("1s{}?", " ".repeat(78))));
-    for escaped in ["\n", "\u{1b}", "\u{7f}", "\u{200b}", "\u{202e}", "\"", "\\"] {
-        assert!(!has_caret(&format!("1s{escaped}?")), "{escaped:?}");
-        assert!(!has_caret(&format!("1s{escaped}{}?", " ".repeat(60))));
-        assert!(!has_caret(&format!("1s{}{escaped}?", " ".repeat(60))));
-        assert!(!has_caret(&format!("1s{}?", escaped.repeat(20))));
-    }
-    for text in ["", "600y", "99999999999999999999", "1s+2*3"] {
-        let fault = fault(text, Options::off());
-        assert_eq!(fault.report(), fault.to_string());
     }
 }
 

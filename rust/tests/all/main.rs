@@ -56,9 +56,10 @@ struct Group {
     rows: Vec<(u64, u32, Vec<String>)>,
 }
 
-/// A text, its options, its cause, the byte of its place, what was found and could stand there, and the line.
+/// A text, its options, its cause, the byte of its place, what was found and could stand there, the line, and the spaces
+/// before the caret, where the report has one.
 #[derive(Deserialize)]
-struct Refused(String, Vec<String>, String, Option<usize>, Option<String>, Vec<String>, String);
+struct Refused(String, Vec<String>, String, Option<usize>, Option<String>, Vec<String>, String, Option<usize>);
 
 /// A duration's text, or its seconds and nanoseconds as `1 s 1 ns`; its largest and its smallest unit, how many parts at
 /// most; and the printed text, in the short and in the long style.
