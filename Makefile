@@ -132,19 +132,20 @@ installed = $(addprefix $(bindir)/,durstr duration) $(addprefix $(mandir)/man1/,
     $(addprefix $(libdir)/,libduration_str.a $(shared) pkgconfig/duration_str.pc $(cmake_files)) \
     $(patsubst %,$(mandir)/man3/%.3,duration_str $(calls)) $(addprefix $(docdir)/,LICENSE NOTICE)
 
-# put FROM TO: copies the file to where TO is to be installed; put_program: the same of a program. $$said has what `install`
-# says, as the folders that it makes; where nothing is staged, they are written into this file, for uninstalling
-put = said=$$(mktemp) && trap 'rm -f "$$said"' EXIT; \
+# put FROM TO: copies the file to where TO is to be installed; put_program: the same of a program; put_text TO: of its input.
+# $$said has what `install` says, as the folders that it makes; where nothing is staged, they are written into this file, for
+# uninstalling. Without /proc, as in a plain chroot, there is neither /dev/stdin nor `<(..)`.
+put = said=$$(mktemp) && trap 'rm -f "$$said"*' EXIT; \
     put() { LC_ALL=C $(INSTALL_DATA) -v -D "$$1" "$$DESTDIR$$2" >>"$$said"; }; \
+    put_text() { cat >"$$said.text" && put "$$said.text" "$$1"; }; \
     put_program() { LC_ALL=C $(INSTALL_PROGRAM) -v -D "$$1" "$$DESTDIR$$2" >>"$$said"; }
 folders = $(docdir)/folders
 
 # The manual page in that file, for what is installed: with the calls, the header and its units
 description = LC_ALL=C awk $(1) -f c/manual-page.awk $(header)
-page = sed -e '/^@CALLS@$$/{r '<(printf '.Nm %s ,\n' $(calls) | sed '$$s/ ,//') -e 'd}' \
-    -e '/^@SYNOPSIS@$$/{r '<($(call description,-v synopsis=1)) -e 'd}' \
-    -e '/^@HEADER@$$/{r '<($(call description)) -e 'd}' \
-    -e '/^@UNITS@$$/{r '<($(call description) | sed -n '/^Units: /,/^A year has/p') -e 'd}' -e 's/@VERSION@/$(version)/' $(1)
+page = sed -e 's/^@CALLS@$$/.Nm $(subst $(space), $(comma)\n.Nm ,$(calls))/' \
+    -e '/^@SYNOPSIS@$$/{e $(call description,-v synopsis=1)' -e 'd}' -e '/^@HEADER@$$/{e $(call description)' -e 'd}' \
+    -e '/^@UNITS@$$/{e $(call description) | sed -n "/^Units: /,/^A year has/p"' -e 'd}' -e 's/@VERSION@/$(version)/' $(1)
 
 # From a folder of what is installed up to the prefix, so that all of it can be moved; the prefix where the folder is not
 # below it: $(call up,FOLDER,FROM), where FROM stands for the folder
@@ -175,17 +176,17 @@ install: installable
 	libraries=$$($(MAKE) --silent library installing=yes target=$(target))
 	programs=durstr
 	put_program "$$program" $(bindir)/durstr
-	$(call page,docs/man/durstr.1.in) | put /dev/stdin $(mandir)/man1/durstr.1
+	$(call page,docs/man/durstr.1.in) | put_text $(mandir)/man1/durstr.1
 	put $(header) $(includedir)/duration_str.h
 	put "$$libraries/libduration_str.a" $(libdir)/libduration_str.a
 	put "$$libraries/libduration_str.so" $(libdir)/libduration_str.so.$(version)
 	ln -sf libduration_str.so.$(version) "$$DESTDIR$(libdir)/$(soname)"
 	ln -sf $(soname) "$$DESTDIR$(libdir)/libduration_str.so"
-	$(call filled,duration_str.pc,prefix,$(call up,$(libdir)/pkgconfig,$${pcfiledir})) | put /dev/stdin $(libdir)/pkgconfig/duration_str.pc
+	$(call filled,duration_str.pc,prefix,$(call up,$(libdir)/pkgconfig,$${pcfiledir})) | put_text $(libdir)/pkgconfig/duration_str.pc
 	$(foreach file,$(cmake_files),$(call filled,$(notdir $(file)),duration_str_prefix,$(cmake_up)) | \
-	    put /dev/stdin $(libdir)/$(file);)
-	$(call page,c/duration_str.3.in) | put /dev/stdin $(mandir)/man3/duration_str.3
-	for call in $(calls); do echo '.so man3/duration_str.3' | put /dev/stdin "$(mandir)/man3/$$call.3"; done
+	    put_text $(libdir)/$(file);)
+	$(call page,c/duration_str.3.in) | put_text $(mandir)/man3/duration_str.3
+	for call in $(calls); do echo '.so man3/duration_str.3' | put_text "$(mandir)/man3/$$call.3"; done
 	for file in LICENSE NOTICE; do put "$$file" "$(docdir)/$$file"; done
 	missing=$$(tools/cargo-debian --missing $(crates)) || true
 	! $(call serves,$(command),$(commanded)) || missing=
@@ -199,9 +200,9 @@ install: installable
 	    put_program "$$command" $(bindir)/duration
 	    for file in $(completions); do
 	        case $$file in *.fish) shell=fish ;; */_*) shell=zsh ;; *) shell=bash ;; esac
-	        "$$command" --completions $$shell | put /dev/stdin "$$file"
+	        "$$command" --completions $$shell | put_text "$$file"
 	    done
-	    help2man --no-info --name 'read durations such as 1h 30m, and print them' "$$command" | put /dev/stdin $(mandir)/man1/duration.1
+	    help2man --no-info --name 'read durations such as 1h 30m, and print them' "$$command" | put_text $(mandir)/man1/duration.1
 	fi
 	[ -z "$$DESTDIR" ] || exit 0
 	case :$$PATH: in *:$(bindir):*) where= ;; *) where=', which is not on the PATH' ;; esac
