@@ -2,6 +2,7 @@
 use clap::builder::{PossibleValuesParser, TypedValueParser};
 use clap::error::ErrorKind;
 use clap::{Command, CommandFactory, Parser, ValueEnum, value_parser};
+use clap_complete::Shell;
 use duration_str::{Format, STYLED_BUFFER_SIZE, Style, TimeUnit, UnknownUnit, parse_duration, write_within};
 use std::ffi::{OsStr, OsString};
 use std::os::unix::ffi::OsStrExt;
@@ -23,7 +24,7 @@ pub struct Choices {
     decimals: Option<u8>,
     /// Where a number has more decimals, print the next one below, above, or the nearest
     #[arg(long, value_name = "WAY", requires = "to", default_value = "down")]
-    round: Round,
+    pub round: Round,
     /// Read a bare number, such as 12.5 or 1e-05, as this unit's; other numbers need a unit
     #[arg(long, value_name = "UNIT", value_parser = unit)]
     pub from: Option<TimeUnit>,
@@ -70,8 +71,9 @@ pub struct Choices {
     #[arg(long)]
     pub require_unit: bool,
     /// Print the completions for a shell
-    #[arg(long, value_name = "SHELL", exclusive = true)]
-    pub completions: Option<clap_complete::Shell>,
+    #[arg(long, value_name = "SHELL", exclusive = true, value_parser =
+        PossibleValuesParser::new(["bash", "fish", "zsh"]).try_map(|word| word.parse::<Shell>()))]
+    pub completions: Option<Shell>,
 }
 
 #[derive(Clone, Copy, ValueEnum)]

@@ -1,5 +1,5 @@
 //! Reading by the library, and why a text is refused.
-use crate::options::Choices;
+use crate::options::{Choices, Round};
 use duration_str::{Fault, Options, TimeUnit, parse_with, parse_with_units};
 use serde_json::json;
 
@@ -36,7 +36,7 @@ impl From<Fault<'_>> for Refusal {
 /// Reads a text. Under --from a bare number has that unit, and any other must have its own.
 pub fn read<'a>(bytes: &'a [u8], choices: &Choices) -> Result<(&'a str, u64), Refusal> {
     let text = std::str::from_utf8(bytes).map_err(|_| Refusal::new("not UTF-8"))?;
-    if let Some((number, nanos)) = choices.from.and_then(|unit| bare_number(text, unit)) {
+    if let Some((number, nanos)) = choices.from.and_then(|unit| bare_number(text, unit, choices.round)) {
         let dots = if number.len() > 40 { "..." } else { "" };
         let too_large = |_| Refusal::new(&format!("duration of over 584 years in \"{number:.40}\"{dots}"));
         return Ok((text, u64::try_from(nanos).map_err(too_large)?));
@@ -51,8 +51,8 @@ pub fn read<'a>(bytes: &'a [u8], choices: &Choices) -> Result<(&'a str, u64), Re
 }
 
 /// A text without blanks that is a bare number of this unit, such as `12.5`, `.5` or `1.2e-05`, and its nanoseconds. Of the
-/// decimals that it has without an exponent the first 18 count, and what they make is rounded down.
-fn bare_number(text: &str, unit: TimeUnit) -> Option<(&str, u128)> {
+/// decimals that it has without an exponent the first 18 count, and what they make is rounded down; or both up.
+fn bare_number(text: &str, unit: TimeUnit, round: Round) -> Option<(&str, u128)> {
     let number = text.trim_matches([' ', '\t', '\r', '\n']);
     let (digits, exponent) = number.split_once(['e', 'E']).unwrap_or((number, "0"));
     let (whole, decimals) = digits.split_once('.').unwrap_or((digits, ""));
@@ -63,9 +63,14 @@ fn bare_number(text: &str, unit: TimeUnit) -> Option<(&str, u128)> {
     let zeros = "0".repeat(1 + exponent.unsigned_abs());
     let all = [&zeros, whole, decimals, &zeros].concat();
     let (whole, decimals) = all.split_at((zeros.len() + whole.len()).checked_add_signed(exponent)?);
-    let decimals = &decimals[..decimals.len().min(18)];
-    let length = u128::from(unit.nanos());
-    let part = decimals.parse::<u128>().ok()? * length / 10_u128.pow(decimals.len() as u32);
+    let (decimals, others) = decimals.split_at(decimals.len().min(18));
+    let (steps, length) = (10_u128.pow(decimals.len() as u32), u128::from(unit.nanos()));
+    let part = decimals.parse::<u128>().ok()? * length;
+    let part = match round {
+        Round::Up if others.bytes().any(|digit| digit != b'0') => (part + length).div_ceil(steps),
+        Round::Up => part.div_ceil(steps),
+        Round::Down | Round::Nearest => part / steps,
+    };
     // A whole part that doesn't fit makes more than any duration.
     Some((number, whole.parse().unwrap_or(u128::MAX).saturating_mul(length).saturating_add(part)))
 }

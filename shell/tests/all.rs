@@ -146,6 +146,19 @@ fn takes_bare_numbers_as_a_unit() {
         assert_eq!(run(&["--from", "s", &format!(" {text}")], b""), (1, "".into(), errors));
     }
     assert_eq!(answer(&["--from", "s", "--to", "ns", "18446744073.709551615"]), "18446744073709551615\n");
+    // Under --round up a text above zero is above zero, and what is whole stays.
+    for (unit, text, nanos) in [
+        ("s", "1e-10", 1),
+        ("y", "1e-40", 1),
+        ("s", "0e-40", 0),
+        ("ms", "1.5", 1_500_000),
+        ("us", "1.9990", 1999),
+        ("us", "1.9991", 2000),
+        ("s", "0.000000001000000000000000000", 1),
+        ("s", "0.000000001000000000000000001", 2),
+    ] {
+        assert_eq!(answer(&["--from", unit, "--to", "ns", "--round=up", text]), format!("{nanos}\n"));
+    }
 }
 
 #[test]
@@ -254,7 +267,7 @@ fn cuts_at_nul_if_it_is_told_to() {
 fn refuses_wrong_usage() {
     const WRONG: &str = "--unknown|-x|-5 --to|--to x 1h|--to s --parts 2 1h|--to s --style long 1h|--decimals 2 1h|\
         --to s --decimals 10 1h|--parts 0 1h|--style none 1h|--largest s --smallest h 1h|-d, 1h|--field 1 -d ,, 1h|\
-        --field 1 -d ä 1h|--field 0 1h|--json --field 1 1h|--json --header|--completions none|--completions bash 1h|\
+        --field 1 -d ä 1h|--field 0 1h|--json --field 1 1h|--json --header|--completions elvish|--completions bash 1h|\
         --from x 1|--header 1|--header -- 1h|--round up 1h|--to s --round x 1h";
     for words in WRONG.split('|') {
         let words: Vec<&str> = words.split(' ').collect();
@@ -368,7 +381,7 @@ fn tells_of_itself() {
     let help = answer(&["--help"]);
     assert_eq!(help, answer(&["-h"]));
     assert!(help.lines().all(|line| line.len() <= 80));
-    for shell in ["bash", "elvish", "fish", "powershell", "zsh"] {
+    for shell in ["bash", "fish", "zsh"] {
         assert!(answer(&["--completions", shell]).contains("smallest"));
     }
 }
