@@ -3,6 +3,7 @@
 import { readFileSync } from "node:fs";
 
 import { DurationError, formatNs, parseNs, parse } from "../js/dist/duration-str.js";
+import { parse as parsePlain } from "../js/dist/plain.js";
 
 const ROUNDS = 2_500;
 
@@ -22,6 +23,7 @@ function refuse(text) {
 const calls = [
     ["`parseNs`", (text) => parseNs(text), texts],
     ["`parse`", (text) => parse(text), texts],
+    ["`parse` of `duration-str/plain`", (text) => parsePlain(text), texts],
     ["`formatNs`, over their values", formatNs, values],
     ["`parseNs` refuses `1m 3-5`, and makes the `DurationError`", refuse, Array(100).fill("1m 3-5")],
 ];

@@ -4,13 +4,15 @@
 //! - `bench expressions`: the 1,000 expressions of `texts.rs`, a line each.
 //! - `bench times`: nanoseconds a call over them, a line with WHAT, OURS and THEIRS for reading and for printing. In all
 //!   these lines a tab stands between the words.
+//! - `bench styles`: nanoseconds to print into a buffer within limits and in styles, a line with WHAT, those below a day and
+//!   those of the expressions' values.
 //! - `bench peer human_format` or `to_string`: what `bench/peers` asks, of the texts of the standard input.
 //! - `bench calls WORDS COUNT`: humantime's calls, by the words of `calls.rs` after SIDE.
 mod ours;
 mod texts;
 
 use ours::{Crate, Library, ROOM, calls};
-use duration_str::{HumanFormat, format_duration, parse, parse_duration};
+use duration_str::{Format, HumanFormat, STYLED_BUFFER_SIZE, Style, TimeUnit, format_duration, parse, parse_duration, write_within};
 use std::hint::black_box;
 use std::io::Write;
 use std::time::{Duration, Instant};
@@ -94,6 +96,24 @@ fn times() {
     }
 }
 
+/// A line for each limit and style: what it is, and the nanoseconds a call below a day and of the expressions' values.
+fn styles() {
+    let (_, lengths) = expressions();
+    let short: Vec<Duration> = lengths.iter().map(|length| texts::below_day(*length)).collect();
+    let whole = Format::whole();
+    for (what, format) in [
+        ("whole", whole),
+        ("in two parts", whole.parts(2)),
+        ("down to seconds", whole.smallest(TimeUnit::Second)),
+        ("compact", whole.style(Style::Compact)),
+        ("long", whole.style(Style::Long)),
+    ] {
+        let print = |length| write_within(&length, format, &mut [0; STYLED_BUFFER_SIZE]).len();
+        let [below_day, all] = nanos_a_call(lengths.len(), [&|| all(&short, print), &|| all(&lengths, print)]);
+        println!("{what}\t{below_day:.1}\t{all:.1}");
+    }
+}
+
 /// What `bench/peers` asks of each program, by the calls for a text and a string of this name.
 fn peer(printing: &str) {
     let texts: Vec<String> = std::io::stdin().lines().map(|line| line.expect("a line").split('\t').next().unwrap().to_string()).collect();
@@ -114,6 +134,7 @@ fn main() {
     match words.as_slice() {
         ["expressions"] => println!("{}", texts::expressions().join("\n")),
         ["times"] => times(),
+        ["styles"] => styles(),
         ["peer", printing] => peer(printing),
         ["calls", words @ .., count] => calls::<Humantime>(words, count.parse().expect("a count")),
         _ => panic!("see the first lines of src/main.rs"),

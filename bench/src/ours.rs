@@ -1,5 +1,5 @@
 //! The calls that are measured: those of the Rust crate, and those of the archive through C.
-use crate::texts::{EXPRESSION, expressions, long_text, refusal, repeat};
+use crate::texts::{EXPRESSION, below_day, expressions, long_text, refusal, repeat};
 use duration_str::{DurationError, FORMAT_BUFFER_SIZE, Fault, Format, HumanFormat, Options, STYLED_BUFFER_SIZE};
 use duration_str::{parse, parse_duration, parse_with, write_human, write_within};
 use std::hint::black_box;
@@ -168,6 +168,14 @@ impl Library for Archive {
     }
 }
 
+/// Prints the values of the expressions, or what is made of them, so many times. Apart, so that the calls of others stay as
+/// they are compiled.
+#[inline(never)]
+fn print_all<L: Library>(count: u64, of: fn(Duration) -> Duration) {
+    let lengths: Vec<Duration> = expressions().iter().map(|text| of(Crate::reading(text))).collect();
+    repeat(count, || lengths.iter().for_each(|length| { black_box(L::printing(black_box(*length))); }));
+}
+
 /// Calls a library so many times, as the first lines of `calls.rs` say.
 pub fn calls<L: Library>(words: &[&str], count: u64) {
     let length = Duration::new(193, 29_000_000);
@@ -197,10 +205,8 @@ pub fn calls<L: Library>(words: &[&str], count: u64) {
             let texts = expressions();
             repeat(count, || texts.iter().for_each(|text| { black_box(L::reading(black_box(text))); }));
         }
-        ["print-expressions"] => {
-            let lengths: Vec<Duration> = expressions().iter().map(|text| Crate::reading(text)).collect();
-            repeat(count, || lengths.iter().for_each(|length| { black_box(L::printing(black_box(*length))); }));
-        }
+        ["print-expressions"] => print_all::<L>(count, |length| length),
+        ["print-below-day"] => print_all::<L>(count, below_day),
         ["refuse", name] => {
             let text = refusal(name);
             let mut buffer = [0; ROOM];

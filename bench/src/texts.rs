@@ -1,4 +1,5 @@
 //! The texts of single calls, and calls repeated.
+use std::time::Duration;
 
 pub const EXPRESSION: &str = "3m 13s 29ms";
 
@@ -40,6 +41,11 @@ pub fn expressions() -> Vec<String> {
     (0..1000).map(&mut expression).collect()
 }
 
+/// What whole days leave of a duration.
+pub fn below_day(length: Duration) -> Duration {
+    Duration::new(length.as_secs() % 86_400, length.subsec_nanos())
+}
+
 /// A text of so many bytes: terms of one nanosecond, and blanks.
 pub fn long_text(bytes: usize) -> String {
     let mut text = "1ns ".repeat(bytes / 4);
@@ -56,7 +62,6 @@ pub fn refusal(name: &str) -> String {
         "syntax" => "1m 3-5",
         "number" => "18446744073709551616s",
         "first-term" => "600000000000y",
-        "later-sum" => "580y 580y",
         "mixed" => "1m + 2s * 3",
         "fraction" => "1.5h",
         "minus" => "-5s",
