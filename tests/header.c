@@ -33,18 +33,33 @@ static bool is_syntax(struct duration_str_answer answer, size_t place, uint32_t 
            answer.first_operator == 0 && answer.later_operator == 0;
 }
 
+/* Any bytes are refused for these options, and nothing else is told of them. */
+static bool is_unknown(uint32_t options)
+{
+    struct duration_str_answer answer = read_with("1m", options), not_text;
+    char line[DURATION_STR_ONE_LINE_BUFFER_SIZE], report[DURATION_STR_REPORT_BUFFER_SIZE];
+    bool is_said = duration_str_one_line("1\xff", 2, options, &not_text, line) == 14 &&
+                   duration_str_report("1m", 2, options, &answer, report) == 14 &&
+                   strcmp(line, "unknown option") == 0 && strcmp(report, line) == 0;
+    return is_said && not_text.cause == DURATION_STR_UNKNOWN_OPTION && answer.cause == DURATION_STR_UNKNOWN_OPTION &&
+           answer.nanos == 0 && answer.place == 0 && answer.found_length == 0 && answer.expected == 0 &&
+           answer.has_place == 0 && answer.first_operator == 0 && answer.later_operator == 0;
+}
+
 static void check_options(void)
 {
     const char *minute = "1\xe5\x88\x86";
     const uint32_t after_number = DURATION_STR_UNIT | DURATION_STR_OPERATOR | DURATION_STR_END;
     const uint32_t options = DURATION_STR_NO_CALC | DURATION_STR_LOWERCASE | DURATION_STR_CN_UNIT | DURATION_STR_REQUIRE_UNIT;
+    expect(is_unknown(16) && is_unknown(1u << 31) && is_unknown(~options) && is_unknown(~0u), "an unknown option");
+    expect(read_with("1m", options).nanos == 60000000000u, "all options");
     struct duration_str_answer read = read_with(minute, DURATION_STR_CN_UNIT);
     expect(read.nanos == 60000000000u && read.has_place == 0 && read.place == 0 && read.expected == 0, "a Chinese unit");
-    expect(is_syntax(read_with(minute, DURATION_STR_LOWERCASE | ~options), 1, after_number, 3), "a Chinese unit, unasked for");
+    expect(is_syntax(read_with(minute, DURATION_STR_LOWERCASE), 1, after_number, 3), "a Chinese unit, unasked for");
     expect(is_syntax(read_with("1M", DURATION_STR_LOWERCASE), 1, after_number, 1), "a capital under lowercase");
-    expect(read_with("1M", DURATION_STR_NO_CALC | ~options).nanos == 60000000000u, "a capital without lowercase");
+    expect(read_with("1M", DURATION_STR_NO_CALC).nanos == 60000000000u, "a capital without lowercase");
     expect(is_syntax(read_with("1+2", DURATION_STR_NO_CALC), 1, DURATION_STR_UNIT | DURATION_STR_END, 1), "an operator");
-    expect(read_with("1+2", ~options).nanos == 3000000000u, "an operator without no_calc");
+    expect(read_with("1+2", DURATION_STR_LOWERCASE).nanos == 3000000000u, "an operator without no_calc");
     expect(is_syntax(read_with("1h 30", DURATION_STR_REQUIRE_UNIT), 5, DURATION_STR_UNIT, 0), "a unit that is missing");
     expect(read_with("1h 30m", DURATION_STR_REQUIRE_UNIT).nanos == 5400000000000u, "no unit that is missing");
 }
@@ -62,6 +77,7 @@ static void check_refusals(void)
     expect(read_with("1s 99999999999999999999", 0).cause == DURATION_STR_NUMBER_TOO_LARGE, "a number");
     expect(read_with("1\xff", 0).cause == DURATION_STR_NOT_TEXT, "bytes that are no UTF-8");
     expect(strcmp(duration_str_cause_name(DURATION_STR_NOT_TEXT), "NOT_TEXT") == 0, "the name of a cause");
+    expect(strcmp(duration_str_cause_name(DURATION_STR_UNKNOWN_OPTION), "UNKNOWN_OPTION") == 0, "the last name");
     expect(strcmp(duration_str_cause_name(9), "") == 0, "no name");
 }
 

@@ -72,8 +72,8 @@
 extern "C" {
 #endif
 
-/* The options, as the bits of a `uint32_t`; with 0 all of them are off.
- * Other bits have no effect. */
+/* The options, as the bits of a `uint32_t`; with 0 all of them are off. With
+ * any other bit each text is refused, by DURATION_STR_UNKNOWN_OPTION. */
 enum duration_str_option {
     /* `+` and `*` are not read, and the terms are added one by one */
     DURATION_STR_NO_CALC = 1,
@@ -102,15 +102,18 @@ enum duration_str_cause {
     /* `+` and `*` are mixed */
     DURATION_STR_MIXED = 5,
     /* the bytes are not UTF-8 */
-    DURATION_STR_NOT_TEXT = 7
+    DURATION_STR_NOT_TEXT = 7,
+    /* a bit is set that is no option of this library: the text was not looked
+     * at */
+    DURATION_STR_UNKNOWN_OPTION = 8
 };
 
 /* The name of a cause, such as `NUMBER_TOO_LARGE`; empty for another number. */
 static inline const char *duration_str_cause_name(uint32_t cause)
 {
     static const char *const names[] = {
-        "READ",     "EMPTY", "SYNTAX", "NUMBER_TOO_LARGE",
-        "OVERFLOW", "MIXED", "",       "NOT_TEXT"};
+        "READ",  "EMPTY", "SYNTAX",   "NUMBER_TOO_LARGE", "OVERFLOW",
+        "MIXED", "",      "NOT_TEXT", "UNKNOWN_OPTION"};
     return cause < sizeof names / sizeof *names ? names[cause] : "";
 }
 
@@ -218,7 +221,8 @@ bool duration_str_parse_with(const char *text, size_t length,
  * and the line is empty, if the text is read. `buffer` has
  * DURATION_STR_ONE_LINE_BUFFER_SIZE bytes. At most 40 characters show the
  * text, and what can't be seen or could do harm in a terminal or a log is
- * escaped. Of bytes that are not UTF-8 it is `not UTF-8`. */
+ * escaped. Of bytes that are not UTF-8 it is `not UTF-8`, and for an unknown
+ * bit of the options `unknown option`. */
 DURATION_STR_NONNULL(4, 5)
 size_t duration_str_one_line(
     const char *text, size_t length, uint32_t options,

@@ -17,6 +17,8 @@ const OUT_OF_RANGE: u32 = 6;
 
 const NOT_TEXT: u32 = 7;
 
+const UNKNOWN_OPTION: u32 = 8;
+
 const NUMBER: u32 = 1;
 
 const UNIT: u32 = 2;
@@ -35,7 +37,8 @@ pub struct Answer {
     pub place: usize,
     /// For a syntax fault: the length in bytes of the token at the place; 0 at the end.
     pub found_length: usize,
-    /// 0 if the text is read, otherwise the number of the cause, from 1 for `Empty` to 7 for `NotText`.
+    /// 0 if the text is read, otherwise the number of the cause, from 1 for `Empty` to 7 for `NotText`; 8 if a bit is no
+    /// option's.
     pub cause: u32,
     /// For a syntax fault: what could stand at the place, as bits: 1 a number, 2 a unit, 4 an operator, 8 the end.
     pub expected: u32,
@@ -59,6 +62,14 @@ impl Answer {
             has_place: 0,
             first_operator: 0,
             later_operator: 0,
+        }
+    }
+
+    /// The answer where a bit is no option's.
+    pub(crate) fn unknown_option() -> Answer {
+        Answer {
+            cause: UNKNOWN_OPTION,
+            ..Answer::value(0)
         }
     }
 

@@ -14,10 +14,9 @@ pub mod limits;
 #[forbid(unsafe_code)]
 pub mod message;
 
-use crate::answer::{Answer, refused};
-use duration_str_core::{
-    Cause, FORMAT_BUFFER_SIZE, Fault, Options, missing_unit, parse_nanos, write_human,
-};
+use crate::answer::Answer;
+use crate::message::refusal_of;
+use duration_str_core::{FORMAT_BUFFER_SIZE, Fault, Options, missing_unit, parse_nanos, write_human};
 use core::time::Duration;
 
 const NO_CALC: u32 = 1;
@@ -28,7 +27,10 @@ const CN_UNIT: u32 = 4;
 
 const REQUIRE_UNIT: u32 = 8;
 
-/// The options whose bits are set. Other bits have no effect.
+/// The bits of all options.
+pub(crate) const OPTIONS: u32 = 15;
+
+/// The options whose bits are set.
 pub(crate) fn options_of_bits(bits: u32) -> Options {
     Options {
         no_calc: bits & NO_CALC != 0,
@@ -72,19 +74,8 @@ pub(crate) fn put(text: &str, buffer: &mut [u8]) -> usize {
 
 /// Reads a text under the options whose bits are set. Returns true if it is read.
 pub fn duration_str_parse_with(text: &[u8], options: u32, answer: &mut Answer) -> bool {
-    *answer = answer_to(text, options);
+    let _ = refusal_of(text, options, answer);
     answer.cause == 0
-}
-
-/// The answer for the bytes under the options whose bits are set.
-fn answer_to(bytes: &[u8], options: u32) -> Answer {
-    let Some(text) = text_of(bytes) else {
-        return Answer::refusal(Cause::NotText { optional: false }, 0);
-    };
-    match read_by(text, options) {
-        Ok(nanos) => Answer::value(nanos),
-        Err(fault) => refused(fault, options_of_bits(options)),
-    }
 }
 
 /// The value of a text under the options whose bits are set, or its fault.

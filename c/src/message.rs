@@ -2,7 +2,7 @@
 //! What is said about a refused text.
 
 use crate::answer::{Answer, refused};
-use crate::{options_of_bits, put, read_by, text_of};
+use crate::{OPTIONS, options_of_bits, put, read_by, text_of};
 use duration_str_core::{Cause, Fault, ONE_LINE_BUFFER_SIZE, REPORT_BUFFER_SIZE};
 
 /// Reads a text under the options whose bits are set, as `duration_str_parse_with` does, and writes what is wrong with
@@ -35,11 +35,16 @@ pub fn duration_str_report(
 }
 
 /// Reads a text and writes the answer. Returns the fault, or what is shown where there is none.
-fn refusal_of<'a>(
+#[inline(always)]
+pub(crate) fn refusal_of<'a>(
     bytes: &'a [u8],
     options: u32,
     answer: &mut Answer,
 ) -> Result<Fault<'a>, &'static str> {
+    if options & OPTIONS != options {
+        *answer = Answer::unknown_option();
+        return Err("unknown option");
+    }
     let Some(text) = text_of(bytes) else {
         *answer = Answer::refusal(Cause::NotText { optional: false }, 0);
         return Err("not UTF-8");

@@ -169,11 +169,12 @@ static void count(struct duration_str_answer answer)
 
 static void check(struct text text)
 {
+    const struct duration_str_answer unknown = {.cause = DURATION_STR_UNKNOWN_OPTION};
     struct duration_str_answer answers[CHOICES];
     for (uint32_t options = 0; options < CHOICES; options++) {
         struct duration_str_answer answer = answers[options] = read_with(text, options);
         count(answer);
-        HOLDS(are_equal(answer, read_with(text, options | ~(uint32_t)ALL_OPTIONS)));
+        HOLDS(are_equal(unknown, read_with(text, options | CHOICES << options)));
         if (answer.cause == DURATION_STR_READ && (options == 0 || answer.nanos != answers[0].nanos))
             check_printed(answer.nanos);
         if (options > 0 && are_equal(answer, answers[0]))

@@ -1,5 +1,5 @@
 -- The answer that a caller of C gets for a text.
-use Rattle.std.specs.Prelude.{◌≡◌, ℕ, ◌+◌, ◌==◌, Bool, not, List, ◌⊎◌, Option, Some, None, if◌then◌else◌, is_some, unwrap_or}
+use Rattle.std.specs.Prelude.{◌≡◌, ℕ, ◌+◌, ◌==◌, Bool, not, List, ◌⊎◌, Option, Some, None, if◌then◌else◌, is_some, unwrap_or, IsUtf8, false}
 use Rattle.std.specs.Bool.{MatchBool}
 use Rattle.std.specs.Int.Bits.{bit_and}
 use Rattle.std.specs.Option.{ForSome}
@@ -21,7 +21,11 @@ use Rattle.duration_str_c.specs.declared.answer.Answer.{Answer}
 abbrev pub has_flag : ℕ → ℕ → Bool
 has_flag bits flag = not (bit_and bits flag == 0)
 
--- the options whose bits are set; other bits have no effect
+-- Each bit that is set is an option's.
+abbrev pub AreOptions : ℕ → Type 0
+AreOptions bits = bit_and bits 15 ≡ bits
+
+-- the options whose bits are set
 abbrev pub options_of_bits : ℕ → Options
 options_of_bits bits = record { no_calc = has_flag bits 1; lowercase = has_flag bits 2; cn_unit = has_flag bits 4 }
 
@@ -79,6 +83,19 @@ value_answer nanos = record {
   later_operator = 0;
 }
 
+-- the answer where a bit is no option's
+abbrev pub unknown_option_answer : Answer
+unknown_option_answer = record {
+  nanos = 0;
+  place = 0;
+  found_length = 0;
+  cause = 8;
+  expected = 0;
+  has_place = 0;
+  first_operator = 0;
+  later_operator = 0;
+}
+
 -- the answer with a refusal, and the length of the token at its place
 abbrev pub refusal_answer : Cause → ℕ → Answer
 refusal_answer cause found_length = record {
@@ -110,8 +127,17 @@ IsRefusedBy bits text cause =
     MatchBool (has_flag bits 8) (IsRefusedWithUnits (options_of_bits bits) text cause)
     (IsRefused (options_of_bits bits) text cause)
 
--- The answer has the value of the bytes, or the cause of their refusal, under the options whose bits are set.
+-- What is told of the bytes: that a bit is no option's; otherwise that they are not UTF-8; otherwise their value, or the
+-- cause of their refusal, under the options whose bits are set.
+abbrev pub IsTold : Type 0 → Type 0 → (ℕ → Type 0) → (Cause → Type 0) → ℕ → List ℕ → Type 0
+IsTold Unknown NotUtf8 Value Refusal bits bytes =
+    ((AreOptions bits → ⊥) × Unknown)
+    ⊎ (AreOptions bits × (¬ (IsUtf8 bytes)) × NotUtf8)
+    ⊎ (AreOptions bits × IsUtf8 bytes × (nanos : ℕ) × IsReadBy bits (chars bytes) nanos × Value nanos)
+    ⊎ (AreOptions bits × IsUtf8 bytes × (cause : Cause) × IsRefusedBy bits (chars bytes) cause × Refusal cause)
+
+-- The answer tells that of the bytes.
 abbrev pub IsAnswerTo : ℕ → List ℕ → Answer → Type 0
 IsAnswerTo bits bytes answer =
-    ((nanos : ℕ) × IsReadBy bits (chars bytes) nanos × (answer ≡ value_answer nanos))
-    ⊎ ((cause : Cause) × IsRefusedBy bits (chars bytes) cause × TellsFault (options_of_bits bits) bytes cause answer)
+    IsTold (answer ≡ unknown_option_answer) (answer ≡ refusal_answer (NotText false) 0)
+    (λ nanos. answer ≡ value_answer nanos) (λ cause. TellsFault (options_of_bits bits) bytes cause answer) bits bytes

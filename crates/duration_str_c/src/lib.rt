@@ -3,26 +3,23 @@
 //! Nothing is allocated. Bytes that are not UTF-8 are refused.
 #![tactic(auto)]
 
-ghost use Rattle.std.specs.Prelude.{◌≡◌, ℕ, ◌+◌, ◌<◌, ◌≤◌, ◌==◌, ◌∷◌, false, length, IsTrue, IsFalse, IfSome, IfNone, IfOk, IfErr, IsUtf8, take, drop};
+ghost use Rattle.std.specs.Prelude.{◌≡◌, ℕ, ◌+◌, ◌<◌, ◌≤◌, ◌==◌, ◌∷◌, length, IsTrue, IsFalse, IfSome, IfNone, IfOk, IfErr, IsUtf8, take, drop};
 ghost use Rattle.std.specs.Bool.{MatchBool};
-ghost use Rattle.std.specs.Int.Bits.{bit_and};
 ghost use Rattle.std.specs.Str.{chars};
 ghost use Rattle.duration_str.specs.Options.{off};
 ghost use Rattle.duration_str.specs.OtherResults.{ReadsText};
 ghost use Rattle.duration_str.specs.Reading.{IsRead};
 ghost use Rattle.duration_str.specs.Printing.{IsPrinted};
 ghost use Rattle.duration_str.specs.declared.printing.TheConstants.{MAX_PRINTED_LEN};
-ghost use Rattle.duration_str.specs.declared.cause.Cause.TheVariants.{NotText};
-ghost use Rattle.duration_str_c.specs.Answers.{options_of_bits, refusal_answer, IsAnswerTo, IsReadBy, IsRefusedBy};
+ghost use Rattle.duration_str_c.specs.Answers.{options_of_bits, IsAnswerTo, IsReadBy, IsRefusedBy};
 
 pub mod answer;
 pub mod limits;
 pub mod message;
 
-use crate::answer::{Answer, refused};
-use duration_str::{
-    Cause, FORMAT_BUFFER_SIZE, Fault, Options, missing_unit, parse_nanos, write_human,
-};
+use crate::answer::Answer;
+use crate::message::refusal_of;
+use duration_str::{FORMAT_BUFFER_SIZE, Fault, Options, missing_unit, parse_nanos, write_human};
 use std::time::Duration;
 
 const NO_CALC: u32 = 1;
@@ -33,10 +30,12 @@ const CN_UNIT: u32 = 4;
 
 const REQUIRE_UNIT: u32 = 8;
 
-/// The options whose bits are set. Other bits have no effect.
+/// The bits of all options.
+pub(crate) const OPTIONS: u32 = 15;
+
+/// The options whose bits are set.
 pub(crate) fn options_of_bits(bits: u32) -> Options
-    ensures options { result ≡ options_of_bits bits }
-    ensures known_bits { result ≡ options_of_bits (bit_and bits 7) }
+    ensures { result ≡ options_of_bits bits }
 {
     Options {
         no_calc: bits & NO_CALC != 0,
@@ -96,26 +95,11 @@ pub(crate) fn put(text: &str, buffer: &mut [u8]) -> usize
 
 /// Reads a text under the options whose bits are set. Returns true if it is read.
 pub fn duration_str_parse_with(text: &[u8], options: u32, answer: &mut Answer) -> bool
-    ensures answers { IsUtf8 text.now → IsAnswerTo options text.now answer.new }
-    ensures not_text { ¬ (IsUtf8 text.now) → answer.new ≡ refusal_answer (NotText false) 0 }
+    ensures answers { IsAnswerTo options text.now answer.new }
     ensures read { result ≡ (answer.new.cause == 0) }
 {
-    *answer = answer_to(text, options);
+    let _ = refusal_of(text, options, answer);
     answer.cause == 0
-}
-
-/// The answer for the bytes under the options whose bits are set.
-fn answer_to(bytes: &[u8], options: u32) -> Answer
-    ensures answers { IsUtf8 bytes.now → IsAnswerTo options bytes.now result }
-    ensures not_text { ¬ (IsUtf8 bytes.now) → result ≡ refusal_answer (NotText false) 0 }
-{
-    let Some(text) = text_of(bytes) else {
-        return Answer::refusal(Cause::NotText { optional: false }, 0);
-    };
-    match read_by(text, options) {
-        Ok(nanos) => Answer::value(nanos),
-        Err(fault) => refused(fault, options_of_bits(options)),
-    }
 }
 
 /// The value of a text under the options whose bits are set, or its fault.

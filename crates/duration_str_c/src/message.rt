@@ -1,16 +1,15 @@
 //! What is said about a refused text.
-ghost use Rattle.std.specs.Prelude.{◌≡◌, ◌+◌, ◌<◌, ◌≤◌, ◌∷◌, length, take, drop, false, IsUtf8, IfOk, IfErr, codes};
+ghost use Rattle.std.specs.Prelude.{◌≡◌, ◌+◌, ◌<◌, ◌≤◌, ◌∷◌, length, take, drop, IsUtf8, IfOk, IfErr};
 ghost use Rattle.std.specs.Str.{chars};
-ghost use Rattle.duration_str.specs.declared.cause.Cause.TheVariants.{NotText};
 ghost use Rattle.duration_str.specs.declared.one_line.TheConstants.{MAX_ONE_LINE_LEN};
 ghost use Rattle.duration_str.specs.declared.report.TheConstants.{REPORT_BUFFER_SIZE};
 ghost use Rattle.duration_str.specs.OneLine.{one_line_of};
 ghost use Rattle.duration_str.specs.Report.{report_of};
-ghost use Rattle.duration_str_c.specs.Answers.{refusal_answer, IsAnswerTo, IsRefusedBy};
+ghost use Rattle.duration_str_c.specs.Answers.{AreOptions, IsAnswerTo, IsRefusedBy};
 ghost use Rattle.duration_str_c.specs.Messages.{IsShown, IsSaidOf, ShowsRefusal};
 
 use crate::answer::{Answer, refused};
-use crate::{options_of_bits, put, read_by, text_of};
+use crate::{OPTIONS, options_of_bits, put, read_by, text_of};
 use duration_str::{Cause, Fault, ONE_LINE_BUFFER_SIZE, REPORT_BUFFER_SIZE};
 
 /// Reads a text under the options whose bits are set, as `duration_str_parse_with` does, and writes what is wrong with
@@ -22,11 +21,9 @@ pub fn duration_str_one_line(
     answer: &mut Answer,
     buffer: &mut [u8; ONE_LINE_BUFFER_SIZE],
 ) -> usize
-    ensures answers { IsUtf8 text.now → IsAnswerTo options text.now answer.new }
-    ensures text { IsUtf8 text.now → ShowsRefusal (one_line_of text.now)
+    ensures answers { IsAnswerTo options text.now answer.new }
+    ensures text { ShowsRefusal (one_line_of text.now)
         options text.now buffer.old result buffer.new }
-    ensures not_text { ¬ (IsUtf8 text.now) → (answer.new ≡ refusal_answer (NotText false) 0)
-        × IsShown (codes "not UTF-8") buffer.old result buffer.new }
     ensures utf8 { IsUtf8 (take result buffer.new) }
     ensures rest { drop result buffer.new ≡ 0 ∷ drop (result + 1) buffer.old }
     ensures short { result ≤ MAX_ONE_LINE_LEN }
@@ -45,11 +42,9 @@ pub fn duration_str_report(
     answer: &mut Answer,
     buffer: &mut [u8; REPORT_BUFFER_SIZE],
 ) -> usize
-    ensures answers { IsUtf8 text.now → IsAnswerTo options text.now answer.new }
-    ensures text { IsUtf8 text.now → ShowsRefusal (report_of text.now)
+    ensures answers { IsAnswerTo options text.now answer.new }
+    ensures text { ShowsRefusal (report_of text.now)
         options text.now buffer.old result buffer.new }
-    ensures not_text { ¬ (IsUtf8 text.now) → (answer.new ≡ refusal_answer (NotText false) 0)
-        × IsShown (codes "not UTF-8") buffer.old result buffer.new }
     ensures utf8 { IsUtf8 (take result buffer.new) }
     ensures rest { drop result buffer.new ≡ 0 ∷ drop (result + 1) buffer.old }
     ensures short { result < REPORT_BUFFER_SIZE }
@@ -61,17 +56,21 @@ pub fn duration_str_report(
 }
 
 /// Reads a text and writes the answer. Returns the fault, or what is shown where there is none.
-fn refusal_of<'a>(
+#[inline(always)]
+pub(crate) fn refusal_of<'a>(
     bytes: &'a [u8],
     options: u32,
     answer: &mut Answer,
 ) -> Result<Fault<'a>, &'static str>
-    ensures answers { IsUtf8 bytes.now → IsAnswerTo options bytes.now answer.new }
-    ensures not_text { ¬ (IsUtf8 bytes.now) → answer.new ≡ refusal_answer (NotText false) 0 }
-    ensures refused { IfOk result (λ fault. (fault.text.now ≡ bytes.now) × IsUtf8 bytes.now
-        × IsRefusedBy options (chars bytes.now) fault.cause) }
+    ensures answers { IsAnswerTo options bytes.now answer.new }
+    ensures refused { IfOk result (λ fault. (fault.text.now ≡ bytes.now) × AreOptions options
+        × IsUtf8 bytes.now × IsRefusedBy options (chars bytes.now) fault.cause) }
     ensures said { IfErr result (λ line. IsSaidOf options bytes.now line.now) }
 {
+    if options & OPTIONS != options {
+        *answer = Answer::unknown_option();
+        return Err("unknown option");
+    }
     let Some(text) = text_of(bytes) else {
         *answer = Answer::refusal(Cause::NotText { optional: false }, 0);
         return Err("not UTF-8");

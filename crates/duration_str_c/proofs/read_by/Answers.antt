@@ -12,4 +12,4 @@ returns-in-None-clause-value c =
     let read : IsRead (options_of_bits c.args.bits) (chars c.args.text.now) c.in_ok-nanos.nanos = search rules in
     let has : HasUnits (terminals_of c.options_of_bits-options.result (chars c.args.text.now)) =
     (c.in-None.ensures {u = tt}).has in
-    rw (ne_eqb (bit_and c.args.bits 8) 0 c.if-bits-eq0.false) (read, rw c.options_of_bits-options.ensures.options at has)
+    rw (ne_eqb (bit_and c.args.bits 8) 0 c.if-bits-eq0.false) (read, rw c.options_of_bits-options.ensures at has)
