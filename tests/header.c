@@ -21,14 +21,14 @@ static struct duration_str_answer read_with(const char *text, uint32_t options)
     struct duration_str_answer answer;
     memset(&answer, 0xff, sizeof answer);
     bool read = duration_str_parse_with(text, strlen(text), options, &answer);
-    expect(read == (answer.cause == DURATION_STR_READ), "a text is read exactly if there is no cause");
+    expect(read == (answer.cause == DURATION_STR_CAUSE_READ), "a text is read exactly if there is no cause");
     return answer;
 }
 
 /* A syntax fault at this byte, where these kinds could stand, and at which a piece of so many bytes stands. */
 static bool is_syntax(struct duration_str_answer answer, size_t place, uint32_t expected, size_t found_length)
 {
-    return answer.cause == DURATION_STR_SYNTAX && answer.has_place == 1 && answer.place == place &&
+    return answer.cause == DURATION_STR_CAUSE_SYNTAX && answer.has_place == 1 && answer.place == place &&
            answer.expected == expected && answer.found_length == found_length && answer.nanos == 0 &&
            answer.first_operator == 0 && answer.later_operator == 0;
 }
@@ -41,7 +41,7 @@ static bool is_unknown(uint32_t options)
     bool is_said = duration_str_one_line("1\xff", 2, options, &not_text, line) == 14 &&
                    duration_str_report("1m", 2, options, &answer, report) == 14 &&
                    strcmp(line, "unknown option") == 0 && strcmp(report, line) == 0;
-    return is_said && not_text.cause == DURATION_STR_UNKNOWN_OPTION && answer.cause == DURATION_STR_UNKNOWN_OPTION &&
+    return is_said && not_text.cause == answer.cause && answer.cause == DURATION_STR_CAUSE_UNKNOWN_OPTION &&
            answer.nanos == 0 && answer.place == 0 && answer.found_length == 0 && answer.expected == 0 &&
            answer.has_place == 0 && answer.first_operator == 0 && answer.later_operator == 0;
 }
@@ -49,35 +49,37 @@ static bool is_unknown(uint32_t options)
 static void check_options(void)
 {
     const char *minute = "1\xe5\x88\x86";
-    const uint32_t after_number = DURATION_STR_UNIT | DURATION_STR_OPERATOR | DURATION_STR_END;
-    const uint32_t options = DURATION_STR_NO_CALC | DURATION_STR_LOWERCASE | DURATION_STR_CN_UNIT | DURATION_STR_REQUIRE_UNIT;
+    const uint32_t unit = DURATION_STR_EXPECTED_UNIT, unit_or_end = unit | DURATION_STR_EXPECTED_END;
+    const uint32_t after_number = unit_or_end | DURATION_STR_EXPECTED_OPERATOR;
+    const uint32_t options = DURATION_STR_OPTION_NO_CALC | DURATION_STR_OPTION_LOWERCASE | DURATION_STR_OPTION_CN_UNIT |
+                             DURATION_STR_OPTION_REQUIRE_UNIT;
     expect(is_unknown(16) && is_unknown(1u << 31) && is_unknown(~options) && is_unknown(~0u), "an unknown option");
     expect(read_with("1m", options).nanos == 60000000000u, "all options");
-    struct duration_str_answer read = read_with(minute, DURATION_STR_CN_UNIT);
+    struct duration_str_answer read = read_with(minute, DURATION_STR_OPTION_CN_UNIT);
     expect(read.nanos == 60000000000u && read.has_place == 0 && read.place == 0 && read.expected == 0, "a Chinese unit");
-    expect(is_syntax(read_with(minute, DURATION_STR_LOWERCASE), 1, after_number, 3), "a Chinese unit, unasked for");
-    expect(is_syntax(read_with("1M", DURATION_STR_LOWERCASE), 1, after_number, 1), "a capital under lowercase");
-    expect(read_with("1M", DURATION_STR_NO_CALC).nanos == 60000000000u, "a capital without lowercase");
-    expect(is_syntax(read_with("1+2", DURATION_STR_NO_CALC), 1, DURATION_STR_UNIT | DURATION_STR_END, 1), "an operator");
-    expect(read_with("1+2", DURATION_STR_LOWERCASE).nanos == 3000000000u, "an operator without no_calc");
-    expect(is_syntax(read_with("1h 30", DURATION_STR_REQUIRE_UNIT), 5, DURATION_STR_UNIT, 0), "a unit that is missing");
-    expect(read_with("1h 30m", DURATION_STR_REQUIRE_UNIT).nanos == 5400000000000u, "no unit that is missing");
+    expect(is_syntax(read_with(minute, DURATION_STR_OPTION_LOWERCASE), 1, after_number, 3), "a Chinese unit, unasked for");
+    expect(is_syntax(read_with("1M", DURATION_STR_OPTION_LOWERCASE), 1, after_number, 1), "a capital under lowercase");
+    expect(read_with("1M", DURATION_STR_OPTION_NO_CALC).nanos == 60000000000u, "a capital without lowercase");
+    expect(is_syntax(read_with("1+2", DURATION_STR_OPTION_NO_CALC), 1, unit_or_end, 1), "an operator");
+    expect(read_with("1+2", DURATION_STR_OPTION_LOWERCASE).nanos == 3000000000u, "an operator without no_calc");
+    expect(is_syntax(read_with("1h 30", DURATION_STR_OPTION_REQUIRE_UNIT), 5, unit, 0), "a unit that is missing");
+    expect(read_with("1h 30m", DURATION_STR_OPTION_REQUIRE_UNIT).nanos == 5400000000000u, "no unit that is missing");
 }
 
 static void check_refusals(void)
 {
-    expect(is_syntax(read_with("1m+", 0), 3, DURATION_STR_NUMBER, 0), "the end after an operator");
+    expect(is_syntax(read_with("1m+", 0), 3, DURATION_STR_EXPECTED_NUMBER, 0), "the end after an operator");
     struct duration_str_answer first = read_with("10000000000000000y+60", 0);
-    expect(first.cause == DURATION_STR_OVERFLOW && first.has_place == 1 && first.place == 0, "a first term too large");
+    expect(first.cause == DURATION_STR_CAUSE_OVERFLOW && first.has_place == 1 && first.place == 0, "a first term too large");
     struct duration_str_answer all = read_with("580y*2", 0);
-    expect(all.cause == DURATION_STR_OVERFLOW && all.has_place == 0 && all.expected == 0, "a value too large");
+    expect(all.cause == DURATION_STR_CAUSE_OVERFLOW && all.has_place == 0 && all.expected == 0, "a value too large");
     struct duration_str_answer mixed = read_with("1m 2s*3", 0);
-    expect(mixed.cause == DURATION_STR_MIXED && mixed.first_operator == '+' && mixed.later_operator == '*', "operators");
-    expect(read_with("", 0).cause == DURATION_STR_EMPTY, "the empty text");
-    expect(read_with("1s 99999999999999999999", 0).cause == DURATION_STR_NUMBER_TOO_LARGE, "a number");
-    expect(read_with("1\xff", 0).cause == DURATION_STR_NOT_TEXT, "bytes that are no UTF-8");
-    expect(strcmp(duration_str_cause_name(DURATION_STR_NOT_TEXT), "NOT_TEXT") == 0, "the name of a cause");
-    expect(strcmp(duration_str_cause_name(DURATION_STR_UNKNOWN_OPTION), "UNKNOWN_OPTION") == 0, "the last name");
+    expect(mixed.cause == DURATION_STR_CAUSE_MIXED && mixed.first_operator == '+' && mixed.later_operator == '*', "operators");
+    expect(read_with("", 0).cause == DURATION_STR_CAUSE_EMPTY, "the empty text");
+    expect(read_with("1s 99999999999999999999", 0).cause == DURATION_STR_CAUSE_NUMBER_TOO_LARGE, "a number");
+    expect(read_with("1\xff", 0).cause == DURATION_STR_CAUSE_NOT_TEXT, "bytes that are no UTF-8");
+    expect(strcmp(duration_str_cause_name(DURATION_STR_CAUSE_NOT_TEXT), "NOT_TEXT") == 0, "the name of a cause");
+    expect(strcmp(duration_str_cause_name(DURATION_STR_CAUSE_UNKNOWN_OPTION), "UNKNOWN_OPTION") == 0, "the last name");
     expect(strcmp(duration_str_cause_name(9), "") == 0, "no name");
 }
 
@@ -106,7 +108,8 @@ static void check_null_texts(void)
     uint64_t nanos = 7;
     struct duration_str_answer answer;
     expect(!duration_str_parse(NULL, 0, &nanos) && nanos == 7, "a null text");
-    expect(!duration_str_parse_with(NULL, 0, 0, &answer) && answer.cause == DURATION_STR_EMPTY, "a null text with options");
+    expect(!duration_str_parse_with(NULL, 0, 0, &answer), "a null text with options");
+    expect(answer.cause == DURATION_STR_CAUSE_EMPTY, "its answer");
 }
 
 /* Prints within limits over a buffer of marks. */
@@ -119,21 +122,21 @@ static bool is_printed(uint64_t secs, uint32_t nanos, const uint32_t *limits, ui
 
 static void check_styles(void)
 {
-    const uint32_t year = DURATION_STR_YEAR, day = DURATION_STR_DAY, second = DURATION_STR_SECOND;
-    const uint32_t nanosecond = DURATION_STR_NANOSECOND, after = nanosecond + 1;
+    const uint32_t year = DURATION_STR_UNIT_YEAR, day = DURATION_STR_UNIT_DAY, second = DURATION_STR_UNIT_SECOND;
+    const uint32_t nanosecond = DURATION_STR_UNIT_NANOSECOND, after = nanosecond + 1;
     const uint32_t two[] = {year, nanosecond, 2}, all[] = {year, nanosecond, 256}, seconds[] = {second, second, 9};
     const uint32_t days[] = {year, day, 2}, no_largest[] = {after, nanosecond, 2}, no_smallest[] = {year, after, 2};
-    expect(is_printed(5401, 0, two, DURATION_STR_LONG, "1 hour 30 minutes"), "a long style");
-    expect(is_printed(5401, 0, all, DURATION_STR_COMPACT, "1h30min1s"), "a compact style");
-    expect(is_printed(193, 29000000, all, DURATION_STR_SHORT, "3min 13s 29ms"), "more parts than units");
-    expect(is_printed(90061, 5, seconds, DURATION_STR_SHORT, "90061s"), "seconds");
-    expect(is_printed(193, 29000000, days, DURATION_STR_SHORT, "0d"), "no days");
-    expect(is_printed(193, 29000000, no_largest, DURATION_STR_SHORT, ""), "no largest unit");
-    expect(is_printed(193, 29000000, no_smallest, DURATION_STR_SHORT, ""), "no smallest unit");
-    expect(is_printed(193, 1000000000, two, DURATION_STR_SHORT, ""), "nanoseconds that are a second");
+    expect(is_printed(5401, 0, two, DURATION_STR_STYLE_LONG, "1 hour 30 minutes"), "a long style");
+    expect(is_printed(5401, 0, all, DURATION_STR_STYLE_COMPACT, "1h30min1s"), "a compact style");
+    expect(is_printed(193, 29000000, all, DURATION_STR_STYLE_SHORT, "3min 13s 29ms"), "more parts than units");
+    expect(is_printed(90061, 5, seconds, DURATION_STR_STYLE_SHORT, "90061s"), "seconds");
+    expect(is_printed(193, 29000000, days, DURATION_STR_STYLE_SHORT, "0d"), "no days");
+    expect(is_printed(193, 29000000, no_largest, DURATION_STR_STYLE_SHORT, ""), "no largest unit");
+    expect(is_printed(193, 29000000, no_smallest, DURATION_STR_STYLE_SHORT, ""), "no smallest unit");
+    expect(is_printed(193, 1000000000, two, DURATION_STR_STYLE_SHORT, ""), "nanoseconds that are a second");
     expect(is_printed(5401, 0, two, 3, "") && is_printed(5401, 0, two, 256, ""), "styles above 2");
     const uint32_t wrapped[] = {256 + year, nanosecond, 2}, other[] = {year, 256 + nanosecond, 2};
-    expect(is_printed(5401, 0, wrapped, DURATION_STR_SHORT, "") && is_printed(5401, 0, other, 0, ""), "units above 255");
+    expect(is_printed(5401, 0, wrapped, DURATION_STR_STYLE_SHORT, "") && is_printed(5401, 0, other, 0, ""), "units above 255");
 }
 
 static void check_one_line(void)
@@ -144,17 +147,17 @@ static void check_one_line(void)
     memset(line, '#', sizeof line);
     expect(is_written(line, duration_str_one_line(text, 9, 0, &answer, line),
                       "unknown unit \"mins\" at column 6 (did you mean \"min\"?)"), "one line");
-    expect(answer.cause == DURATION_STR_SYNTAX && answer.place == 5, "the answer beside the line");
+    expect(answer.cause == DURATION_STR_CAUSE_SYNTAX && answer.place == 5, "the answer beside the line");
     char report[DURATION_STR_REPORT_BUFFER_SIZE];
     memset(report, '#', sizeof report);
     memset(&answer, '#', sizeof answer);
     expect(is_written(report, duration_str_report(text, 9, 0, &answer, report),
                       "3h 2 mins\n     ^\nunknown unit \"mins\" at column 6 (did you mean \"min\"?)"), "a report");
-    expect(answer.cause == DURATION_STR_SYNTAX && answer.place == 5, "the answer beside the report");
+    expect(answer.cause == DURATION_STR_CAUSE_SYNTAX && answer.place == 5, "the answer beside the report");
     expect(duration_str_one_line(text, 2, 0, &answer, line) == 0 && line[0] == 0, "no line of a text that is read");
     expect(answer.nanos == 10800000000000 && line[1] == 'n', "the answer that is read");
     expect(duration_str_one_line("1\xff", 2, 0, &answer, line) == 9 && strcmp(line, "not UTF-8") == 0, "what is no UTF-8");
-    expect(answer.cause == DURATION_STR_NOT_TEXT, "its answer");
+    expect(answer.cause == DURATION_STR_CAUSE_NOT_TEXT, "its answer");
 }
 
 int main(void)

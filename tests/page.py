@@ -275,7 +275,7 @@ def try_code(page):
         "rust": r'parse_with("1m\t2µs\n", Options { no_calc: true, cn_unit: true, ..Options::off() })?;',
         "python": r'duration_str.parse("1m\t2µs\n", no_calc=True, cn_unit=True)',
         "javascript": r'parse("1m\t2µs\n", { noCalc: true, cnUnit: true });',
-        "c": "sizeof text - 1, DURATION_STR_NO_CALC | DURATION_STR_CN_UNIT, &answer);",
+        "c": "sizeof text - 1, DURATION_STR_OPTION_NO_CALC | DURATION_STR_OPTION_CN_UNIT, &answer);",
     }
     for name, end in taken.items():
         page.same(f"the code in {name}", True, any(line.endswith(end) for line in page.text_of(name).splitlines()))
@@ -302,11 +302,12 @@ def try_printing(page):
         ({}, "1d 1h 1min 1s 1ns", {}),
         ({"style": "compact"}, "1d1h1min1s1ns", {"rust": ".style(Style::Compact)", "python": 'style="compact"'}),
         ({"style": "long", "parts": "2"}, "1 day 1 hour",
-         {"rust": ".style(Style::Long).parts(2)", "c": "2, DURATION_STR_LONG,"}),
+         {"rust": ".style(Style::Long).parts(2)", "c": "2, DURATION_STR_STYLE_LONG,"}),
         ({"largest": "h", "smallest": "min"}, "25h 1min",
          {"rust": ".largest(TimeUnit::Hour).smallest(TimeUnit::Minute)", "python": 'largest="h", smallest="min"',
           "javascript": '{ largest: "h", smallest: "min" }',
-          "c": f"DURATION_STR_HOUR, DURATION_STR_MINUTE, {len(reference_parser.UNITS)}, DURATION_STR_SHORT,"}),
+          "c": "DURATION_STR_UNIT_HOUR, DURATION_STR_UNIT_MINUTE,\n"
+               f"    {len(reference_parser.UNITS)}, DURATION_STR_STYLE_SHORT,"}),
         ({"smallest": "µs"}, "1d 1h 1min 1s", {"rust": "TimeUnit::MicroSecond", "javascript": 'smallest: "µs"'}),
     ]
     for chosen, printed, code in rows:

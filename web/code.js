@@ -47,9 +47,9 @@ function cPrintCall(limits) {
     }
     const value = "answer.nanos / 1000000000, answer.nanos % 1000000000";
     const { largest = "y", smallest = "ns", parts = UNITS.length, style = "short" } = limits;
-    const words = [wordOf(largest), wordOf(smallest), style].map((word) => `DURATION_STR_${word.toUpperCase()}`);
+    const [from, to] = [largest, smallest].map((unit) => `DURATION_STR_UNIT_${wordOf(unit).toUpperCase()}`);
     return `char buffer[DURATION_STR_STYLED_BUFFER_SIZE];\nduration_str_format_styled(\n    ${value},\n`
-        + `    ${words[0]}, ${words[1]}, ${parts}, ${words[2]}, buffer);`;
+        + `    ${from}, ${to},\n    ${parts}, DURATION_STR_STYLE_${style.toUpperCase()}, buffer);`;
 }
 
 function c(text, options, limits) {
@@ -57,7 +57,7 @@ function c(text, options, limits) {
     const escaped = (byte) => `\\${byte.toString(8).padStart(3, "0")}`;
     const isPlain = (byte) => byte >= 0x20 && byte < 0x7f;
     const words = Array.from(bytes, (byte) => isPlain(byte) ? String.fromCharCode(byte) : escaped(byte));
-    const taken = namesOf(options).map((name) => `DURATION_STR_${switches[name].id.toUpperCase()}`).join(" | ") || "0";
+    const taken = namesOf(options).map((name) => `DURATION_STR_OPTION_${switches[name].id.toUpperCase()}`).join(" | ") || "0";
     return `#include <duration_str.h>\n\nconst char text[] = "${words.join("")}";\nstruct duration_str_answer answer;\n`
         + `bool is_read = duration_str_parse_with(\n    text, sizeof text - 1, ${taken}, &answer);\n`
         + cPrintCall(limits);

@@ -72,43 +72,46 @@
 extern "C" {
 #endif
 
+/* Each constant of an enumeration begins with the enumeration's name. */
+
 /* The options, as the bits of a `uint32_t`; with 0 all of them are off. With
- * any other bit each text is refused, by DURATION_STR_UNKNOWN_OPTION. */
+ * any other bit each text is refused, by DURATION_STR_CAUSE_UNKNOWN_OPTION. */
 enum duration_str_option {
     /* `+` and `*` are not read, and the terms are added one by one */
-    DURATION_STR_NO_CALC = 1,
+    DURATION_STR_OPTION_NO_CALC = 1,
     /* words are compared as written; otherwise ASCII capitals are read as
      * small letters */
-    DURATION_STR_LOWERCASE = 2,
+    DURATION_STR_OPTION_LOWERCASE = 2,
     /* the Chinese names of the units are also read */
-    DURATION_STR_CN_UNIT = 4,
+    DURATION_STR_OPTION_CN_UNIT = 4,
     /* a text that would be read, but has a number without a unit, is refused
-     * by DURATION_STR_SYNTAX where the first unit is missing */
-    DURATION_STR_REQUIRE_UNIT = 8
+     * by DURATION_STR_CAUSE_SYNTAX where the first unit is missing */
+    DURATION_STR_OPTION_REQUIRE_UNIT = 8
 };
 
 /* Why a text is refused. */
 enum duration_str_cause {
     /* it is not refused: the text is read */
-    DURATION_STR_READ = 0,
+    DURATION_STR_CAUSE_READ = 0,
     /* the text is empty */
-    DURATION_STR_EMPTY = 1,
+    DURATION_STR_CAUSE_EMPTY = 1,
     /* at the place, no expression continues as the text does */
-    DURATION_STR_SYNTAX = 2,
+    DURATION_STR_CAUSE_SYNTAX = 2,
     /* a number is 2^64 or more */
-    DURATION_STR_NUMBER_TOO_LARGE = 3,
+    DURATION_STR_CAUSE_NUMBER_TOO_LARGE = 3,
     /* a term, a step or the value is 2^64 nanoseconds or more */
-    DURATION_STR_OVERFLOW = 4,
+    DURATION_STR_CAUSE_OVERFLOW = 4,
     /* `+` and `*` are mixed */
-    DURATION_STR_MIXED = 5,
+    DURATION_STR_CAUSE_MIXED = 5,
     /* the bytes are not UTF-8 */
-    DURATION_STR_NOT_TEXT = 7,
+    DURATION_STR_CAUSE_NOT_TEXT = 7,
     /* a bit is set that is no option of this library: the text was not looked
      * at */
-    DURATION_STR_UNKNOWN_OPTION = 8
+    DURATION_STR_CAUSE_UNKNOWN_OPTION = 8
 };
 
-/* The name of a cause, such as `NUMBER_TOO_LARGE`; empty for another number. */
+/* The name of a cause, such as `NUMBER_TOO_LARGE`; empty for another number.
+ * It is an inline function of the header, and no symbol of the library. */
 static inline const char *duration_str_cause_name(uint32_t cause)
 {
     static const char *const names[] = {
@@ -119,58 +122,58 @@ static inline const char *duration_str_cause_name(uint32_t cause)
 
 /* What could stand at the place of a syntax fault, as the bits of a
  * `uint32_t`. */
-enum duration_str_kind {
-    DURATION_STR_NUMBER = 1,   /* a number */
-    DURATION_STR_UNIT = 2,     /* a unit */
-    DURATION_STR_OPERATOR = 4, /* `+` or `*` */
-    DURATION_STR_END = 8       /* the end of the text */
+enum duration_str_expected {
+    DURATION_STR_EXPECTED_NUMBER = 1,   /* a number */
+    DURATION_STR_EXPECTED_UNIT = 2,     /* a unit */
+    DURATION_STR_EXPECTED_OPERATOR = 4, /* `+` or `*` */
+    DURATION_STR_EXPECTED_END = 8       /* the end of the text */
 };
 
 /* The units, the longest first. */
 /* The enumeration is made by tests/repository --write. */
 enum duration_str_unit {
-    DURATION_STR_YEAR = 0,
-    DURATION_STR_QUARTER = 1,
-    DURATION_STR_MONTH = 2,
-    DURATION_STR_WEEK = 3,
-    DURATION_STR_DAY = 4,
-    DURATION_STR_HOUR = 5,
-    DURATION_STR_MINUTE = 6,
-    DURATION_STR_SECOND = 7,
-    DURATION_STR_MILLISECOND = 8,
-    DURATION_STR_MICROSECOND = 9,
-    DURATION_STR_NANOSECOND = 10
+    DURATION_STR_UNIT_YEAR = 0,
+    DURATION_STR_UNIT_QUARTER = 1,
+    DURATION_STR_UNIT_MONTH = 2,
+    DURATION_STR_UNIT_WEEK = 3,
+    DURATION_STR_UNIT_DAY = 4,
+    DURATION_STR_UNIT_HOUR = 5,
+    DURATION_STR_UNIT_MINUTE = 6,
+    DURATION_STR_UNIT_SECOND = 7,
+    DURATION_STR_UNIT_MILLISECOND = 8,
+    DURATION_STR_UNIT_MICROSECOND = 9,
+    DURATION_STR_UNIT_NANOSECOND = 10
 };
 
 /* How a duration is printed. */
 enum duration_str_style {
-    DURATION_STR_SHORT = 0,   /* `1h 30min` */
-    DURATION_STR_COMPACT = 1, /* `1h30min` */
-    DURATION_STR_LONG = 2     /* `1 hour 30 minutes` */
+    DURATION_STR_STYLE_SHORT = 0,   /* `1h 30min` */
+    DURATION_STR_STYLE_COMPACT = 1, /* `1h30min` */
+    DURATION_STR_STYLE_LONG = 2     /* `1 hour 30 minutes` */
 };
 
 /* What a text is read as, or why and where it is refused. Fields that a
  * case does not use are 0. */
 struct duration_str_answer {
-    /* the value in nanoseconds, if `cause` is DURATION_STR_READ */
+    /* the value in nanoseconds, if the text is read */
     uint64_t nanos;
     /* if `has_place` is 1: the byte offset of the fault, from 0 to the
      * text's length */
     size_t place;
-    /* for DURATION_STR_SYNTAX: the length in bytes of the token at the
+    /* for DURATION_STR_CAUSE_SYNTAX: the length in bytes of the token at the
      * place; 0 at the end */
     size_t found_length;
     /* an `enum duration_str_cause` */
     uint32_t cause;
-    /* for DURATION_STR_SYNTAX: what could stand at the place, bits of `enum
-     * duration_str_kind` */
+    /* for DURATION_STR_CAUSE_SYNTAX: what could stand at the place, bits of
+     * `enum duration_str_expected` */
     uint32_t expected;
-    /* 1 or 0; always 1 for DURATION_STR_SYNTAX, otherwise 1 if the first
+    /* 1 or 0; always 1 for DURATION_STR_CAUSE_SYNTAX, otherwise 1 if the first
      * term is too large */
     uint8_t has_place;
-    /* for DURATION_STR_MIXED: the operator that came first, '+' or '*' */
+    /* for DURATION_STR_CAUSE_MIXED: the operator that came first, '+' or '*' */
     char first_operator;
-    /* for DURATION_STR_MIXED: the one that came later */
+    /* for DURATION_STR_CAUSE_MIXED: the one that came later */
     char later_operator;
 };
 
@@ -231,11 +234,11 @@ size_t duration_str_one_line(
 
 /* The same, and writes a refusal for a terminal: the text, below it a caret
  * under the place, and below that the line of duration_str_one_line. It is
- * the line alone if the cause is not DURATION_STR_SYNTAX, if the text has more
- * than 80 characters, or if the line would escape something in it. A caret
- * stands after as many spaces as the text before it takes columns. `buffer`
- * has DURATION_STR_REPORT_BUFFER_SIZE bytes, which the report and its zero
- * don't exceed. */
+ * the line alone if the cause is not DURATION_STR_CAUSE_SYNTAX, if the text
+ * has more than 80 characters, or if the line would escape something in it. A
+ * caret stands after as many spaces as the text before it takes columns.
+ * `buffer` has DURATION_STR_REPORT_BUFFER_SIZE bytes, which the report and its
+ * zero don't exceed. */
 DURATION_STR_NONNULL(4, 5)
 size_t duration_str_report(
     const char *text, size_t length, uint32_t options,

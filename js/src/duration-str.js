@@ -142,7 +142,7 @@ for (const field of ["code", "text", "index", "byte", "found", "expected"]) {
     Object.defineProperty(DurationError.prototype, field, { get() { return this.cause[field]; }, configurable: true });
 }
 
-/** The flags of what could stand at the place, by the bits of `enum duration_str_kind`. */
+/** The flags of what could stand at the place, by the bits of `enum duration_str_expected`. */
 function expectedOf(kinds) {
     return { number: (kinds & 1) !== 0, unit: (kinds & 2) !== 0, operator: (kinds & 4) !== 0, end: (kinds & 8) !== 0 };
 }

@@ -105,7 +105,7 @@ static struct duration_str_answer read_with(struct text text, uint32_t options)
     bool read = duration_str_parse_with((const char *)text.bytes, text.length, options, answer);
     HOLDS(is_untouched(answers_end - sizeof told - CANARIES, answers_end - sizeof told));
     told = *answer;
-    HOLDS(read == (told.cause == DURATION_STR_READ));
+    HOLDS(read == (told.cause == DURATION_STR_CAUSE_READ));
     return told;
 }
 
@@ -128,7 +128,7 @@ static void check_printed(uint64_t nanos)
     struct text printed = text_at(prints, buffer, length);
     for (uint32_t options = 0; options < CHOICES; options++) {
         struct duration_str_answer answer = read_with(printed, options);
-        HOLDS(answer.cause == DURATION_STR_READ && answer.nanos == nanos);
+        HOLDS(answer.cause == DURATION_STR_CAUSE_READ && answer.nanos == nanos);
     }
 }
 
@@ -138,7 +138,7 @@ static void check_report(struct text text, uint32_t options, struct duration_str
     struct duration_str_answer answer;
     uint8_t *buffer = buffer_at(output_end, DURATION_STR_REPORT_BUFFER_SIZE);
     size_t length = duration_str_report((const char *)text.bytes, text.length, options, &answer, (char *)buffer);
-    HOLDS(are_equal(answer, wanted) && (length == 0) == (answer.cause == DURATION_STR_READ) && buffer[length] == 0);
+    HOLDS(are_equal(answer, wanted) && (length == 0) == (answer.cause == DURATION_STR_CAUSE_READ) && buffer[length] == 0);
     HOLDS(is_untouched(buffer - CANARIES, buffer) && is_untouched(buffer + length + 1, output_end));
 }
 
@@ -150,7 +150,7 @@ static void check_plain(struct text text, struct duration_str_answer answer)
     uint64_t before = 0x0123456789abcdef, *nanos = (void *)buffer_at(number_end, sizeof *nanos);
     memcpy(nanos, &before, sizeof before);
     bool read = duration_str_parse((const char *)text.bytes, text.length, nanos);
-    HOLDS(read == (answer.cause == DURATION_STR_READ) && *nanos == (read ? answer.nanos : before));
+    HOLDS(read == (answer.cause == DURATION_STR_CAUSE_READ) && *nanos == (read ? answer.nanos : before));
     HOLDS(is_untouched((uint8_t *)nanos - CANARIES, (uint8_t *)nanos));
 }
 
@@ -169,13 +169,13 @@ static void count(struct duration_str_answer answer)
 
 static void check(struct text text)
 {
-    const struct duration_str_answer unknown = {.cause = DURATION_STR_UNKNOWN_OPTION};
+    const struct duration_str_answer unknown = {.cause = DURATION_STR_CAUSE_UNKNOWN_OPTION};
     struct duration_str_answer answers[CHOICES];
     for (uint32_t options = 0; options < CHOICES; options++) {
         struct duration_str_answer answer = answers[options] = read_with(text, options);
         count(answer);
         HOLDS(are_equal(unknown, read_with(text, options | CHOICES << options)));
-        if (answer.cause == DURATION_STR_READ && (options == 0 || answer.nanos != answers[0].nanos))
+        if (answer.cause == DURATION_STR_CAUSE_READ && (options == 0 || answer.nanos != answers[0].nanos))
             check_printed(answer.nanos);
         if (options > 0 && are_equal(answer, answers[0]))
             continue;

@@ -62,7 +62,7 @@ static void raise_type_error(struct state *state, PyObject *value, Py_ssize_t in
 
 /* Turns the pending error of a str that is no text into the package's. */
 static void raise_surrogate(struct state *state, PyObject *text, Py_ssize_t index) {
-    const struct duration_str_answer answer = {.cause = DURATION_STR_NOT_TEXT};
+    const struct duration_str_answer answer = {.cause = DURATION_STR_CAUSE_NOT_TEXT};
     PyObject *type, *error, *traceback, *line = NULL;
     Py_ssize_t start = 0;
     PyErr_Fetch(&type, &error, &traceback);
@@ -104,8 +104,8 @@ static int read_str(struct state *state, PyObject *given, uint32_t options, uint
     if (!raises)
         duration_str_parse_with(text.bytes, text.length, options, &answer);
     *nanos = answer.nanos;
-    if (answer.cause == DURATION_STR_READ || !raises)
-        return answer.cause == DURATION_STR_READ;
+    if (answer.cause == DURATION_STR_CAUSE_READ || !raises)
+        return answer.cause == DURATION_STR_CAUSE_READ;
     raise_error(state, report, PyUnicode_FromObject(given), &answer, text.bytes, index);
     return -1;
 }
@@ -192,7 +192,7 @@ struct limits {
 
 /* All units, as many parts as there are units, and the short style */
 static const struct limits no_limits = {
-    {DURATION_STR_YEAR, DURATION_STR_NANOSECOND}, DURATION_STR_NANOSECOND + 1, DURATION_STR_SHORT};
+    {DURATION_STR_UNIT_YEAR, DURATION_STR_UNIT_NANOSECOND}, DURATION_STR_UNIT_NANOSECOND + 1, DURATION_STR_STYLE_SHORT};
 
 /* The names of the units as they are printed, in Latin-1, and of the styles */
 /* Made by tests/repository --write. */
@@ -212,10 +212,10 @@ static int place_among(PyObject *name, const char *const *names, int count, cons
 /* The number of a unit by its name. Returns -1 with an error. */
 static int unit_of(PyObject *name, const char *keyword) {
     if (PyUnicode_Check(name) && !PyUnicode_CompareWithASCIIString(name, "us"))
-        return DURATION_STR_MICROSECOND;
+        return DURATION_STR_UNIT_MICROSECOND;
     /* Made by tests/repository --write. */
     const char *told = "y, q, mon, w, d, h, min, s, ms, \xc2\xb5s or us, ns";
-    return place_among(name, unit_names, DURATION_STR_NANOSECOND + 1, keyword, told);
+    return place_among(name, unit_names, DURATION_STR_UNIT_NANOSECOND + 1, keyword, told);
 }
 
 /* Takes a count of parts. Returns -1 with an error. */
@@ -242,7 +242,7 @@ static int take_limit(struct state *state, PyObject *keyword, PyObject *value, s
     if (LARGEST + limit == PARTS)
         return take_parts(value, &limits->parts);
     if (LARGEST + limit == STYLE) {
-        const int style = place_among(value, style_names, DURATION_STR_LONG + 1, "style", "short, compact, long");
+        const int style = place_among(value, style_names, DURATION_STR_STYLE_LONG + 1, "style", "short, compact, long");
         limits->style = (uint32_t)style;
         return style < 0 ? -1 : 0;
     }
@@ -423,7 +423,7 @@ static int keep(struct state *state, const struct list *list, Py_ssize_t at, PyO
 
 /* Raises that timedelta64 doesn't have a text's value. */
 static void raise_beyond(struct state *state, PyObject *given, Py_ssize_t index) {
-    const struct duration_str_answer answer = {.cause = DURATION_STR_OVERFLOW};
+    const struct duration_str_answer answer = {.cause = DURATION_STR_CAUSE_OVERFLOW};
     PyObject *line = PyUnicode_FromString("duration of 2^63 nanoseconds or more, which timedelta64 doesn't have");
     raise_error(state, line, PyUnicode_FromObject(given), &answer, NULL, index);
 }
@@ -530,7 +530,7 @@ static void raise_between(struct state *state, const Py_buffer *data, const size
     struct duration_str_answer answer;
     const struct text text = {PyBytes_AsString(copy), end - start};
     PyObject *report = report_of(text, options, &answer);
-    if (answer.cause == DURATION_STR_READ) {
+    if (answer.cause == DURATION_STR_CAUSE_READ) {
         PyErr_Format(PyExc_RuntimeError, "at index %zd: the text changed while it was read", index);
     } else {
         PyObject *given = PyUnicode_DecodeUTF8(text.bytes, (Py_ssize_t)text.length, "surrogateescape");
