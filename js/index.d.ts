@@ -205,19 +205,3 @@ export function formatNs(nanoseconds: bigint, options?: Limits): string;
  * @throws TypeError where it is neither; and as `format` does
  */
 export function parts(duration: number | bigint, limits?: PartLimits): Parts;
-
-/**
- * The date that is a text's duration after this one. A Date has whole milliseconds, so what the text has beyond them is
- * dropped. A day is 24 hours, whatever the clocks do.
- *
- * ```js
- * after(new Date("2026-01-31T12:00:00Z"), "90d"); // 2026-05-01T12:00:00.000Z
- * ```
- *
- * @throws RangeError where the date is invalid, or a Date cannot hold the one that is reached
- * @throws DurationError, TypeError as `parse` does; TypeError also where `date` is no Date
- */
-export function after(date: Date, text: string, options?: Options): Date;
-
-/** The date that is a text's duration before this one, in the same way as `after`. */
-export function before(date: Date, text: string, options?: Options): Date;

@@ -8,8 +8,6 @@ const SECOND = 1_000_000_000n;
 const MILLISECOND = 1_000_000n;
 /** Durations are below this many nanoseconds. */
 const LIMIT = 1n << 64n;
-/** The milliseconds of the last Date from 1970 on, and of the first one before. */
-const LAST_DATE = 8_640_000_000_000_000;
 const LONE_SURROGATE = /\p{Surrogate}/u;
 
 /** The codes of the refusals, in the order of `enum duration_str_cause` in the library's header. */
@@ -383,27 +381,4 @@ export function parts(value, options = {}) {
         rest %= lengths[unit];
     }
     return Object.keys(found).length > 0 ? found : { [PARTS[Math.min(smallest, UNITS.indexOf("s"))]]: 0 };
-}
-
-/** The date that is a text's whole milliseconds away, in the direction of the sign. */
-function add(date, sign, text, options) {
-    let start;
-    try {
-        start = Date.prototype.getTime.call(date);
-    } catch {
-        throw new TypeError(`the date must be a Date, not ${typeOf(date)}`);
-    }
-    if (Number.isNaN(start)) throw new RangeError("the date is invalid");
-    // Both are so far below 2^53 that the sum is exact.
-    const end = start + sign * Math.trunc(parse(text, options));
-    if (Math.abs(end) > LAST_DATE) throw new RangeError("the date that is reached is out of the range of a Date");
-    return new Date(end);
-}
-
-export function after(date, text, options) {
-    return add(date, 1, text, options);
-}
-
-export function before(date, text, options) {
-    return add(date, -1, text, options);
 }

@@ -1,6 +1,6 @@
 // The types of the package, by the compiler alone: what has to be wrong stands below a line that expects an error.
 import {
-    after, before, DurationError, type Expected, type Fault, formatNs, format, type Options, parseNs, parse, type Parts, parts,
+    DurationError, type Expected, type Fault, formatNs, format, type Options, parseNs, parse, type Parts, parts,
     type Refusal, tryParseNs, tryParse, version,
 } from "duration-str";
 
@@ -10,7 +10,6 @@ const milliseconds: number = parse("1m 30s", {});
 const texts: string[] = [formatNs(nanoseconds), format(milliseconds), formatNs(1n, { parts: 2, largest: "d", smallest: "us", style: "long" })];
 const counted: Parts = parts(nanoseconds, { largest: "y" });
 const hours: number = counted.hours ?? 0;
-const dates: Date[] = [after(new Date(), "90d"), before(new Date(), "1w", options)];
 
 try {
     parseNs(texts.join(" "));
@@ -54,8 +53,6 @@ format(1, { units: 2 });
 formatNs(1n, { style: "wide" });
 // @ts-expect-error: quarters are not counted
 parts(1n, { largest: "q" });
-// @ts-expect-error: no date
-after(0, "1s");
 // @ts-expect-error: nobody else makes one
 new DurationError("1x");
 // @ts-expect-error: a bigint is no number
@@ -67,4 +64,4 @@ const fault: Fault | undefined = result.fault;
 const lines: string[] = [result.fault?.message ?? "", version];
 const inMs: number | undefined = tryParse("1s").value;
 
-void [dates, hours, wrong, read, fault, lines, inMs];
+void [hours, wrong, read, fault, lines, inMs];
