@@ -211,33 +211,31 @@ function isPlain(options) {
         || (Object.getPrototypeOf(prototype) === null && isOwn.call(prototype, "isPrototypeOf"));
 }
 
-/** The options that are chosen, and the others as in `defaults`, which has all that are known. Only own names are read. */
-function ownOptions(options, defaults, hint = "") {
-    if (!isPlain(options)) {
-        const type = typeOf(options);
-        throw new TypeError(`the options must be a plain object, not ${type === "object" ? "one that inherits" : type}${hint}`);
-    }
-    const all = { ...defaults };
-    for (const name of Object.keys(options)) {
-        if (!isOwn.call(all, name)) throw new TypeError(`unknown option: ${name}`);
-        if (options[name] !== undefined) all[name] = options[name];
-    }
-    return all;
+function checkPlain(options, hint = "") {
+    if (isPlain(options)) return;
+    const type = typeOf(options);
+    throw new TypeError(`the options must be a plain object, not ${type === "object" ? "one that inherits" : type}${hint}`);
 }
 
+const unknown = (name) => new TypeError(`unknown option: ${name}`);
+
 /** The options of reading, in the order of their bits in `enum duration_str_option`. */
-const OFF = { noCalc: false, lowercase: false, cnUnit: false, requireUnit: false };
-const NAMES = Object.keys(OFF);
+const OPTIONS = ["noCalc", "lowercase", "cnUnit", "requireUnit"];
 
 /** The bits of the options that are on. */
 function bitsOf(options) {
     if (options === undefined) return 0;
     // Whoever hands a call over, as to `map`, hands in other arguments, too.
-    const all = ownOptions(options, OFF, ": write (text) => parse(text)");
-    return NAMES.reduce((bits, name, bit) => {
-        if (typeof all[name] !== "boolean") throw new TypeError(`the option ${name} must be a boolean, not ${typeOf(all[name])}`);
-        return bits | all[name] << bit;
-    }, 0);
+    checkPlain(options, ": write (text) => parse(text)");
+    let bits = 0;
+    for (const name of Object.keys(options)) {
+        const bit = OPTIONS.indexOf(name);
+        const value = options[name];
+        if (bit < 0) throw unknown(name);
+        if (value === true) bits |= 1 << bit;
+        else if (value !== false && value !== undefined) throw new TypeError(`the option ${name} must be a boolean, not ${typeOf(value)}`);
+    }
+    return bits;
 }
 
 /** Reads a text, and returns what is wrong with it; nothing where it is read, and its value stands at ANSWER. */
@@ -303,7 +301,12 @@ function countOf(parts) {
 
 /** The limits that are chosen, with numbers for names, and the others as in `defaults`, which has all that are known. */
 function limitsOf(options, defaults) {
-    const limits = ownOptions(options, defaults);
+    checkPlain(options);
+    const limits = { ...defaults };
+    for (const name of Object.keys(options)) {
+        if (!isOwn.call(limits, name)) throw unknown(name);
+        if (options[name] !== undefined) limits[name] = options[name];
+    }
     const largest = numberOf("largest", limits.largest, UNITS);
     const smallest = numberOf("smallest", limits.smallest, UNITS);
     if (largest > smallest) {
