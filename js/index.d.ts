@@ -23,9 +23,9 @@ export interface Options {
 // Made by tests/repository --write.
 export type Unit = "y" | "q" | "mon" | "w" | "d" | "h" | "min" | "s" | "ms" | "µs" | "us" | "ns";
 
-/** How much of a duration is counted: a plain object's own properties. What is left out is as many parts as there are units. */
+/** How much of a duration is counted: a plain object's own properties. */
 interface Counted<Name extends Unit> {
-    /** How many parts there are at most. The rest is left out, never rounded up. */
+    /** How many parts there are at most; `Infinity` is all. The rest is left out, never rounded up. */
     parts?: number | undefined;
     /** The largest unit: from `d` on, 120 days are `120d`. */
     largest?: Name | undefined;
@@ -143,9 +143,9 @@ export type Result<Value = number> =
 export declare const version: string;
 
 /**
- * The value of a text in milliseconds: `parse("1m 30s")` is `90000`, and `parse("1500us")` is `1.5`. It is the number
- * nearest to the value, which has its nanoseconds up to 2^33 ms (99 days). To read an array write
- * `texts.map((text) => parse(text))`, since `map` passes the index, too.
+ * The value of a text in milliseconds: `parse("1m 30s")` is `90000`, and `parse("1500us")` is `1.5`. It is the nearest
+ * number: below 2^33 ms (99 days) `format` prints every nanosecond of it, above the last ones may differ. To read an array
+ * write `texts.map((text) => parse(text))`, since `map` passes the index, too.
  *
  * ```js
  * setTimeout(retry, parse("1m 30s")); // which takes up to 24.8 days

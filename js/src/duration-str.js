@@ -293,7 +293,7 @@ function numberOf(option, name, names) {
 /** How many parts are printed at most; there are no more than units. */
 function countOf(parts) {
     if (typeof parts !== "number") throw new TypeError(`the option parts must be a number, not ${typeOf(parts)}`);
-    if (!Number.isInteger(parts) || parts < 1) {
+    if (parts !== Infinity && !Number.isInteger(parts) || parts < 1) {
         throw new RangeError(`the option parts must be a whole number from 1 on, not ${parts}`);
     }
     return Math.min(parts, UNITS.length);
@@ -315,23 +315,24 @@ function limitsOf(options, defaults) {
     return { ...limits, largest, smallest, parts: countOf(limits.parts) };
 }
 
-const ALL = { largest: "y", smallest: "ns", parts: UNITS.length, style: "short" };
+const ALL = { largest: "y", smallest: "ns", parts: Infinity, style: "short" };
 
-function checkRange(nanoseconds, value) {
+/** Checks a duration, which is this value and at most `longest` in the unit that the value has. */
+function checkRange(nanoseconds, value, longest) {
     if (value < 0) throw new RangeError(`a duration is not negative: ${value}`);
-    if (nanoseconds >= LIMIT) throw new RangeError("a duration is at most 584 years, 2^64 - 1 ns");
+    if (nanoseconds >= LIMIT) throw new RangeError(`a duration is at most 584 years, ${longest}`);
 }
 
 /** The nanoseconds of a bigint, which is them, or of a number of milliseconds, to the nearest one. */
 function nanosecondsOf(value) {
     if (typeof value === "bigint") {
-        checkRange(value, value);
+        checkRange(value, value, "2^64 - 1 ns");
         return value;
     }
     if (!Number.isFinite(value)) throw new RangeError(`milliseconds must be finite, not ${value}`);
     const whole = Math.trunc(value);
     const nanoseconds = BigInt(whole) * MILLISECOND + BigInt(Math.round((value - whole) * 1_000_000));
-    checkRange(nanoseconds, value);
+    checkRange(nanoseconds, value, "18446744073709.55 ms");
     return nanoseconds;
 }
 
@@ -374,7 +375,7 @@ export function parts(value, options = {}) {
         throw new TypeError(`a duration is a number of milliseconds or a bigint of nanoseconds, not ${typeOf(value)}`);
     }
     let rest = nanosecondsOf(value);
-    const { largest, smallest, parts: most } = limitsOf(options, { largest: "d", smallest: "ns", parts: UNITS.length });
+    const { largest, smallest, parts: most } = limitsOf(options, { largest: "d", smallest: "ns", parts: Infinity });
     if (!PARTS[largest] || !PARTS[smallest]) throw new RangeError("parts has no quarters");
     lengths ??= UNITS.map((name) => parseNs(`1${name}`));
     const found = {};

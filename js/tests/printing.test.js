@@ -21,7 +21,8 @@ test("prints the vectors, and refuses limits that contradict each other", () => 
     assert.equal(formatNs(1999n, { smallest: "us" }), "1µs");
     assert.equal(format(193_029, { parts: 2 }), "3min 13s");
     assert.equal(format(90_000, { style: "long" }), "1 minute 30 seconds");
-    assert.equal(formatNs(90_061_000_000_001n, { parts: 2 ** 32, largest: undefined }), "1d 1h 1min 1s 1ns");
+    for (const parts of [2 ** 32, Infinity]) assert.equal(formatNs(90_061_000_000_001n, { parts, largest: undefined }), "1d 1h 1min 1s 1ns");
+    assert.equal(format(90_061_001, { parts: Infinity }), "1d 1h 1min 1s 1ms");
 });
 
 test("refuses limits that there are not", () => {
@@ -34,6 +35,7 @@ test("refuses limits that there are not", () => {
         [{ parts: 0 }, new RangeError("the option parts must be a whole number from 1 on, not 0")],
         [{ parts: 1.5 }, new RangeError("the option parts must be a whole number from 1 on, not 1.5")],
         [{ parts: NaN }, new RangeError("the option parts must be a whole number from 1 on, not NaN")],
+        [{ parts: -Infinity }, new RangeError("the option parts must be a whole number from 1 on, not -Infinity")],
         [{ largest: "h", smallest: "d" }, new RangeError("the largest unit, h, is shorter than the smallest, d")],
         [{ style: "wide" }, new RangeError(`${style} wide`)],
         [{ style: 1 }, new TypeError("the option style must be a string, not number")],
@@ -59,6 +61,7 @@ test("counts the parts", () => {
         [400n * DAY, { largest: "y" }, { years: 1, months: 1, days: 5 }],
         [400n * DAY, { largest: "mon" }, { months: 13, weeks: 1, days: 3 }],
         [400n * DAY, { largest: "mon", parts: 2 }, { months: 13, weeks: 1 }],
+        [400n * DAY, { largest: "mon", parts: Infinity }, { months: 13, weeks: 1, days: 3 }],
         [2n ** 53n - 1n, { largest: "ns" }, { nanoseconds: Number.MAX_SAFE_INTEGER }],
     ];
     for (const [value, limits, counted] of rows) assert.deepEqual(parts(value, limits), counted);
@@ -77,6 +80,9 @@ test("prints milliseconds", () => {
         assert.equal(format(value), printed);
     }
     assert.equal(format(parse("1m 30s")), "1min 30s");
+    assert.equal(format(18_446_744_073_709.55, { parts: 1 }), "584y");
+    // The last nanosecond that a number of milliseconds has to have, and the first that it lacks
+    assert.deepEqual(["8589934591999999ns", "8589934592000001ns"].map((text) => formatNs(parseNs(text)) === format(parse(text))), [true, false]);
 });
 
 test("refuses what is negative, not finite or too large", () => {
@@ -85,7 +91,7 @@ test("refuses what is negative, not finite or too large", () => {
         [formatNs, [2n ** 64n, 10n ** 1000n], /^a duration is at most 584 years, 2\^64 - 1 ns$/],
         [format, [-1, -0.5], /^a duration is not negative: -(1|0\.5)$/],
         [format, [NaN, Infinity, -Infinity], /^milliseconds must be finite, not (NaN|-?Infinity)$/],
-        [format, [18_446_744_073_710, 2 ** 53, 1e300], /^a duration is at most 584 years, 2\^64 - 1 ns$/],
+        [format, [18_446_744_073_710, 2 ** 53, 1e300], /^a duration is at most 584 years, 18446744073709\.55 ms$/],
     ];
     for (const [call, values, message] of rows) {
         for (const value of values) assert.throws(() => call(value), { name: "RangeError", message });
