@@ -117,7 +117,7 @@ export type Fault = Refusal & Told;
 
 /**
  * A refused text, whose message is the fault's. A structured clone keeps the message and the `cause`, and `toJSON` gives
- * both. It is one class for `import` and `require` in Node.
+ * both. It is one class for `import` and `require` in Node; `duration-str/plain` has another, of the same name.
  *
  * ```js
  * try {

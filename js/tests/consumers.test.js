@@ -107,7 +107,7 @@ test("is imported and required, under some conditions without WebAssembly", () =
 
 test("has types for a CommonJS module", skipWithout("tsc"), () => {
     writeFileSync(join(room, "typed.cts"), 'import { parse } from "duration-str/plain";\nexport const value: number = parse("1h");');
-    for (const [module, resolution] of [["node16", "node16"], ["commonjs", "node"]]) {
+    for (const [module, resolution] of [["node16", "node16"], ["nodenext", "nodenext"], ["commonjs", "node"]]) {
         runs("tsc", "--strict", "--noEmit", "--target", "es2022", "--module", module, "--moduleResolution", resolution, "typed.cts");
     }
 });
@@ -122,7 +122,10 @@ test("prints in plain JavaScript as in WebAssembly", async () => {
             }
         }
     }
-    assert.deepEqual({ ...plain.tryParseNs("1µs 😀x").fault }, { ...compiled.tryParseNs("1µs 😀x").fault });
+    const { fault } = plain.tryParseNs("1µs 😀x");
+    assert.deepEqual({ ...fault }, { ...compiled.tryParseNs("1µs 😀x").fault });
+    assert.throws(() => new compiled.DurationError(fault), TypeError);
+    assert.throws(() => plain.parse("1x"), (error) => !(error instanceof compiled.DurationError) && error.name === "DurationError");
 });
 
 const DURATION = join(PACKAGE, "examples/duration.mjs");
@@ -171,8 +174,9 @@ for (const format of ["esm", "cjs"]) {
 /** What is posted from a page in Chromium that is served with these files and headers, of which the first is the page. */
 async function pageMessage(files, headers = {}) {
     let browser;
+    const server = createServer();
     return new Promise((resolve, reject) => {
-        const server = createServer(async (request, response) => {
+        server.on("request", async (request, response) => {
             const name = request.url === "/" ? Object.keys(files)[0] : request.url.slice(1);
             if (request.method === "GET") {
                 const type = name.endsWith(".js") ? "text/javascript" : "text/html";
@@ -182,8 +186,6 @@ async function pageMessage(files, headers = {}) {
             let body = "";
             for await (const part of request) body += part;
             response.end();
-            server.close();
-            server.closeAllConnections();
             resolve(body);
         });
         server.listen(0, "127.0.0.1", () => {
@@ -193,6 +195,8 @@ async function pageMessage(files, headers = {}) {
         });
         setTimeout(() => reject(new Error("the page says nothing for a minute")), 60_000).unref();
     }).finally(() => new Promise((resolve) => {
+        server.close();
+        server.closeAllConnections();
         // Until it has ended, the browser writes into its profile.
         browser.on("close", resolve);
         browser.kill();
