@@ -89,8 +89,7 @@ function output(length) {
     let text = "";
     for (let place = 0; place < length; place++) {
         const byte = buffer[place];
-        if (byte > 0xc2) return decode(buffer.subarray(0, length));
-        // After the byte 0xc2 the next one is the number of its character.
+        // Beyond ASCII so little has the micro sign alone: after the byte 0xc2 the next one is its number.
         if (byte !== 0xc2) text += String.fromCharCode(byte);
     }
     return text;

@@ -10,6 +10,7 @@ const LARGEST = 2n ** 64n - 1n;
 // First, while the memory is small
 test("makes room at each size, for texts and faults", () => {
     for (let count = 1; count < 1_000_000; count = Math.ceil(count * 1.2)) {
+        assert.equal(tryParseNs("分".repeat(2 * count), { cnUnit: true }).fault.found.length, 2 * count);
         assert.equal(parseNs("1分".repeat(count), { cnUnit: true }), BigInt(count) * 60_000_000_000n);
         assert.equal(tryParseNs(`${"1分".repeat(count)}-`, { cnUnit: true }).fault.index, 2 * count);
     }
