@@ -111,10 +111,11 @@ function meaning(text, readings, sentence) {
 
 // ---- Around a duration
 
+const NO_LIST = say`Write one duration, not a list.`;
 const without = (words) => say`Write the duration alone, without ${words}.`;
-/** `"ttl": 5m`, `every 5m`, `--timeout 5m` and `+5m` */
+/** `"ttl": 5m`, `every 5m`, `--timeout 5m`, `-t 5m`, `keepalive_timeout 65s;`, `INTERVAL '1 day'` and `+5m` */
 const LED = new RegExp(String.raw`^(?:(?<quote>["'\`]?)(?<key>(?!P[0-9])[A-Za-z_][\w.-]*)\k<quote>\s*[:=]\s*`
-    + String.raw`|(?<word>(?:every|for|sleep|timeout|--[a-z][\w-]*)(?=[=\s])|\+)=?\s*)(?<words>\S.*?)\s*[,;]?$`, "is");
+    + String.raw`|(?<word>(?:every|for|sleep|timeout|interval|[a-z]+_\w+|-[a-z]|--[a-z][\w-]*)(?=[=\s])|\+)=?\s*)(?<words>\S.*?)\s*[,;]?$`, "is");
 const ENCLOSED = /^(?:"(.+)"|'(.+)'|`(.+)`|“(.+)”|‘(.+)’|«(.+)»|\((.+)\)|\[(.+)\]|\{(.+)\})$/s;
 
 /** What a part of a text means, as it stands or converted. */
@@ -126,14 +127,20 @@ function inside(text, options) {
     return converted(text, options);
 }
 
-/** One duration after a key or another word, where every term has a unit. */
+const isFalling = (units) => units.every((unit, place) => place === 0 || unit.nanos < units[place - 1].nanos);
+
+/** One duration after a key or another word, where every term has a unit and the units get smaller. */
 function afterKey(text, options) {
     const { key, word, words } = LED.exec(text)?.groups ?? {};
     if (!words) return null;
     const meant = inside(words, options);
-    const bare = meant?.readings.flatMap(({ text: each }) => Array.from(terms(each, options))).find((term) => !term.unit);
     if (!meant || meant.readings.length === 0) return meant;
-    if (!bare && !words.includes(":")) return meaning(text, meant.readings, without(key ?? word));
+    const sums = meant.readings.map(({ text: each }) => Array.from(terms(each, options)));
+    const bare = sums.flat().find((term) => !term.unit);
+    if (!bare && !words.includes(":")) {
+        const isOne = sums.every((sum) => isFalling(sum.map(({ unit }) => unitOf(unit))));
+        return isOne ? meaning(text, meant.readings, without(key ?? word)) : meaning(text, [], NO_LIST);
+    }
     const unit = /(?:[._-]|[a-z](?=[A-Z]))([A-Za-z]+)$/.exec(key ?? word)?.[1];
     if (unit && unitName(unit)) return meaning(text, [], say`Write the unit after the number.`);
     const isNumber = /^[0-9]+$/.test(words);
@@ -152,13 +159,15 @@ function withinQuotes(text, options) {
 
 const CLOCK = /^(?:([0-9]+)(?: days?,?|d) (?=[0-9]{1,2}:..:))?([0-9]+):([0-5][0-9])(?::([0-5][0-9]))?(?:\.([0-9]+))?$/;
 
-/** `1:30h` and `1:30 min`, where the unit is the first field's */
+/** `1:30h` and `1:30 min`, where the unit is the first field's; `1,30h` may be a decimal, too. */
 function clockWithUnit(text) {
-    const [, first, second, name] = /^([0-9]+):([0-5][0-9])\s*([a-z]+|H)$/.exec(text) ?? [];
+    const [, first, mark, second, name] = /^([0-9]+)([:,])([0-5][0-9])\s*(?!M$)(\p{L}+)\.?$/u.exec(text) ?? [];
     const unit = unitOf(unitName(name ?? "") ?? "");
-    if (unit !== HOUR && unit !== MINUTE) return null;
-    const nanos = BigInt(first) * unit.nanos + BigInt(second) * unit.nanos / 60n;
-    return meaning(text, [reading(nanos, unit)], say`Write units in place of colons.`);
+    if (unit !== HOUR && (unit !== MINUTE || mark === ",")) return null;
+    const clock = reading(BigInt(first) * unit.nanos + BigInt(second) * unit.nanos / 60n, unit);
+    if (mark === ":") return meaning(text, [clock], say`Write units in place of colons.`);
+    const decimal = reading(nanosOf([BigInt(first + second), -2], unit), unit);
+    return meaning(text, [decimal, clock], say`A decimal, or hours and minutes?`);
 }
 
 /** `1:30`, `1:30:00`, `1:30.5`, Python's `1 day, 12:00:00` and PostgreSQL's `1 day 12:00:00` */
@@ -334,8 +343,7 @@ function wrongIn(sum) {
 function sumOfTerms(text) {
     const { sum = [], isList } = termsOfSum(text) ?? {};
     if (sum.length === 0) return null;
-    const isFalling = sum.every(({ unit }, place) => place === 0 || unit.nanos < sum[place - 1].unit.nanos);
-    if (isList && !isFalling) return meaning(text, [], say`Write one duration, not a list.`);
+    if (isList && !isFalling(sum.map(({ unit }) => unit))) return meaning(text, [], NO_LIST);
     const readings = [0, 1].map((choice) => {
         const parts = sum.map(({ counts, unit }) => reading(nanosOf(counts[choice] ?? counts[0], unit), unit));
         const nanos = parts.some((each) => each.nanos === null) ? null : parts.reduce((a, b) => a + b.nanos, 0n);
@@ -371,7 +379,7 @@ const REFUSED = [
     [/\b(?:forever|never|infinit\w*)\b/i, (words) => say`${words} has no fixed length.`],
     [/[0-9](?:\s*\p{L}+\s)?\s*[x×]\s*[0-9]/iu, say`Multiply with ${"*"}.`],
     [new RegExp(String.raw`^${NUMBER}$`, "iu"), (words) => say`${words} has no unit.`],
-    [LIST, say`Write one duration, not a list.`],
+    [LIST, NO_LIST],
     [/[0-9]e[+-]?[0-9]+\s*[a-z]/i, say`Exponents can't be read.`],
     [new RegExp(`^(?:${WORD})\\b`, "i"), say`Write numbers in digits.`],
 ];
