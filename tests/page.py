@@ -188,8 +188,10 @@ def try_lines(page):
     page.put("90s\n" * 600)
     page.same("600 lines", ["90s", "1min 30s"] * 600, page.words("#lines :is(th, td > *)"))
     page.put("90s\n" * 3_000)
-    said = "Its lines are more than are read one by one: they are added up."
+    said = "Over 10,000 characters, lines are added up and not read one by one."
     page.same("3,000 lines", ["3d 3h", [said]], [page.text_of("printed"), page.words("#notes p")])
+    page.put("x\n" + "90s\n" * 3_000)
+    page.same("3,000 lines, of which one is refused", f"{line_of('x')} {said}", page.text_of("sentence"))
     page.put("1h 30m\n")
     page.same("one line", [None, "1h 30min"], [page.text_of("lines"), page.text_of("printed")])
 

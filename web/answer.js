@@ -88,21 +88,20 @@ function showOffers(offers) {
     element("offered").replaceChildren(...offers.map((offer) => offerButton(offer)));
 }
 
-const ADDED_UP = say`Its lines are more than are read one by one: they are added up.`;
+const ADDED_UP = say`Over 10,000 characters, lines are added up and not read one by one.`;
 
 /** The sentences on a line, and what is offered beside it. */
 function remarksOn({ words, value, fault }) {
-    if (!fault && words.length > LONG) return { sentences: words.trim().includes("\n") ? [ADDED_UP] : [], offers: [] };
-    if (!fault) return notesOn(words, value, chosenOptions());
-    const said = sentence(words, fault.code, chosenOptions()) ?? lineOf(fault);
-    return { sentences: [said], offers: words.length > LONG ? [] : offersFor(words, chosenOptions()) };
+    const said = fault ? [sentence(words, fault.code, chosenOptions()) ?? lineOf(fault)] : [];
+    if (words.length > LONG) return { sentences: [...said, ...(words.trim().includes("\n") ? [ADDED_UP] : [])], offers: [] };
+    return fault ? { sentences: said, offers: offersFor(words, chosenOptions()) } : notesOn(words, value, chosenOptions());
 }
 
 // ---- A fault
 
 function showFault(line) {
-    const { sentences: [said], offers } = remarksOn(line);
-    element("sentence").replaceChildren(...parts(said));
+    const { sentences: [said, ...others], offers } = remarksOn(line);
+    element("sentence").replaceChildren(...parts(said), ...others.flatMap((each) => [" ", ...parts(each)]));
     element("sentence").classList.toggle("hint", text.value === "");
     element("line").replaceChildren(...parts(lineOf(line.fault)));
     const isOwn = element("sentence").textContent !== element("line").textContent;
