@@ -32,7 +32,7 @@ SCHEMES = ("light", "dark")
 # A little longer than the page waits after the last key before it tells the answer and writes the link
 PAUSE = 0.8
 # How many bytes the page may have, and how many words a sentence of its own
-LARGEST = 102_000
+LARGEST = 98_500
 WORDS = 9
 # What the keyboard of a phone of 375 by 667 pixels leaves free
 FREE = 300
