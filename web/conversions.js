@@ -127,9 +127,13 @@ function inside(text, options) {
     return converted(text, options);
 }
 
-const isFalling = (units) => units.every((unit, place) => place === 0 || unit.nanos < units[place - 1].nanos);
+/** Whether these terms, each with a unit, can be two durations: without an operator between them the units get smaller. */
+function isListOf(sum) {
+    const units = sum.map(({ unit }) => unitOf(unit));
+    return sum.some(({ operator }, place) => place > 0 && !operator && units[place].nanos >= units[place - 1].nanos);
+}
 
-/** One duration after a key or another word, where every term has a unit and the units get smaller. */
+/** One duration after a key or another word, where every term has a unit. */
 function afterKey(text, options) {
     const { key, word, words } = LED.exec(text)?.groups ?? {};
     if (!words) return null;
@@ -137,10 +141,8 @@ function afterKey(text, options) {
     if (!meant || meant.readings.length === 0) return meant;
     const sums = meant.readings.map(({ text: each }) => Array.from(terms(each, options)));
     const bare = sums.flat().find((term) => !term.unit);
-    if (!bare && !words.includes(":")) {
-        const isOne = sums.every((sum) => isFalling(sum.map(({ unit }) => unitOf(unit))));
-        return isOne ? meaning(text, meant.readings, without(key ?? word)) : meaning(text, [], NO_LIST);
-    }
+    if (!bare && sums.some(isListOf)) return meaning(text, [], NO_LIST);
+    if (!bare && !words.includes(":")) return meaning(text, meant.readings, without(key ?? word));
     const unit = /(?:[._-]|[a-z](?=[A-Z]))([A-Za-z]+)$/.exec(key ?? word)?.[1];
     if (unit && unitName(unit)) return meaning(text, [], say`Write the unit after the number.`);
     const isNumber = /^[0-9]+$/.test(words);
@@ -343,7 +345,8 @@ function wrongIn(sum) {
 function sumOfTerms(text) {
     const { sum = [], isList } = termsOfSum(text) ?? {};
     if (sum.length === 0) return null;
-    if (isList && !isFalling(sum.map(({ unit }) => unit))) return meaning(text, [], NO_LIST);
+    const isFalling = sum.every(({ unit }, place) => place === 0 || unit.nanos < sum[place - 1].unit.nanos);
+    if (isList && !isFalling) return meaning(text, [], NO_LIST);
     const readings = [0, 1].map((choice) => {
         const parts = sum.map(({ counts, unit }) => reading(nanosOf(counts[choice] ?? counts[0], unit), unit));
         const nanos = parts.some((each) => each.nanos === null) ? null : parts.reduce((a, b) => a + b.nanos, 0n);
