@@ -144,8 +144,8 @@ export declare const version: string;
 
 /**
  * The value of a text in milliseconds: `parse("1m 30s")` is `90000`, and `parse("1500us")` is `1.5`. It is the nearest
- * number: below 2^33 ms (99 days) `format` prints every nanosecond of it, above the last ones may differ. To read an array
- * write `texts.map((text) => parse(text))`, since `map` passes the index, too.
+ * number: below 2^33 ms (99 days) `format` prints every nanosecond of it, above the last ones may differ. To read an
+ * array write `texts.map((text) => parse(text))`, since `map` passes the index, too.
  *
  * ```js
  * setTimeout(retry, parse("1m 30s")); // which takes up to 24.8 days

@@ -93,8 +93,10 @@ const ADDED_UP = say`Over 10,000 characters, lines are added up and not read one
 /** The sentences on a line, and what is offered beside it. */
 function remarksOn({ words, value, fault }) {
     const said = fault ? [sentence(words, fault.code, chosenOptions()) ?? lineOf(fault)] : [];
-    if (words.length > LONG) return { sentences: [...said, ...(words.trim().includes("\n") ? [ADDED_UP] : [])], offers: [] };
-    return fault ? { sentences: said, offers: offersFor(words, chosenOptions()) } : notesOn(words, value, chosenOptions());
+    const added = words.trim().includes("\n") ? [ADDED_UP] : [];
+    if (words.length > LONG) return { sentences: [...said, ...added], offers: [] };
+    if (!fault) return notesOn(words, value, chosenOptions());
+    return { sentences: said, offers: offersFor(words, chosenOptions()) };
 }
 
 // ---- A fault

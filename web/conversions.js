@@ -115,7 +115,8 @@ const NO_LIST = say`Write one duration, not a list.`;
 const without = (words) => say`Write the duration alone, without ${words}.`;
 /** `"ttl": 5m`, `every 5m`, `--timeout 5m`, `-t 5m`, `keepalive_timeout 65s;`, `INTERVAL '1 day'` and `+5m` */
 const LED = new RegExp(String.raw`^(?:(?<quote>["'\`]?)(?<key>(?!P[0-9])[A-Za-z_][\w.-]*)\k<quote>\s*[:=]\s*`
-    + String.raw`|(?<word>(?:every|for|sleep|timeout|interval|[a-z]+_\w+|-[a-z]|--[a-z][\w-]*)(?=[=\s])|\+)=?\s*)(?<words>\S.*?)\s*[,;]?$`, "is");
+    + String.raw`|(?<word>(?:every|for|sleep|timeout|interval|[a-z]+_\w+|-[a-z]|--[a-z][\w-]*)(?=[=\s])|\+)=?\s*)`
+    + String.raw`(?<words>\S.*?)\s*[,;]?$`, "is");
 const ENCLOSED = /^(?:"(.+)"|'(.+)'|`(.+)`|“(.+)”|‘(.+)’|«(.+)»|\((.+)\)|\[(.+)\]|\{(.+)\})$/s;
 
 /** What a part of a text means, as it stands or converted. */
@@ -127,7 +128,7 @@ function inside(text, options) {
     return converted(text, options);
 }
 
-/** Whether these terms, each with a unit, can be two durations: without an operator between them the units get smaller. */
+/** Whether these terms, each with a unit, may be two durations: in a sum without operators the units get smaller. */
 function isListOf(sum) {
     const units = sum.map(({ unit }) => unitOf(unit));
     return sum.some(({ operator }, place) => place > 0 && !operator && units[place].nanos >= units[place - 1].nanos);

@@ -212,8 +212,8 @@ function isPlain(options) {
 
 function checkPlain(options, hint = "") {
     if (isPlain(options)) return;
-    const type = typeOf(options);
-    throw new TypeError(`the options must be a plain object, not ${type === "object" ? "one that inherits" : type}${hint}`);
+    const type = typeOf(options).replace("object", "one that inherits");
+    throw new TypeError(`the options must be a plain object, not ${type}${hint}`);
 }
 
 const unknown = (name) => new TypeError(`unknown option: ${name}`);
@@ -232,7 +232,9 @@ function bitsOf(options) {
         const value = options[name];
         if (bit < 0) throw unknown(name);
         if (value === true) bits |= 1 << bit;
-        else if (value !== false && value !== undefined) throw new TypeError(`the option ${name} must be a boolean, not ${typeOf(value)}`);
+        else if (value !== false && value !== undefined) {
+            throw new TypeError(`the option ${name} must be a boolean, not ${typeOf(value)}`);
+        }
     }
     return bits;
 }

@@ -21,7 +21,9 @@ test("prints the vectors, and refuses limits that contradict each other", () => 
     assert.equal(formatNs(1999n, { smallest: "us" }), "1µs");
     assert.equal(format(193_029, { parts: 2 }), "3min 13s");
     assert.equal(format(90_000, { style: "long" }), "1 minute 30 seconds");
-    for (const parts of [2 ** 32, Infinity]) assert.equal(formatNs(90_061_000_000_001n, { parts, largest: undefined }), "1d 1h 1min 1s 1ns");
+    for (const parts of [2 ** 32, Infinity]) {
+        assert.equal(formatNs(90_061_000_000_001n, { parts, largest: undefined }), "1d 1h 1min 1s 1ns");
+    }
     assert.equal(format(90_061_001, { parts: Infinity }), "1d 1h 1min 1s 1ms");
 });
 
@@ -82,7 +84,9 @@ test("prints milliseconds", () => {
     assert.equal(format(parse("1m 30s")), "1min 30s");
     assert.equal(format(18_446_744_073_709.55, { parts: 1 }), "584y");
     // The last nanosecond that a number of milliseconds has to have, and the first that it lacks
-    assert.deepEqual(["8589934591999999ns", "8589934592000001ns"].map((text) => formatNs(parseNs(text)) === format(parse(text))), [true, false]);
+    for (const [text, isSame] of [["8589934591999999ns", true], ["8589934592000001ns", false]]) {
+        assert.equal(format(parse(text)) === formatNs(parseNs(text)), isSame);
+    }
 });
 
 test("refuses what is negative, not finite or too large", () => {
