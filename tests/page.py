@@ -152,6 +152,9 @@ def try_values(page):
         page.put(text)
         page.same(f"the terms of {text}", expected, page.words("#terms th, #terms td") or None)
     page.choose()
+    for count, last in ((20, "together"), (21, "and more terms")):
+        page.put("1s " * count)
+        page.same(f"the last row of {count} terms", last, page.words("#terms th")[-1])
     for text, notes in TEXTS["notes"]:
         page.put(text)
         page.same(f"the notes on {text}", notes, page.words("#notes p"))
@@ -172,15 +175,22 @@ def try_faults(page):
     page.same("the library's line, unfolded", line_of("1.5h"), page.text_of("line"))
     page.put("5 mins")
     page.same("no second line", None, page.text_of("line"))
+    for text, hints in (("", 1), ("  ", 0)):
+        page.put(text)
+        page.same(f"no library and a hint for {text!r}", [None, hints], [page.text_of("library"), len(page.words(".hint"))])
+    page.put("1\u200bh")
+    page.same("a mark of no width", 1, len(page.words("mark.thin")))
+    page.put("1h -x" + "😀" * 1_500)
+    page.same("a part of a long text", ["1h -x" + "😀" * 20], page.words("#excerpt"))
 
 
 def try_lines(page):
     """Of several lines each has its value or its fault, and is mended alone."""
-    page.open()
+    page.open("#text=1:30")
     for text, marks, expected in TEXTS["lines"]:
         page.put(text)
         page.same(f"the lines {text!r}", [marks, expected], [page.words("mark"), page.words("#lines :is(th, td > *)")])
-        page.same(f"of {text!r} as a whole", [None] * 4, [page.text_of(name) for name in ("printed", "sentence", "iso", "rust")])
+        page.same(f"of {text!r} as a whole", [None] * 5, [page.text_of(name) for name in ("printed", "sentence", "iso", "rust", "suggestions")])
     page.put("30s\n 5 mins\n1h")
     page.click("#lines button")
     page.same("a line that is mended", "30s\n5 min\n1h", page.text())
@@ -237,6 +247,7 @@ def try_switching(page):
     page.key(Keys.CONTROL, Keys.SHIFT, "z")
     page.same("done again", ["1h 30m", "1h 30min"], [page.text(), page.text_of("printed")])
     page.click("#examples button")
+    page.click("#examples button")
     page.key(Keys.CONTROL, "z")
     page.same("an example undone", "1h 30m", page.text())
 
@@ -261,10 +272,13 @@ def try_units(page):
     page.same("the units", pressed, page.answer_line("asked.pressedUnits()"))
     page.same("the option of the Chinese names", True, page.find("cn_unit").is_selected())
     page.run("document.querySelector('#units button').focus()")
-    keys = (Keys.ARROW_RIGHT, Keys.ARROW_LEFT, Keys.ARROW_UP, Keys.ARROW_DOWN, Keys.END)
-    page.same("where the arrow keys lead to", ["year", "y", "纳秒", "y", "纳秒"], [page.key(key) for key in keys])
+    keys = (Keys.ARROW_RIGHT, Keys.ARROW_LEFT, Keys.ARROW_UP, Keys.ARROW_DOWN, Keys.ARROW_RIGHT, Keys.HOME, Keys.END)
+    page.same("where the arrow keys lead to", ["year", "y", "纳秒", "y", "year", "y", "纳秒"], [page.key(key) for key in keys])
+    script = ("const pressed = new KeyboardEvent('keydown', { key: 'End', bubbles: true, cancelable: true });"
+              "document.querySelector('#units button').dispatchEvent(pressed); return pressed.defaultPrevented")
+    page.same("whether the key scrolls nothing", True, page.run(script))
     page.same("the stop of the tab key", ["纳秒"], page.words("#units [tabindex='0']"))
-    for text, becomes in (("1h 30", "1h 30min"), ("1h", "1h 1min"), ("1h, ", "1min"), ("1m*", "1m* 1min")):
+    for text, becomes in (("1h 30", "1h 30min"), ("1h", "1h 1min"), ("1h ", "1h 1min"), ("1h, ", "1min"), ("1m*", "1m* 1min")):
         page.put(text)
         page.driver.find_element(By.XPATH, "//*[@id='units']//button[.='min']").click()
         page.same(f"min added to {text}", becomes, page.text())
@@ -295,7 +309,7 @@ def try_code(page):
     line = page.text_of("shell").replace("durstr", "cat")
     page.same("the shell's line", "2 * 1h\n", subprocess.run(["sh", "-c", line], stdout=subprocess.PIPE, text=True).stdout)
     page.put("1m x")
-    page.same("no code of what is refused", [None, True], [page.text_of("rust"), page.text_of("no-code") is not None])
+    page.same("no code of what is refused", [None, None, True], [page.text_of("rust"), page.text_of("how"), page.text_of("no-code") is not None])
 
 
 def try_printing(page):
@@ -304,7 +318,8 @@ def try_printing(page):
         ({}, "1d 1h 1min 1s 1ns", {}),
         ({"style": "compact"}, "1d1h1min1s1ns", {"rust": ".style(Style::Compact)", "python": 'style="compact"'}),
         ({"style": "long", "parts": "2"}, "1 day 1 hour",
-         {"rust": ".style(Style::Long).parts(2)", "c": "2, DURATION_STR_STYLE_LONG,"}),
+         {"rust": ".style(Style::Long).parts(2)", "python": 'style="long", parts=2',
+          "c": "DURATION_STR_UNIT_YEAR, DURATION_STR_UNIT_NANOSECOND, 2, DURATION_STR_STYLE_LONG,"}),
         ({"largest": "h", "smallest": "min"}, "25h 1min",
          {"rust": ".largest(TimeUnit::Hour).smallest(TimeUnit::Minute)", "python": 'largest="h", smallest="min"',
           "javascript": '{ largest: "h", smallest: "min" }',
@@ -328,6 +343,7 @@ def try_printing(page):
     page.same("days as the largest unit", "1h", page.text_of("printed"))
     page.find("smallest").send_keys("weeks")
     page.same("weeks as the smallest unit, and so as the largest", "0w", page.text_of("printed"))
+    page.same("the most parts", "all", page.words("#parts option")[-1])
     page.open("#text=1h&style=wide")
     page.same("what is told of a style that isn't", "Not understood in the link: style=wide", page.text_of("link-note"))
 
@@ -378,7 +394,10 @@ def try_link(page):
     page.put("1m \ud800")
     time.sleep(PAUSE)
     said = "This text is not UTF-8, so the address can't hold it."
-    page.same("what is told of a lone surrogate", said, page.text_of("link-note"))
+    page.same("what is told of a lone surrogate", [said, None], [page.text_of("link-note"), page.text_of("share")])
+    page.run("location.hash = 'cn_unit'")
+    time.sleep(PAUSE)
+    page.same("another link's text", ["", ["cn_unit"]], [page.text(), page.chosen()])
 
 
 def try_hostile(page):
@@ -430,6 +449,9 @@ def try_keyboard(page):
     page.same("typed after it", "1m 30s 5", page.text())
     page.key(Keys.TAB, Keys.SPACE)
     page.same("switched by the keyboard", True, page.find("no_calc").is_selected())
+    page.open("#text=1h")
+    page.key(" 5")
+    page.same("typed after a link's text", "1h 5", page.text())
 
 
 def try_readers(page):
@@ -460,6 +482,8 @@ def try_readers(page):
     page.put("1m+1")
     page.same("the input without a fault", ["false", None], page.answer_line(described))
     page.same("what remains of the fault", [""], page.words("#sentence"))
+    page.put("")
+    page.same("the input without a text", ["false", "sentence"], page.answer_line(described))
 
 
 def emulate(page, scheme, width, height=1100, forced=False):

@@ -34,10 +34,10 @@ function complete(text, options) {
     return text.trimEnd().replace(/(?<=\p{L})(?=[0-9]+$)/u, " ") + name;
 }
 
-/** A text as it is offered, with its meaning in words; nothing where there is none, or it has no or another value. */
-function offer(text, options, nanos) {
+/** A text as it is offered, with its meaning in words; nothing where there is none, or it has no value. */
+function offer(text, options) {
     const { ok, value } = text === null ? { ok: false } : tryParseNs(text, options);
-    if (!ok || nanos !== undefined && value !== nanos) return [];
+    if (!ok) return [];
     const sum = text.includes("*") ? formatNs(value) : text;
     return [{ text, options, value, meaning: inWords(sum, options) }];
 }
@@ -50,10 +50,7 @@ export function offersFor(text, options) {
         const found = optionsToTry(options, each).flatMap((tried) => offer(complete(each, tried), tried));
         if (found.length > 0) return found.slice(0, 1);
     }
-    return (converted(text, options)?.readings ?? []).flatMap(({ text: each, nanos }) => {
-        const whole = complete(each, options);
-        return offer(whole, options, whole === each ? nanos : undefined);
-    });
+    return (converted(text, options)?.readings ?? []).flatMap(({ text: each }) => offer(complete(each, options), options));
 }
 
 /** What the page says of a refused text; nothing where the library's line says it. */
