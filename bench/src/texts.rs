@@ -55,7 +55,7 @@ pub fn long_text(bytes: usize) -> String {
     text
 }
 
-/// The text that is refused for the cause of this name, or for a `-` at either end of 1,000 bytes.
+/// The text that is refused for the cause of this name, or for a `-` at the end of 1,000 bytes.
 pub fn refusal(name: &str) -> String {
     let text = match name {
         "empty" => "",
@@ -64,19 +64,10 @@ pub fn refusal(name: &str) -> String {
         "first-term" => "600000000000y",
         "mixed" => "1m + 2s * 3",
         "fraction" => "1.5h",
-        "minus" => "-5s",
-        "front" => return with_minus(0),
-        "last" => return with_minus(999),
+        "last" => return long_text(999) + "-",
         _ => panic!("no refused text: {name}"),
     };
     text.to_string()
-}
-
-/// A text of 1,000 bytes with a `-` at this byte.
-fn with_minus(at: usize) -> String {
-    let mut text = long_text(1000);
-    text.replace_range(at..=at, "-");
-    text
 }
 
 /// Calls so many times. The function is inlined, so that one more call takes the same around it in every program.
