@@ -56,21 +56,23 @@ class Lines(unittest.TestCase):
         self.assertEqual(told, f"job.py: error: argument --timeout: '5 mins': {LINE}")
 
     def test_argparse_takes_options(self):
-        from duration_str.argparse import DurationType
+        from duration_str.argparse import DURATION, DurationType
 
+        self.assertEqual(repr(DURATION), "DURATION")
         parser = argparse.ArgumentParser(exit_on_error=False)
         parser.add_argument("--timeout", type=DurationType(cn_unit=True), default=HOUR)
         self.assertEqual(parser.parse_args([]).timeout, HOUR)
         self.assertEqual(parser.parse_args(["--timeout", "1分"]).timeout, MINUTE)
         with self.assertRaisesRegex(argparse.ArgumentError, "argument --timeout: '1%x': expected a unit"):
             parser.parse_args(["--timeout", "1%x"])
-        with self.assertRaisesRegex(argparse.ArgumentTypeError, "'90': expected a unit at column 3"):
-            DurationType(require_unit=True)("90")
+        for option, text in [("no_calc", "1m+1"), ("lowercase", "1M"), ("require_unit", "90")]:
+            self.assertRaises(argparse.ArgumentTypeError, DurationType(**{option: True}), text)
 
     @unittest.skipUnless(has("click"), "Click is missing")
     def test_click(self):
         self.assertEqual(run("wait.py", "--timeout", "1m"), (0, "0:01:00\n", ""))
         self.assertEqual(run("wait.py"), (0, "0:00:30\n", ""))
+        self.assertIn("--timeout DURATION", run("wait.py", "--help")[1])
         status, output, told = run("wait.py", "--timeout", "5 mins")
         self.assertEqual((status, output), (2, ""))
         self.assertEqual(told, f"Error: Invalid value for '--timeout': '5 mins': {LINE}")
@@ -82,8 +84,8 @@ class Lines(unittest.TestCase):
 
         self.assertEqual(DurationParamType(cn_unit=True)("1分"), MINUTE)
         self.assertEqual(repr(DURATION), "DURATION")
-        with self.assertRaisesRegex(click.BadParameter, "'90': expected a unit at column 3"):
-            DurationParamType(require_unit=True)("90")
+        for option, text in [("no_calc", "1m+1"), ("lowercase", "1M"), ("require_unit", "90")]:
+            self.assertRaises(click.BadParameter, DurationParamType(**{option: True}), text)
         with self.assertRaisesRegex(click.BadParameter, "'1分': unknown unit"):
             DURATION("1分")
 
@@ -120,9 +122,19 @@ class Models(unittest.TestCase):
         self.model = Job
 
     def test_reads_texts_and_keeps_timedeltas(self):
-        for value in ["1m", MINUTE]:
+        for value in ["1m", type("Name", (str,), {})("1m"), MINUTE]:
             self.assertEqual(self.model(timeout=value).timeout, MINUTE)
+        self.assertEqual(self.model(timeout=0 * MINUTE).timeout, 0 * MINUTE)
         self.assertEqual(self.model.model_validate_json('{"timeout": "1m"}').timeout, MINUTE)
+
+    def test_requires_units(self):
+        adapter = self.pydantic.TypeAdapter(duration_str.DurationWithUnits)
+        self.assertEqual(adapter.validate_python("1h 30m"), 1.5 * HOUR)
+        self.assertEqual(adapter.dump_json(adapter.validate_python(MINUTE)), b'"1min"')
+        self.assertEqual(pickle.loads(pickle.dumps(duration_str.DurationWithUnits)), duration_str.DurationWithUnits)
+        for text, line in [("90", "expected a unit at column 3, found the end"), ("", "empty text"), ("9" * 99_999, "number of")]:
+            with self.assertRaisesRegex(self.pydantic.ValidationError, line):
+                adapter.validate_python(text)
 
     def test_writes_the_printed_text(self):
         job = self.model(timeout=90 * MINUTE)
@@ -184,6 +196,8 @@ class Models(unittest.TestCase):
                         schema = model.model_json_schema(mode=mode)
                         self.assertEqual(schema["properties"]["length"]["default"], "5d")
                 self.assertEqual(model(length="5d"), model())
+        model = self.pydantic.create_model("Kept", __config__={"ser_json_timedelta": "float"}, length=(duration_str.Duration, 0 * HOUR))
+        self.assertEqual(model.model_json_schema()["properties"]["length"]["default"], "0s")
 
     def test_takes_a_default_as_a_text(self):
         for annotation, default in [

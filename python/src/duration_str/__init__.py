@@ -41,7 +41,9 @@ leaves the builtin function:
 format(value, /, *, parts=11, largest="y", smallest="ns", style="short")
 
 `parse_many` reads a column of texts, `parse_buffers` one in buffers,
-`to_timedelta` one for NumPy or pandas, and `format_many` prints a column. `Duration` is a field of pydantic's models;
+`to_timedelta` one for NumPy or pandas, and `format_many` prints a column.
+`Duration` is a field of pydantic's models, and `DurationWithUnits` one that
+refuses a number without a unit; both are annotations: `parse` makes a value.
 `duration_str.click.DURATION` is a type of Click's options, and
 `duration_str.argparse.DURATION` one of argparse's. `Unit` and `Style` are
 the types of what `format` takes by name.
@@ -52,13 +54,13 @@ from __future__ import annotations
 
 from ._arrays import format_many, to_timedelta
 from ._columns import parse_buffers, parse_many
-from ._models import Duration
+from ._models import Duration, DurationWithUnits
 from ._native import format as format
 from ._native import parse, parse_ns, parse_seconds
 from ._texts import Cause, DurationError, DurationTypeError, Expected, Style, Unit
 
-__all__ = ["Cause", "Duration", "DurationError", "DurationTypeError", "Expected", "Style", "Unit", "format_many", "parse"]
-__all__ += ["parse_buffers", "parse_many", "parse_ns", "parse_seconds", "to_timedelta"]
+__all__ = ["Cause", "Duration", "DurationError", "DurationTypeError", "DurationWithUnits", "Expected", "Style", "Unit"]
+__all__ += ["format_many", "parse", "parse_buffers", "parse_many", "parse_ns", "parse_seconds", "to_timedelta"]
 __version__ = "0.19.0"
 
 # Errors, pickles and documentation name what is public by this module.
