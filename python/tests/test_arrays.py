@@ -92,18 +92,21 @@ class Reading(unittest.TestCase):
         self.assertEqual(numbers(to_timedelta(pandas.Series([pandas.NaT] * 3))), [None] * 3)
         masked = numpy.ma.array(["1s", "x", "1m"], mask=[False, True, False])
         self.assertEqual(numbers(to_timedelta(masked)), [SECOND, None, MINUTE])
+        masked = masked.astype(object)
+        to_timedelta(masked)
+        self.assertEqual(masked.data.tolist(), ["1s", "x", "1m"])
 
     def test_knows_missing_values_without_pandas(self):
         program = (
             "import sys, numpy, duration_str\n"
-            "values = ['1s', None, float('nan'), numpy.float32('nan'), numpy.timedelta64('NaT')]\n"
+            "values = ['1s', None, float('nan'), numpy.float32('nan'), numpy.timedelta64('NaT'), numpy.datetime64('NaT')]\n"
             "print(duration_str.to_timedelta(values).astype('int64').tolist(), 'pandas' in sys.modules)\n"
             "one = ['1s', float('nan'), None]\n"
             "print(*map(repr, map(duration_str.to_timedelta, one)), repr(duration_str.to_timedelta('x', errors='coerce')))\n"
         )
         told = subprocess.run([sys.executable, "-c", program], capture_output=True, text=True, check=True)
         one = "numpy.timedelta64(1000000000,'ns') numpy.timedelta64('NaT','ns') None numpy.timedelta64('NaT','ns')"
-        self.assertEqual(told.stdout, f"{[SECOND, *[-(2**63)] * 4]} False\n{one}\n")
+        self.assertEqual(told.stdout, f"{[SECOND, *[-(2**63)] * 5]} False\n{one}\n")
 
     def test_refuses_what_timedelta64_lacks(self):
         most = 2**63 - 1

@@ -1,8 +1,12 @@
 """What columns of texts are read as."""
 
+import ctypes
 import mmap
 import pickle
+import sys
 import tempfile
+import threading
+import time
 import unittest
 from array import array
 from itertools import accumulate
@@ -111,7 +115,7 @@ class Columns(unittest.TestCase):
                 self.assertEqual(answer, (array("Q", [SECOND, 0, 2 * SECOND]), array("Q", [1])))
 
     def test_knows_two_ways_with_errors(self):
-        for errors in ["ignore", None, "", True]:
+        for errors in ["ignore", "Raise", None, "", True]:
             for call in (parse_many, duration_str.to_timedelta):
                 with self.assertRaisesRegex(ValueError, "^errors must be 'raise' or 'coerce', not "):
                     call(["1s"], errors=errors)
@@ -127,7 +131,10 @@ class Buffers(unittest.TestCase):
             mapped[:] = data
             for given in [data, bytearray(data), memoryview(data), array("b", data), mapped]:
                 self.assertEqual(parse_buffers(given, offsets), wanted)
-        for given in [memoryview(offsets), memoryview(offsets).toreadonly(), array("l", offsets), array("Q", offsets)]:
+        whole = memoryview(offsets)
+        # ctypes names the order of bytes.
+        counts = [whole.cast("B").cast("n"), whole.cast("B").cast("N"), (ctypes.c_int64 * 3)(*offsets)]
+        for given in [whole, whole.toreadonly(), array("l", offsets), array("Q", offsets), *counts]:
             self.assertEqual(parse_buffers(data, given), wanted)
 
     def test_leaves_buffers_free(self):
@@ -138,6 +145,25 @@ class Buffers(unittest.TestCase):
         nanos.append(0)
         with self.assertRaises(DurationError):
             parse_buffers(bytearray(b"1x"), offsets[:2])
+
+    def test_lets_other_threads_run(self):
+        data, offsets = buffers_of([b"1s"] * 1_000_000)
+        turns, has_ended, interval = [], threading.Event(), sys.getswitchinterval()
+
+        def take_turns():
+            while not has_ended.is_set():
+                turns.append(time.sleep(0))
+
+        # No thread is made to give way.
+        sys.setswitchinterval(60)
+        try:
+            threading.Thread(target=take_turns).start()
+            before = len(turns)
+            parse_buffers(data, offsets)
+            self.assertGreater(len(turns), before)
+        finally:
+            has_ended.set()
+            sys.setswitchinterval(interval)
 
     def test_skips_bytes_outside(self):
         self.assertEqual(list(parse_buffers(b"..1s2s..", array("i", [2, 4, 6]))), [SECOND, 2 * SECOND])
@@ -155,6 +181,8 @@ class Buffers(unittest.TestCase):
                         self.assertNotIsInstance(told.exception, DurationError)
                         answer = parse_buffers(data, numbers, errors="coerce")
                         self.assertEqual(answer, (array("Q", [SECOND, 0]), array("Q", [1])))
+        with self.assertRaisesRegex(ValueError, f"^at index 0: the offsets 0 and {2**64 - 1} decrease"):
+            parse_buffers(b"1s", array("Q", [0, 2**64 - 1]))
         for data in [b"1s2s", bytearray(b"1s2s")]:
             answer = parse_buffers(data, array("q", [3, 1, 2, 4, 4, 9, 2, 4]), errors="coerce")
             self.assertEqual(list(answer[0]), [0, 0, 2 * SECOND, 0, 0, 0, 2 * SECOND])

@@ -3,6 +3,7 @@ and values that change while they are read: each gets an error, or the answer fo
 """
 
 import concurrent.futures
+import ctypes
 import datetime
 import gc
 import importlib
@@ -140,7 +141,9 @@ class Hostile(unittest.TestCase):
     def test_refuses_other_buffers(self):
         wide = memoryview(bytes(24)).cast("q")
         table, none = memoryview(bytes(16)).cast("q", [2, 1]), memoryview(bytes(8)).cast("q", [])
+        other = ctypes.c_int64.__ctype_be__ if sys.byteorder == "little" else ctypes.c_int64.__ctype_le__
         codes = [array("d", [0, 2]), array("H", [0, 2]), b"\0\2", *(memoryview(bytes(16)).cast(code) for code in "d?P")]
+        codes.append((other * 2)(0, 2))
         rows = [(TypeError, data, wide) for data in ("1s", None, 5)]
         rows += [(TypeError, b"1s", offsets) for offsets in (table, none, *codes, [0, 2], None, 5)]
         rows += [(BufferError, memoryview(b"1s2s")[::2], wide), (BufferError, b"1s", wide[::2]), (BufferError, b"1s", wide[::-1])]
@@ -242,10 +245,14 @@ class Hostile(unittest.TestCase):
             writer.result()
 
     def test_keeps_no_memory(self):
+        # Of 2,000 texts the last is copied alone.
+        column, offsets = bytearray(b"1s" * 2_000 + b" " * 70_000), array("i", [*range(0, 4_000, 2), 74_000])
+
         def all_calls(rounds):
             for _ in range(rounds):
                 parse_ns("1m 3s")
-                parse("1µs")
+                parse("1h")
+                duration_str.parse_seconds("1h")
                 format(SECOND)
                 for text in ["1x", "\ud800", "", "600y", None]:
                     try:
@@ -254,7 +261,8 @@ class Hostile(unittest.TestCase):
                         pass
             for _ in range(rounds // 100):
                 parse_many(["1s", "x", None, "\ud800"], errors="coerce")
-                for call in (lambda: parse_many(["1s", "x"]), lambda: format_many([1, None, "x"]),
+                parse_buffers(column, offsets)
+                for call in (lambda: parse_many(["1s", "x"]), lambda: format_many([*range(200), None, "x"]),
                              lambda: parse_buffers(b"1s2x", array("i", [0, 2, 4]))):  # fmt: skip
                     try:
                         call()

@@ -40,7 +40,7 @@ class Reading(unittest.TestCase):
     def test_rounds_seconds_to_the_nearest_float(self):
         self.assertEqual(parse_seconds("1h 30m"), 5400.0)
         self.assertEqual(parse_seconds("1分", cn_unit=True), 60.0)
-        for nanos in [0, 1, 10**8, 2**53 + 1, 2**63 + 513, 2**64 - 1]:
+        for nanos in [0, 1, 10**8, 10**16 + 1, 2**53 + 1, 2**63 + 513, 2**64 - 1]:
             self.assertEqual(parse_seconds(f"{nanos}ns"), nanos / 10**9)
         with self.assertRaises(DurationError):
             parse_seconds("1x")
