@@ -26,6 +26,7 @@ def load_tests(loader, tests, pattern):
 class Documentation(unittest.TestCase):
     def test_names_what_is_public(self):
         for name in duration_str.__all__:
+            self.assertEqual(getattr(duration_str, name).__module__, "duration_str")
             # The docstring of the module tells of what has none, such as a name for a type.
             self.assertTrue(getattr(duration_str, name).__doc__ or f"`{name}`" in duration_str.__doc__, name)
 
@@ -40,6 +41,11 @@ class Documentation(unittest.TestCase):
         for name in ["parse", "parse_ns", "parse_seconds"]:
             options = ", ".join(f"{option}=False" for option in [*VECTORS["options"], "require_unit"])
             self.assertEqual(f"(text, /, *, {options})", str(inspect.signature(getattr(duration_str, name))))
+
+    def test_fits_a_terminal(self):
+        for told in [duration_str, *map(vars(duration_str).get, ["format", *duration_str.__all__])]:
+            for line in (told.__doc__ or "").splitlines():
+                self.assertLessEqual(len(line), 79, line)
 
     def test_has_its_version_and_its_description(self):
         told = importlib.metadata.metadata("duration-str")

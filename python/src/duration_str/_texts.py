@@ -47,7 +47,8 @@ class Expected(enum.Flag):
 
 
 class DurationTypeError(TypeError, ValueError):
-    """A value that is no text. It is a ValueError too, since pydantic takes only these for refusals."""
+    """A value that is no text. It is a ValueError too, since pydantic takes
+    only these for refusals."""
 
 
 _CAUSES = {int(cause): cause for cause in Cause}
@@ -55,8 +56,9 @@ _EXPECTED = [Expected(bits) for bits in range(16)]
 
 
 class DurationError(ValueError):
-    """A refused text. As a string it is one line for people, which says what is wrong, where, and often what to write; for a
-    text of a column it begins with its index.
+    """A refused text. As a string it is one line for people, which says what
+    is wrong, where, and often what to write; for a text of a column it begins
+    with its index.
 
     >>> try:
     ...     duration_str.parse("3h 2 mins")
