@@ -241,4 +241,4 @@ release:
 	@tools/release $(call quoted,$(dist))
 
 clean:
-	rm -rf out crates/*/out tests/fuzz/out target */target js/dist
+	rm -rf out crates/*/out tests/fuzz/out target */target js/dist python/build python/src/{*.egg-info,duration_str/*.so}
