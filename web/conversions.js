@@ -371,7 +371,7 @@ const REFUSED = [
     [/^[~≈]|^(?:about|around|approx\w*|a (?:few|couple|moment|while))\b/i, say`Only exact durations can be read.`],
     [/^(?:[<>]=?|[≤≥±]|less than|more than|at least|at most|up to)/i, without],
     [/[0-9]\s*%/, say`A percentage is not a duration.`],
-    [/(?<=[0-9]\s*)['"′″’”]/, (words) => say`${words} has two meanings: write ${"m"} or ${"s"}.`],
+    [/(?<=^[^'"]*[0-9]\s*)['"′″’”]/, (words) => say`${words} has two meanings: write ${"m"} or ${"s"}.`],
     [/[¼-¾⅐-⅞⁄]|[0-9]\s*\/\s*[0-9]/, say`Fractions can't be read.`],
     [/[/÷]/, say`Durations can't be divided.`],
     [/(?<![a-zµ])([a-zµ]+)\s*-\s*[0-9]+\s*\1\b/i, say`Ranges and subtraction can't be read.`],
