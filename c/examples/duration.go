@@ -1,0 +1,58 @@
+// Durations for Go, over the library for C: a field of a configuration, as `{"timeout": "1h 30m"}`. `go run duration.go TEXT`
+// reads a text as one, and prints it. pkg-config finds the library that `make install` has installed.
+package main
+
+// #cgo pkg-config: duration_str
+// #include <duration_str.h>
+import "C"
+
+import (
+	"encoding/json"
+	"errors"
+	"fmt"
+	"math"
+	"os"
+	"time"
+	"unsafe"
+)
+
+// Duration is read from a text, and prints as one.
+type Duration struct{ time.Duration }
+
+// UnmarshalText reads a text, in which each number has a unit. The error is the library's line.
+func (duration *Duration) UnmarshalText(text []byte) error {
+	var answer C.struct_duration_str_answer
+	var line [C.DURATION_STR_ONE_LINE_BUFFER_SIZE]C.char
+	var bytes *C.char
+	if len(text) > 0 {
+		bytes = (*C.char)(unsafe.Pointer(&text[0]))
+	}
+	if C.duration_str_one_line(bytes, C.size_t(len(text)), C.DURATION_STR_OPTION_REQUIRE_UNIT, &answer, &line[0]) > 0 {
+		return errors.New(C.GoString(&line[0]))
+	}
+	if answer.nanos > math.MaxInt64 {
+		return errors.New("duration of 2^63 nanoseconds or more")
+	}
+	duration.Duration = time.Duration(answer.nanos)
+	return nil
+}
+
+// String prints the duration; one below zero, which the library doesn't read, as Go does.
+func (duration Duration) String() string {
+	if duration.Duration < 0 {
+		return duration.Duration.String()
+	}
+	var text [C.DURATION_STR_FORMAT_BUFFER_SIZE]C.char
+	C.duration_str_format(C.uint64_t(duration.Duration), &text[0])
+	return C.GoString(&text[0])
+}
+
+func main() {
+	var settings struct{ Timeout Duration }
+	text, _ := json.Marshal(map[string]string{"timeout": os.Args[1]})
+	if err := json.Unmarshal(text, &settings); err != nil {
+		fmt.Fprintln(os.Stderr, err)
+		os.Exit(1)
+	}
+	fmt.Println(settings.Timeout)
+}
