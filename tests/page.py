@@ -175,6 +175,8 @@ def try_faults(page):
     page.same("the library's line, unfolded", line_of("1.5h"), page.text_of("line"))
     page.put("5 mins")
     page.same("no second line", None, page.text_of("line"))
+    page.put('1s "')
+    page.same("a quotation mark that is quoted", [r'\"'], page.words("#sentence code"))
     for text, hints in (("", 1), ("  ", 0)):
         page.put(text)
         page.same(f"no library and a hint for {text!r}", [None, hints], [page.text_of("library"), len(page.words(".hint"))])
