@@ -528,7 +528,8 @@ HELP = {
 }
 # The same where only blanks stand before the place.
 FIRST_HELP = {
-    "-(?=[0-9])": "negative durations are not read",
+    "-(?=[0-9.])": "negative durations are not read",
+    r"\+(?=[0-9.])": 'a leading "+" is not read',
     "[Pp][Tt]?(?=[0-9])": "ISO 8601 is not read: write 1mon 30m for P1MT30M",
 }
 

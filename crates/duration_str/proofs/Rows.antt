@@ -303,6 +303,14 @@ pub record Lines : Type 0 where
       ≡ codes "expected a unit, '+', '*' or the end at column 2, found \":\" (clock times are not read: write 1h 30m or 1m 30s)"
   pub line-minus : one_line_of (codes " -5m") (Syntax 1 number_alone)
       ≡ codes "expected a number at column 2, found \"-\" (negative durations are not read)"
+  pub line-minus_point : one_line_of (codes "-.5s") (Syntax 0 number_alone)
+      ≡ codes "expected a number at column 1, found \"-\" (negative durations are not read)"
+  pub line-plus : one_line_of (codes "\t+1h") (Syntax 1 number_alone)
+      ≡ codes "expected a number at column 2, found \"+\" (a leading \"+\" is not read)"
+  pub line-plus_blank : one_line_of (codes "+ 1h") (Syntax 0 number_alone)
+      ≡ codes "expected a number at column 1, found \"+\""
+  pub line-plus_later : one_line_of (codes "1++2") (Syntax 2 number_alone)
+      ≡ codes "expected a number at column 3, found \"+\""
   pub line-iso : one_line_of (codes "Pt5M") (Syntax 0 number_alone)
       ≡ codes "expected a number at column 1, found \"Pt\" (ISO 8601 is not read: write 1mon 30m for P1MT30M)"
   pub line-comma_between : one_line_of (codes "1h, 30m") (Syntax 2 after_unit)

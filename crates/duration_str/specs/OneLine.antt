@@ -113,34 +113,43 @@ abbrev pub unit_help : Option Characters → Bytes
 unit_help (Some name) = name_help (encode_utf8_all name)
 unit_help None = codes " (write y, q, mon, w, d, h, min, s, ms, us or ns)"
 
--- the help for a piece before a digit, given the bytes before it, the last of these, and its own: a point; a comma, `_`,
--- `'` or a colon after a digit; and a sign, `P` or `PT` after blanks alone
-abbrev pub notation_help : Bytes → ℕ → Bytes → Bytes
-notation_help before last piece =
-    let is_between = is_digit last in
-    let is_first = list_all is_blank before in
+-- the help for a piece that is first but for blanks, given its bytes and the byte after it: a sign before a digit or a
+-- point, and `P` or `PT` before a digit
+abbrev pub first_help : Bytes → ℕ → Bytes
+first_help piece next =
+    let is_signed = is_digit next || next == 46 in
     let small = map to_ascii_lowercase piece in
-    if bytes_eq piece (codes ".") then codes " (numbers have digits only: write 1h 30m for 1.5h)"
-    else if is_between && (bytes_eq piece (codes ",") || bytes_eq piece (codes "_") || bytes_eq piece (codes "'"))
-    then codes " (numbers have digits only)"
-    else if is_between && bytes_eq piece (codes ":") then codes " (clock times are not read: write 1h 30m or 1m 30s)"
-    else if is_first && bytes_eq piece (codes "-") then codes " (negative durations are not read)"
-    else if is_first && (bytes_eq small (codes "p") || bytes_eq small (codes "pt"))
+    if is_signed && bytes_eq piece (codes "-") then codes " (negative durations are not read)"
+    else if is_signed && bytes_eq piece (codes "+") then codes " (a leading \"+\" is not read)"
+    else if is_digit next && (bytes_eq small (codes "p") || bytes_eq small (codes "pt"))
     then codes " (ISO 8601 is not read: write 1mon 30m for P1MT30M)"
     else []
 
+-- the help for a piece between digits, given its bytes: a comma, `_`, `'` or a colon
+abbrev pub between_help : Bytes → Bytes
+between_help piece =
+    if bytes_eq piece (codes ",") || bytes_eq piece (codes "_") || bytes_eq piece (codes "'")
+    then codes " (numbers have digits only)"
+    else if bytes_eq piece (codes ":") then codes " (clock times are not read: write 1h 30m or 1m 30s)"
+    else []
+
 -- the help for the piece at byte `place`, given its bytes: for what people put between terms where a number and the end
--- could stand, so after a unit; for a point after a letter or a byte beyond ASCII; and for a notation if a digit follows
+-- could stand, so after a unit; for a point after a letter or a byte beyond ASCII, or before a digit; and for a piece that
+-- is first or between digits
 abbrev pub help_at : Expected → Bytes → ℕ → Bytes → Bytes
 help_at expected text place piece =
     let before = take place text in
     let last = slice_index before (length before - 1) in
+    let next = slice_index text (place + length piece) in
     if expected.number && expected.text_end
     && (bytes_eq piece (codes ",") || bytes_eq piece (codes "&") || bytes_eq (map to_ascii_lowercase piece) (codes "and"))
     then codes " (one duration is read, without \",\" or \"and\")"
     else if bytes_eq piece (codes ".") && (is_ascii_alphabetic last || nat_le 0x80 last)
     then codes " (units have no point)"
-    else if is_digit (slice_index text (place + length piece)) then notation_help before last piece
+    else if bytes_eq piece (codes ".") && is_digit next
+    then codes " (numbers have digits only: write 1h 30m for 1.5h)"
+    else if list_all is_blank before then first_help piece next
+    else if is_digit last && is_digit next then between_help piece
     else []
 
 -- ---- The line

@@ -14,7 +14,7 @@ ghost use Rattle.duration_str.specs.Faults.{place_of};
 ghost use Rattle.std.specs.Option.{ForSome};
 ghost use Rattle.duration_str.specs.Internal.UnitTable.{is_megabyte, is_near};
 ghost use Rattle.std.specs.Int.{is_in_range};
-ghost use Rattle.duration_str.specs.OneLine.{one_line_of, is_plain, is_clear, is_letter, is_like, first_piece, shown, quoted, at_column, found_line, found_words, unknown_line, syntax_line, text_line, overflow_line, expected_words, begins_with_letter, near_name, name_help, unit_help, notation_help, help_at};
+ghost use Rattle.duration_str.specs.OneLine.{one_line_of, is_plain, is_clear, is_letter, is_like, first_piece, shown, quoted, at_column, found_line, found_words, unknown_line, syntax_line, text_line, overflow_line, expected_words, begins_with_letter, near_name, name_help, unit_help, first_help, between_help, help_at};
 ghost use Rattle.duration_str.specs.declared.one_line.TheConstants.{MAX_ONE_LINE_LEN, NEAR_WORDS};
 
 use crate::cause::{Cause, Expected};
@@ -440,35 +440,47 @@ fn help_at(expected: Expected, text: &[u8], place: usize, piece: &str) -> &'stat
 {
     let before = &text[..place];
     let last = last_byte(before);
+    let next = byte_at(text, place + piece.len());
     let is_after_unit = expected.number && expected.text_end;
     if is_after_unit && (piece == "," || piece == "&" || is_word(piece, "and")) {
-        return r#" (one duration is read, without "," or "and")"#;
-    }
-    if piece == "." && (last.is_ascii_alphabetic() || last >= 0x80) {
-        return " (units have no point)";
-    }
-    match text.get(place + piece.len()) {
-        Some(b'0'..=b'9') => notation_help(before, last, piece),
-        _ => "",
+        r#" (one duration is read, without "," or "and")"#
+    } else if piece == "." && (last.is_ascii_alphabetic() || last >= 0x80) {
+        " (units have no point)"
+    } else if piece == "." && next.is_ascii_digit() {
+        " (numbers have digits only: write 1h 30m for 1.5h)"
+    } else if are_blank(before) {
+        first_help(piece, next)
+    } else if last.is_ascii_digit() && next.is_ascii_digit() {
+        between_help(piece)
+    } else {
+        ""
     }
 }
 
-/// The help for a piece before a digit, given the bytes before it and the last of these; nothing for other pieces.
-fn notation_help(before: &[u8], last: u8, piece: &str) -> &'static str
-    ensures { result.now ≡ notation_help before.now last piece.now }
+/// The help for a piece that is first but for blanks; nothing for other pieces.
+fn first_help(piece: &str, next: u8) -> &'static str
+    ensures { result.now ≡ first_help piece.now next }
 {
-    let is_between = last.is_ascii_digit();
-    let is_first = are_blank(before);
-    if piece == "." {
-        " (numbers have digits only: write 1h 30m for 1.5h)"
-    } else if is_between && (piece == "," || piece == "_" || piece == "'") {
-        " (numbers have digits only)"
-    } else if is_between && piece == ":" {
-        " (clock times are not read: write 1h 30m or 1m 30s)"
-    } else if is_first && piece == "-" {
+    let is_signed = next.is_ascii_digit() || next == b'.';
+    if is_signed && piece == "-" {
         " (negative durations are not read)"
-    } else if is_first && (is_word(piece, "p") || is_word(piece, "pt")) {
+    } else if is_signed && piece == "+" {
+        r#" (a leading "+" is not read)"#
+    } else if next.is_ascii_digit() && (is_word(piece, "p") || is_word(piece, "pt")) {
         " (ISO 8601 is not read: write 1mon 30m for P1MT30M)"
+    } else {
+        ""
+    }
+}
+
+/// The help for a piece between digits; nothing for other pieces.
+fn between_help(piece: &str) -> &'static str
+    ensures { result.now ≡ between_help piece.now }
+{
+    if piece == "," || piece == "_" || piece == "'" {
+        " (numbers have digits only)"
+    } else if piece == ":" {
+        " (clock times are not read: write 1h 30m or 1m 30s)"
     } else {
         ""
     }
@@ -492,4 +504,10 @@ fn last_byte(bytes: &[u8]) -> u8
     ensures { result ≡ slice_index bytes.now (length bytes.now - 1) }
 {
     bytes.last().copied().unwrap_or(0)
+}
+
+fn byte_at(bytes: &[u8], index: usize) -> u8
+    ensures { result ≡ slice_index bytes.now index }
+{
+    bytes.get(index).copied().unwrap_or(0)
 }
