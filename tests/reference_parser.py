@@ -523,7 +523,7 @@ LETTER = r"A-Za-z\x80-\U0010ffff"
 HELP = {
     rf"(?<=[{LETTER}])\.": "units have no point",
     r"\.(?=[0-9])": "numbers have digits only: write 1h 30m for 1.5h",
-    r"(?<=[0-9])[,_'](?=[0-9])": "numbers have digits only",
+    r"(?<=[0-9])([,_'](?=[0-9])|[Ee](?=[-+0-9]))": "numbers have digits only",
     r"(?<=[0-9]):(?=[0-9])": "clock times are not read: write 1h 30m or 1m 30s",
 }
 # The same where only blanks stand before the place.
@@ -612,7 +612,7 @@ def one_line(text, answer):
     column = f" at column {answer.place + 1}"
     if "unit" in answer.expected and piece and kind_in_line(piece[0]) == "letter":
         name = near_name(piece)
-        told = f'did you mean "{name}"?' if name else ALL_UNITS
+        told = f'did you mean "{name}"?' if name else help_at(text, answer.place, piece, answer.expected) or ALL_UNITS
         return f"unknown unit {quote(piece)}{column} ({told})"
     told = help_at(text, answer.place, piece, answer.expected)
     found = f", found {quote(piece) if piece else 'the end'}"

@@ -299,6 +299,16 @@ pub record Lines : Type 0 where
       ≡ codes "expected a number, '+', '*' or the end at column 6, found \".\" (units have no point)"
   pub line-comma : one_line_of (codes "1,000ms") (Syntax 1 after_number)
       ≡ codes "expected a unit, '+', '*' or the end at column 2, found \",\" (numbers have digits only)"
+  pub line-exponent : one_line_of (codes "1e3s") (Syntax 1 after_number)
+      ≡ codes "unknown unit \"e\" at column 2 (numbers have digits only)"
+  pub line-exponent_below_zero : one_line_of (codes "5e-3s") (Syntax 1 after_number-no_calc)
+      ≡ codes "unknown unit \"e\" at column 2 (numbers have digits only)"
+  pub line-exponent_with_plus : one_line_of (codes "2E+5ms") (Syntax 1 after_number)
+      ≡ codes "unknown unit \"E\" at column 2 (numbers have digits only)"
+  pub line-exponent_alone : one_line_of (codes "1e") (Syntax 1 after_number)
+      ≡ codes "unknown unit \"e\" at column 2 (write y, q, mon, w, d, h, min, s, ms, us or ns)"
+  pub line-exponent_after_a_blank : one_line_of (codes "1 e3") (Syntax 2 after_number)
+      ≡ codes "unknown unit \"e\" at column 3 (write y, q, mon, w, d, h, min, s, ms, us or ns)"
   pub line-clock : one_line_of (codes "1:30") (Syntax 1 after_number)
       ≡ codes "expected a unit, '+', '*' or the end at column 2, found \":\" (clock times are not read: write 1h 30m or 1m 30s)"
   pub line-minus : one_line_of (codes " -5m") (Syntax 1 number_alone)

@@ -108,10 +108,14 @@ near_name word =
 abbrev pub name_help : Bytes → Bytes
 name_help name = codes " (did you mean \"" ++ (name ++ codes "\"?)")
 
--- the name that is near, or all units
-abbrev pub unit_help : Option Characters → Bytes
-unit_help (Some name) = name_help (encode_utf8_all name)
-unit_help None = codes " (write y, q, mon, w, d, h, min, s, ms, us or ns)"
+-- this help, or all units in place of none
+abbrev pub help_or_units : Bytes → Bytes
+help_or_units help = if length help == 0 then codes " (write y, q, mon, w, d, h, min, s, ms, us or ns)" else help
+
+-- the name that is near, or else the help for the place, or all units
+abbrev pub unit_help : Option Characters → Bytes → Bytes
+unit_help (Some name) help = name_help (encode_utf8_all name)
+unit_help None help = help_or_units help
 
 -- the help for a piece that is first but for blanks, given its bytes and the byte after it: a sign before a digit or a
 -- point, and `P` or `PT` before a digit
@@ -125,17 +129,20 @@ first_help piece next =
     then codes " (ISO 8601 is not read: write 1mon 30m for P1MT30M)"
     else []
 
--- the help for a piece between digits, given its bytes: a comma, `_`, `'` or a colon
-abbrev pub between_help : Bytes → Bytes
-between_help piece =
-    if bytes_eq piece (codes ",") || bytes_eq piece (codes "_") || bytes_eq piece (codes "'")
+-- the help for a piece after a digit, given its bytes and the byte after it: `e` before a digit, `-` or `+`; and a comma,
+-- `_`, `'` or a colon before a digit
+abbrev pub digit_help : Bytes → ℕ → Bytes
+digit_help piece next =
+    let is_between = is_digit next in
+    let is_exponent = (is_between || next == 43 || next == 45) && bytes_eq (map to_ascii_lowercase piece) (codes "e") in
+    if is_exponent || (is_between && (bytes_eq piece (codes ",") || bytes_eq piece (codes "_") || bytes_eq piece (codes "'")))
     then codes " (numbers have digits only)"
-    else if bytes_eq piece (codes ":") then codes " (clock times are not read: write 1h 30m or 1m 30s)"
+    else if is_between && bytes_eq piece (codes ":") then codes " (clock times are not read: write 1h 30m or 1m 30s)"
     else []
 
 -- the help for the piece at byte `place`, given its bytes: for what people put between terms where a number and the end
 -- could stand, so after a unit; for a point after a letter or a byte beyond ASCII, or before a digit; and for a piece that
--- is first or between digits
+-- is first or after a digit
 abbrev pub help_at : Expected → Bytes → ℕ → Bytes → Bytes
 help_at expected text place piece =
     let before = take place text in
@@ -149,7 +156,7 @@ help_at expected text place piece =
     else if bytes_eq piece (codes ".") && is_digit next
     then codes " (numbers have digits only: write 1h 30m for 1.5h)"
     else if list_all is_blank before then first_help piece next
-    else if is_digit last && is_digit next then between_help piece
+    else if is_digit last then digit_help piece next
     else []
 
 -- ---- The line
@@ -187,8 +194,9 @@ abbrev pub syntax_line : Bytes → ℕ → Expected → Characters → Bytes
 syntax_line text place expected piece =
     let column = chars_before text place + 1 in
     let bytes = encode_utf8_all piece in
-    if expected.unit_word && begins_with_letter piece then unknown_line column piece (unit_help (near_name bytes))
-    else found_line (expected_words expected) column piece (help_at expected text place bytes)
+    let help = help_at expected text place bytes in
+    if expected.unit_word && begins_with_letter piece then unknown_line column piece (unit_help (near_name bytes) help)
+    else found_line (expected_words expected) column piece help
 
 -- what is wrong, the text, and the help
 abbrev pub text_line : Bytes → Bytes → Bytes → Bytes

@@ -14,7 +14,7 @@ ghost use Rattle.duration_str.specs.Faults.{place_of};
 ghost use Rattle.std.specs.Option.{ForSome};
 ghost use Rattle.duration_str.specs.Internal.UnitTable.{is_megabyte, is_near};
 ghost use Rattle.std.specs.Int.{is_in_range};
-ghost use Rattle.duration_str.specs.OneLine.{one_line_of, is_plain, is_clear, is_letter, is_like, first_piece, shown, quoted, at_column, found_line, found_words, unknown_line, syntax_line, text_line, overflow_line, expected_words, begins_with_letter, near_name, name_help, unit_help, first_help, between_help, help_at};
+ghost use Rattle.duration_str.specs.OneLine.{one_line_of, is_plain, is_clear, is_letter, is_like, first_piece, shown, quoted, at_column, found_line, found_words, unknown_line, syntax_line, text_line, overflow_line, expected_words, begins_with_letter, near_name, name_help, unit_help, first_help, digit_help, help_or_units, help_at};
 ghost use Rattle.duration_str.specs.declared.one_line.TheConstants.{MAX_ONE_LINE_LEN, NEAR_WORDS};
 
 use crate::cause::{Cause, Expected};
@@ -88,22 +88,23 @@ fn put_syntax(buffer: &mut [u8], text: &str, place: usize, expected: Expected) -
 {
     let piece = first_piece(&text[place..]);
     let column = chars_before(text, place) + 1;
+    let help = help_at(expected, text.as_bytes(), place, piece);
     if expected.unit_word && begins_with_letter(piece) {
-        put_unknown(buffer, column, piece)
+        put_unknown(buffer, column, piece, help)
     } else {
-        let help = help_at(expected, text.as_bytes(), place, piece);
         put_found(buffer, expected_words(expected), column, piece, help)
     }
 }
 
-fn put_unknown(buffer: &mut [u8], column: usize, word: &str) -> Option<usize>
-    ensures { IsInFront (unknown_line column (chars word.now) (unit_help (near_name word.now)))
+fn put_unknown(buffer: &mut [u8], column: usize, word: &str, help: &str) -> Option<usize>
+    ensures { IsInFront (unknown_line column (chars word.now)
+        (unit_help (near_name word.now) help.now))
         result buffer.new }
 {
     let start = put(buffer, 0, b"unknown unit ")?;
     let end = put_quoted(buffer, start, word)?;
     let number = put_column(buffer, end, column)?;
-    put_unit_help(buffer, number, word)
+    put_unit_help(buffer, number, word, help)
 }
 
 fn put_found(
@@ -338,18 +339,25 @@ fn expected_words(expected: Expected) -> &'static str
     }
 }
 
-/// The help for a word that is no unit: the name that it is near, or all units.
-fn put_unit_help(buffer: &mut [u8], at: usize, word: &str) -> Option<usize>
+/// The help for a word that is no unit: the name that it is near, or the help for its place, or all units.
+fn put_unit_help(buffer: &mut [u8], at: usize, word: &str, help: &str) -> Option<usize>
     requires { at ≤ length buffer.old }
-    ensures { IsInFront (take at buffer.old ++ unit_help (near_name word.now)) result buffer.new }
+    ensures { IsInFront (take at buffer.old ++ unit_help (near_name word.now) help.now)
+        result buffer.new }
 {
     match near_row(word) {
         Some(row) => put_name_help(buffer, at, row.1.trim_ascii_end()),
-        None => put(
-            buffer,
-            at,
-            b" (write y, q, mon, w, d, h, min, s, ms, us or ns)",
-        ),
+        None => put_text(buffer, at, help_or_units(help)),
+    }
+}
+
+fn help_or_units(help: &str) -> &str
+    ensures { result.now ≡ help_or_units help.now }
+{
+    if help.is_empty() {
+        " (write y, q, mon, w, d, h, min, s, ms, us or ns)"
+    } else {
+        help
     }
 }
 
@@ -450,8 +458,8 @@ fn help_at(expected: Expected, text: &[u8], place: usize, piece: &str) -> &'stat
         " (numbers have digits only: write 1h 30m for 1.5h)"
     } else if are_blank(before) {
         first_help(piece, next)
-    } else if last.is_ascii_digit() && next.is_ascii_digit() {
-        between_help(piece)
+    } else if last.is_ascii_digit() {
+        digit_help(piece, next)
     } else {
         ""
     }
@@ -473,13 +481,15 @@ fn first_help(piece: &str, next: u8) -> &'static str
     }
 }
 
-/// The help for a piece between digits; nothing for other pieces.
-fn between_help(piece: &str) -> &'static str
-    ensures { result.now ≡ between_help piece.now }
+/// The help for a piece after a digit; nothing for other pieces.
+fn digit_help(piece: &str, next: u8) -> &'static str
+    ensures { result.now ≡ digit_help piece.now next }
 {
-    if piece == "," || piece == "_" || piece == "'" {
+    let is_between = next.is_ascii_digit();
+    let is_exponent = (is_between || next == b'+' || next == b'-') && is_word(piece, "e");
+    if is_exponent || is_between && (piece == "," || piece == "_" || piece == "'") {
         " (numbers have digits only)"
-    } else if piece == ":" {
+    } else if is_between && piece == ":" {
         " (clock times are not read: write 1h 30m or 1m 30s)"
     } else {
         ""

@@ -64,19 +64,19 @@ fn put_line(buffer: &mut [u8], text: &str, cause: Cause) -> Option<usize> {
 fn put_syntax(buffer: &mut [u8], text: &str, place: usize, expected: Expected) -> Option<usize> {
     let piece = first_piece(&text[place..]);
     let column = chars_before(text, place) + 1;
+    let help = help_at(expected, text.as_bytes(), place, piece);
     if expected.unit_word && begins_with_letter(piece) {
-        put_unknown(buffer, column, piece)
+        put_unknown(buffer, column, piece, help)
     } else {
-        let help = help_at(expected, text.as_bytes(), place, piece);
         put_found(buffer, expected_words(expected), column, piece, help)
     }
 }
 
-fn put_unknown(buffer: &mut [u8], column: usize, word: &str) -> Option<usize> {
+fn put_unknown(buffer: &mut [u8], column: usize, word: &str, help: &str) -> Option<usize> {
     let start = put(buffer, 0, b"unknown unit ")?;
     let end = put_quoted(buffer, start, word)?;
     let number = put_column(buffer, end, column)?;
-    put_unit_help(buffer, number, word)
+    put_unit_help(buffer, number, word, help)
 }
 
 fn put_found(
@@ -265,15 +265,19 @@ fn expected_words(expected: Expected) -> &'static str {
     }
 }
 
-/// The help for a word that is no unit: the name that it is near, or all units.
-fn put_unit_help(buffer: &mut [u8], at: usize, word: &str) -> Option<usize> {
+/// The help for a word that is no unit: the name that it is near, or the help for its place, or all units.
+fn put_unit_help(buffer: &mut [u8], at: usize, word: &str, help: &str) -> Option<usize> {
     match near_row(word) {
         Some(row) => put_name_help(buffer, at, row.1.trim_ascii_end()),
-        None => put(
-            buffer,
-            at,
-            b" (write y, q, mon, w, d, h, min, s, ms, us or ns)",
-        ),
+        None => put_text(buffer, at, help_or_units(help)),
+    }
+}
+
+fn help_or_units(help: &str) -> &str {
+    if help.is_empty() {
+        " (write y, q, mon, w, d, h, min, s, ms, us or ns)"
+    } else {
+        help
     }
 }
 
@@ -356,8 +360,8 @@ fn help_at(expected: Expected, text: &[u8], place: usize, piece: &str) -> &'stat
         " (numbers have digits only: write 1h 30m for 1.5h)"
     } else if are_blank(before) {
         first_help(piece, next)
-    } else if last.is_ascii_digit() && next.is_ascii_digit() {
-        between_help(piece)
+    } else if last.is_ascii_digit() {
+        digit_help(piece, next)
     } else {
         ""
     }
@@ -377,11 +381,13 @@ fn first_help(piece: &str, next: u8) -> &'static str {
     }
 }
 
-/// The help for a piece between digits; nothing for other pieces.
-fn between_help(piece: &str) -> &'static str {
-    if piece == "," || piece == "_" || piece == "'" {
+/// The help for a piece after a digit; nothing for other pieces.
+fn digit_help(piece: &str, next: u8) -> &'static str {
+    let is_between = next.is_ascii_digit();
+    let is_exponent = (is_between || next == b'+' || next == b'-') && is_word(piece, "e");
+    if is_exponent || is_between && (piece == "," || piece == "_" || piece == "'") {
         " (numbers have digits only)"
-    } else if piece == ":" {
+    } else if is_between && piece == ":" {
         " (clock times are not read: write 1h 30m or 1m 30s)"
     } else {
         ""

@@ -3,7 +3,7 @@ use Rattle.duration_str.proofs.Common.{ap, arith, Bool, bytes_eq, bytes_eq-Decid
 use Rattle.duration_str.proofs.Characters.UnitLemmas.{each_unit}
 use Rattle.duration_str.specs.declared.one_line.TheConstants.{NEAR_WORDS}
 use Rattle.std.specs.Option.{option_map}
-use Rattle.duration_str.specs.OneLine.{is_among, name_help, near_name, near_words, small_words, unit_help, us_words}
+use Rattle.duration_str.specs.OneLine.{help_or_units, is_among, name_help, near_name, near_words, small_words, unit_help, us_words}
 use Rattle.duration_str.specs.Internal.UnitTable.{is_megabyte, is_near, trimmed}
 
 -- a word in small letters, and the name to write, in bytes
@@ -104,18 +104,19 @@ near_found word =
           ]
     ]
 
-advised : (name : Option (List ℕ)) (bytes : List ℕ) → Some bytes ≡ option_map encode_utf8_all name
-    → unit_help name ≡ name_help bytes
-advised None bytes e = absurd cc
-advised (Some name) bytes e = let same : encode_utf8_all name ≡ bytes = cc in rw same refl
+advised : (name : Option (List ℕ)) (bytes help : List ℕ) → Some bytes ≡ option_map encode_utf8_all name
+    → unit_help name help ≡ name_help bytes
+advised None bytes help e = absurd cc
+advised (Some name) bytes help e = let same : encode_utf8_all name ≡ bytes = cc in rw same refl
 
-all_units : (name : Option (List ℕ)) → None ≡ option_map encode_utf8_all name → unit_help name ≡ unit_help None
-all_units None e = refl
-all_units (Some name) e = absurd cc
+no_name : (name : Option (List ℕ)) (help : List ℕ) → None ≡ option_map encode_utf8_all name
+    → unit_help name help ≡ help_or_units help
+no_name None help e = refl
+no_name (Some name) help e = absurd cc
 
-pub help_found : (word : List ℕ) (row : Row) → near_row word ≡ Some row
-    → unit_help (near_name word) ≡ name_help (trimmed row.1)
-help_found word row is = advised (near_name word) (trimmed row.1) (rw is at (near_found word))
+pub help_found : (word help : List ℕ) (row : Row) → near_row word ≡ Some row
+    → unit_help (near_name word) help ≡ name_help (trimmed row.1)
+help_found word help row is = advised (near_name word) (trimmed row.1) help (rw is at (near_found word))
 
-pub help_none : (word : List ℕ) → near_row word ≡ None → unit_help (near_name word) ≡ unit_help None
-help_none word is = all_units (near_name word) (rw is at (near_found word))
+pub help_none : (word help : List ℕ) → near_row word ≡ None → unit_help (near_name word) help ≡ help_or_units help
+help_none word help is = no_name (near_name word) help (rw is at (near_found word))

@@ -195,28 +195,31 @@ name_short : (u : TimeUnit) → IsShort 3 (encode_utf8_all (row_of u).printed)
 unfolding lib.Utf8.encode
 name_short u = search rules
 
-near_short : (name : List ℕ) → IsShort 3 (encode_utf8_all name) → IsShort 50 (unit_help (Some name))
-near_short name is =
+near_short : (name help : List ℕ) → IsShort 3 (encode_utf8_all name) → IsShort 52 (unit_help (Some name) help)
+near_short name help is =
     less (lit≤ tt) (joined (literal 16 (codes " (did you mean \"") refl) (joined is (literal 3 (codes "\"?)") refl)))
 
-unit_help_short : (word : List ℕ) → IsShort 50 (unit_help (near_name word))
+unit_help_short : (word help : List ℕ) → IsShort 52 help → IsShort 52 (unit_help (near_name word) help)
 unfolding lib.Utf8.encode
-unit_help_short word =
+unit_help_short word help short =
     let small = map to_ascii_lowercase word in
     let unit = find (λ u. is_among (near_words u) small) units in
-    let none = literal 50 (unit_help None) refl in
     picked (is_among small_words small) _ _
-    (picked (is_among small_words word) (Some (codes "mon")) None (near_short (codes "mon") (literal 3 (codes "mon") refl)) none)
-    (picked (is_among us_words small) (Some (codes "us")) _ (near_short (codes "us") (literal 3 (codes "us") refl)) (by_unit unit))
+    (picked (is_among small_words word) (Some (codes "mon")) None (near_short (codes "mon") help (literal 3 (codes "mon") refl)) none)
+    (picked (is_among us_words small) (Some (codes "us")) _ (near_short (codes "us") help (literal 3 (codes "us") refl)) (by_unit unit))
   where
-    picked : (b : Bool) (x y : Option (List ℕ)) → IsShort 50 (unit_help x) → IsShort 50 (unit_help y)
-        → IsShort 50 (unit_help (if b then x else y))
+    none : IsShort 52 (unit_help None help)
+    none =
+        chosen (length help == 0) (literal 52 (codes " (write y, q, mon, w, d, h, min, s, ms, us or ns)") refl) short
+
+    picked : (b : Bool) (x y : Option (List ℕ)) → IsShort 52 (unit_help x help) → IsShort 52 (unit_help y help)
+        → IsShort 52 (unit_help (if b then x else y) help)
     picked true x y first second = first
     picked false x y first second = second
 
-    by_unit : (unit : Option TimeUnit) → IsShort 50 (unit_help (option_map (λ u. (row_of u).printed) unit))
-    by_unit None = literal 50 (unit_help None) refl
-    by_unit (Some u) = near_short (row_of u).printed (name_short u)
+    by_unit : (unit : Option TimeUnit) → IsShort 52 (unit_help (option_map (λ u. (row_of u).printed) unit) help)
+    by_unit None = none
+    by_unit (Some u) = near_short (row_of u).printed help (name_short u)
 
 -- ---- The line
 
@@ -229,7 +232,7 @@ syntax_short text place expected is =
     (first_scalars rest (scalars-chars (drop place text) (IsUtf8-drop text place is.utf8 is.boundary))) in
     let column = column_short text place is in
     let help = help_short expected text place (encode_utf8_all (first_piece rest)) in
-    chosen _ (less (lit≤ tt) (joined (literal 13 (codes "unknown unit ") refl) (joined piece (joined column (unit_help_short _)))))
+    chosen _ (less (lit≤ tt) (joined (literal 13 (codes "unknown unit ") refl) (joined piece (joined column (unit_help_short _ _ help)))))
     (less (lit≤ tt) (joined (expected_short expected) (joined column (joined (found_short _ piece) help))))
 
 text_short : (problem text help : List ℕ) → IsUtf8 text → IsShort 26 problem → IsShort 41 help

@@ -16,7 +16,7 @@ returns-then-begins_with_letter c =
       c.if-expected.true,
       sym c.begins_with_letter.ensures ∙ c.if-begins_with_letter.true,
       ← c.chars_before-column.ensures.count,
-    ) c.put_unknown.ensures
+    ) (rw (c.help_at-help.ensures, c.as_bytes.ensures.value) at c.put_unknown.ensures)
 
 pub returns-else-expected : goal.returns-else-expected
 returns-else-expected c =
