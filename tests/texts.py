@@ -18,7 +18,7 @@ class Texts:
     BLANKS = ("", "", "", " ", " ", "  ", "\t", "\r", " \r\t ", "\n")
     STRAYS = ("-", "x", ".", ",", "μ", "µ", "é", "ß", "K", "分", "中", "P", "pt", '"', "\\", "\ufeff", "\u200e",
               "𝟙", "١", "\u00a0", "\0", "_", "/", "(", ":", "\n", "\x0b", "'", "&", "and", "And", "½", "：", "“", "\u3000",
-              "\xad", "\U000e0041" * 50)
+              "\xad", "\U000e0041" * 50, "e3", "E-2", "e+1", "+.5", "-.5")
     BROKEN = (b"\xff", b"\xc2", b"\xb5", b"\xe5\x88", b"\xc0\x80", b"\xed\xa0\x80", b"\xf4\x90\x80\x80", b"\xf0\x9f")
     NAMES = [name for unit in UNITS for name in (unit.names + " " + unit.chinese).split()]
     SHORT = [name for name in NAMES if len(name) < 3]
