@@ -178,16 +178,10 @@ impl<'a> Fault<'a> {
     }
 }
 
-/// One line.
+/// One line, padded and cut as a `str` is.
 impl fmt::Display for Fault<'_> {
     fn fmt(&self, f: &mut fmt::Formatter<'_>) -> fmt::Result {
-        let mut buffer = [0; Fault::BUFFER_LEN];
-        let line = self.write_one_line(&mut buffer);
-        // Without a width this takes fewer instructions.
-        match f.width() {
-            None => f.write_str(line),
-            Some(_) => f.pad(line),
-        }
+        f.pad(self.write_one_line(&mut [0; Fault::BUFFER_LEN]))
     }
 }
 
@@ -277,7 +271,7 @@ impl DurationError {
     }
 }
 
-/// One line.
+/// One line, as of a [`Fault`].
 impl fmt::Display for DurationError {
     fn fmt(&self, f: &mut fmt::Formatter<'_>) -> fmt::Result {
         self.as_fault().fmt(f)

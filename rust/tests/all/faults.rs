@@ -3,6 +3,7 @@ use crate::{FEATURES, Refused, options_of, vectors};
 use duration_str::{Cause, DError, Expected, Fault, Options, parse, parse_duration, parse_with, parse_with_units};
 use duration_str_core as proved;
 use std::error::Error;
+use std::fmt::Display;
 
 /// The message of the specification for a refused text.
 fn message(text: &str, options: Options) -> String {
@@ -126,11 +127,11 @@ fn takes_as_much_memory_as_the_message_is_long() {
 #[test]
 fn pads_errors() {
     let fault = fault("", Options::off());
-    assert_eq!(format!("{fault:>12}|{fault:-<12}"), "  empty text|empty text--");
-    let error = fault.into_owned();
-    assert_eq!(format!("{error:>12}|{error:-<12}"), "  empty text|empty text--");
-    let error = parse_with_units("").unwrap_err();
-    assert_eq!(format!("{error:>12}|{error:-<12}"), "  empty text|empty text--");
+    let errors: [&dyn Display; 3] = [&fault, &fault.into_owned(), &parse_with_units("").unwrap_err()];
+    for error in errors {
+        assert_eq!(format!("{error:>12}|{error:-<12}|"), "  empty text|empty text--|");
+        assert_eq!(format!("{error:.5}|{error:1.5}|{error:7.5}|"), "empty|empty|empty  |");
+    }
 }
 
 #[test]
