@@ -37,8 +37,8 @@ pub const MAX_PRINTED_LEN: usize = 60;
 /// The bytes of the buffer for `write_human`: room for the longest text, and for four bytes of the last name's row.
 pub const FORMAT_BUFFER_SIZE: usize = 64;
 
-/// Prints a duration to the start of a buffer, whatever the buffer holds. The text has at most `MAX_PRINTED_LEN` bytes.
-/// Allocates nothing and cannot fail.
+/// Prints a duration to the start of a buffer, whatever the buffer holds; bytes after the text may change too. The text
+/// has at most `MAX_PRINTED_LEN` bytes. Allocates nothing and cannot fail.
 ///
 /// ```
 /// use duration_str::{FORMAT_BUFFER_SIZE, write_human};
@@ -70,7 +70,8 @@ pub const STYLED_BUFFER_SIZE: usize = 144;
 /// lexicographically greatest breakdown with only these units and so few parts that is not above the duration. If all
 /// its counts are 0, the text is the zero: `0` and the smallest unit's name, or that of the second where the unit is
 /// shorter. So it is for every duration if the largest unit is shorter than the smallest, or there are no parts. The
-/// text has at most `MAX_PRINTED_LEN` bytes, in the long style `MAX_LONG_LEN`. Allocates nothing and cannot fail.
+/// text has at most `MAX_PRINTED_LEN` bytes, in the long style `MAX_LONG_LEN`; bytes after it may change too. Allocates
+/// nothing and cannot fail.
 ///
 /// ```
 /// use duration_str::{Format, STYLED_BUFFER_SIZE, Style, TimeUnit, write_within};
