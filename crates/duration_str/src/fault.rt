@@ -1,5 +1,5 @@
 //! A refused text with its cause, and the token at the place of a syntax fault.
-ghost use Rattle.std.specs.Prelude.{◌≡◌};
+ghost use Rattle.std.specs.Prelude.{◌≡◌, ◌<◌, ◌≤◌, ℕ};
 ghost use Rattle.std.specs.Option.{ForSome};
 ghost use Rattle.std.specs.Str.{IsCharBoundary, chars};
 ghost use Rattle.duration_str.specs.Faults.{IsSliceOf, found_token, place_of, token_at};
@@ -77,9 +77,21 @@ impl<'a> Fault<'a> {
             return None;
         };
         // To find a token at the place it is enough to cut from the character before it on.
-        let from = self.text.floor_char_boundary(place.saturating_sub(1));
+        let from = last_boundary(self.text, place.saturating_sub(1));
         token_at(Tokens::new(&self.text[from..], o), place - from)
     }
+}
+
+/// The last byte up to this one at which the text may be cut.
+fn last_boundary(text: &str, mut place: usize) -> usize
+    ensures bound { result ≤ place }
+    ensures boundary { IsCharBoundary text.now result }
+    ensures nearest { (i : ℕ) → result < i → i ≤ place → ¬ (IsCharBoundary text.now i) }
+{
+    while !text.is_char_boundary(place) {
+        place -= 1;
+    }
+    place
 }
 
 /// The token that starts at the place, among those that are left.

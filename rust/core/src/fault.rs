@@ -61,12 +61,17 @@ impl<'a> Fault<'a> {
             return None;
         };
         // To find a token at the place it is enough to cut from the character before it on.
-        let from = (0..place)
-            .rev()
-            .find(|at| self.text.is_char_boundary(*at))
-            .unwrap_or(0);
+        let from = last_boundary(self.text, place.saturating_sub(1));
         token_at(Tokens::new(&self.text[from..], o), place - from)
     }
+}
+
+/// The last byte up to this one at which the text may be cut.
+fn last_boundary(text: &str, mut place: usize) -> usize {
+    while !text.is_char_boundary(place) {
+        place -= 1;
+    }
+    place
 }
 
 /// The token that starts at the place, among those that are left.

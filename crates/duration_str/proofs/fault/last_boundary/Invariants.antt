@@ -1,0 +1,12 @@
+use Rattle.duration_str.proofs.Common.{IsCharBoundary, ℕ, ◌<◌, ◌≤◌}
+use Rattle.duration_str.proofs.fault.last_boundary.Given as goal
+
+-- no byte that was passed is a boundary
+abbrev pub invariant-loop-place : goal.invariant-loop-place
+invariant-loop-place l = record {
+  bound : l.place ≤ l.initial.place;
+  nearest : (i : ℕ) → l.place < i → i ≤ l.initial.place → IsCharBoundary l.text i → ⊥;
+}
+
+abbrev pub decreases-loop-place : goal.decreases-loop-place
+decreases-loop-place l = l.place
