@@ -111,7 +111,7 @@ impl<'a> Tokens<'a> {
     ghost use Rattle.duration_str.specs.Iteration.{source, options_of, cut_place, looks_of};
     ghost use Rattle.duration_str.specs.Iteration.{tokens_left, what_of, KeepsInput};
     ghost use Rattle.duration_str.specs.Internal.Steps.{IsAhead, LooksAhead, LooksForNumber, TakesNumber};
-    ghost use Rattle.duration_str.specs.Internal.Steps.{TakesToken, TakesTokenWith, TakesSign};
+    ghost use Rattle.duration_str.specs.Internal.Steps.{TakesToken, TakesTokenWith, TakesSign, sort_of};
 
     /// The tokens of a text, cut under these options.
     ///
@@ -286,6 +286,24 @@ impl<'a> Tokens<'a> {
                 self.advance();
                 What::Other
             }
+        }
+    }
+
+    /// Moves past the token ahead, whose value nobody asks for.
+    #[inline(always)]
+    pub(crate) fn skip_token(&mut self, sort: TokenStart)
+        requires { IsAhead self.old (Some sort) }
+        ensures { TakesTokenWith self.old self.new (λ terminal. sort ≡ sort_of terminal) }
+    {
+        match sort {
+            TokenStart::Number => {
+                let _ = self.take_digits();
+            }
+            TokenStart::Word => {
+                let _ = self.take_letters();
+            }
+            TokenStart::Operator(_) => self.advance(),
+            TokenStart::Other => self.advance(),
         }
     }
 

@@ -10,7 +10,7 @@ use crate::cause::{Cause, Expected};
 use crate::fault::Fault;
 use crate::options::Options;
 use crate::parser::parse_with;
-use crate::token::{Tokens, What};
+use crate::token::{TokenStart, Tokens};
 use std::time::Duration;
 
 /// What `parse_with` returns, but a text that lacks a unit is refused.
@@ -57,16 +57,17 @@ fn missing_place(text: &str, o: Options) -> Option<usize>
         ≡ missing_place (rest_from o (length text.now) (tokens_of o (chars text.now))) }
 {
     let mut tokens = Tokens::new(text, o);
-    let mut after_number = false;
-    while let Some(token) = tokens.next() {
-        after_number = match token.what {
-            What::Word(_) => false,
-            _ if after_number => return Some(token.start),
-            What::Number => true,
-            What::Operator(_) => false,
-            // An arm of its own, as in `read_unit`.
-            What::Other => false,
-        };
+    while let Some(sort) = tokens.sort_ahead() {
+        tokens.skip_token(sort);
+        if let TokenStart::Number = sort {
+            match tokens.sort_after_number() {
+                None => return Some(tokens.place()),
+                Some(next) => match next {
+                    TokenStart::Word => tokens.skip_token(next),
+                    _ => return Some(tokens.place()),
+                },
+            }
+        }
     }
-    after_number.then_some(text.len())
+    None
 }

@@ -1,9 +1,10 @@
 -- The first number without a unit.
-use Rattle.duration_str.proofs.Common.{arith, rules, Tokens, YieldsNextToken, rest_of, Some, ℕ, ◌≡◌, ◌∙◌, ap, rest_from, Token, start_after, None, refl, suc, ◌≤◌, ◌∷◌, [], ◌⊎◌, inl, inr, ◌+◌, List, length, Bool, ◌++◌, if◌then◌else◌, not, sym, tokens_of, chars, IsUtf8, Cause, Syntax, ForSome, place_of, IsCharBoundary, byte_len, Err, Ok, Terminal, number, word, operator, other, what_of, Option, TimeUnit, true, false, Options, map, terminal_of, lexemes_of}
-use Rattle.duration_str.specs.declared.token.Token.{Token as RustToken}
-use Rattle.duration_str.specs.declared.token.What.TheVariants as whats
-use Rattle.duration_str.specs.Internal.Rest.{Rest, missing_after, missing_place, terminal_at, begins_with_word, start_left}
+use Rattle.duration_str.proofs.Common.{arith, Tokens, rest_of, cut_place, LooksAhead, TakesTokenWith, TokenStart, sort_of, KeepsInput, tokens_left, ◌<◌, Some, ℕ, ◌≡◌, ◌∙◌, ap, rest_from, Token, start_after, None, refl, suc, ◌≤◌, ◌∷◌, [], ◌⊎◌, inl, inr, ◌+◌, List, length, Bool, ◌++◌, if◌then◌else◌, not, sym, tokens_of, chars, IsUtf8, Cause, Syntax, ForSome, place_of, IsCharBoundary, byte_len, Err, Ok, Terminal, number, word, operator, other, Option, true, false, Options, map, terminal_of, lexemes_of}
+use Rattle.duration_str.specs.Internal.Rest.{Rest, missing_place, terminal_at, begins_with_word, start_left}
 use Rattle.duration_str.proofs.OnePass.PlaceLemmas.{same_start, starts_placed}
+use Rattle.duration_str.proofs.OnePass.ReaderLemmas.{after_token, at_end, same_rest, starts}
+use Rattle.duration_str.proofs.Cutting.StepLemmas.{keeps_on}
+use Rattle.duration_str.specs.declared.token.TokenStart.TheVariants as sorts
 use Rattle.duration_str.specs.Place.{terminals_of}
 use Rattle.duration_str.specs.Results.{ParsesText}
 use Rattle.duration_str.specs.declared.fault.Fault.{Fault}
@@ -14,57 +15,80 @@ use Rattle.duration_str.specs.WithUnits.{BeginsWithWord, expected_unit, HasUnits
 
 -- ---- One step of the loop
 
--- The next token is the first terminal that is left.
-record IsNext (s t : Tokens) (token : RustToken) : Type 0 where
-  terminal : Terminal
-  left : rest_of s ≡ terminal_at token.start terminal (rest_of t)
-  what : token.what ≡ what_of terminal
+-- Up to m blanks are skipped, and up to t a token of this sort.
+pub record Skips (s m t : Tokens) (sort : TokenStart) : Type 0 where
+  pub look : LooksAhead s m (Some sort)
+  pub taken : TakesTokenWith m t (λ terminal. sort ≡ sort_of terminal)
 
-next_left : {s t : Tokens} (token : RustToken) → YieldsNextToken s (Some token) t → IsNext s t token
-next_left token yields = search rules
+pub skips_kept : {s m t : Tokens} {sort : TokenStart} → Skips s m t sort → KeepsInput s t
+skips_kept skips = keeps_on skips.look.kept skips.taken.token.kept
 
-before_no_word : (at : ℕ) (t : Terminal) (rest : Rest) → ((u : Option TimeUnit) → what_of t ≡ whats.Word u → ⊥)
-    → missing_after true (terminal_at at t rest) ≡ Some at
-before_no_word at (number n) rest none = refl
-before_no_word at (word u) rest none = absurd (none u refl)
-before_no_word at (operator op) rest none = refl
-before_no_word at other rest none = refl
+pub fewer_left : {s m t : Tokens} {sort : TokenStart} → Skips s m t sort
+    → length (tokens_left t) < length (tokens_left s)
+fewer_left skips = omega (arith, ap length (sym skips.look.same_left ∙ skips.taken.token.first))
 
-past_a_number : (at : ℕ) (t : Terminal) (rest : Rest) → what_of t ≡ whats.Number
-    → missing_after false (terminal_at at t rest) ≡ missing_after true rest
+skipped : {s m t : Tokens} {sort : TokenStart} (skips : Skips s m t sort)
+    → rest_of s ≡ terminal_at (cut_place m) skips.taken.terminal (rest_of t)
+skipped skips = sym (same_rest skips.look) ∙ after_token skips.taken.token
+
+-- where the first unit is missing after a number
+abbrev after_number : Rest → Option ℕ
+after_number rest = if not (begins_with_word rest) then Some (start_left 0 rest) else missing_place rest
+
+past_a_number : (at : ℕ) (t : Terminal) (rest : Rest) → sorts.Number ≡ sort_of t
+    → missing_place (terminal_at at t rest) ≡ after_number rest
 past_a_number at (number n) rest is = refl
 past_a_number at (word u) rest is = cc
 past_a_number at (operator op) rest is = cc
 past_a_number at other rest is = cc
 
-past_a_sign : (at : ℕ) (t : Terminal) (rest : Rest) → ((u : Option TimeUnit) → what_of t ≡ whats.Word u → ⊥)
-    → (what_of t ≡ whats.Number → ⊥) → missing_after false (terminal_at at t rest) ≡ missing_after false rest
-past_a_sign at (number n) rest no_word no_number = absurd (no_number refl)
-past_a_sign at (word u) rest no_word no_number = refl
-past_a_sign at (operator op) rest no_word no_number = refl
-past_a_sign at other rest no_word no_number = refl
+past_a_word : (at : ℕ) (t : Terminal) (rest : Rest) → sorts.Word ≡ sort_of t
+    → after_number (terminal_at at t rest) ≡ missing_place rest
+past_a_word at (number n) rest is = cc
+past_a_word at (word u) rest is = refl
+past_a_word at (operator op) rest is = cc
+past_a_word at other rest is = cc
 
--- a unit is missing before what is not a word
-pub missing_here : {s t : Tokens} (token : RustToken) → YieldsNextToken s (Some token) t
-    → ((u : Option TimeUnit) → token.what ≡ whats.Word u → ⊥) → missing_after true (rest_of s) ≡ Some token.start
-missing_here token yields none =
-    let next = next_left token yields in
-    rw next.left (before_no_word token.start next.terminal _ (λ u e. none u (next.what ∙ e)))
+past_a_sign : (at : ℕ) (t : Terminal) (rest : Rest) → (sorts.Number ≡ sort_of t → ⊥)
+    → missing_place (terminal_at at t rest) ≡ missing_place rest
+past_a_sign at (number n) rest no_number = absurd (no_number refl)
+past_a_sign at (word u) rest no_number = refl
+past_a_sign at (operator op) rest no_number = refl
+past_a_sign at other rest no_number = refl
 
-pub past_number : {s t : Tokens} (token : RustToken) → YieldsNextToken s (Some token) t → token.what ≡ whats.Number
-    → missing_after false (rest_of s) ≡ missing_after true (rest_of t)
-past_number token yields is =
-    let next = next_left token yields in
-    rw next.left (past_a_number token.start next.terminal _ (rw next.what at is))
+past_number : {s m t : Tokens} → Skips s m t sorts.Number → missing_place (rest_of s) ≡ after_number (rest_of t)
+past_number {m = m} {t} skips =
+    rw (skipped skips) (past_a_number (cut_place m) skips.taken.terminal (rest_of t) skips.taken.has)
 
-pub past_sign : {s t : Tokens} {after : Bool} {place : Option ℕ} (token : RustToken)
-    → YieldsNextToken s (Some token) t → ((u : Option TimeUnit) → token.what ≡ whats.Word u → ⊥)
-    → (token.what ≡ whats.Number → ⊥) → after ≡ false → missing_after after (rest_of s) ≡ place
-    → missing_place (rest_of t) ≡ place
-past_sign token yields no_word no_number not_after same =
-    let next = next_left token yields in
-    sym (past_a_sign token.start next.terminal _ (λ u e. no_word u (next.what ∙ e)) (λ e. no_number (next.what ∙ e)))
-    ∙ rw (not_after, next.left) at same
+past_word : {s m t : Tokens} → Skips s m t sorts.Word → after_number (rest_of s) ≡ missing_place (rest_of t)
+past_word {m = m} {t} skips =
+    rw (skipped skips) (past_a_word (cut_place m) skips.taken.terminal (rest_of t) skips.taken.has)
+
+pub past_unit : {s m t u v : Tokens} → Skips s m t sorts.Number → Skips t u v sorts.Word
+    → missing_place (rest_of s) ≡ missing_place (rest_of v)
+past_unit skips unit = past_number skips ∙ past_word unit
+
+pub past_sign : {s m t : Tokens} {sort : TokenStart} → Skips s m t sort → (sort ≡ sorts.Number → ⊥)
+    → missing_place (rest_of s) ≡ missing_place (rest_of t)
+past_sign {m = m} {t} skips no_number =
+    rw (skipped skips)
+    (past_a_sign (cut_place m) skips.taken.terminal (rest_of t) (λ e. no_number (skips.taken.has ∙ sym e)))
+
+no_word : {t u : Tokens} (sort : Option TokenStart) → LooksAhead t u sort → (sort ≡ Some sorts.Word → ⊥)
+    → after_number (rest_of t) ≡ Some (cut_place u)
+no_word None look none = rw (at_end look).0 refl
+no_word (Some sorts.Number) look none = rw (starts look refl).2 refl
+no_word (Some sorts.Word) look none = absurd (none refl)
+no_word (Some (sorts.Operator op)) look none = rw (starts look refl).1 refl
+no_word (Some sorts.Other) look none = rw (starts look refl).1 refl
+
+-- a unit is missing where no word follows a number
+pub missing_here : {s m t u : Tokens} {sort : Option TokenStart} → Skips s m t sorts.Number → LooksAhead t u sort
+    → (sort ≡ Some sorts.Word → ⊥) → missing_place (rest_of s) ≡ Some (cut_place u)
+missing_here {sort = sort} skips look none = past_number skips ∙ no_word sort look none
+
+pub none_missing : {s m : Tokens} → LooksAhead s m None → missing_place (rest_of s) ≡ None
+none_missing look = rw (at_end look).0 refl
 
 -- ---- The place is that of the definition
 

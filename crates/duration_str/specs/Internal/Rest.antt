@@ -1,5 +1,5 @@
 -- What is left of a text while it is read: the next thing to read, and the answer.
-use Rattle.std.specs.Prelude.{◌≡◌, ℕ, zero, suc, ◌≤◌, Bool, true, false, ◌&&◌, not, if◌then◌else◌, List, [], ◌∷◌, length, take, drop, Option, Some, None, Result, Ok, Err, IfErr}
+use Rattle.std.specs.Prelude.{◌≡◌, ℕ, zero, suc, ◌≤◌, Bool, true, false, not, if◌then◌else◌, List, [], ◌∷◌, length, take, drop, Option, Some, None, Result, Ok, Err, IfErr}
 use Rattle.std.specs.Option.{ForSome, ok_or}
 use Rattle.duration_str.specs.declared.options.Options.{Options}
 use Rattle.duration_str.specs.declared.unit.TimeUnit.{TimeUnit}
@@ -154,8 +154,3 @@ missing_place (terminal_at at (number n) rest) =
     if not (begins_with_word rest) then Some (start_left 0 rest) else missing_place rest
 missing_place (terminal_at at terminal rest) = missing_place rest
 missing_place (end_at at) = None
-
--- the same, where the rest follows a number if `after_number` is true
-abbrev pub missing_after : Bool → Rest → Option ℕ
-missing_after after_number rest =
-    if after_number && not (begins_with_word rest) then Some (start_left 0 rest) else missing_place rest
