@@ -91,8 +91,8 @@ impl Answer {
 }
 
 /// The answer with the fault for which a text is refused under these options.
-pub(crate) fn refused(fault: Fault<'_>, options: Options) -> Answer {
-    Answer::refusal(fault.cause(), found_length(&fault, options))
+pub(crate) fn refused(fault: &Fault<'_>, options: Options) -> Answer {
+    Answer::refusal(fault.cause(), found_length(fault, options))
 }
 
 /// The length in bytes of the token at the place of a syntax fault; 0 without one.

@@ -81,10 +81,11 @@ pub fn duration_str_parse_with(text: &[u8], options: u32, answer: &mut Answer) -
 /// The value of a text under the options whose bits are set, or its fault.
 pub(crate) fn read_by(text: &str, bits: u32) -> Result<u64, Fault<'_>> {
     let options = options_of_bits(bits);
-    let nanos = read(text, options)?;
+    let answer = read(text, options);
     if bits & REQUIRE_UNIT == 0 {
-        return Ok(nanos);
+        return answer;
     }
+    let nanos = answer?;
     match missing_unit(text, options) {
         Some(fault) => Err(fault),
         None => Ok(nanos),

@@ -55,7 +55,7 @@ pub(crate) fn refusal_of<'a>(
             Err("")
         }
         Err(fault) => {
-            *answer = refused(fault, options_of_bits(options));
+            *answer = refused(&fault, options_of_bits(options));
             Ok(fault)
         }
     }

@@ -100,10 +100,10 @@ impl Answer {
 }
 
 /// The answer with the fault for which a text is refused under these options.
-pub(crate) fn refused(fault: Fault<'_>, options: Options) -> Answer
-    ensures { TellsFault options fault.entry.text.now fault.entry.cause result }
+pub(crate) fn refused(fault: &Fault<'_>, options: Options) -> Answer
+    ensures { TellsFault options fault.now.text.now fault.now.cause result }
 {
-    Answer::refusal(fault.cause(), found_length(&fault, options))
+    Answer::refusal(fault.cause(), found_length(fault, options))
 }
 
 /// The length in bytes of the token at the place of a syntax fault; 0 without one.

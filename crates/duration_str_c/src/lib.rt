@@ -109,10 +109,11 @@ pub(crate) fn read_by(text: &str, bits: u32) -> Result<u64, Fault<'_>>
         × IsRefusedBy bits (chars text.now) fault.cause) }
 {
     let options = options_of_bits(bits);
-    let nanos = read(text, options)?;
+    let answer = read(text, options);
     if bits & REQUIRE_UNIT == 0 {
-        return Ok(nanos);
+        return answer;
     }
+    let nanos = answer?;
     match missing_unit(text, options) {
         Some(fault) => Err(fault),
         None => Ok(nanos),

@@ -6,6 +6,7 @@ use Rattle.duration_str_c.proofs.answer.refused.Goals as goal
 
 pub returns : goal.returns
 returns c =
-    let token = found_token c.args.options (chars c.args.fault.text.now) c.args.fault.cause in
-    let answers : c.refusal.result ≡ refusal_answer c.args.fault.cause (token_length token) = search rules in
-    (answers, c.args.fault.placed)
+    let fault = c.args.fault.now in
+    let token = found_token c.args.options (chars fault.text.now) fault.cause in
+    let answers : c.refusal.result ≡ refusal_answer fault.cause (token_length token) = search rules in
+    (answers, fault.placed)
