@@ -6,6 +6,7 @@
 //! - `calls SIDE read COUNT`, `calls SIDE print COUNT`: `3m 13s 29ms`, read, and printed into a buffer.
 //! - `calls SIDE print NANOS COUNT`, `calls SIDE parts PARTS NANOS COUNT`: a duration printed into a buffer, and in at most
 //!   so many parts.
+//! - `calls SIDE units COUNT`: the same text, read where units are required.
 //! - `calls crate print-string COUNT`: the same printed into a `String`.
 //! - `calls SIDE with OPTIONS TEXT COUNT`: reads a text under the options, the bits of `duration_str.h`.
 //! - `calls SIDE text BYTES COUNT`: reads a text of so many bytes.

@@ -1,7 +1,7 @@
 //! The calls that are measured: those of the Rust crate, and those of the archive through C.
 use crate::texts::{EXPRESSION, below_day, expressions, long_text, refusal, repeat};
 use duration_str::{DurationError, FORMAT_BUFFER_SIZE, Fault, Format, HumanFormat, Options, STYLED_BUFFER_SIZE};
-use duration_str::{parse, parse_duration, parse_with, write_human, write_within};
+use duration_str::{parse, parse_duration, parse_with, parse_with_units, write_human, write_within};
 use std::hint::black_box;
 use std::time::Duration;
 
@@ -16,6 +16,10 @@ pub trait Library {
     fn reading(text: &str) -> Self::Value;
     /// The value of a text under these options, which are the bits of the header.
     fn reading_with(text: &str, options: u32) -> Self::Value;
+    /// The value of a text whose numbers must have units, where the library has that rule.
+    fn reading_units(_: &str) -> Self::Value {
+        unimplemented!()
+    }
     /// Prints a duration into a buffer, and returns the length of the text.
     fn printing(length: Duration) -> usize;
     /// The same in at most so many parts, where the library does so.
@@ -48,6 +52,10 @@ impl Library for Crate {
     fn reading_with(text: &str, options: u32) -> Duration {
         let [no_calc, lowercase, cn_unit] = std::array::from_fn(|bit| options & 1 << bit != 0);
         parse_with(text, Options { no_calc, lowercase, cn_unit }).expect("a text that is read")
+    }
+
+    fn reading_units(text: &str) -> Duration {
+        parse_with_units(text).expect("a text that is read")
     }
 
     fn printing(length: Duration) -> usize {
@@ -140,6 +148,10 @@ impl Library for Archive {
         answer.nanos
     }
 
+    fn reading_units(text: &str) -> u64 {
+        Archive::reading_with(text, 8)
+    }
+
     fn printing(length: Duration) -> usize {
         let nanos = length.as_secs() * 1_000_000_000 + u64::from(length.subsec_nanos());
         // SAFETY: the buffer has the 64 bytes that may be written.
@@ -183,6 +195,7 @@ pub fn calls<L: Library>(words: &[&str], count: u64) {
     match words {
         ["nothing"] => repeat(count, || { black_box(black_box(EXPRESSION)); }),
         ["read"] => repeat(count, || { black_box(L::reading(black_box(EXPRESSION))); }),
+        ["units"] => repeat(count, || { black_box(L::reading_units(black_box(EXPRESSION))); }),
         ["print"] => repeat(count, || { black_box(L::printing(black_box(length))); }),
         ["print", nanos] => {
             let length = of_nanos(nanos);
