@@ -54,18 +54,15 @@ def main():
         raise SystemExit("columns: pytimeparse reads the texts otherwise")
     data, offsets = "".join(texts).encode(), array("q", accumulate(map(len, texts), initial=0))
     # Each is a str of its own.
-    same = [f"{1}h {30}m" for _ in range(COUNT)]
+    same = [f"{1}h {30}m" for _ in range(FEW)]
 
     timed = [
-        ("`parse_ns`, called one by one", in_a_loop(duration_str.parse_ns), same[:FEW]),
-        ("`parse`, called one by one", in_a_loop(duration_str.parse), same[:FEW]),
+        ("`parse_ns`, called one by one", in_a_loop(duration_str.parse_ns), same),
+        ("`parse`, called one by one", in_a_loop(duration_str.parse), same),
         ("`parse_ns` refuses `1m 3-5`, and makes the `DurationError`", refuse_each, ["1m 3-5"] * FEW),
-        ("`to_timedelta` of a Series", duration_str.to_timedelta, pandas.Series(same)),
         ("`format_many` of a Series of timedelta64", duration_str.format_many, lengths[:FEW]),
-        ("`parse_ns` of `3m 13s 29ms`, called one by one", in_a_loop(duration_str.parse_ns), texts[:FEW]),
-        ("`parse_buffers` of such texts", lambda _: duration_str.parse_buffers(data, offsets), texts),
-        ("`parse_many` of a list of such texts", duration_str.parse_many, texts),
-        ("`to_timedelta` of a Series of such texts", duration_str.to_timedelta, series),
+        ("`parse_buffers` of texts as `3m 13s 29ms`", lambda _: duration_str.parse_buffers(data, offsets), texts),
+        ("`to_timedelta` of a Series of these", duration_str.to_timedelta, series),
         ("`pandas.to_timedelta` of the same", pandas.to_timedelta, series[:FEW]),
         ("`to_timedelta` of it by Dask, four processes, in time of the clock", in_processes, series),
         ("pytimeparse of `3h 13m 29s`, called one by one", in_a_loop(pytimeparse.parse), whole),
