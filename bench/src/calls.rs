@@ -4,7 +4,7 @@
 //!
 //! - `calls SIDE nothing COUNT`: the loop alone.
 //! - `calls SIDE read COUNT`, `calls SIDE print COUNT`: `3m 13s 29ms`, read, and printed into a buffer.
-//! - `calls SIDE print NANOS COUNT`, `calls SIDE parts PARTS NANOS COUNT`: a duration printed into a buffer, and in at most
+//! - `calls SIDE print NANOS COUNT`, `calls crate parts PARTS NANOS COUNT`: a duration printed into a buffer, and in at most
 //!   so many parts.
 //! - `calls SIDE units COUNT`: the same text, read where units are required.
 //! - `calls crate print-string COUNT`: the same printed into a `String`.

@@ -88,14 +88,6 @@ impl Library for Crate {
 pub struct Archive;
 
 impl Archive {
-    /// Has a call print into a buffer.
-    fn print<const ROOM: usize>(call: impl Fn(*mut u8) -> usize) -> usize {
-        let mut buffer = [0; ROOM];
-        let end = call(buffer.as_mut_ptr());
-        black_box(&buffer);
-        end
-    }
-
     /// Reads a text under the options; the answer, and whether it is read.
     fn answer(text: &str, options: u32) -> (Answer, bool) {
         let mut answer = Answer::default();
@@ -123,9 +115,6 @@ struct Answer {
 unsafe extern "C" {
     fn duration_str_parse(text: *const u8, length: usize, nanos: *mut u64) -> bool;
     fn duration_str_format(nanos: u64, buffer: *mut u8) -> usize;
-    fn duration_str_format_styled(
-        secs: u64, nanos: u32, largest: u32, smallest: u32, parts: u32, style: u32, buffer: *mut u8,
-    ) -> usize;
     fn duration_str_parse_with(text: *const u8, length: usize, options: u32, answer: *mut Answer) -> bool;
     fn duration_str_one_line(text: *const u8, length: usize, options: u32, answer: *mut Answer, buffer: *mut u8) -> usize;
 }
@@ -154,14 +143,11 @@ impl Library for Archive {
 
     fn printing(length: Duration) -> usize {
         let nanos = length.as_secs() * 1_000_000_000 + u64::from(length.subsec_nanos());
+        let mut buffer = [0; FORMAT_BUFFER_SIZE];
         // SAFETY: the buffer has the 64 bytes that may be written.
-        Archive::print::<64>(|buffer| unsafe { duration_str_format(nanos, buffer) })
-    }
-
-    fn printing_parts(length: Duration, parts: u32) -> usize {
-        let (secs, nanos) = (length.as_secs(), length.subsec_nanos());
-        // SAFETY: as above, with 144 bytes.
-        Archive::print::<144>(|buffer| unsafe { duration_str_format_styled(secs, nanos, 0, 10, parts, 0, buffer) })
+        let end = unsafe { duration_str_format(nanos, buffer.as_mut_ptr()) };
+        black_box(&buffer);
+        end
     }
 
     fn refusing(text: &str, buffer: &mut [u8; ROOM]) -> usize {
