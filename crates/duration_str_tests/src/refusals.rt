@@ -4,8 +4,8 @@ use crate::vectors::{
     NUMBER, OFF, OPERATORS, START, TOO_LARGE, UNITS, syntax,
 };
 use duration_str::{
-    Cause, CondUnit, Expected, Fault, Options, parse, parse_chrono, parse_looked, parse_std,
-    parse_time, parse_with, write_human,
+    Cause, CondUnit, Expected, Fault, ONE_LINE_BUFFER_SIZE, Options, REPORT_BUFFER_SIZE, parse,
+    parse_chrono, parse_looked, parse_std, parse_time, parse_with, write_human,
 };
 use std::alloc::{AllocError, Global};
 use std::process::Abort;
@@ -200,6 +200,67 @@ fn refuses_texts(rt: HostRuntime) -> Result<(), Fail> {
         for text in texts.split('|') {
             assert!(rt; is_caused(rt.alloc(), text, o, cause, line)?, "{text}");
         }
+    }
+    Ok(())
+}
+
+/// Texts that are refused under these options, what a report has above the line, and the line.
+const SHOWN: [(&str, Options, &str, &str); 7] = [
+    ("", OFF, "", "empty text"),
+    (
+        "5 mins",
+        OFF,
+        "5 mins\n  ^\n",
+        "unknown unit \"mins\" at column 3 (did you mean \"min\"?)",
+    ),
+    (
+        "3天 x",
+        CN_UNIT,
+        "3天 x\n    ^\n",
+        "expected a number, '+', '*' or the end at column 4, found \"x\"",
+    ),
+    (
+        "+5m",
+        OFF,
+        "+5m\n^\n",
+        "expected a number at column 1, found \"+\" (a leading \"+\" is not read)",
+    ),
+    (
+        "1h \"",
+        OFF,
+        "",
+        "expected a number, '+', '*' or the end at column 4, found \"\\\"\"",
+    ),
+    (
+        "600y x",
+        OFF,
+        "",
+        "duration of over 584 years in \"600y x\"",
+    ),
+    ("2*1h 30m", OFF, "", "sum and product mixed in \"2*1h 30m\""),
+];
+
+/// Whether the fault's report is its line, after what stands above it.
+fn is_reported(
+    alloc: Global,
+    fault: Fault<'_>,
+    above: &str,
+    line: &str,
+) -> Result<bool, AllocError> {
+    let report = format!(in alloc; "{above}{line}")?;
+    Ok(fault.write_report(&mut [0; REPORT_BUFFER_SIZE]) == report.as_str())
+}
+
+#[test]
+fn writes_lines_and_reports(rt: HostRuntime) -> Result<(), Fail> {
+    for (text, o, above, line) in SHOWN {
+        let fault = parse_with(text, o).err().expect(&rt, text);
+        assert_eq!(rt;
+            fault.write_one_line(&mut [0; ONE_LINE_BUFFER_SIZE]),
+            line,
+            "{text}"
+        );
+        assert!(rt; is_reported(rt.alloc(), fault, above, line)?, "{text}");
     }
     Ok(())
 }

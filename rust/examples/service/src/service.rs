@@ -61,7 +61,7 @@ mod tests {
     use super::{Arguments, Parser};
 
     /// Timeouts, and the seconds that each is after the change-over and before it; 0 is for one that is refused.
-    const TIMEOUTS: [(&str, [u64; 2]); 9] = [
+    const TIMEOUTS: [(&str, [u64; 2]); 10] = [
         ("1h 30m", [5_400, 5_400]),
         ("2weeks 3days", [1_468_800, 1_468_800]),
         ("1M", [0, 2_630_016]),
@@ -71,6 +71,7 @@ mod tests {
         ("90secs", [0, 90]),
         ("2hrs", [0, 7_200]),
         ("90", [0, 0]),
+        ("2h 90", [0, 0]),
     ];
 
     #[test]
