@@ -1,0 +1,220 @@
+"""Runs the command `duration` over random options, arguments and lines, and compares what it says and its status with a model
+made of shell/README.md and `duration --help` alone: duration_model.py PROGRAM [SECONDS [SEED]]. Single texts are read,
+refused and printed by reference_parser.
+"""
+import collections
+import fractions
+import functools
+import json
+import re
+import subprocess
+import sys
+import threading
+import time
+
+sys.dont_write_bytecode = True
+import reference_parser as reference  # noqa: E402
+from texts import Texts  # noqa: E402
+
+LONGEST_LINE = 1_048_576
+BLANKS = reference.BLANKS
+EDGES = BLANKS.encode() + b'"'  # What is around the text in a field.
+NUMBER = re.compile(rf"[{BLANKS}]*([0-9]+(\.[0-9]+)?|\.[0-9]+)([eE][-+]?[0-9]+)?[{BLANKS}]*")
+NAMES = [case(name) for unit in reference.UNITS for name in unit.names.split()[-2:] for case in (str, str.upper)]
+VALUES = {
+    "to": NAMES, "from": NAMES, "largest": NAMES, "smallest": ["µs", *NAMES], "style": ("short", "compact", "long"),
+    "round": ("down", "up", "nearest"), "decimals": range(10), "parts": (1, 2, 3, 11, 12, 255), "field": (1, 2, 3, 5),
+    "delimiter": (",", ",", ";", ":", "\t", " ", '"', "-", "^", "]", "5"), "header": (0, 1, 1, 2, 9),
+} | dict.fromkeys(("json", "quiet", "zero-terminated", "lowercase", "cn-unit", "require-unit"), [""])
+WRONG_WORDS = """--to= --to=mins --to=年 --from=secs --largest=mo --smallest=5s --style=Long --round=half --decimals=10
+--parts=0 --parts=256 --parts=two --field=0 --field=65536 --field=-1 -dab -dé --header= --header=x --none -x""".split()
+Refused = collections.namedtuple("Refused", "message column found", defaults=(None, None))
+Said = collections.namedtuple("Said", "output errors status")
+length = functools.partial(reference.unit_of, options=reference.Options())
+quoted = functools.partial(json.dumps, ensure_ascii=False)
+
+
+def rounded(number, way):
+    """The whole number next below, next above, or the nearest, of two that are as near the upper one."""
+    return {"up": -(-number // 1), "nearest": (number + fractions.Fraction(1, 2)) // 1}.get(way, number // 1)
+
+
+def number_in(nanos, unit, decimals=None, way="down"):
+    """A duration as a number of this unit, with so many decimals or those that are needed."""
+    digits = 9 if decimals is None else decimals
+    whole, rest = divmod(rounded(fractions.Fraction(nanos * 10**digits, length(unit)), way), 10**digits)
+    text = f"{whole}.{rest:0{digits}}" if digits else str(whole)
+    return text.rstrip("0").rstrip(".") if decimals is None else text
+
+
+def printed(nanos, options):
+    if "to" in options:
+        return number_in(nanos, options["to"], options.get("decimals"), options.get("round", "down"))
+    lengths = [unit.length for unit in reference.UNITS]
+    largest, smallest = (lengths.index(length(options.get(*each))) for each in (("largest", "y"), ("smallest", "ns")))
+    return reference.print_within(nanos, largest, smallest, options.get("parts", 11), options.get("style", "short"))
+
+
+def read_number(text, options):
+    """The nanoseconds of a bare number; what is cut off after 18 decimals also makes it larger under `--round up`."""
+    way = options["round"] if options.get("round") == "up" else "down"
+    decimals = rounded(fractions.Fraction(text.strip(BLANKS)) * 10**18, way)
+    nanos = rounded(fractions.Fraction(decimals * length(options["from"]), 10**18), way)
+    return nanos if nanos < reference.LIMIT else Refused(f"duration of over 584 years in {reference.quote(text)}")
+
+
+def read(data, options):
+    """The nanoseconds of a text, or why it is refused."""
+    try:
+        text = data.decode()
+    except UnicodeDecodeError:
+        return Refused("not UTF-8")
+    if "from" in options and NUMBER.fullmatch(text):
+        return read_number(text, options)
+    text = text if len(text) < 10_000 else text.strip(BLANKS)  # The blanks around a long one would take long.
+    answer = reference.answer_of(text, reference.Options(False, "lowercase" in options, "cn-unit" in options))
+    if "from" in options or "require-unit" in options:
+        answer = reference.with_units(text, answer)
+    if answer.cause == "read":
+        return answer.value
+    column = answer.place + 1 if answer.cause == "syntax" else None
+    return Refused(reference.one_line(text, answer), column, answer.found or None)
+
+
+def field_in(line, options):
+    """Where the field begins and ends, but for what is around its text; None where it is missing."""
+    pattern = "(?<![^{0}])[^{0}]*" if "delimiter" in options else "[^{0}]+"
+    fields = re.finditer(pattern.format(re.escape(options.get("delimiter", BLANKS))).encode(), line)
+    field = dict(enumerate(fields, 1)).get(options["field"])
+    begin = field and field.end() - len(field[0].lstrip(EDGES))
+    return field and (begin, begin + len(field[0].strip(EDGES)))
+
+
+def json_object(text, answer, options, where):
+    if isinstance(answer, Refused):
+        (kind, number), (message, column, found) = where.split(), map(quoted, answer)
+        return f'{{"text":{quoted(text)},"{kind}":{number},"column":{column},"found":{found},"message":{message}}}'
+    shown = printed(answer, options) if "to" in options else quoted(printed(answer, options))
+    return f'{{"text":{quoted(text)},"nanoseconds":"{answer}","seconds":{number_in(answer, "s")},"printed":{shown}}}'
+
+
+def said_of(line, options, where):
+    """What is said of an argument or a line; `where` is as `line 1`."""
+    too_long, begin, end = len(line) > LONGEST_LINE, 0, len(line)
+    if "field" in options:
+        begin, end = field_in(line, options) or (None, None)
+    elif where.startswith("line"):
+        line = b"" if too_long else line.removesuffix(b"\r")
+    answer = Refused("no such field") if begin is None else read(line[begin:end], options)
+    answer = Refused("line of over 1,048,576 bytes") if too_long else answer
+    if "json" in options:
+        told = json_object(line.decode(errors="replace"), answer, options, where).encode()
+        return Said(told + end_of(options), b"", int(isinstance(answer, Refused)))
+    if not isinstance(answer, Refused):
+        return Said(line[:begin] + printed(answer, options).encode() + line[end:] + end_of(options), b"", 0)
+    field = f", field {options['field']}" if "field" in options else ""
+    return Said((line + end_of(options)) * bool(field), f"duration: {where}{field}: {answer.message}\n".encode(), 1)
+
+
+def end_of(options):
+    return b"\0" if "zero-terminated" in options else b"\n"
+
+
+def wanted(options, texts, data):
+    """What the program must say to these texts or, without any, to the lines of these bytes."""
+    end = end_of(options)
+    lines = texts or (data.removesuffix(end).split(end) if data else [])
+    header, kind = options.get("header", 0), "argument" if texts else "line"
+    said = [Said(line + end, b"", 0) for line in lines[:header]]
+    said += [said_of(line, options, f"{kind} {number}") for number, line in enumerate(lines[header:], header + 1)]
+    output, errors, statuses = zip(*said) if said else ((), (), ())
+    return Said(*(b"" if "quiet" in options else b"".join(part) for part in (output, errors)), max(statuses, default=0))
+
+
+def is_wrong(options, texts):
+    """Whether these options can't stand together, or beside texts."""
+    names = set(options)
+    numbers = names & {"style", "parts", "largest", "smallest"} if "to" in names else names & {"decimals", "round"}
+    fields = names & {"field", "header"} if "json" in names else "delimiter" in names and "field" not in names
+    order = length(options.get("largest", "y")) < length(options.get("smallest", "ns"))
+    return bool(numbers or fields or order or "header" in names and texts)
+
+
+class Commands(Texts):
+    def chance(self, percent):
+        return self.random.random() * 100 < percent
+
+    def words(self, options):
+        words = [f"--{name}" + f"={value}" * (value != "") for name, value in options.items()]
+        short = {"--quiet": "-q", "--zero-terminated": "-z", "--header=1": "--header"}
+        words = [short.get(word, word.replace("--delimiter=", "-d")) if self.chance(50) else word for word in words]
+        return sum((word.split("=", not re.match("--header|.*-$", word) and self.chance(50)) for word in words), [])
+
+    def bare_number(self):
+        decimals = "".join(self.choice("0059") for _ in range(self.random.randint(1, 25)))
+        exponent = self.choice("eE") + self.choice(("", "+", "-", "-0")) + str(self.random.randrange(30))
+        parts = ("", " "), ("", "0", self.number()), ("", ".", "." + decimals), ("", exponent), ("", "\t")
+        return "".join(map(self.choice, parts)).encode()
+
+    def single(self, options):
+        if self.chance(5):
+            return b"5" + self.choice((b"x", b"0", "é".encode(), b"0 ")) * self.random.randint(36, 44)
+        return self.bare_number() if "from" in options and self.chance(60) else self.text()
+
+    def line(self, options):
+        fields = [self.single(options) for _ in range(self.random.randint(1, options.get("field", 0) + 1))]
+        if "delimiter" not in options and self.chance(70):
+            fields = [re.sub(b"[ \t\r\n]", b"", field) for field in fields]
+        edges = [self.choice((b"", b"", b"", b" ", b'"', b'" ', b"\r")) for _ in range(2)]
+        return edges[0] + options.get("delimiter", self.choice(" \t")).encode().join(fields) + edges[1]
+
+    def data(self, options):
+        lines = [self.line(options) for _ in range(self.choice((0, 1, 2, 5, 20)))]
+        long = b"5m".ljust(LONGEST_LINE + self.choice((-1, 0, 1, 2, LONGEST_LINE)))
+        lines[1:1] = [long] if self.chance(1) else []
+        return end_of(options).join(lines) + self.choice((b"", end_of(options)))
+
+    def command(self):
+        """A command's options, texts and input; of one in ten the options may be wrong."""
+        options = {name: self.choice(values) for name, values in VALUES.items() if self.chance(20)}
+        data = self.data(options)
+        texts = data.replace(b"\0", b"").split(b"\n") if len(data) < 99_999 and self.chance(30) else []
+        return self.command() if is_wrong(options, texts) and self.chance(90) else (options, texts, data)
+
+
+def run(words, options, data, cuts):
+    """What the program says to bytes that come in pieces, whose lines it must answer before the next one comes."""
+    process = subprocess.Popen(words, 0, stdin=subprocess.PIPE, stdout=subprocess.PIPE, stderr=subprocess.PIPE)
+    clock = threading.Timer(20, process.kill)
+    clock.start()
+    output = b""
+    for begin, end in zip(cuts, cuts[1:]):
+        process.stdin.write(data[begin:end])
+        answers = wanted(options, [], data[: data.rfind(end_of(options), 0, end) + 1]).output
+        while len(output) < len(answers) and (part := process.stdout.read(len(answers) - len(output))):
+            output += part
+    rest, errors = process.communicate(data[cuts[-1] :])
+    clock.cancel()
+    return Said(output + rest, errors, process.returncode)
+
+
+def main(program, seconds="20", seed=str(time.time_ns())):
+    print(f"duration_model: seed {seed}")
+    commands, ends, count = Commands(seed), time.monotonic() + float(seconds), 0
+    while time.monotonic() < ends:
+        options, texts, data = commands.command()
+        wrong = [commands.choice(WRONG_WORDS)] if commands.chance(3) else []
+        words = [program, *commands.words(options), *wrong, *(["--", *texts] if texts else [])]
+        if wrong or is_wrong(options, texts):
+            must, got = Said(b"", b"error: ", 2), run(words, options, data, [0])
+            got = got._replace(errors=got.errors[:7])
+        else:
+            cuts = sorted(commands.random.choices(range(len(data) + 1), k=3)) if len(data) < 9999 and not texts else []
+            must, got = wanted(options, texts, data), run(words, options, data, [0, *cuts])
+        if got != must:
+            sys.exit(f"command: {words}\ninput: {data[:9999]}\nwanted: {must}\ngot:    {got}")
+        count += len(texts or data.split(end_of(options)))
+    print(f"duration_model: {count} texts, each as it must be")
+
+
+main(*sys.argv[1:])
