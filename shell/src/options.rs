@@ -8,6 +8,9 @@ use std::ffi::{OsStr, OsString};
 use std::os::unix::ffi::OsStrExt;
 use std::time::Duration;
 
+/// What says how to print for people. clap doesn't miss an option that is required and can't stand beside these.
+const SHAPES: [&str; 4] = ["style", "parts", "largest", "smallest"];
+
 /// Read durations such as 1h 30m, and print them for people or as numbers
 #[derive(Parser)]
 #[command(name = "duration", version, after_help = AFTER_HELP, args_override_self = true, max_term_width = 80)]
@@ -16,14 +19,14 @@ pub struct Choices {
     #[arg(value_name = "TEXT")]
     pub texts: Vec<OsString>,
     /// Print a number of this unit, with the decimals that are needed, up to nine
-    #[arg(long, value_name = "UNIT", value_parser = unit,
-        conflicts_with_all = ["style", "parts", "largest", "smallest"])]
+    #[arg(long, value_name = "UNIT", value_parser = unit, conflicts_with_all = SHAPES)]
     pub to: Option<TimeUnit>,
     /// Print so many decimals, 0 to 9
-    #[arg(long, value_name = "N", requires = "to", value_parser = value_parser!(u8).range(..=9))]
+    #[arg(long, value_name = "N", requires = "to", conflicts_with_all = SHAPES,
+        value_parser = value_parser!(u8).range(..=9))]
     decimals: Option<u8>,
     /// Where a number has more decimals, print the next one below, above, or the nearest
-    #[arg(long, value_name = "WAY", requires = "to", default_value = "down")]
+    #[arg(long, value_name = "WAY", requires = "to", conflicts_with_all = SHAPES, default_value = "down")]
     pub round: Round,
     /// Read a bare number, such as 12.5 or 1e-05, as this unit's; other numbers need a unit
     #[arg(long, value_name = "UNIT", value_parser = unit)]
@@ -53,7 +56,7 @@ pub struct Choices {
         conflicts_with = "texts")]
     pub header: Option<u64>,
     /// Print an object of JSON for each text, also for one that is refused
-    #[arg(long, conflicts_with_all = ["field", "header"])]
+    #[arg(long, conflicts_with_all = ["field", "delimiter", "header"])]
     pub json: bool,
     /// Print nothing: the status says whether all were read
     #[arg(short, long)]

@@ -268,7 +268,8 @@ fn refuses_wrong_usage() {
     const WRONG: &str = "--unknown|-x|-5 --to|--to x 1h|--to s --parts 2 1h|--to s --style long 1h|--decimals 2 1h|\
         --to s --decimals 10 1h|--parts 0 1h|--style none 1h|--largest s --smallest h 1h|-d, 1h|--field 1 -d ,, 1h|\
         --field 1 -d ä 1h|--field 0 1h|--json --field 1 1h|--json --header|--completions elvish|--completions bash 1h|\
-        --from x 1|--header 1|--header -- 1h|--round up 1h|--to s --round x 1h";
+        --from x 1|--header 1|--header -- 1h|--round up 1h|--to s --round x 1h|\
+        --decimals 2 --parts 1 1h|--round up --style long 1h|--json -d, 1h";
     for words in WRONG.split('|') {
         let words: Vec<&str> = words.split(' ').collect();
         let (status, output, errors) = run(&words, b"");
