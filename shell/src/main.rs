@@ -96,6 +96,8 @@ impl Run<'_> {
                 self.pass(&mut input, &mut line, is_header || self.choices.field.is_some())?;
             } else if is_header {
                 self.put(&[text])?;
+            } else if self.choices.field.is_none() {
+                self.line(text.strip_suffix(b"\r").unwrap_or(text), number)?;
             } else {
                 self.line(text, number)?;
             }
@@ -145,7 +147,7 @@ impl Run<'_> {
     /// The text of a line, all of it or a field without blanks and quotation marks, and what is before and after it.
     fn parts<'a>(&self, line: &'a [u8]) -> Option<[&'a [u8]; 3]> {
         let Some(number) = self.choices.field else {
-            return Some([b"", line.strip_suffix(b"\r").unwrap_or(line), b""]);
+            return Some([b"", line, b""]);
         };
         let delimiter = self.choices.delimiter;
         let divides = |byte: &u8| delimiter.map_or(b" \t\r\n".contains(byte), |character| *byte == character);

@@ -55,6 +55,7 @@ fn answers_each_argument() {
     assert_eq!(answer(&["1h 30m", "5400", "3m+13s"]), "1h 30min\n1h 30min\n3min 13s\n");
     let errors = format!("duration: argument 2: {}\n", line("5 mins"));
     assert_eq!(run(&["1h", "5 mins", "2h"], b"3h\n"), (1, "1h\n2h\n".into(), errors));
+    assert!(run(&["--json", "1h\r"], b"").1.starts_with("{\"text\":\"1h\\r\","));
 }
 
 #[test]
