@@ -1,6 +1,6 @@
-"""Runs the command `duration` over random options, arguments and lines, and compares what it says and its status with a model
-made of shell/README.md and `duration --help` alone: duration_model.py PROGRAM [SECONDS [SEED]]. Single texts are read,
-refused and printed by reference_parser.
+"""Runs the command `duration` over random options, arguments and lines, and compares what it says and its status with a
+model made of shell/README.md and `duration --help` alone: duration_model.py PROGRAM [SECONDS [SEED]]. Single texts are
+read, refused and printed by reference_parser.
 """
 import collections
 import fractions
@@ -58,7 +58,7 @@ def printed(nanos, options):
 def read_number(text, options):
     """The nanoseconds of a bare number; what is cut off after 18 decimals also makes it larger under `--round up`."""
     way = options["round"] if options.get("round") == "up" else "down"
-    decimals = rounded(fractions.Fraction(text.strip(BLANKS)) * 10**18, way)
+    decimals = rounded(fractions.Fraction(text) * 10**18, way)
     nanos = rounded(fractions.Fraction(decimals * length(options["from"]), 10**18), way)
     return nanos if nanos < reference.LIMIT else Refused(f"duration of over 584 years in {reference.quote(text)}")
 
@@ -70,7 +70,7 @@ def read(data, options):
     except UnicodeDecodeError:
         return Refused("not UTF-8")
     if "from" in options and NUMBER.fullmatch(text):
-        return read_number(text, options)
+        return read_number(text.strip(BLANKS), options)
     text = text if len(text) < 10_000 else text.strip(BLANKS)  # The blanks around a long one would take long.
     answer = reference.answer_of(text, reference.Options(False, "lowercase" in options, "cn-unit" in options))
     if "from" in options or "require-unit" in options:
@@ -135,7 +135,7 @@ def is_wrong(options, texts):
     """Whether these options can't stand together, or beside texts."""
     names = set(options)
     numbers = names & {"style", "parts", "largest", "smallest"} if "to" in names else names & {"decimals", "round"}
-    fields = names & {"field", "header"} if "json" in names else "delimiter" in names and "field" not in names
+    fields = "json" in names and names & {"field", "header"} or "delimiter" in names and "field" not in names
     order = length(options.get("largest", "y")) < length(options.get("smallest", "ns"))
     return bool(numbers or fields or order or "header" in names and texts)
 
