@@ -40,17 +40,15 @@ impl<T, A> Deref for Vec<T, A> {
 }
 
 /// A text whose memory can be refused.
-pub struct String<A>(std::string::String, PhantomData<A>);
+pub struct String<A>(Vec<u8, A>);
 
 impl<A: Allocator> String<A> {
-    pub fn new(_: A) -> String<A> {
-        String(std::string::String::new(), PhantomData)
+    pub fn new(alloc: A) -> String<A> {
+        String(Vec::new(alloc))
     }
 
     pub fn push_str(&mut self, text: &str) -> Result<(), AllocError> {
-        self.0.try_reserve(text.len()).map_err(|_| AllocError)?;
-        self.0.push_str(text);
-        Ok(())
+        self.0.extend_from_slice(text.as_bytes())
     }
 
     /// What `write!` calls. Nothing fails but memory.
@@ -59,7 +57,7 @@ impl<A: Allocator> String<A> {
     }
 
     pub fn as_bytes(&self) -> &[u8] {
-        self.0.as_bytes()
+        &self.0
     }
 }
 
@@ -67,4 +65,12 @@ impl<A: Allocator> fmt::Write for String<A> {
     fn write_str(&mut self, text: &str) -> fmt::Result {
         self.push_str(text).map_err(|_| fmt::Error)
     }
+}
+
+#[test]
+fn asks_for_as_much_as_it_takes() {
+    // These take no memory, so that one more than can be counted is what is refused.
+    let mut values = Vec::new(Heap);
+    assert!(values.extend_from_slice(&[()]).is_ok());
+    assert!(values.extend_from_slice(&[(); usize::MAX]).is_err());
 }
