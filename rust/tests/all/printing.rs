@@ -64,7 +64,7 @@ fn prints_whole(length: Duration, printed: &str) {
 #[test]
 fn pads_and_ignores_a_precision() {
     let human = format_duration(Duration::from_secs(90));
-    assert_eq!(format!("{human:.2}|{human:*>10.2}|{human:^10}|"), "1min 30s|**1min 30s| 1min 30s |");
+    assert_eq!(format!("{human:.2}|{human:*>10.2}|{human:^11}|"), "1min 30s|**1min 30s| 1min 30s  |");
     let micros = format_duration(Duration::from_micros(5));
     assert_eq!(format!("{micros:>5}|{micros:-<6}|"), "  5µs|5µs---|");
     let whole = HumanDuration(Duration::from_secs(90));
