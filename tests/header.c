@@ -15,13 +15,20 @@ static void expect(bool holds, const char *what)
     }
 }
 
-/* What is told of a text. Each byte of the answer is set before, so that one that is not written shows. */
+/* What is told of a text, by each call that takes options. Each byte of the answer is set before, so that one that is not
+ * written shows. */
 static struct duration_str_answer read_with(const char *text, uint32_t options)
 {
-    struct duration_str_answer answer;
+    struct duration_str_answer answer, of_line, of_report;
+    char line[DURATION_STR_ONE_LINE_BUFFER_SIZE], report[DURATION_STR_REPORT_BUFFER_SIZE];
+    const size_t length = strlen(text);
     memset(&answer, 0xff, sizeof answer);
-    bool read = duration_str_parse_with(text, strlen(text), options, &answer);
+    bool read = duration_str_parse_with(text, length, options, &answer);
     expect(read == (answer.cause == DURATION_STR_CAUSE_READ), "a text is read exactly if there is no cause");
+    expect((duration_str_one_line(text, length, options, &of_line, line) == 0) == read, "a line of what is refused");
+    expect((duration_str_report(text, length, options, &of_report, report) == 0) == read, "a report of what is refused");
+    expect(of_line.cause == answer.cause && of_report.cause == answer.cause, "the same answer by three calls");
+    expect(of_line.place == answer.place && of_report.place == answer.place, "the same place by three calls");
     return answer;
 }
 
@@ -129,7 +136,7 @@ static void check_styles(void)
     expect(is_printed(5401, 0, two, DURATION_STR_STYLE_LONG, "1 hour 30 minutes"), "a long style");
     expect(is_printed(5401, 0, all, DURATION_STR_STYLE_COMPACT, "1h30min1s"), "a compact style");
     expect(is_printed(193, 29000000, all, DURATION_STR_STYLE_SHORT, "3min 13s 29ms"), "more parts than units");
-    expect(is_printed(90061, 5, seconds, DURATION_STR_STYLE_SHORT, "90061s"), "seconds");
+    expect(is_printed(4295057357, 5, seconds, DURATION_STR_STYLE_SHORT, "4295057357s"), "seconds of 33 bits");
     expect(is_printed(193, 29000000, days, DURATION_STR_STYLE_SHORT, "0d"), "no days");
     expect(is_printed(193, 29000000, no_largest, DURATION_STR_STYLE_SHORT, ""), "no largest unit");
     expect(is_printed(193, 29000000, no_smallest, DURATION_STR_STYLE_SHORT, ""), "no smallest unit");
