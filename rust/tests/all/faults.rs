@@ -132,6 +132,8 @@ fn pads_errors() {
         assert_eq!(format!("{error:>12}|{error:-<12}|"), "  empty text|empty text--|");
         assert_eq!(format!("{error:.5}|{error:1.5}|{error:7.5}|"), "empty|empty|empty  |");
     }
+    let (unit, style) = (duration_str::UnknownUnit, duration_str::UnknownStyle);
+    assert_eq!(format!("{unit:.7}|{style:.8}|"), "no unit|no style|");
 }
 
 #[test]

@@ -70,6 +70,7 @@ fn reads_and_writes_names() {
     ] {
         assert_eq!(refused.unwrap().to_string(), refusal);
     }
+    assert_eq!(TimeUnit::deserialize(Untyped("h")), Ok(TimeUnit::Hour));
 }
 
 #[test]
