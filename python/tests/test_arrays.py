@@ -142,6 +142,7 @@ class Reading(unittest.TestCase):
                 values = numpy.array([[1, -2], ["NaT", 3]], dtype=f"timedelta64[{unit}]")
                 read = to_timedelta(values, errors=errors)
                 self.assertEqual((read.shape, numbers(read)), ((2, 2), [length, -2 * length, None, 3 * length]))
+        self.assertEqual(numbers(to_timedelta([lengths[1]] * 2)), [5, 5])
         for value in [datetime.timedelta.max, numpy.timedelta64(2**62, "s"), numpy.timedelta64(-(2**60), "W")]:
             with self.assertRaisesRegex(OverflowError, "^at index 1: .* 2\\*\\*63 nanoseconds or more: "):
                 to_timedelta(["1s", value])
@@ -181,7 +182,7 @@ class Reading(unittest.TestCase):
         self.assertEqual(parse_many(numpy.array(["1s", "2s"])).tolist(), [SECOND, 2 * SECOND])
 
     def test_wants_texts(self):
-        for value in [b"1s", 1, 1.5, True, ["1s"], numpy.int64(1), numpy.datetime64(1, "s")]:
+        for value in [b"1s", 1, 1.5, True, ["1s", "2s"], numpy.int64(1), numpy.datetime64(1, "s")]:
             with self.subTest(value=value):
                 with self.assertRaisesRegex(TypeError, "^at index 2: .* must be a str, not "):
                     to_timedelta(["x", None, value])

@@ -15,6 +15,10 @@ from tests.vectors import OPTIONS, VECTORS
 error_of = functools.partial(vectors.error_of, parse_ns)
 
 
+class JobError(DurationError):
+    """A caller's own."""
+
+
 class Errors(unittest.TestCase):
     def test_tells_what_is_wrong(self):
         for text, names, cause, place, found, expected, line, spaces in VECTORS["refused"]:
@@ -72,8 +76,9 @@ class Errors(unittest.TestCase):
     def test_can_be_copied_and_pickled(self):
         for text in ["", "1µs …", "600y", "1\ud800"]:
             error = error_of(text, no_calc=True)
+            error.__class__ = JobError
             error.job = "backup"
             error.__notes__ = ["of the second job"]
             for other in [copy.copy(error), pickle.loads(pickle.dumps(error))]:
-                self.assertEqual((str(other), vars(other)), (str(error), vars(error)))
+                self.assertEqual((type(other), str(other), vars(other)), (JobError, str(error), vars(error)))
                 self.assertEqual(other.report, error.report)

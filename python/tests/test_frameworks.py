@@ -251,6 +251,9 @@ class Models(unittest.TestCase):
             self.assertEqual(error["ctx"], {"cause": "SYNTAX", "place": 2, "pos": 2, "found": "mins"})
             self.assertEqual(told.exception.json().count("did you mean"), 1)
         with self.assertRaises(self.pydantic.ValidationError) as told:
+            self.model(timeout="1µs …")
+        self.assertEqual(told.exception.errors()[0]["ctx"], {"cause": "SYNTAX", "place": 5, "pos": 4, "found": "…"})
+        with self.assertRaises(self.pydantic.ValidationError) as told:
             self.model(timeout="600y {cause}")
         self.assertEqual(told.exception.errors()[0]["msg"], 'duration of over 584 years in "600y {cause}"')
 

@@ -254,15 +254,16 @@ class Hostile(unittest.TestCase):
                 parse("1h")
                 duration_str.parse_seconds("1h")
                 format(SECOND)
+                format(2**64)
                 for text in ["1x", "\ud800", "", "600y", None]:
                     try:
                         parse_ns(text)
                     except ValueError:
                         pass
             for _ in range(rounds // 100):
-                parse_many(["1s", "x", None, "\ud800"], errors="coerce")
+                parse_many(["1s", "x", None, "\ud800"] * 200, errors="coerce")
                 parse_buffers(column, offsets)
-                for call in (lambda: parse_many(["1s", "x"]), lambda: format_many([*range(200), None, "x"]),
+                for call in (lambda: parse_many(["1s", "x"]), lambda: format_many([*range(200), *[None] * 200, "x"]),
                              lambda: parse_buffers(b"1s2x", array("i", [0, 2, 4]))):  # fmt: skip
                     try:
                         call()

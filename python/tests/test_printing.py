@@ -52,6 +52,7 @@ class Printing(unittest.TestCase):
 
     def test_takes_each_limit_alone(self):
         rows = [({"parts": 2}, "3min 13s"), ({"smallest": "min"}, "3min"), ({"largest": "us"}, "193029000µs"), ({"parts": 10**30}, "3min 13s 29ms")]
+        rows.append(({"parts": 2**32 + 1}, "3min 13s 29ms"))
         for words, printed in rows:
             self.assertEqual(format(193_029_000_000, **words), printed)
 
