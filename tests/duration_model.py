@@ -1,10 +1,8 @@
 """Runs the command `duration` over random options, arguments and lines, and compares what it says and its status with a
-model made of shell/README.md and `duration --help` alone: duration_model.py PROGRAM [SECONDS [SEED]]. Single texts are
-read, refused and printed by reference_parser.
+model made of shell/README.md and `duration --help` alone: duration_model.py PROGRAM [SECONDS [SEED]]
 """
 import collections
 import fractions
-import functools
 import json
 import re
 import subprocess
@@ -20,18 +18,17 @@ LONGEST_LINE = 1_048_576
 BLANKS = reference.BLANKS
 EDGES = BLANKS.encode() + b'"'  # What is around the text in a field.
 NUMBER = re.compile(rf"[{BLANKS}]*([0-9]+(\.[0-9]+)?|\.[0-9]+)([eE][-+]?[0-9]+)?[{BLANKS}]*")
-NAMES = [case(name) for unit in reference.UNITS for name in unit.names.split()[-2:] for case in (str, str.upper)]
-VALUES = {
-    "to": NAMES, "from": NAMES, "largest": NAMES, "smallest": ["µs", *NAMES], "style": ("short", "compact", "long"),
-    "round": ("down", "up", "nearest"), "decimals": range(10), "parts": (1, 2, 3, 11, 12, 255), "field": (1, 2, 3, 5),
-    "delimiter": (",", ",", ";", ":", "\t", " ", '"', "-", "^", "]", "5"), "header": (0, 1, 1, 2, 9),
+LENGTHS = {name: unit.length for unit in reference.UNITS for name in unit.names.split()}
+LENGTHS |= {name.upper(): length for name, length in LENGTHS.items() if name.isascii()}
+VALUES = dict.fromkeys(("to", "from", "largest", "smallest"), list(LENGTHS)) | {
+    "style": ("short", "compact", "long"), "round": ("down", "up", "nearest"), "decimals": range(10),
+    "field": (1, 2, 3, 5), "delimiter": tuple(',,;:\t "-^]5'), "header": (0, 1, 1, 2, 9), "parts": (1, 2, 3, 12, 255),
 } | dict.fromkeys(("json", "quiet", "zero-terminated", "lowercase", "cn-unit", "require-unit"), [""])
 WRONG_WORDS = """--to= --to=mins --to=年 --from=secs --largest=mo --smallest=5s --style=Long --round=half --decimals=10
 --parts=0 --parts=256 --parts=two --field=0 --field=65536 --field=-1 -dab -dé --header= --header=x --none -x""".split()
 Refused = collections.namedtuple("Refused", "message column found", defaults=(None, None))
 Said = collections.namedtuple("Said", "output errors status")
-length = functools.partial(reference.unit_of, options=reference.Options())
-quoted = functools.partial(json.dumps, ensure_ascii=False)
+quoted = json.JSONEncoder(ensure_ascii=False).encode
 
 
 def rounded(number, way):
@@ -42,7 +39,7 @@ def rounded(number, way):
 def number_in(nanos, unit, decimals=None, way="down"):
     """A duration as a number of this unit, with so many decimals or those that are needed."""
     digits = 9 if decimals is None else decimals
-    whole, rest = divmod(rounded(fractions.Fraction(nanos * 10**digits, length(unit)), way), 10**digits)
+    whole, rest = divmod(rounded(fractions.Fraction(nanos * 10**digits, LENGTHS[unit]), way), 10**digits)
     text = f"{whole}.{rest:0{digits}}" if digits else str(whole)
     return text.rstrip("0").rstrip(".") if decimals is None else text
 
@@ -51,7 +48,7 @@ def printed(nanos, options):
     if "to" in options:
         return number_in(nanos, options["to"], options.get("decimals"), options.get("round", "down"))
     lengths = [unit.length for unit in reference.UNITS]
-    largest, smallest = (lengths.index(length(options.get(*each))) for each in (("largest", "y"), ("smallest", "ns")))
+    largest, smallest = (lengths.index(LENGTHS[options.get(*each)]) for each in (("largest", "y"), ("smallest", "ns")))
     return reference.print_within(nanos, largest, smallest, options.get("parts", 11), options.get("style", "short"))
 
 
@@ -59,7 +56,7 @@ def read_number(text, options):
     """The nanoseconds of a bare number; what is cut off after 18 decimals also makes it larger under `--round up`."""
     way = options["round"] if options.get("round") == "up" else "down"
     decimals = rounded(fractions.Fraction(text) * 10**18, way)
-    nanos = rounded(fractions.Fraction(decimals * length(options["from"]), 10**18), way)
+    nanos = rounded(fractions.Fraction(decimals * LENGTHS[options["from"]], 10**18), way)
     return nanos if nanos < reference.LIMIT else Refused(f"duration of over 584 years in {reference.quote(text)}")
 
 
@@ -136,7 +133,7 @@ def is_wrong(options, texts):
     names = set(options)
     numbers = names & {"style", "parts", "largest", "smallest"} if "to" in names else names & {"decimals", "round"}
     fields = "json" in names and names & {"field", "header"} or "delimiter" in names and "field" not in names
-    order = length(options.get("largest", "y")) < length(options.get("smallest", "ns"))
+    order = LENGTHS[options.get("largest", "y")] < LENGTHS[options.get("smallest", "ns")]
     return bool(numbers or fields or order or "header" in names and texts)
 
 
@@ -151,7 +148,7 @@ class Commands(Texts):
         return sum((word.split("=", not re.match("--header|.*-$", word) and self.chance(50)) for word in words), [])
 
     def bare_number(self):
-        decimals = "".join(self.choice("0059") for _ in range(self.random.randint(1, 25)))
+        decimals = "0" * self.choice((0, 0, 9, 18)) + str(self.random.randrange(10**9)) * self.choice((1, 1, 2))
         exponent = self.choice("eE") + self.choice(("", "+", "-", "-0")) + str(self.random.randrange(30))
         parts = ("", " "), ("", "0", self.number()), ("", ".", "." + decimals), ("", exponent), ("", "\t")
         return "".join(map(self.choice, parts)).encode()
@@ -159,6 +156,8 @@ class Commands(Texts):
     def single(self, options):
         if self.chance(5):
             return b"5" + self.choice((b"x", b"0", "é".encode(), b"0 ")) * self.random.randint(36, 44)
+        if "to" in options and self.chance(30):  # Often as near to one number as to the next.
+            return b"%dns" % (LENGTHS[options["to"]] * self.choice((1, 3)) // 10 ** options.get("decimals", 9) // 2)
         return self.bare_number() if "from" in options and self.chance(60) else self.text()
 
     def line(self, options):
@@ -169,14 +168,17 @@ class Commands(Texts):
         return edges[0] + options.get("delimiter", self.choice(" \t")).encode().join(fields) + edges[1]
 
     def data(self, options):
-        lines = [self.line(options) for _ in range(self.choice((0, 1, 2, 5, 20)))]
-        long = b"5m".ljust(LONGEST_LINE + self.choice((-1, 0, 1, 2, LONGEST_LINE)))
-        lines[1:1] = [long] if self.chance(1) else []
+        lines = [self.line(options) for _ in range(self.choice((0, 1, 2, 5, 20, 40)))]
+        if self.chance(5 if {"field", "header"} & set(options) else 0.5):
+            lines.insert(self.choice((0, 1, 99)), b"5m".ljust(LONGEST_LINE + self.choice((-1, 0, 1, 2, LONGEST_LINE))))
         return end_of(options).join(lines) + self.choice((b"", end_of(options)))
 
     def command(self):
         """A command's options, texts and input; of one in ten the options may be wrong."""
-        options = {name: self.choice(values) for name, values in VALUES.items() if self.chance(20)}
+        likely = {"to": 40, "from": 40, "quiet": 4, "json": 12}
+        options = {name: self.choice(values) for name, values in VALUES.items() if self.chance(likely.get(name, 20))}
+        more = ("round", "decimals") if "to" in options and self.chance(60) else ()
+        options |= {name: self.choice(VALUES[name]) for name in more}
         data = self.data(options)
         texts = data.replace(b"\0", b"").split(b"\n") if len(data) < 99_999 and self.chance(30) else []
         return self.command() if is_wrong(options, texts) and self.chance(90) else (options, texts, data)
@@ -185,7 +187,7 @@ class Commands(Texts):
 def run(words, options, data, cuts):
     """What the program says to bytes that come in pieces, whose lines it must answer before the next one comes."""
     process = subprocess.Popen(words, 0, stdin=subprocess.PIPE, stdout=subprocess.PIPE, stderr=subprocess.PIPE)
-    clock = threading.Timer(20, process.kill)
+    clock = threading.Timer(10, process.kill)
     clock.start()
     output = b""
     for begin, end in zip(cuts, cuts[1:]):
@@ -205,13 +207,11 @@ def main(program, seconds="20", seed=str(time.time_ns())):
         options, texts, data = commands.command()
         wrong = [commands.choice(WRONG_WORDS)] if commands.chance(3) else []
         words = [program, *commands.words(options), *wrong, *(["--", *texts] if texts else [])]
-        if wrong or is_wrong(options, texts):
-            must, got = Said(b"", b"error: ", 2), run(words, options, data, [0])
-            got = got._replace(errors=got.errors[:7])
-        else:
-            cuts = sorted(commands.random.choices(range(len(data) + 1), k=3)) if len(data) < 9999 and not texts else []
-            must, got = wanted(options, texts, data), run(words, options, data, [0, *cuts])
-        if got != must:
+        usage = bool(wrong) or is_wrong(options, texts)
+        must = Said(b"", b"error: ", 2) if usage else wanted(options, texts, data)
+        cuts = [] if usage or texts or len(data) > 9999 else sorted(commands.random.choices(range(len(data) + 1), k=3))
+        got = run(words, options, data, [0, *cuts])
+        if (got._replace(errors=got.errors[:7]) if usage else got) != must:
             sys.exit(f"command: {words}\ninput: {data[:9999]}\nwanted: {must}\ngot:    {got}")
         count += len(texts or data.split(end_of(options)))
     print(f"duration_model: {count} texts, each as it must be")
