@@ -1,6 +1,5 @@
 """Runs the command `duration` over random options, arguments and lines, and compares what it says and its status with a
-model made of shell/README.md and `duration --help` alone: duration_model.py PROGRAM [SECONDS [SEED]]
-"""
+model made of shell/README.md and `duration --help` alone: duration_model.py PROGRAM [SECONDS [SEED]]"""
 import collections
 import fractions
 import json
@@ -124,6 +123,8 @@ def wanted(options, texts, data):
     header, kind = options.get("header", 0), "argument" if texts else "line"
     said = [Said(line + end, b"", 0) for line in lines[:header]]
     said += [said_of(line, options, f"{kind} {number}") for number, line in enumerate(lines[header:], header + 1)]
+    if {"field", "header"} & set(options) and data and not (texts or data.endswith(end)):
+        said[-1] = said[-1]._replace(output=said[-1].output.removesuffix(end))
     output, errors, statuses = zip(*said) if said else ((), (), ())
     return Said(*(b"" if "quiet" in options else b"".join(part) for part in (output, errors)), max(statuses, default=0))
 
@@ -175,10 +176,8 @@ class Commands(Texts):
 
     def command(self):
         """A command's options, texts and input; of one in ten the options may be wrong."""
-        likely = {"to": 40, "from": 40, "quiet": 4, "json": 12}
+        likely = {"to": 60, "from": 40, "round": 40, "decimals": 40, "quiet": 4, "json": 12}
         options = {name: self.choice(values) for name, values in VALUES.items() if self.chance(likely.get(name, 20))}
-        more = ("round", "decimals") if "to" in options and self.chance(60) else ()
-        options |= {name: self.choice(VALUES[name]) for name in more}
         data = self.data(options)
         texts = data.replace(b"\0", b"").split(b"\n") if len(data) < 99_999 and self.chance(30) else []
         return self.command() if is_wrong(options, texts) and self.chance(90) else (options, texts, data)
@@ -206,7 +205,7 @@ def main(program, seconds="20", seed=str(time.time_ns())):
     while time.monotonic() < ends:
         options, texts, data = commands.command()
         wrong = [commands.choice(WRONG_WORDS)] if commands.chance(3) else []
-        words = [program, *commands.words(options), *wrong, *(["--", *texts] if texts else [])]
+        words = [program, *commands.words(options), *wrong, *(["--"] * bool(texts) + texts)]
         usage = bool(wrong) or is_wrong(options, texts)
         must = Said(b"", b"error: ", 2) if usage else wanted(options, texts, data)
         cuts = [] if usage or texts or len(data) > 9999 else sorted(commands.random.choices(range(len(data) + 1), k=3))

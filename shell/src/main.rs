@@ -40,6 +40,7 @@ fn run(words: impl Iterator<Item = OsString>) -> io::Result<c_int> {
     let mut run = Run {
         output: BufWriter::with_capacity(1 << 16, output),
         end: if choices.zero_terminated { 0 } else { b'\n' },
+        is_open: false,
         choices: &choices,
         has_refused: false,
     };
@@ -58,6 +59,8 @@ fn of_input(error: io::Error) -> io::Error {
 struct Run<'a> {
     output: BufWriter<Box<dyn Write>>,
     end: u8,
+    /// Whether the last line has no end, in a file of which lines stay.
+    is_open: bool,
     choices: &'a Choices,
     has_refused: bool,
 }
@@ -88,6 +91,7 @@ impl Run<'_> {
                 break;
             }
             let text = line.strip_suffix(&[self.end]).unwrap_or(&line);
+            self.is_open = text.len() == line.len() && (self.choices.field.is_some() || self.choices.header.is_some());
             let is_header = number <= self.choices.header.unwrap_or(0);
             if text.len() > LONGEST {
                 if !is_header {
@@ -118,7 +122,7 @@ impl Run<'_> {
             self.output.write_all(if stays { line } else { b"" })?;
             self.next(input, line)?;
         }
-        if stays { self.put(&[line.strip_suffix(&[self.end]).unwrap_or(line)]) } else { Ok(()) }
+        self.output.write_all(if stays { line } else { b"" })
     }
 
     fn line(&mut self, line: &[u8], number: u64) -> io::Result<()> {
@@ -187,6 +191,6 @@ impl Run<'_> {
 
     fn put(&mut self, parts: &[&[u8]]) -> io::Result<()> {
         parts.iter().try_for_each(|part| self.output.write_all(part))?;
-        self.output.write_all(&[self.end])
+        self.output.write_all(if self.is_open { b"" } else { std::slice::from_ref(&self.end) })
     }
 }
