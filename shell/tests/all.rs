@@ -1,5 +1,5 @@
 //! Runs the program. What it says of a refused text is compared with what the library says.
-use duration_str::{Options, parse_duration, parse_with, parse_with_units};
+use duration_str::{parse_duration, parse_with_units};
 use serde_json::{Value, json};
 use std::ffi::OsStr;
 use std::fs::File;
@@ -79,23 +79,6 @@ fn answers_each_line() {
 }
 
 #[test]
-fn prints_as_it_is_told_to() {
-    let rows: [(&[&str], &str); 8] = [
-        (&["--style", "compact", "90m"], "1h30min\n"),
-        (&["--style=long", "90m"], "1 hour 30 minutes\n"),
-        (&["--parts", "2", "93784"], "1d 2h\n"),
-        (&["--largest", "minutes", "90m"], "90min\n"),
-        (&["--smallest", "h", "90m"], "1h\n"),
-        (&["--smallest", "min", "--largest", "min", "90s"], "1min\n"),
-        (&["--parts", "1", "--style", "long", "--largest", "d", "120d 1h"], "120 days\n"),
-        (&["1y 1q 1mon 1w 1d 1h 1m 1s 1ms 1us 1ns"], "1y 1q 1mon 1w 1d 1h 1min 1s 1ms 1µs 1ns\n"),
-    ];
-    for (words, wanted) in rows {
-        assert_eq!(answer(words), wanted, "{words:?}");
-    }
-}
-
-#[test]
 fn prints_numbers() {
     // 364/365 is 0.997260273972..
     for (words, [down, up, nearest]) in [
@@ -163,26 +146,6 @@ fn takes_bare_numbers_as_a_unit() {
 }
 
 #[test]
-fn reads_under_options() {
-    let off = Options::off();
-    for (option, options, read, refused) in
-        [("--lowercase", off.with_lowercase(), "1m", "1M"), ("--cn-unit", off.with_cn_unit(), "1分 30秒", "1点")]
-    {
-        assert!(parse_with(read, options).is_ok());
-        let errors = format!("duration: argument 2: {}\n", parse_with(refused, options).unwrap_err());
-        let ended = run(&[option, "--to", "s", read, refused], b"");
-        assert_eq!((ended.0, ended.2), (1, errors), "{option}");
-    }
-    assert_eq!(run(&["1分"], b"").0, 1);
-    assert_eq!(answer(&["--cn-unit", "--require-unit", "1分"]), "1min\n");
-    for text in ["90", "1h 30", "90 + 1m"] {
-        let errors = format!("duration: argument 1: {}\n", parse_with_units(text).unwrap_err());
-        assert_eq!(run(&["--require-unit", text], b""), (1, "".into(), errors));
-        assert_eq!(run(&[text], b"").0, 0);
-    }
-}
-
-#[test]
 fn converts_a_column() {
     let told = |number, what: &str| format!("duration: line {number}, field 2: {what}\n");
     let input = b"name,takes,by\nbuild,1h 30m,\xe4\n\"test\",\" 90s\",b\r\nrun,5 mins,c\nstop\n";
@@ -196,25 +159,11 @@ fn converts_a_column() {
     assert_eq!(run(&["--field=3", "-d", "\t"], b"60s\t60s\t60 s\r\n").1, "60s\t60s\t1min\r\n");
     assert_eq!(run(&["--field=2", "-d:"], b"a::b\na:\"\":b\n").1, "a::b\na:\"\":b\n");
     assert_eq!(run(&["--header=2"], b"60s\n60s\n60s\n").1, "60s\n60s\n1min\n");
-}
-
-#[test]
-fn converts_a_column_between_blanks() {
-    // As of `ps -eo etimes,comm` and `ls -l`
-    for (words, input, output) in [
-        (
-            &["--header"][..],
-            "ELAPSED COMMAND\n     90 init\n   3600 sh",
-            "ELAPSED COMMAND\n     1min 30s init\n   1h sh\n",
-        ),
-        (&["--field=5"], "-rw-r--r-- 1 root  root    60 May  1 a b", "-rw-r--r-- 1 root  root    1min May  1 a b\n"),
-        (&["--field=2"], "\ta \t 60  b \r\na \"60\"\r\n", "\ta \t 1min  b \r\na \"1min\"\r\n"),
-        (&["--field=2", "-z"], "a\n60\n", "a\n1min\n\0"),
-    ] {
-        assert_eq!(run(&[&["--field=1"], words].concat(), input.as_bytes()), (0, output.into(), "".into()));
-    }
-    let errors = [1, 2, 3].map(|number| format!("duration: line {number}, field 2: no such field\n")).concat();
-    assert_eq!(run(&["--field=2"], b"a \n\n \r\n"), (1, "a \n\n \r\n".into(), errors));
+    // As of `ps`, without a last line feed
+    assert_eq!(
+        run(&["--field=1", "--header"], b"  ELAPSED COMMAND\n   90 init").1,
+        "  ELAPSED COMMAND\n   1min 30s init"
+    );
 }
 
 #[test]
@@ -244,24 +193,6 @@ fn prints_json() {
     assert_eq!((&wide["column"], &wide["found"]), (&json!(5), &json!("\u{5206}")));
     let bytes: Value = serde_json::from_str(&run(&["--json"], b"1h\xff\n").1).unwrap();
     assert_eq!((&bytes["text"], &bytes["message"]), (&json!("1h\u{fffd}"), &json!("not UTF-8")));
-}
-
-#[test]
-fn says_nothing_if_it_is_to_be_quiet() {
-    let early = format!("1h\n5 mins\n{}", "1h\n".repeat(20));
-    for (input, status) in [("1h\n2h\n", 0), ("1h\n5 mins\n", 1), (&early, 1), ("5 mins", 1), ("", 0)] {
-        for words in [&["-q"][..], &["-q", "--json"], &["--quiet", "-d,", "--field=1", "--header"]] {
-            let status = if words.contains(&"--header") && input == "5 mins" { 0 } else { status };
-            assert_eq!(run(words, input.as_bytes()), (status, "".into(), "".into()), "{input:?} {words:?}");
-        }
-    }
-}
-
-#[test]
-fn cuts_at_nul_if_it_is_told_to() {
-    assert_eq!(run(&["-z"], b"1h\n30m\x0060s"), (0, "1h 30min\x001min\0".into(), "".into()));
-    let errors = format!("duration: line 1: {}\n", line("1h\x0060s"));
-    assert_eq!(run(&[], b"1h\x0060s\n60s"), (1, "1min\n".into(), errors));
 }
 
 #[test]
@@ -308,7 +239,7 @@ fn reads_hostile_lines() {
     let lines = format!("{long}\nb,60s\n{exact}\n{long}");
     for (word, numbers) in [("--field=2", &[1, 3, 4][..]), ("--header", &[3, 4])] {
         let (status, output, errors) = run(&["-d,", "--field=2", word], lines.as_bytes());
-        assert!(status == 1 && output == format!("{long}\nb,1min\n{exact}\n{long}\n"), "{word}");
+        assert!(status == 1 && output == format!("{long}\nb,1min\n{exact}\n{long}"), "{word}");
         let told = |number| format!("duration: line {number}, field 2: line of over 1,048,576 bytes\n");
         assert_eq!(errors, numbers.iter().map(told).collect::<String>());
     }
