@@ -151,6 +151,7 @@ class Hostile(unittest.TestCase):
             with self.subTest(data=data, offsets=offsets), self.assertRaises(error):
                 parse_buffers(data, offsets)
         self.assertEqual(parse_buffers(b"1s", memoryview(b"\0" + bytes(array("q", [0, 2])))[1:].cast("q")).tolist(), [SECOND])
+        self.assertEqual(parse_buffers(b"1s", memoryview(array("q", [0]))[1:]), array("Q"))
 
     def test_prints_what_changes_while_it_is_printed(self):
         values = []
