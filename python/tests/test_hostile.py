@@ -13,6 +13,7 @@ import os
 import sys
 import tempfile
 import time
+import tracemalloc
 import unittest
 from array import array
 
@@ -69,12 +70,6 @@ def parse_any(data, offsets):
     except (DurationError, RuntimeError):
         pass
     return parse_buffers(data, offsets, errors="coerce")[0]
-
-
-def resident():
-    """The bytes of memory that this process has."""
-    with open("/proc/self/statm", encoding="ascii") as file:
-        return int(file.read().split()[1]) * 4096
 
 
 class Hostile(unittest.TestCase):
@@ -246,7 +241,7 @@ class Hostile(unittest.TestCase):
             writer.result()
 
     def test_keeps_no_memory(self):
-        # Of 2,000 texts the last is copied alone.
+        # Of 2,000 texts the last needs more room for its copy.
         column, offsets = bytearray(b"1s" * 2_000 + b" " * 70_000), array("i", [*range(0, 4_000, 2), 74_000])
 
         def all_calls(rounds):
@@ -264,6 +259,8 @@ class Hostile(unittest.TestCase):
             for _ in range(rounds // 100):
                 parse_many(["1s", "x", None, "\ud800"] * 200, errors="coerce")
                 parse_buffers(column, offsets)
+                missing = [b"x" * 10_000, b"y" * 10_000]
+                duration_str._native.read_list(missing, array("Q", [0, 0]), 0, True, 0, lambda *_: -(2**63))
                 for call in (lambda: parse_many(["1s", "x"]), lambda: format_many([*range(200), *[None] * 200, "x"]),
                              lambda: parse_buffers(b"1s2x", array("i", [0, 2, 4]))):  # fmt: skip
                     try:
@@ -271,10 +268,15 @@ class Hostile(unittest.TestCase):
                     except (TypeError, ValueError):
                         pass
 
-        all_calls(2_000)
-        gc.collect()
-        before = resident()
-        # A million readings, and as many refusals
-        all_calls(200_000)
-        gc.collect()
-        self.assertLess(resident() - before, 5_000_000)
+        def kept(rounds):
+            all_calls(rounds)
+            gc.collect()
+            return tracemalloc.get_traced_memory()[0]
+
+        tracemalloc.start()
+        try:
+            before = kept(1_000)
+            # 100,000 readings, and as many refusals
+            self.assertLess(kept(20_000) - before, 2_000)
+        finally:
+            tracemalloc.stop()
