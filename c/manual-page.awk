@@ -21,7 +21,7 @@ function fill(text, word, count, line, at) {
     end = index($0, "*/")
     comment = substr($0, 4, end - 5)
     declaration = substr($0, end + 3)
-    gsub(/DURATION_STR_(MUST_USE|STATIC|NONNULL\([0-9, ]*\))[ \n]*|#(ifndef|define) DURATION_STR_H\n?/, "", declaration)
+    gsub(/DURATION_STR_(MUST_USE|AT_LEAST|NONNULL\([0-9, ]*\))[ \n]*|#(ifndef|define) DURATION_STR_H\n?/, "", declaration)
     sub(/\n\{.*/, ";", declaration)
     gsub(/\\/, "\\e", declaration)
     is_call = match(declaration, /duration_str_[a-z_]+\(/)

@@ -56,9 +56,9 @@
 /* What GCC and Clang are told: how many bytes a buffer has, in C, which
  * pointers may not be null, and which results must be used. */
 #if defined __GNUC__ && !defined __cplusplus
-#define DURATION_STR_STATIC static
+#define DURATION_STR_AT_LEAST static
 #else
-#define DURATION_STR_STATIC
+#define DURATION_STR_AT_LEAST
 #endif
 #ifdef __GNUC__
 #define DURATION_STR_NONNULL(...) __attribute__((nonnull(__VA_ARGS__)))
@@ -190,7 +190,7 @@ bool duration_str_parse(const char *text, size_t length, uint64_t *nanos);
 DURATION_STR_NONNULL(2)
 size_t duration_str_format(
     uint64_t nanos,
-    char buffer[DURATION_STR_STATIC DURATION_STR_FORMAT_BUFFER_SIZE]);
+    char buffer[DURATION_STR_AT_LEAST DURATION_STR_FORMAT_BUFFER_SIZE]);
 
 /* Prints a duration of `secs` seconds and `nanos` nanoseconds in a style of
  * `enum duration_str_style`, only in the units from `largest` to `smallest`,
@@ -208,7 +208,7 @@ DURATION_STR_NONNULL(7)
 size_t duration_str_format_styled(
     uint64_t secs, uint32_t nanos, uint32_t largest, uint32_t smallest,
     uint32_t parts, uint32_t style,
-    char buffer[DURATION_STR_STATIC DURATION_STR_STYLED_BUFFER_SIZE]);
+    char buffer[DURATION_STR_AT_LEAST DURATION_STR_STYLED_BUFFER_SIZE]);
 
 /* Reads a text under these options, and writes its value to `*answer`, or
  * why and where it is refused. Returns true if it is read. */
@@ -230,7 +230,7 @@ DURATION_STR_NONNULL(4, 5)
 size_t duration_str_one_line(
     const char *text, size_t length, uint32_t options,
     struct duration_str_answer *answer,
-    char buffer[DURATION_STR_STATIC DURATION_STR_ONE_LINE_BUFFER_SIZE]);
+    char buffer[DURATION_STR_AT_LEAST DURATION_STR_ONE_LINE_BUFFER_SIZE]);
 
 /* The same, and writes a refusal for a terminal: the text, below it a caret
  * under the place, and below that the line of duration_str_one_line. It is
@@ -243,7 +243,7 @@ DURATION_STR_NONNULL(4, 5)
 size_t duration_str_report(
     const char *text, size_t length, uint32_t options,
     struct duration_str_answer *answer,
-    char buffer[DURATION_STR_STATIC DURATION_STR_REPORT_BUFFER_SIZE]);
+    char buffer[DURATION_STR_AT_LEAST DURATION_STR_REPORT_BUFFER_SIZE]);
 
 /* The version of the library, in the form of DURATION_STR_VERSION_NUMBER. */
 uint32_t duration_str_version(void);
