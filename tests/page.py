@@ -321,7 +321,7 @@ def try_printing(page):
         ({"style": "compact"}, "1d1h1min1s1ns", {"rust": ".style(Style::Compact)", "python": 'style="compact"'}),
         ({"style": "long", "parts": "2"}, "1 day 1 hour",
          {"rust": ".style(Style::Long).parts(2)", "python": 'style="long", parts=2',
-          "c": "DURATION_STR_UNIT_YEAR, DURATION_STR_UNIT_NANOSECOND, 2, DURATION_STR_STYLE_LONG,"}),
+          "c": "DURATION_STR_UNIT_YEAR, DURATION_STR_UNIT_NANOSECOND,\n    2, DURATION_STR_STYLE_LONG,"}),
         ({"largest": "h", "smallest": "min"}, "25h 1min",
          {"rust": ".largest(TimeUnit::Hour).smallest(TimeUnit::Minute)", "python": 'largest="h", smallest="min"',
           "javascript": '{ largest: "h", smallest: "min" }',
