@@ -91,7 +91,7 @@ Units are y, q (91 days), mon (30 days), w, d, h, m, s, ms, us, ns, and longer n
 The status is 0 if all were read, 1 if one was refused, and 2 for an error.
 
 Examples:
-  $ sleep $(duration --to s '1m 30s')
+  $ sleep \"$(duration --to s '1m 30s')\"
   $ duration --from s --parts 2 93784.5  # 1d 2h
   $ duration -d, --field 2 --header --to s <jobs.csv";
 
