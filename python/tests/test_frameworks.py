@@ -5,14 +5,12 @@ import datetime
 import importlib.metadata
 import importlib.util
 import json
-import os
 import pathlib
 import pickle
 import re
 import subprocess
 import sys
 import tempfile
-import time
 import typing
 import unittest
 
@@ -271,29 +269,3 @@ class Models(unittest.TestCase):
         program = "import sys, duration_str; print(*{'pydantic', 'click', 'argparse', 'numpy'} & {*sys.modules})"
         told = subprocess.run([sys.executable, "-c", program], capture_output=True, text=True, check=True)
         self.assertEqual(told.stdout, "\n")
-
-
-@unittest.skipUnless(has("yaml"), "PyYAML is missing")
-class Retention(unittest.TestCase):
-    EXAMPLE = pathlib.Path(__file__).parents[1] / "examples/retention.py"
-
-    def run_over(self, configuration):
-        with tempfile.TemporaryDirectory() as name:
-            folder = pathlib.Path(name, "logs")
-            folder.mkdir()
-            for file, days in [("old", 15), ("new", 13)]:
-                moment = time.time() - days * 86_400
-                (folder / file).touch()
-                os.utime(folder / file, (moment, moment))
-            settings = pathlib.Path(name, "keep.yaml")
-            settings.write_text(configuration, encoding="utf-8")
-            words = [sys.executable, self.EXAMPLE, settings]
-            ran = subprocess.run(words, capture_output=True, text=True)
-            return ran.returncode, (ran.stdout + ran.stderr).replace(name, "")
-
-    def test_lists_what_is_older(self):
-        self.assertEqual(self.run_over("logs: 2w\n"), (0, "/logs/old: older than 2w\n"))
-
-    def test_names_the_folder_whose_period_is_refused(self):
-        told = '/keep.yaml: logs: unknown unit "fortnights" at column 3 (write y, q, mon, w, d, h, min, s, ms, us or ns)\n'
-        self.assertEqual(self.run_over("logs: 2 fortnights\n"), (1, told))
