@@ -10,8 +10,8 @@
 //! - `calls crate print-string COUNT`: the same printed into a `String`.
 //! - `calls SIDE with OPTIONS TEXT COUNT`: reads a text under the options, the bits of `duration_str.h`.
 //! - `calls SIDE text BYTES COUNT`: reads a text of so many bytes.
-//! - `calls SIDE read-expressions COUNT`, `calls SIDE print-expressions COUNT`, `calls SIDE print-below-day COUNT`: reads the
-//!   1,000 expressions of `texts.rs`, and prints their values into a buffer, or what whole days leave of them.
+//! - `calls SIDE read-expressions COUNT`, `.. print-expressions ..`, `.. print-below-day ..`: reads the 1,000 expressions of
+//!   `texts.rs`, prints their values into a buffer, or what whole days leave of them.
 //! - `calls SIDE refuse NAME COUNT`: a refused text, and its line written into a buffer. `texts.rs` has the names.
 //! - `calls SIDE error NAME COUNT`, `calls SIDE printed-error NAME COUNT`: a text refused by `parse_duration`, and the error
 //!   printed into a `String`.

@@ -4,8 +4,7 @@
 //! - `bench expressions`: the 1,000 expressions of `texts.rs`, a line each.
 //! - `bench times`: nanoseconds a call over them, a line with WHAT, OURS and THEIRS for reading and for printing. In all
 //!   these lines a tab stands between the words.
-//! - `bench styles`: nanoseconds to print into a buffer within limits and in styles, a line with WHAT, those below a day and
-//!   those of the expressions' values.
+//! - `bench styles`: nanoseconds to print in styles and limits: a line with WHAT, those below a day and those of all values.
 //! - `bench peer human_format` or `to_string`: what `bench/peers` asks, of the texts of the standard input.
 //! - `bench calls WORDS COUNT`: humantime's calls, by the words of `calls.rs` after SIDE.
 mod ours;

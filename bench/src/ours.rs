@@ -166,8 +166,7 @@ impl Library for Archive {
     }
 }
 
-/// Prints the values of the expressions, or what is made of them, so many times. Apart, so that the calls of others stay as
-/// they are compiled.
+/// Prints the expressions' values, or what is made of them, so many times; apart, so that other calls stay as compiled.
 #[inline(never)]
 fn print_all<L: Library>(count: u64, of: fn(Duration) -> Duration) {
     let lengths: Vec<Duration> = expressions().iter().map(|text| of(Crate::reading(text))).collect();
