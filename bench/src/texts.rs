@@ -55,7 +55,7 @@ pub fn long_text(bytes: usize) -> String {
     text
 }
 
-/// The text that is refused for the cause of this name, or for a `-` at the end of 1,000 bytes.
+/// The text that is refused for the cause of this name.
 pub fn refusal(name: &str) -> String {
     let text = match name {
         "empty" => "",
@@ -64,7 +64,6 @@ pub fn refusal(name: &str) -> String {
         "first-term" => "600000000000y",
         "mixed" => "1m + 2s * 3",
         "fraction" => "1.5h",
-        "last" => return long_text(999) + "-",
         _ => panic!("no refused text: {name}"),
     };
     text.to_string()
