@@ -132,9 +132,8 @@ installed = $(addprefix $(bindir)/,durstr duration) $(addprefix $(mandir)/man1/,
     $(addprefix $(libdir)/,libduration_str.a $(shared) pkgconfig/duration_str.pc $(cmake_files)) \
     $(patsubst %,$(mandir)/man3/%.3,duration_str $(calls)) $(addprefix $(docdir)/,LICENSE NOTICE)
 
-# put FROM TO: copies the file to where TO is to be installed; put_program: the same of a program; put_text TO: of its input.
-# $$said has what `install` says, as the folders that it makes; where nothing is staged, they are written into this file, for
-# uninstalling. Without /proc, as in a plain chroot, there is neither /dev/stdin nor `<(..)`.
+# put FROM TO: installs the file as TO; put_program: the same of a program; put_text TO: of its input, since without /proc there
+# is no /dev/stdin. $$said has what `install` says, as the folders that it makes, which $(folders) keeps for uninstalling.
 put = said=$$(mktemp) && trap 'rm -f "$$said"*' EXIT; \
     put() { LC_ALL=C $(INSTALL_DATA) -v -D "$$1" "$$DESTDIR$$2" >>"$$said"; }; \
     put_text() { cat >"$$said.text" && put "$$said.text" "$$1"; }; \
