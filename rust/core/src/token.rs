@@ -222,21 +222,6 @@ impl<'a> Tokens<'a> {
         }
     }
 
-    /// Moves past the token ahead, whose value nobody asks for.
-    #[inline(always)]
-    pub(crate) fn skip_token(&mut self, sort: TokenStart) {
-        match sort {
-            TokenStart::Number => {
-                let _ = self.take_digits();
-            }
-            TokenStart::Word => {
-                let _ = self.take_letters();
-            }
-            TokenStart::Operator(_) => self.advance(),
-            TokenStart::Other => self.advance(),
-        }
-    }
-
     /// Moves past the blanks, and returns the sort of the token ahead; `None` at the end.
     #[inline(always)]
     pub(crate) fn sort_ahead(&mut self) -> Option<TokenStart> {
