@@ -1,11 +1,10 @@
-"""The table of units of crates/duration_str/src/unit.rt."""
-import math
+"""The table of units of crates/duration_str/specs/Units.antt."""
 import pathlib
 import re
 import typing
 
-SOURCE = pathlib.Path(__file__).resolve().parent.parent / "crates/duration_str/src/unit.rt"
-ROW = re.compile(r'TimeUnit::(\w+) => Row \{\s*nanos: (\w+),\s*printed: "(.*?)",\s*long: "(.*?)",\s*names: (.*?\]),\s*chinese: (.*?\])', re.S)
+CRATE = pathlib.Path(__file__).resolve().parent.parent / "crates/duration_str"
+ROW = re.compile(r'^row_of (\w+) = record \{ nanos = (\w+); printed = codes "(.*?)"; names = (.*?); chinese = (.*?) \}$', re.M)
 
 
 class Unit(typing.NamedTuple):
@@ -21,7 +20,6 @@ class Unit(typing.NamedTuple):
 
 def table():
     """The units, the longest first."""
-    text, lengths = SOURCE.read_text(encoding="utf-8"), {}
-    for name, product in re.findall(r"^const (\w+): u64 = (.*);$", text, re.M):
-        lengths[name] = math.prod(int(factor) if factor[0].isdigit() else lengths[factor] for factor in product.split(" * "))
-    return [Unit(row[0], lengths[row[1]], row[2], row[3], *(re.findall('"(.*?)"', names) for names in row[4:])) for row in ROW.findall(text)]
+    for variant, length, printed, *words in ROW.findall((CRATE / "specs/Units.antt").read_text(encoding="utf-8")):
+        names, chinese = (re.findall('"(.*?)"', row) for row in words)
+        yield Unit(variant, int(length), printed, names[-2], names, chinese)

@@ -16,7 +16,7 @@ pub mod message;
 
 use crate::answer::Answer;
 use crate::message::refusal_of;
-use duration_str_core::{FORMAT_BUFFER_SIZE, Fault, Options, missing_unit, parse_nanos, write_human};
+use duration_str_core::{FORMAT_BUFFER_SIZE, Fault, Options, parse_nanos, unit_fault, write_human};
 use core::time::Duration;
 
 const NO_CALC: u32 = 1;
@@ -86,7 +86,7 @@ pub(crate) fn read_by(text: &str, bits: u32) -> Result<u64, Fault<'_>> {
         return answer;
     }
     let nanos = answer?;
-    match missing_unit(text, options) {
+    match unit_fault(text) {
         Some(fault) => Err(fault),
         None => Ok(nanos),
     }

@@ -4,3 +4,4 @@ pub mod ReaderLemmas
 pub mod TermsLemmas
 pub mod EvaluationLemmas
 pub mod MissingLemmas
+pub mod GapLemmas

@@ -378,6 +378,7 @@ names_of_one_unit = assumption
 pub forty_three_names : length (flat_map (λ u. (row_of u).names) units) ≡ 43
 forty_three_names = refl
 
-pub forty_older_names :
-    length (flat_map (λ u. option_map_or (λ row. row.names) (older_row_of u) []) older_units) ≡ 40
-forty_older_names = refl
+-- With those of `cn_unit`, of which there were eleven.
+pub fifty_one_older_names :
+    length (flat_map (λ u. option_map_or (λ row. row.names ++ row.chinese) (older_row_of u) []) older_units) ≡ 51
+fifty_one_older_names = refl

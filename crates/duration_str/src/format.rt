@@ -143,6 +143,7 @@ impl Format {
         }
         &PRINTED[first..last + 1]
     }
+
     /// The units in which so many nanoseconds are printed as in all of these. Most durations are below a day, and have
     /// no longer units to look for.
     #[inline(always)]

@@ -43,4 +43,4 @@ pub use top::{
     deserialize_option_duration_time, parse_chrono, parse_time,
 };
 pub use unit::{CondUnit, Options, TimeUnit, UNITS};
-pub use with_units::{missing_unit, parse_with_units};
+pub use with_units::{parse_with_units, unit_fault};

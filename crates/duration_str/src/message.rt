@@ -1,8 +1,5 @@
-//! The message of a fault: printed, or written to a buffer.
-//!
-//! A `Display` may fail for reasons that its contract does not name, so no contract can promise that it prints. Into a
-//! buffer a message for which there is room is always written.
-ghost use Rattle.std.specs.Prelude.{◌≡◌, ◌≤◌, ◌-◌, ◌^◌, ◌++◌, ◌<◌, None, Some, IfSome, IfNone, IsUtf8, min, length, take, replicate, decimal, encode_utf8_all};
+//! The message of a fault, and how one is laid out.
+ghost use Rattle.std.specs.Prelude.{◌≡◌, ◌≤◌, ◌-◌, ◌^◌, ◌++◌, ◌<◌, None, Some, IfSome, IfNone, IsUtf8, length, take, replicate, decimal, encode_utf8_all};
 ghost use Rattle.std.specs.Fmt.{DisplaysOnOk, DisplaysStyledOnOk};
 ghost use Rattle.std.specs.Str.{IsCharBoundary};
 ghost use Rattle.duration_str.specs.Buffers.{IsInFront, IsWritten};
@@ -13,45 +10,6 @@ use crate::printing::put_number;
 use std::fmt;
 
 impl Fault<'_> {
-    /// The length in bytes of the message that `write_message` writes; `usize::MAX` if it is greater than that.
-    ///
-    /// ```
-    /// use duration_str::{Options, parse_with};
-    ///
-    /// assert_eq!(parse_with("3ms-2ms", Options::off()).unwrap_err().message_len(), 32);
-    /// ```
-    #[must_use]
-    pub fn message_len(&self) -> usize
-        ensures { result ≡ min (length (message_of self.now.text.now self.now.cause)) (2 ^ 64 - 1) }
-    {
-        self.layout().len(self.text, self.cause.line())
-    }
-
-    /// Writes the fault's message to the start of a buffer, and returns its length in bytes.
-    ///
-    /// `None` if it is longer than the buffer, which is then unchanged. Allocates nothing.
-    ///
-    /// ```
-    /// use duration_str::{Options, parse_with};
-    ///
-    /// let mut buffer = [0; 64];
-    /// let fault = parse_with("", Options::off()).unwrap_err();
-    /// assert_eq!(fault.write_message(&mut buffer), Some(11));
-    /// assert_eq!(&buffer[..11], b"Empty input");
-    /// ```
-    pub fn write_message(&self, buffer: &mut [u8]) -> Option<usize>
-        ensures bytes { IsWritten (message_of self.now.text.now self.now.cause)
-            buffer.old result buffer.new }
-        ensures utf8 { IfSome result (λ end. IsUtf8 (take end buffer.new)) }
-    {
-        let layout = self.layout();
-        let line = self.cause.line();
-        if layout.len(self.text, line) > buffer.len() {
-            return None;
-        }
-        layout.put(buffer, self.text, line)
-    }
-
     pub(crate) fn layout(&self) -> Layout
         ensures { laid_out result self.now.text.now (encode_utf8_all (line_of self.now.cause))
             ≡ message_of self.now.text.now self.now.cause }
@@ -89,7 +47,8 @@ impl fmt::Display for Fault<'_> {
         if let Layout::Line = layout {
             return f.write_str(line);
         }
-        // Most messages are short, and one call of a formatter takes less time than several.
+        // Most messages are short. One call of a formatter takes less time than several, and no more memory than the
+        // message is long.
         match layout.message(&mut [0; 256], self.text, line) {
             Some(message) => f.write_str(message),
             None => layout.write(f, self.text, line),
@@ -109,19 +68,6 @@ pub(crate) enum Layout {
 }
 
 impl Layout {
-    fn len(self, text: &str, line: &str) -> usize
-        ensures { result ≡ min (length (laid_out self text.now line.now)) (2 ^ 64 - 1) }
-    {
-        match self {
-            Layout::Line => line.len(),
-            Layout::Byte { place } => line.len().saturating_add(decimal_len(place) + 7),
-            Layout::Caret { spaces } => {
-                let above = text.len().saturating_add(spaces);
-                above.saturating_add(line.len()).saturating_add(3)
-            }
-        }
-    }
-
     fn write<W: fmt::Write>(self, f: &mut fmt::Formatter<W>, text: &str, line: &str) -> fmt::Result
         ensures { DisplaysOnOk W.write_str_gives f.old result
             (Some (laid_out self text.now line.now)) f.new }
@@ -228,15 +174,6 @@ pub(crate) fn put_decimal(buffer: &mut [u8], at: usize, number: usize) -> Option
     let mut digits = [0; 64];
     let end = put_number(&mut digits, 0, number as u64);
     put(buffer, at, &digits[..end])
-}
-
-#[tactic(auto, using(crate::proofs::Printer::DigitLemmas::short_decimal))]
-fn decimal_len(number: usize) -> usize
-    ensures digits { result ≡ length (decimal number) }
-    ensures short { result ≤ 20 }
-{
-    let mut digits = [0; 64];
-    put_number(&mut digits, 0, number as u64)
 }
 
 /// This many spaces, written in runs.

@@ -129,7 +129,6 @@ fn read_text(input: &str, o: Options) -> (Result<u64, Fault<'_>>, u64)
     ensures whole { OnOk result.0 (result.1 ≡ length (chars input.now)) }
     ensures reaches { IfErr result.0 (λ f. ReachesPlace input.now f.cause result.1) }
 {
-    let mut tokens = Tokens::new(input, o);
     if input.is_empty() {
         let fault = Fault {
             text: input,
@@ -137,6 +136,7 @@ fn read_text(input: &str, o: Options) -> (Result<u64, Fault<'_>>, u64)
         };
         return (Err(fault), 0);
     }
+    let mut tokens = Tokens::new(input, o);
     match read(&mut tokens, o.no_calc) {
         Ok(nanos) => (Ok(nanos), tokens.looked()),
         Err(cause) => (Err(Fault { text: input, cause }), tokens.looked()),

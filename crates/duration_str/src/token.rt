@@ -1,5 +1,5 @@
 //! The tokens of a text: numbers, words, operators, and other single characters.
-ghost use Rattle.std.specs.Prelude.{◌≡◌, ◌+◌, ◌%◌, ◌^◌, ◌≤◌, ◌<◌, [], ◌&&◌, ◌||◌, ◌==◌, true, length, take, is_some, Option, IsSome, IsTrue, if◌then◌else◌, false, Some, IsUtf8};
+ghost use Rattle.std.specs.Prelude.{◌≡◌, ◌+◌, ◌*◌, ◌%◌, ◌^◌, ◌≤◌, ◌<◌, [], ◌&&◌, ◌||◌, ◌==◌, true, length, take, is_some, Option, IsSome, IsTrue, if◌then◌else◌, false, Some, IsUtf8};
 ghost use Rattle.std.specs.List.{list_all};
 ghost use Rattle.std.specs.Char.{is_ascii_alphabetic};
 ghost use Rattle.std.specs.Option.{ForSome, ForNone};
@@ -9,6 +9,7 @@ ghost use Rattle.duration_str.specs.Text.{is_blank, is_digit, is_unit_letter, is
 ghost use Rattle.duration_str.specs.Internal.Positions.{ahead, letter_number, Stands, StandsAt, Passes, Stops, TakesDigits, TakesLetters, wide_number};
 ghost use Rattle.duration_str.specs.Tokens.{tokens_of};
 ghost use Rattle.duration_str.specs.Value.{fits};
+ghost use Rattle.duration_str.specs.declared.unit.TimeUnit.{TimeUnit};
 ghost use Rattle.duration_str.specs.declared.token.TokenStart.{TokenStart};
 ghost use Rattle.duration_str.specs.declared.token.TokenStart.TheVariants.{Number as a_number, Word as a_word};
 
@@ -248,7 +249,7 @@ impl<'a> Tokens<'a> {
             let Some(number) = letter_number(c, self.options) else {
                 break;
             };
-            packed = ((packed as u128 * 40 + number as u128) % MODULUS) as u64;
+            packed = with_letter(packed, number);
             self.advance();
         }
         packed
@@ -286,24 +287,6 @@ impl<'a> Tokens<'a> {
                 self.advance();
                 What::Other
             }
-        }
-    }
-
-    /// Moves past the token ahead, whose value nobody asks for.
-    #[inline(always)]
-    pub(crate) fn skip_token(&mut self, sort: TokenStart)
-        requires { IsAhead self.old (Some sort) }
-        ensures { TakesTokenWith self.old self.new (λ terminal. sort ≡ sort_of terminal) }
-    {
-        match sort {
-            TokenStart::Number => {
-                let _ = self.take_digits();
-            }
-            TokenStart::Word => {
-                let _ = self.take_letters();
-            }
-            TokenStart::Operator(_) => self.advance(),
-            TokenStart::Other => self.advance(),
         }
     }
 
@@ -361,6 +344,35 @@ impl<'a> Iterator for Tokens<'a> {
     }
 }
 
+impl TimeUnit {
+    ghost use Rattle.duration_str.specs.Units.{is_named, unit_of_word};
+
+    /// The unit that a word names under these options, if any. No word names two units.
+    ///
+    /// ```
+    /// use duration_str::{Options, TimeUnit};
+    ///
+    /// assert_eq!(TimeUnit::from_word("Minutes", Options::off()), Some(TimeUnit::Minute));
+    /// ```
+    #[tactic(auto, using(crate::proofs::Characters::UnitLemmas::named_unit))]
+    #[must_use]
+    pub fn from_word(word: &str, o: Options) -> Option<TimeUnit>
+        ensures unit { result ≡ unit_of_word o (chars word.now) }
+        ensures only { (unit : TimeUnit) → is_named o (chars word.now) unit ≡ true
+            → unit_of_word o (chars word.now) ≡ Some unit }
+    {
+        if word.len() > MOST_BYTES {
+            return None;
+        }
+        let mut packed = 0;
+        let mut chars = word.chars();
+        while let Some(c) = chars.next() {
+            packed = with_letter(packed, letter_number(c, o)?);
+        }
+        unit_of_packed(packed)
+    }
+}
+
 /// The values of digits and letters are kept modulo this.
 const MODULUS: u128 = 1 << 64;
 
@@ -369,6 +381,14 @@ const MOST_DIGITS: usize = 19;
 
 /// The most bytes of a name. The packed number of as many letters fits into a `u64`.
 const MOST_BYTES: usize = 12;
+
+/// A packed number with one more letter.
+#[inline(always)]
+fn with_letter(packed: u64, number: u64) -> u64
+    ensures { result ≡ (packed * 40 + number) % 2 ^ 64 }
+{
+    ((packed as u128 * 40 + number as u128) % MODULUS) as u64
+}
 
 #[inline]
 fn is_unit_letter(c: char, o: Options) -> bool

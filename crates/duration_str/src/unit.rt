@@ -1,15 +1,13 @@
 //! The units of time and their names, with the options and operators that are used with them.
-ghost use Rattle.std.specs.Prelude.{◌≡◌, ◌/◌, ◌%◌, None, Some, true, encode_utf8_all};
-ghost use Rattle.std.specs.List.{list_any};
+ghost use Rattle.std.specs.Prelude.{◌≡◌, ◌/◌, ◌%◌, None, Some, encode_utf8_all};
 ghost use Rattle.std.specs.Fmt.{padded};
-ghost use Rattle.std.specs.Str.{bytes_eq, chars};
+ghost use Rattle.std.specs.Str.{chars};
 ghost use Rattle.duration_str.specs.Text.{number_of};
 ghost use Rattle.duration_str.specs.OneTerm.{IsNumber, term_of, term_answer};
-ghost use Rattle.duration_str.specs.declared.unit.TimeUnit.{TimeUnit};
 ghost use Rattle.duration_str.specs.declared.unit.TimeUnit.TheVariants.{Second};
-ghost use Rattle.duration_str.specs.Units.{nanos_of, row_of, comparison_form, is_named, unit_of_word};
+ghost use Rattle.duration_str.specs.Units.{nanos_of, row_of};
 ghost use Rattle.duration_str.specs.Printing.{long_name};
-ghost use Rattle.duration_str.specs.Internal.UnitTable.{IsRow, printed_row, rank_of};
+ghost use Rattle.duration_str.specs.Internal.UnitTable.{printed_row, rank_of};
 ghost use Rattle.duration_str.specs.Internal.Numbers.{checked_term};
 
 use crate::cause::Cause;
@@ -71,21 +69,60 @@ impl TimeUnit {
     pub const fn nanos(self) -> u64
         ensures { result ≡ nanos_of self }
     {
-        self.row().nanos
+        match self {
+            TimeUnit::Year => YEAR,
+            TimeUnit::Quarter => QUARTER,
+            TimeUnit::Month => MONTH,
+            TimeUnit::Week => WEEK,
+            TimeUnit::Day => DAY,
+            TimeUnit::Hour => HOUR,
+            TimeUnit::Minute => MINUTE,
+            TimeUnit::Second => SECOND,
+            TimeUnit::MilliSecond => MILLISECOND,
+            TimeUnit::MicroSecond => MICROSECOND,
+            TimeUnit::NanoSecond => NANOSECOND,
+        }
     }
 
+    #[tactic(auto, unfolding(std::specs::Prelude::encode_utf8))]
     #[inline(always)]
-    pub(crate) fn name(self) -> &'static str
+    pub(crate) const fn name(self) -> &'static str
         ensures { result.now ≡ encode_utf8_all (row_of self).printed }
     {
-        self.row().printed
+        match self {
+            TimeUnit::Year => "y",
+            TimeUnit::Quarter => "q",
+            TimeUnit::Month => "mon",
+            TimeUnit::Week => "w",
+            TimeUnit::Day => "d",
+            TimeUnit::Hour => "h",
+            TimeUnit::Minute => "min",
+            TimeUnit::Second => "s",
+            TimeUnit::MilliSecond => "ms",
+            TimeUnit::MicroSecond => "µs",
+            TimeUnit::NanoSecond => "ns",
+        }
     }
 
+    /// The long name of one of the unit.
+    #[tactic(auto, unfolding(std::specs::Prelude::encode_utf8))]
     #[inline(always)]
     pub(crate) const fn long_name(self) -> &'static str
         ensures { result.now ≡ encode_utf8_all (long_name (row_of self)) }
     {
-        self.row().long
+        match self {
+            TimeUnit::Year => "year",
+            TimeUnit::Quarter => "quarter",
+            TimeUnit::Month => "month",
+            TimeUnit::Week => "week",
+            TimeUnit::Day => "day",
+            TimeUnit::Hour => "hour",
+            TimeUnit::Minute => "minute",
+            TimeUnit::Second => "second",
+            TimeUnit::MilliSecond => "millisecond",
+            TimeUnit::MicroSecond => "microsecond",
+            TimeUnit::NanoSecond => "nanosecond",
+        }
     }
 
     /// How many units are longer.
@@ -96,123 +133,11 @@ impl TimeUnit {
         self as usize
     }
 
-    #[tactic(auto, unfolding(std::specs::Prelude::encode_utf8))]
-    #[inline(always)]
-    const fn row(self) -> Row
-        ensures { IsRow result (row_of self) }
-    {
-        match self {
-            TimeUnit::Year => Row {
-                nanos: YEAR,
-                printed: "y",
-                long: "year",
-                names: &["y", "year", "years"],
-                chinese: &["年"],
-            },
-            TimeUnit::Quarter => Row {
-                nanos: QUARTER,
-                printed: "q",
-                long: "quarter",
-                names: &["q", "quarter", "quarters"],
-                chinese: &[],
-            },
-            TimeUnit::Month => Row {
-                nanos: MONTH,
-                printed: "mon",
-                long: "month",
-                names: &["mon", "month", "months"],
-                chinese: &["月"],
-            },
-            TimeUnit::Week => Row {
-                nanos: WEEK,
-                printed: "w",
-                long: "week",
-                names: &["w", "week", "weeks"],
-                chinese: &["周"],
-            },
-            TimeUnit::Day => Row {
-                nanos: DAY,
-                printed: "d",
-                long: "day",
-                names: &["d", "day", "days"],
-                chinese: &["日", "天"],
-            },
-            TimeUnit::Hour => Row {
-                nanos: HOUR,
-                printed: "h",
-                long: "hour",
-                names: &["h", "hr", "hour", "hours"],
-                chinese: &["时"],
-            },
-            TimeUnit::Minute => Row {
-                nanos: MINUTE,
-                printed: "min",
-                long: "minute",
-                names: &["m", "min", "minute", "minutes"],
-                chinese: &["分"],
-            },
-            TimeUnit::Second => Row {
-                nanos: SECOND,
-                printed: "s",
-                long: "second",
-                names: &["s", "sec", "second", "seconds"],
-                chinese: &["秒"],
-            },
-            TimeUnit::MilliSecond => Row {
-                nanos: MILLISECOND,
-                printed: "ms",
-                long: "millisecond",
-                names: &["ms", "msec", "millisecond", "milliseconds"],
-                chinese: &["毫秒"],
-            },
-            TimeUnit::MicroSecond => Row {
-                nanos: MICROSECOND,
-                printed: "µs",
-                long: "microsecond",
-                names: &[
-                    "µs",
-                    "µsec",
-                    "µsecond",
-                    "us",
-                    "usec",
-                    "usecond",
-                    "microsecond",
-                    "microseconds",
-                ],
-                chinese: &["微秒"],
-            },
-            TimeUnit::NanoSecond => Row {
-                nanos: NANOSECOND,
-                printed: "ns",
-                long: "nanosecond",
-                names: &["ns", "nsec", "nanosecond", "nanoseconds"],
-                chinese: &["纳秒"],
-            },
-        }
-    }
-
     #[inline(always)]
     pub(crate) fn printed(self) -> &'static Printed
         ensures { result.now ≡ printed_row self }
     {
         &PRINTED[self.rank()]
-    }
-
-    /// The unit that a word names under these options, if any. No word names two units.
-    ///
-    /// ```
-    /// use duration_str::{Options, TimeUnit};
-    ///
-    /// assert_eq!(TimeUnit::from_word("Minutes", Options::off()), Some(TimeUnit::Minute));
-    /// ```
-    #[tactic(auto, using(crate::proofs::Characters::UnitLemmas::named_unit))]
-    #[must_use]
-    pub fn from_word(word: &str, o: Options) -> Option<TimeUnit>
-        ensures unit { result ≡ unit_of_word o (chars word.now) }
-        ensures only { (unit : TimeUnit) → is_named o (chars word.now) unit ≡ true
-            → unit_of_word o (chars word.now) ≡ Some unit }
-    {
-        UNITS.iter().copied().find(|unit| unit.is_named(word, o))
     }
 
     /// The value in nanoseconds of a term with this number, a nonempty run of digits.
@@ -241,14 +166,6 @@ impl TimeUnit {
             return Err(Cause::NumberTooLarge { place });
         };
         n.checked_mul(self.nanos()).ok_or(Cause::Overflow { place })
-    }
-
-    #[tactic(auto, using(crate::proofs::Characters::UnitLemmas::by_name, crate::proofs::Characters::UnitLemmas::by_chinese))]
-    fn is_named(self, word: &str, o: Options) -> bool
-        ensures { result ≡ is_named o (chars word.now) self }
-    {
-        let row = self.row();
-        is_any(row.names, word, o) || o.cn_unit && is_any(row.chinese, word, o)
     }
 }
 
@@ -286,19 +203,6 @@ const MONTH: u64 = 30 * DAY;
 const QUARTER: u64 = 91 * DAY;
 
 const YEAR: u64 = 365 * DAY;
-
-/// A row of the table of units.
-#[derive(Clone, Copy)]
-struct Row {
-    nanos: u64,
-    printed: &'static str,
-    /// The long name of one of the unit.
-    long: &'static str,
-    /// The names that are read under all options.
-    names: &'static [&'static str],
-    /// The names that are also read with the option `cn_unit`.
-    chinese: &'static [&'static str],
-}
 
 /// What is printed of a unit.
 #[derive(Clone, Copy)]
@@ -434,20 +338,3 @@ pub static UNITS: [TimeUnit; 11] = [
     TimeUnit::MicroSecond,
     TimeUnit::NanoSecond,
 ];
-
-fn is_any(names: &[&str], word: &str, o: Options) -> bool
-    ensures { result ≡ list_any (λ name.
-        bytes_eq (comparison_form o word.now) (comparison_form o name.now)) names.now }
-{
-    names.iter().any(|name| is_name(name, word, o))
-}
-
-fn is_name(name: &str, word: &str, o: Options) -> bool
-    ensures { result ≡ bytes_eq (comparison_form o word.now) (comparison_form o name.now) }
-{
-    if o.lowercase {
-        word == name
-    } else {
-        word.eq_ignore_ascii_case(name)
-    }
-}

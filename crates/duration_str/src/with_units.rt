@@ -1,16 +1,18 @@
 //! Reading, where each number must have its unit.
-ghost use Rattle.std.specs.Prelude.{◌≡◌, length, IfSome, IfNone};
-ghost use Rattle.std.specs.Str.{chars};
-ghost use Rattle.duration_str.specs.Internal.Rest.{missing_place, rest_from};
+ghost use Rattle.std.specs.Prelude.{◌≡◌, ℕ, false, IfSome, IfNone};
+ghost use Rattle.std.specs.Str.{chars, IsCharBoundary};
+ghost use Rattle.duration_str.specs.Internal.Gaps.{gap_from};
 ghost use Rattle.duration_str.specs.Place.{terminals_of};
-ghost use Rattle.duration_str.specs.Tokens.{tokens_of};
+ghost use Rattle.duration_str.specs.Reading.{IsRead};
+ghost use Rattle.duration_str.specs.declared.options.Options.{Options};
 ghost use Rattle.duration_str.specs.WithUnits.{HasUnits, LacksUnit, ParsesWithUnits};
 
 use crate::cause::{Cause, Expected};
 use crate::fault::Fault;
+use crate::operator::CondUnit;
 use crate::options::Options;
 use crate::parser::parse_with;
-use crate::token::{TokenStart, Tokens};
+use crate::token::is_blank;
 use std::time::Duration;
 
 /// What `parse_with` returns, but a text that lacks a unit is refused.
@@ -30,44 +32,51 @@ pub fn parse_with_units(input: &str, o: Options) -> Result<Duration, Fault<'_>>
     ensures { ParsesWithUnits o input.now result }
 {
     let duration = parse_with(input, o)?;
-    match missing_unit(input, o) {
+    match unit_fault(input) {
         Some(fault) => Err(fault),
         None => Ok(duration),
     }
 }
 
-/// The fault of a text that lacks a unit: where no word follows a number first. `None` if each number has its unit.
+/// The fault of a text that is read and lacks a unit: where no word follows a number first.
+///
+/// `None` if each number has its unit. Ask it only of a text that is read: what it answers for any other means nothing.
 ///
 /// ```text
-/// missing_unit("1h 30 + 5", Options::off()) // at 6, where the operator stands
+/// unit_fault("1h 30 + 5") // at 6, where the operator stands
 /// ```
-pub fn missing_unit(text: &str, o: Options) -> Option<Fault<'_>>
-    ensures lacks { IfSome result (λ fault. (fault.text.now ≡ text.now)
-        × LacksUnit o (chars text.now) fault.cause) }
-    ensures has { IfNone result (HasUnits (terminals_of o (chars text.now))) }
+pub fn unit_fault(text: &str) -> Option<Fault<'_>>
+    ensures text { IfSome result (λ fault. fault.text.now ≡ text.now) }
+    ensures lacks { IfSome result (λ fault. (o : Options) → (nanos : ℕ)
+        → IsRead o (chars text.now) nanos → LacksUnit o (chars text.now) fault.cause) }
+    ensures has { IfNone result ((o : Options) → (nanos : ℕ)
+        → IsRead o (chars text.now) nanos → HasUnits (terminals_of o (chars text.now))) }
 {
-    let place = missing_place(text, o)?;
+    let place = gap_in(text)?;
     let cause = Cause::syntax(place, Expected::unit());
     Some(Fault { text, cause })
 }
 
-/// Where the first unit is missing.
-fn missing_place(text: &str, o: Options) -> Option<usize>
-    ensures { result
-        ≡ missing_place (rest_from o (length text.now) (tokens_of o (chars text.now))) }
+/// Where a unit is missing in a text that is read.
+///
+/// In such a text that is exactly where a digit, and perhaps blanks, stand before an operator or the end. So one look at
+/// each byte is enough, and nothing has to be cut into tokens again.
+fn gap_in(text: &str) -> Option<usize>
+    ensures place { result ≡ gap_from false 0 text.now }
+    ensures boundary { IfSome result (IsCharBoundary text.now) }
 {
-    let mut tokens = Tokens::new(text, o);
-    while let Some(sort) = tokens.sort_ahead() {
-        tokens.skip_token(sort);
-        if let TokenStart::Number = sort {
-            match tokens.sort_after_number() {
-                None => return Some(tokens.place()),
-                Some(next) => match next {
-                    TokenStart::Word => tokens.skip_token(next),
-                    _ => return Some(tokens.place()),
-                },
-            }
+    let bytes = text.as_bytes();
+    let mut after_digit = false;
+    let mut place = 0;
+    while place < bytes.len() {
+        let c = char::from(bytes[place]);
+        if after_digit && CondUnit::from_char(c).is_some() {
+            return Some(place);
         }
+        if !is_blank(c) {
+            after_digit = c.is_ascii_digit();
+        }
+        place += 1;
     }
-    None
+    after_digit.then_some(place)
 }

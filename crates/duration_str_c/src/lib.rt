@@ -19,7 +19,7 @@ pub mod message;
 
 use crate::answer::Answer;
 use crate::message::refusal_of;
-use duration_str::{FORMAT_BUFFER_SIZE, Fault, Options, missing_unit, parse_nanos, write_human};
+use duration_str::{FORMAT_BUFFER_SIZE, Fault, Options, parse_nanos, unit_fault, write_human};
 use std::time::Duration;
 
 const NO_CALC: u32 = 1;
@@ -114,7 +114,7 @@ pub(crate) fn read_by(text: &str, bits: u32) -> Result<u64, Fault<'_>>
         return answer;
     }
     let nanos = answer?;
-    match missing_unit(text, options) {
+    match unit_fault(text) {
         Some(fault) => Err(fault),
         None => Ok(nanos),
     }

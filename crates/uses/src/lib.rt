@@ -24,7 +24,7 @@ pub use countdown::{in_parts, time_left};
 pub use dates::{cut_off, due};
 pub use help::{Example, examples};
 pub use line::{without_line_feed, write_line};
-pub use log::log_entry;
+pub use log::add_entry;
 pub use portable::keeps_value;
 pub use product::{Part, scaled};
 pub use signed::difference;

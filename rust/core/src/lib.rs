@@ -50,4 +50,4 @@ pub use self::printing::{
 pub use self::report::REPORT_BUFFER_SIZE;
 pub use self::token::{Token, Tokens, What};
 pub use self::unit::{CondUnit, Options, TimeUnit, UNITS};
-pub use self::with_units::{missing_unit, parse_with_units};
+pub use self::with_units::{parse_with_units, unit_fault};

@@ -105,7 +105,6 @@ pub fn parse_looked(input: &str, o: Options) -> (Result<Duration, Fault<'_>>, u6
 
 #[inline(always)]
 fn read_text(input: &str, o: Options) -> (Result<u64, Fault<'_>>, u64) {
-    let mut tokens = Tokens::new(input, o);
     if input.is_empty() {
         let fault = Fault {
             text: input,
@@ -113,6 +112,7 @@ fn read_text(input: &str, o: Options) -> (Result<u64, Fault<'_>>, u64) {
         };
         return (Err(fault), 0);
     }
+    let mut tokens = Tokens::new(input, o);
     match read(&mut tokens, o.no_calc) {
         Ok(nanos) => (Ok(nanos), tokens.looked()),
         Err(cause) => (Err(Fault { text: input, cause }), tokens.looked()),

@@ -56,7 +56,10 @@ fn read_unit(tokens: &mut Tokens<'_>, no_calc: bool) -> Result<TimeUnit, Cause> 
     };
     let place = tokens.place();
     match sort {
-        TokenStart::Word => tokens.take_word().ok_or(no_unit(place, no_calc)),
+        TokenStart::Word => match tokens.take_word() {
+            Some(unit) => Ok(unit),
+            None => Err(no_unit(place, no_calc)),
+        },
         TokenStart::Operator(_) if !no_calc => Ok(TimeUnit::Second),
         // An arm of its own, since the prover would not know of a joined one which pattern it is.
         TokenStart::Operator(_) => Err(no_unit(place, no_calc)),
@@ -76,7 +79,7 @@ fn read_operator(tokens: &mut Tokens<'_>, no_calc: bool) -> Result<Option<CondUn
     let Some(sort) = tokens.sort_ahead() else {
         return Ok(None);
     };
-    let fault = Cause::syntax(tokens.place(), Expected::after_unit(no_calc));
+    let place = tokens.place();
     match sort {
         TokenStart::Number => Ok(Some(CondUnit::Plus)),
         TokenStart::Operator(operator) if !no_calc => {
@@ -85,9 +88,15 @@ fn read_operator(tokens: &mut Tokens<'_>, no_calc: bool) -> Result<Option<CondUn
             Ok(Some(operator))
         }
         // An arm of its own, as in `read_unit`.
-        TokenStart::Operator(_) => Err(fault),
-        TokenStart::Word | TokenStart::Other => Err(fault),
+        TokenStart::Operator(_) => Err(no_operator(place, no_calc)),
+        TokenStart::Word | TokenStart::Other => Err(no_operator(place, no_calc)),
     }
+}
+
+/// The fault of what stands after a unit and is neither a number nor an operator that is read.
+#[inline(always)]
+fn no_operator(place: usize, no_calc: bool) -> Cause {
+    Cause::syntax(place, Expected::after_unit(no_calc))
 }
 
 /// The later terms with one more, before which `next` stands.

@@ -187,7 +187,7 @@ impl<'a> Tokens<'a> {
             let Some(number) = letter_number(c, self.options) else {
                 break;
             };
-            packed = ((packed as u128 * 40 + number as u128) % MODULUS) as u64;
+            packed = with_letter(packed, number);
             self.advance();
         }
         packed
@@ -219,21 +219,6 @@ impl<'a> Tokens<'a> {
                 self.advance();
                 What::Other
             }
-        }
-    }
-
-    /// Moves past the token ahead, whose value nobody asks for.
-    #[inline(always)]
-    pub(crate) fn skip_token(&mut self, sort: TokenStart) {
-        match sort {
-            TokenStart::Number => {
-                let _ = self.take_digits();
-            }
-            TokenStart::Word => {
-                let _ = self.take_letters();
-            }
-            TokenStart::Operator(_) => self.advance(),
-            TokenStart::Other => self.advance(),
         }
     }
 
@@ -279,6 +264,28 @@ impl<'a> Iterator for Tokens<'a> {
     }
 }
 
+impl TimeUnit {
+    /// The unit that a word names under these options, if any. No word names two units.
+    ///
+    /// ```
+    /// use duration_str_core::{Options, TimeUnit};
+    ///
+    /// assert_eq!(TimeUnit::from_word("Minutes", Options::off()), Some(TimeUnit::Minute));
+    /// ```
+    #[must_use]
+    pub fn from_word(word: &str, o: Options) -> Option<TimeUnit> {
+        if word.len() > MOST_BYTES {
+            return None;
+        }
+        let mut packed = 0;
+        let mut chars = word.chars();
+        while let Some(c) = chars.next() {
+            packed = with_letter(packed, letter_number(c, o)?);
+        }
+        unit_of_packed(packed)
+    }
+}
+
 /// The values of digits and letters are kept modulo this.
 const MODULUS: u128 = 1 << 64;
 
@@ -287,6 +294,12 @@ const MOST_DIGITS: usize = 19;
 
 /// The most bytes of a name. The packed number of as many letters fits into a `u64`.
 const MOST_BYTES: usize = 12;
+
+/// A packed number with one more letter.
+#[inline(always)]
+fn with_letter(packed: u64, number: u64) -> u64 {
+    ((packed as u128 * 40 + number as u128) % MODULUS) as u64
+}
 
 #[inline]
 fn is_unit_letter(c: char, o: Options) -> bool {

@@ -57,17 +57,54 @@ impl TimeUnit {
     #[inline]
     #[must_use]
     pub const fn nanos(self) -> u64 {
-        self.row().nanos
+        match self {
+            TimeUnit::Year => YEAR,
+            TimeUnit::Quarter => QUARTER,
+            TimeUnit::Month => MONTH,
+            TimeUnit::Week => WEEK,
+            TimeUnit::Day => DAY,
+            TimeUnit::Hour => HOUR,
+            TimeUnit::Minute => MINUTE,
+            TimeUnit::Second => SECOND,
+            TimeUnit::MilliSecond => MILLISECOND,
+            TimeUnit::MicroSecond => MICROSECOND,
+            TimeUnit::NanoSecond => NANOSECOND,
+        }
     }
 
     #[inline(always)]
-    pub(crate) fn name(self) -> &'static str {
-        self.row().printed
+    pub(crate) const fn name(self) -> &'static str {
+        match self {
+            TimeUnit::Year => "y",
+            TimeUnit::Quarter => "q",
+            TimeUnit::Month => "mon",
+            TimeUnit::Week => "w",
+            TimeUnit::Day => "d",
+            TimeUnit::Hour => "h",
+            TimeUnit::Minute => "min",
+            TimeUnit::Second => "s",
+            TimeUnit::MilliSecond => "ms",
+            TimeUnit::MicroSecond => "µs",
+            TimeUnit::NanoSecond => "ns",
+        }
     }
 
+    /// The long name of one of the unit.
     #[inline(always)]
     pub(crate) const fn long_name(self) -> &'static str {
-        self.row().long
+        match self {
+            TimeUnit::Year => "year",
+            TimeUnit::Quarter => "quarter",
+            TimeUnit::Month => "month",
+            TimeUnit::Week => "week",
+            TimeUnit::Day => "day",
+            TimeUnit::Hour => "hour",
+            TimeUnit::Minute => "minute",
+            TimeUnit::Second => "second",
+            TimeUnit::MilliSecond => "millisecond",
+            TimeUnit::MicroSecond => "microsecond",
+            TimeUnit::NanoSecond => "nanosecond",
+        }
     }
 
     /// How many units are longer.
@@ -77,112 +114,8 @@ impl TimeUnit {
     }
 
     #[inline(always)]
-    const fn row(self) -> Row {
-        match self {
-            TimeUnit::Year => Row {
-                nanos: YEAR,
-                printed: "y",
-                long: "year",
-                names: &["y", "year", "years"],
-                chinese: &["年"],
-            },
-            TimeUnit::Quarter => Row {
-                nanos: QUARTER,
-                printed: "q",
-                long: "quarter",
-                names: &["q", "quarter", "quarters"],
-                chinese: &[],
-            },
-            TimeUnit::Month => Row {
-                nanos: MONTH,
-                printed: "mon",
-                long: "month",
-                names: &["mon", "month", "months"],
-                chinese: &["月"],
-            },
-            TimeUnit::Week => Row {
-                nanos: WEEK,
-                printed: "w",
-                long: "week",
-                names: &["w", "week", "weeks"],
-                chinese: &["周"],
-            },
-            TimeUnit::Day => Row {
-                nanos: DAY,
-                printed: "d",
-                long: "day",
-                names: &["d", "day", "days"],
-                chinese: &["日", "天"],
-            },
-            TimeUnit::Hour => Row {
-                nanos: HOUR,
-                printed: "h",
-                long: "hour",
-                names: &["h", "hr", "hour", "hours"],
-                chinese: &["时"],
-            },
-            TimeUnit::Minute => Row {
-                nanos: MINUTE,
-                printed: "min",
-                long: "minute",
-                names: &["m", "min", "minute", "minutes"],
-                chinese: &["分"],
-            },
-            TimeUnit::Second => Row {
-                nanos: SECOND,
-                printed: "s",
-                long: "second",
-                names: &["s", "sec", "second", "seconds"],
-                chinese: &["秒"],
-            },
-            TimeUnit::MilliSecond => Row {
-                nanos: MILLISECOND,
-                printed: "ms",
-                long: "millisecond",
-                names: &["ms", "msec", "millisecond", "milliseconds"],
-                chinese: &["毫秒"],
-            },
-            TimeUnit::MicroSecond => Row {
-                nanos: MICROSECOND,
-                printed: "µs",
-                long: "microsecond",
-                names: &[
-                    "µs",
-                    "µsec",
-                    "µsecond",
-                    "us",
-                    "usec",
-                    "usecond",
-                    "microsecond",
-                    "microseconds",
-                ],
-                chinese: &["微秒"],
-            },
-            TimeUnit::NanoSecond => Row {
-                nanos: NANOSECOND,
-                printed: "ns",
-                long: "nanosecond",
-                names: &["ns", "nsec", "nanosecond", "nanoseconds"],
-                chinese: &["纳秒"],
-            },
-        }
-    }
-
-    #[inline(always)]
     pub(crate) fn printed(self) -> &'static Printed {
         &PRINTED[self.rank()]
-    }
-
-    /// The unit that a word names under these options, if any. No word names two units.
-    ///
-    /// ```
-    /// use duration_str::{Options, TimeUnit};
-    ///
-    /// assert_eq!(TimeUnit::from_word("Minutes", Options::off()), Some(TimeUnit::Minute));
-    /// ```
-    #[must_use]
-    pub fn from_word(word: &str, o: Options) -> Option<TimeUnit> {
-        UNITS.iter().copied().find(|unit| unit.is_named(word, o))
     }
 
     /// The value of a term in nanoseconds. `number` is `None` if it exceeds `u64`; `place` goes into the error.
@@ -192,11 +125,6 @@ impl TimeUnit {
             return Err(Cause::NumberTooLarge { place });
         };
         n.checked_mul(self.nanos()).ok_or(Cause::Overflow { place })
-    }
-
-    fn is_named(self, word: &str, o: Options) -> bool {
-        let row = self.row();
-        is_any(row.names, word, o) || o.cn_unit && is_any(row.chinese, word, o)
     }
 }
 
@@ -229,19 +157,6 @@ const MONTH: u64 = 30 * DAY;
 const QUARTER: u64 = 91 * DAY;
 
 const YEAR: u64 = 365 * DAY;
-
-/// A row of the table of units.
-#[derive(Clone, Copy)]
-struct Row {
-    nanos: u64,
-    printed: &'static str,
-    /// The long name of one of the unit.
-    long: &'static str,
-    /// The names that are read under all options.
-    names: &'static [&'static str],
-    /// The names that are also read with the option `cn_unit`.
-    chinese: &'static [&'static str],
-}
 
 /// What is printed of a unit.
 #[derive(Clone, Copy)]
@@ -373,15 +288,3 @@ pub static UNITS: [TimeUnit; 11] = [
     TimeUnit::MicroSecond,
     TimeUnit::NanoSecond,
 ];
-
-fn is_any(names: &[&str], word: &str, o: Options) -> bool {
-    names.iter().any(|name| is_name(name, word, o))
-}
-
-fn is_name(name: &str, word: &str, o: Options) -> bool {
-    if o.lowercase {
-        word == name
-    } else {
-        word.eq_ignore_ascii_case(name)
-    }
-}

@@ -3,9 +3,10 @@
 
 use crate::cause::{Cause, Expected};
 use crate::fault::Fault;
+use crate::operator::CondUnit;
 use crate::options::Options;
 use crate::parser::parse_with;
-use crate::token::{TokenStart, Tokens};
+use crate::token::is_blank;
 use core::time::Duration;
 
 /// What `parse_with` returns, but a text that lacks a unit is refused.
@@ -23,37 +24,42 @@ use core::time::Duration;
 /// ```
 pub fn parse_with_units(input: &str, o: Options) -> Result<Duration, Fault<'_>> {
     let duration = parse_with(input, o)?;
-    match missing_unit(input, o) {
+    match unit_fault(input) {
         Some(fault) => Err(fault),
         None => Ok(duration),
     }
 }
 
-/// The fault of a text that lacks a unit: where no word follows a number first. `None` if each number has its unit.
+/// The fault of a text that is read and lacks a unit: where no word follows a number first.
+///
+/// `None` if each number has its unit. Ask it only of a text that is read: what it answers for any other means nothing.
 ///
 /// ```text
-/// missing_unit("1h 30 + 5", Options::off()) // at 6, where the operator stands
+/// unit_fault("1h 30 + 5") // at 6, where the operator stands
 /// ```
-pub fn missing_unit(text: &str, o: Options) -> Option<Fault<'_>> {
-    let place = missing_place(text, o)?;
+pub fn unit_fault(text: &str) -> Option<Fault<'_>> {
+    let place = gap_in(text)?;
     let cause = Cause::syntax(place, Expected::unit());
     Some(Fault { text, cause })
 }
 
-/// Where the first unit is missing.
-fn missing_place(text: &str, o: Options) -> Option<usize> {
-    let mut tokens = Tokens::new(text, o);
-    while let Some(sort) = tokens.sort_ahead() {
-        tokens.skip_token(sort);
-        if let TokenStart::Number = sort {
-            match tokens.sort_after_number() {
-                None => return Some(tokens.place()),
-                Some(next) => match next {
-                    TokenStart::Word => tokens.skip_token(next),
-                    _ => return Some(tokens.place()),
-                },
-            }
+/// Where a unit is missing in a text that is read.
+///
+/// In such a text that is exactly where a digit, and perhaps blanks, stand before an operator or the end. So one look at
+/// each byte is enough, and nothing has to be cut into tokens again.
+fn gap_in(text: &str) -> Option<usize> {
+    let bytes = text.as_bytes();
+    let mut after_digit = false;
+    let mut place = 0;
+    while place < bytes.len() {
+        let c = char::from(bytes[place]);
+        if after_digit && CondUnit::from_char(c).is_some() {
+            return Some(place);
         }
+        if !is_blank(c) {
+            after_digit = c.is_ascii_digit();
+        }
+        place += 1;
     }
-    None
+    after_digit.then_some(place)
 }

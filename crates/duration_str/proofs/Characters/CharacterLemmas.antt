@@ -8,7 +8,7 @@ all_weaker p q [] weaker h = refl
 all_weaker p q (c ∷ cs) weaker h =
     and_from _ _ (weaker c (and_parts _ _ h).0) (all_weaker p q cs weaker (and_parts _ _ h).1)
 
-letter_above : (o : Options) (c : ℕ) → is_unit_letter o c ≡ true → 65 ≤ c
+pub letter_above : (o : Options) (c : ℕ) → is_unit_letter o c ≡ true → 65 ≤ c
 letter_above o c e = grind (arith, nat_tests)
 
 pub digit-not_blank : (c : ℕ) → is_digit c ≡ true → is_blank c ≡ false

@@ -175,6 +175,40 @@ no_name o w test all fails =
     )) in
     simp unnamed
 
+-- a unit's name has unit letters alone
+letters_form : (o : Options) (w : List ℕ)
+    → list_all (is_unit_letter o) (comparison_form o w) ≡ list_all (is_unit_letter o) w
+letters_form o w = elim (cases_Bool o.lowercase) [ inl on ↦ rw on refl | inr off ↦ rw off (lower w) ]
+  where
+    lower : (w : List ℕ) → list_all (is_unit_letter o) (map to_ascii_lowercase w) ≡ list_all (is_unit_letter o) w
+    lower [] = refl
+    lower (c ∷ cs) =
+        let same : is_unit_letter o (to_ascii_lowercase c) ≡ is_unit_letter o c = search rules in rw (same, lower cs)
+
+letters_of_names : (o : Options) (u : TimeUnit) → list_all (list_all (is_unit_letter o)) (row_of u).names ≡ true
+letters_of_names o = all_units (λ u. list_all (list_all (is_unit_letter o)) (row_of u).names) refl
+
+letters_of_chinese : (o : Options) (u : TimeUnit) → o.cn_unit ≡ true
+    → list_all (list_all (is_unit_letter o)) (row_of u).chinese ≡ true
+letters_of_chinese o u on = search rules
+
+named_letters : (o : Options) (w : List ℕ) (u : TimeUnit) → is_named o w u ≡ true → list_all (is_unit_letter o) w ≡ true
+named_letters o w u h =
+    let form = comparison_form o w in
+    let letters : list_all (is_unit_letter o) form ≡ true =
+    elim (or_cases (list_any (bytes_eq form) (row_of u).names) _ h) [
+      | inl plain ↦ named_passes (list_all (is_unit_letter o)) form (row_of u).names (letters_of_names o u) plain
+      | inr added ↦ let parts = and_parts o.cn_unit _ added in
+          named_passes (list_all (is_unit_letter o)) form (row_of u).chinese (letters_of_chinese o u parts.0) parts.1
+    ] in
+    sym (letters_form o w) ∙ letters
+
+-- A word with another character names no unit.
+pub no_letter_name : (o : Options) (w : List ℕ) → list_all (is_unit_letter o) w ≡ false → None ≡ unit_of_word o w
+no_letter_name o w other =
+    let unnamed = λ (u : TimeUnit). false_from_ne_true (is_named o w u) (λ t. cc (other, named_letters o w u t)) in
+    simp unnamed
+
 pub no_capital_name : (o : Options) (w : List ℕ) → o.lowercase ≡ true → list_any is_ascii_uppercase w ≡ true
     → None ≡ unit_of_word o w
 no_capital_name o w on capital =

@@ -1,5 +1,5 @@
 -- Units, and words and names: as bytes and as characters, and their ASCII capitals.
-use Rattle.duration_str.proofs.Common.{all_names, and_parts, AreEncoded, arith, Bool, Bor, byte_len, bytes_eq, bytes_eq-Decides, cases_Bool, chars, common_steps, comparison_form, Day, encode_utf8_all, encodes, encodes-chars, encodes_same, eqb, eqb-true, false, find, Hour, inl, inr, is_named, IsUtf8, leb-true, length, List, list_all, list_any, list_any-append, map, map-append, MicroSecond, MilliSecond, Minute, Month, name_part, nanos_of, NanoSecond, not, Options, or_cases, Quarter, refl, row_of, rules, same_from_decides, Second, Some, Style, TimeUnit, to_ascii_lowercase, true, unit_of_word, units, Week, Year, [], ℕ, ⊤, ◌||◌, ◌∙◌, ◌∷◌, ◌≡◌, ◌≤◌}
+use Rattle.duration_str.proofs.Common.{all_names, and_parts, arith, Bool, byte_len, bytes_eq, bytes_eq-Decides, cases_Bool, common_steps, comparison_form, Day, encode_utf8_all, encodes, encodes_same, eqb, eqb-true, false, find, Hour, inl, inr, is_named, leb-true, length, List, list_all, list_any, list_any-append, map, map-append, MicroSecond, MilliSecond, Minute, Month, name_part, nanos_of, NanoSecond, not, Options, or_cases, Quarter, refl, row_of, rules, same_from_decides, Second, Some, Style, TimeUnit, to_ascii_lowercase, true, unit_of_word, units, Week, Year, [], ℕ, ⊤, ◌||◌, ◌∷◌, ◌≡◌, ◌≤◌}
 use lib.Utf8.{encode}
 
 -- ---- A property that holds of each unit in the table holds of every unit
@@ -43,65 +43,11 @@ pub lower-encodes : (cs : List ℕ) → map to_ascii_lowercase (encodes cs) ≡ 
 lower-encodes [] = refl
 lower-encodes (c ∷ cs) = rw (map-append to_ascii_lowercase (encode c) (encodes cs), lower-encode c, lower-encodes cs)
 
--- the comparison form of a text's bytes
-comparison_form-encodes : (o : Options) (cs : List ℕ) → comparison_form o (encodes cs) ≡ encodes (comparison_form o cs)
-comparison_form-encodes o cs = elim (cases_Bool o.lowercase) [ inl e ↦ rw e | inr e ↦ rw e (lower-encodes cs) ]
-
 -- ---- names
-
--- the name has no ASCII capital
-abbrev is_small : List ℕ → Bool
-is_small name = bytes_eq (map to_ascii_lowercase name) name
-
-small_form : (o : Options) (name : List ℕ) → is_small name ≡ true → comparison_form o name ≡ name
-small_form o name h = search rules
 
 -- texts are equal if their bytes are
 pub bytes_eq-encodes : (v w : List ℕ) → bytes_eq (encodes v) (encodes w) ≡ bytes_eq v w
 bytes_eq-encodes v w = search (rules, bytes_eq-Decides, same_from_decides, encodes_same)
-
--- a word can be compared with a name by their bytes
-name_test : (o : Options) (word name : List ℕ) → IsUtf8 word → is_small name ≡ true
-    → bytes_eq (comparison_form o word) (comparison_form o (encodes name))
-    ≡ bytes_eq (comparison_form o (chars word)) name
-name_test o word name utf8 small =
-    let bytes = rw (encodes-chars word utf8) at (comparison_form-encodes o (chars word)) in
-    rw (bytes, comparison_form-encodes o name, small_form o name small)
-    (bytes_eq-encodes (comparison_form o (chars word)) name)
-
--- Two tests that agree where a third one passes agree on lists that pass it.
-pub any_same : {A : Type 0} {test p q : A → Bool} → ((x : A) → test x ≡ true → p x ≡ q x) → (xs : List A)
-    → list_all test xs ≡ true → list_any p xs ≡ list_any q xs
-any_same same [] all = refl
-any_same {test = test} same (x ∷ xs) all = search (rules, and_parts, any_same same xs)
-
-any_map : {A B : Type 0} (test : B → Bool) (f : A → B) (xs : List A)
-    → list_any test (map f xs) ≡ list_any (λ x. test (f x)) xs
-any_map test f [] = refl
-any_map test f (x ∷ xs) = rw (any_map test f xs)
-
--- The answer whether a word is among the texts of these names is whether its characters are one of the names.
-abbrev FindsName : Options → List ℕ → List (List ℕ) → List (Bor (List ℕ)) → Bool → Type 0
-FindsName o word names texts r = IsUtf8 word → AreEncoded texts names
-    → r ≡ list_any (λ text. bytes_eq (comparison_form o word) (comparison_form o text.now)) texts
-    → r ≡ list_any (bytes_eq (comparison_form o (chars word))) names
-
-any_name : (o : Options) (word : List ℕ) (texts : List (Bor (List ℕ))) (names : List (List ℕ)) (r : Bool)
-    → list_all is_small names ≡ true → FindsName o word names texts r
-any_name o word texts names r small utf8 encoded is =
-    let test = λ (bytes : List ℕ). bytes_eq (comparison_form o word) (comparison_form o bytes) in
-    is ∙ rw (← any_map test (λ text. text.now) texts, encoded, any_map test encodes names)
-    (any_same (λ name. name_test o word name utf8) names small)
-
--- the word is among the unit's names, which have no ASCII capitals
-pub by_name : (o : Options) (word : List ℕ) (u : TimeUnit) (texts : List (Bor (List ℕ))) (r : Bool)
-    → FindsName o word (row_of u).names texts r
-by_name o word u texts r = search (rules, any_name)
-
--- the word is among the names that `cn_unit` adds
-pub by_chinese : (o : Options) (word : List ℕ) (u : TimeUnit) (texts : List (Bor (List ℕ))) (r : Bool)
-    → FindsName o word (row_of u).chinese texts r
-by_chinese o word u texts r = search (rules, any_name)
 
 -- ---- a name belongs to one unit
 

@@ -1,10 +1,10 @@
 -- The steps of cutting, in terms of a text, the byte up to which it is cut, and the looks.
-use Rattle.duration_str.proofs.Common.{add-zero, ahead, and_from, ap, append_assoc, append_cancel_right, arith, Between, Bool, byte_len, chars, chars-append, drop, drop-drop, encodes-chars, EndsRun, ForSome, if◌then◌else◌, is_blank, is_digit, is_some, is_unit_letter, IsCharBoundary, IsLexeme, IsUtf8, IsUtf8-drop, IsUtf8-take, length, length-append, length-drop, length-le-encodes, letter_number, List, list_all-append, None, number_after, number_of, Option, Options, packed_number_after, Passes, refl, slice_range, Some, Stands, StandsAt, sym, take, take-append-drop, TakesDigits, TakesLetters, TimeUnit, tokens_from, true, u64_from, unit_of_packed, unit_of_word, width, [], ℕ, ◌%◌, ◌*◌, ◌++◌, ◌+◌, ◌-◌, ◌<◌, ◌^◌, ◌∙◌, ◌∷◌, ◌≡◌, ◌≤◌}
+use Rattle.duration_str.proofs.Common.{add-zero, ahead, and_from, ap, append_assoc, append_cancel_right, arith, Between, Bool, byte_len, chars, chars-append, drop, drop-drop, encodes-chars, EndsRun, false, ForSome, if◌then◌else◌, is_blank, is_digit, is_some, is_unit_letter, IsCharBoundary, IsLexeme, IsUtf8, IsUtf8-drop, IsUtf8-take, length, length-append, length-drop, length-le-encodes, letter_number, List, list_all-append, None, number_after, number_of, Option, Options, packed_number_after, Passes, refl, slice_range, Some, Stands, StandsAt, sym, take, take-append-drop, TakesDigits, TakesLetters, TimeUnit, tokens_from, true, u64_from, unit_of_packed, unit_of_word, width, [], ℕ, ◌%◌, ◌*◌, ◌++◌, ◌+◌, ◌-◌, ◌<◌, ◌^◌, ◌∙◌, ◌∷◌, ◌≡◌, ◌≤◌, append-nil, IsTrue, packed_number, list_all}
 pub use Rattle.duration_str.proofs.Cutting.TokenLemmas.{blanks_no_token, tokens_step}
 use Rattle.duration_str.proofs.Characters.CharacterLemmas.{byte_len-append, width_some}
 use Rattle.duration_str.proofs.Characters.NumberLemmas.{decimal_digits, whole_number}
 use Rattle.std.proofs.lemmas.Str.Parse.{digits_value_short}
-use Rattle.duration_str.proofs.Characters.PackedLemmas.{exact, no_long_name, unit_by_number}
+use Rattle.duration_str.proofs.Characters.PackedLemmas.{exact, no_letter_name, no_long_name, unit_by_number}
 
 -- ---- how many times a character was looked at
 
@@ -152,6 +152,44 @@ module _ {o : Options} {text : List ℕ} {place next value : ℕ} (taken : Takes
     run = taken.run;
     named = no_long_name o taken.run.characters (omega (arith, taken.run.between.bytes));
   }
+
+-- ---- a word by itself
+
+-- These are the first characters of the word, unit letters that pack to n modulo 2^64, and `rest` follows them.
+pub record Packs (o : Options) (word rest : List ℕ) (n : ℕ) : Type 0 where
+  pub letters : List ℕ
+  pub whole : word ≡ letters ++ rest
+  pub all : IsTrue (list_all (is_unit_letter o) letters)
+  pub number : n ≡ packed_number o letters % 2 ^ 64
+
+pub packs_none : {o : Options} {word : List ℕ} → Packs o word word 0
+packs_none = record { letters = []; whole = refl; all = refl; number = refl }
+
+pub packs_more : {o : Options} {word rest : List ℕ} {c n m : ℕ} → Packs o word (c ∷ rest) n → is_unit_letter o c ≡ true
+    → m ≡ (n * 40 + letter_number o c) % 2 ^ 64 → Packs o word rest m
+packs_more {o} {c = c} passed letter more = record {
+  letters = passed.letters ++ c ∷ [];
+  whole = rw append_assoc passed.whole;
+  all = list_all-append (is_unit_letter o) passed.letters (c ∷ []) ∙ and_from _ _ passed.all (rw letter refl);
+  number = omega (arith, more, passed.number, packed_after-push o 0 passed.letters c);
+}
+
+-- a word whose letters are all packed names the unit of its number
+pub packs_unit : {o : Options} {word : List ℕ} {n : ℕ} {unit : Option TimeUnit} → Packs o word [] n → byte_len word ≤ 12
+    → unit ≡ unit_of_packed n → unit ≡ unit_of_word o word
+packs_unit {o} {word} {n} packed short found =
+    let cs = packed.letters in
+    let same : cs ≡ word = rw append-nil at (sym packed.whole) in
+    let few : length cs ≤ 12 = omega (arith, length-le-byte_len word, ap length same, short) in
+    found ∙ ap unit_of_packed (exact o cs n few packed.number) ∙ sym (unit_by_number o cs packed.all few)
+    ∙ ap (unit_of_word o) same
+
+-- a word with another character names none
+pub packs_other : {o : Options} {word rest : List ℕ} {c n : ℕ} → Packs o word (c ∷ rest) n → is_unit_letter o c ≡ false
+    → None ≡ unit_of_word o word
+packs_other {o} {word} {rest} {c} packed other =
+    no_letter_name o word
+    (rw (packed.whole, list_all-append (is_unit_letter o) packed.letters (c ∷ rest), packed.all, other) refl)
 
 -- ---- the first token that is left
 

@@ -1,5 +1,5 @@
 -- The steps of `Tokens`: what is ahead, and the next token.
-use Rattle.duration_str.proofs.Common.{ahead, arith, CondUnit, cut_place, ForSome, is_blank, is_digit, is_unit_letter, IsAhead, IsCharBoundary, IsSign, IsUtf8, IsUtf8-had, KeepsInput, length, length-drop, length-take-le, List, LooksAhead, None, Number, number_of, Operator, Option, options_of, Other, other, Passes, refl, rules, slice_range, Some, sort_of, source, Stands, StandsAt, Stops, sym, TakesDigits, TakesLetters, TakesNumber, TakesToken, TakesTokenWith, Terminal, terminal_of, TimeUnit, Token, Tokens, tokens_left, TokenStart, true, u64_from, unit_of_word, what_of, width, Word, word, YieldsNextToken, [], ℕ, ◌+◌, ◌<◌, ◌∙◌, ◌∷◌, ◌≡◌}
+use Rattle.duration_str.proofs.Common.{ahead, arith, CondUnit, cut_place, ForSome, is_blank, is_digit, is_unit_letter, IsAhead, IsCharBoundary, IsSign, IsUtf8, IsUtf8-had, KeepsInput, length, length-drop, length-take-le, List, LooksAhead, None, Number, number_of, Operator, Option, options_of, Other, other, Passes, refl, rules, slice_range, Some, sort_of, source, Stands, StandsAt, Stops, sym, TakesDigits, TakesNumber, TakesToken, TakesTokenWith, Terminal, terminal_of, TimeUnit, Token, Tokens, tokens_left, TokenStart, true, u64_from, what_of, width, Word, word, YieldsNextToken, [], ℕ, ◌+◌, ◌<◌, ◌∙◌, ◌∷◌, ◌≡◌}
 use Rattle.duration_str.proofs.Characters.NumberLemmas.{bytes_of_digits}
 use Rattle.duration_str.proofs.Cutting.PositionLemmas.{blanks_passed, chars_between, place_at_end, TakesWord, token_taken}
 use Rattle.duration_str.proofs.Cutting.SortLemmas.{digit_of_sort, first_token, letter_of_sort, number_stands, sign_of_sort, sign_sorts, sign_stands, StandsToken, word_stands}
@@ -76,13 +76,6 @@ pub takes_word : {s t : Tokens} {unit : Option TimeUnit} → IsAhead s (Some Wor
 takes_word {s} h kept taken stops =
     let letter = letter_of_sort (options_of s) h.character h.is_sort in
     takes_token kept (word_stands (options_of s) taken (simp kept.text at stops) (s.some h.character h.is_head) letter)
-
--- The letters that were taken are a word, whatever it names.
-pub skips_word : {s t : Tokens} {value : ℕ} → IsAhead s (Some Word) → KeepsInput s t
-    → (taken : TakesLetters (options_of s) (source s) (cut_place s) (cut_place t) value)
-    → Stops (is_unit_letter (options_of s)) (ahead (source t) (cut_place t))
-    → TakesToken s t (word (unit_of_word (options_of s) taken.run.characters))
-skips_word h kept taken stops = takes_word h kept (record { run = taken.run; named = refl }) stops
 
 -- taking the single character ahead
 pub takes_sign : {s t : Tokens} (sort : TokenStart) → IsSign sort → IsAhead s (Some sort) → KeepsInput s t

@@ -1,10 +1,7 @@
 -- The first number without a unit.
-use Rattle.duration_str.proofs.Common.{arith, Tokens, rest_of, cut_place, LooksAhead, TakesTokenWith, TokenStart, sort_of, KeepsInput, tokens_left, ◌<◌, Some, ℕ, ◌≡◌, ◌∙◌, ap, rest_from, Token, start_after, None, refl, suc, ◌≤◌, ◌∷◌, [], ◌⊎◌, inl, inr, ◌+◌, List, length, Bool, ◌++◌, if◌then◌else◌, not, sym, tokens_of, chars, IsUtf8, Cause, Syntax, ForSome, place_of, IsCharBoundary, byte_len, Err, Ok, Terminal, number, word, operator, other, Option, true, false, Options, map, terminal_of, lexemes_of}
-use Rattle.duration_str.specs.Internal.Rest.{Rest, missing_place, terminal_at, begins_with_word, start_left}
-use Rattle.duration_str.proofs.OnePass.PlaceLemmas.{same_start, starts_placed}
-use Rattle.duration_str.proofs.OnePass.ReaderLemmas.{after_token, at_end, same_rest, starts}
-use Rattle.duration_str.proofs.Cutting.StepLemmas.{keeps_on}
-use Rattle.duration_str.specs.declared.token.TokenStart.TheVariants as sorts
+use Rattle.duration_str.proofs.Common.{ap, arith, Some, ℕ, ◌≡◌, rest_from, Token, start_after, None, refl, suc, ◌≤◌, ◌∷◌, [], ◌⊎◌, inl, inr, ◌+◌, List, length, Bool, ◌++◌, if◌then◌else◌, not, tokens_of, chars, Syntax, byte_len, Err, Ok, Terminal, number, word, operator, other, Option, true, false, Options, map, terminal_of, lexemes_of}
+use Rattle.duration_str.specs.Internal.Rest.{end_at, Rest, start_left, terminal_at}
+use Rattle.duration_str.proofs.OnePass.PlaceLemmas.{same_start}
 use Rattle.duration_str.specs.Place.{terminals_of}
 use Rattle.duration_str.specs.Results.{ParsesText}
 use Rattle.duration_str.specs.declared.fault.Fault.{Fault}
@@ -13,82 +10,23 @@ use Rattle.std.specs.declared.time.Duration.{Duration}
 use Rattle.std.specs.Bool.{MatchBool}
 use Rattle.duration_str.specs.WithUnits.{BeginsWithWord, expected_unit, HasUnits, LacksFirstAfter, LacksUnit, LacksUnitAfter, ParsesWithUnits}
 
--- ---- One step of the loop
+-- ---- Computed of what is left
 
--- Up to m blanks are skipped, and up to t a token of this sort.
-pub record Skips (s m t : Tokens) (sort : TokenStart) : Type 0 where
-  pub look : LooksAhead s m (Some sort)
-  pub taken : TakesTokenWith m t (λ terminal. sort ≡ sort_of terminal)
+-- whether a word comes first
+abbrev pub begins_with_word : Rest → Bool
+begins_with_word (terminal_at at (word u) rest) = true
+begins_with_word rest = false
 
-pub skips_kept : {s m t : Tokens} {sort : TokenStart} → Skips s m t sort → KeepsInput s t
-skips_kept skips = keeps_on skips.look.kept skips.taken.token.kept
-
-pub fewer_left : {s m t : Tokens} {sort : TokenStart} → Skips s m t sort
-    → length (tokens_left t) < length (tokens_left s)
-fewer_left skips = omega (arith, ap length (sym skips.look.same_left ∙ skips.taken.token.first))
-
-skipped : {s m t : Tokens} {sort : TokenStart} (skips : Skips s m t sort)
-    → rest_of s ≡ terminal_at (cut_place m) skips.taken.terminal (rest_of t)
-skipped skips = sym (same_rest skips.look) ∙ after_token skips.taken.token
+-- where the first unit is missing
+abbrev pub missing_place : Rest → Option ℕ
+missing_place (terminal_at at (number n) rest) =
+    if not (begins_with_word rest) then Some (start_left 0 rest) else missing_place rest
+missing_place (terminal_at at terminal rest) = missing_place rest
+missing_place (end_at at) = None
 
 -- where the first unit is missing after a number
-abbrev after_number : Rest → Option ℕ
+abbrev pub after_number : Rest → Option ℕ
 after_number rest = if not (begins_with_word rest) then Some (start_left 0 rest) else missing_place rest
-
-past_a_number : (at : ℕ) (t : Terminal) (rest : Rest) → sorts.Number ≡ sort_of t
-    → missing_place (terminal_at at t rest) ≡ after_number rest
-past_a_number at (number n) rest is = refl
-past_a_number at (word u) rest is = cc
-past_a_number at (operator op) rest is = cc
-past_a_number at other rest is = cc
-
-past_a_word : (at : ℕ) (t : Terminal) (rest : Rest) → sorts.Word ≡ sort_of t
-    → after_number (terminal_at at t rest) ≡ missing_place rest
-past_a_word at (number n) rest is = cc
-past_a_word at (word u) rest is = refl
-past_a_word at (operator op) rest is = cc
-past_a_word at other rest is = cc
-
-past_a_sign : (at : ℕ) (t : Terminal) (rest : Rest) → (sorts.Number ≡ sort_of t → ⊥)
-    → missing_place (terminal_at at t rest) ≡ missing_place rest
-past_a_sign at (number n) rest no_number = absurd (no_number refl)
-past_a_sign at (word u) rest no_number = refl
-past_a_sign at (operator op) rest no_number = refl
-past_a_sign at other rest no_number = refl
-
-past_number : {s m t : Tokens} → Skips s m t sorts.Number → missing_place (rest_of s) ≡ after_number (rest_of t)
-past_number {m = m} {t} skips =
-    rw (skipped skips) (past_a_number (cut_place m) skips.taken.terminal (rest_of t) skips.taken.has)
-
-past_word : {s m t : Tokens} → Skips s m t sorts.Word → after_number (rest_of s) ≡ missing_place (rest_of t)
-past_word {m = m} {t} skips =
-    rw (skipped skips) (past_a_word (cut_place m) skips.taken.terminal (rest_of t) skips.taken.has)
-
-pub past_unit : {s m t u v : Tokens} → Skips s m t sorts.Number → Skips t u v sorts.Word
-    → missing_place (rest_of s) ≡ missing_place (rest_of v)
-past_unit skips unit = past_number skips ∙ past_word unit
-
-pub past_sign : {s m t : Tokens} {sort : TokenStart} → Skips s m t sort → (sort ≡ sorts.Number → ⊥)
-    → missing_place (rest_of s) ≡ missing_place (rest_of t)
-past_sign {m = m} {t} skips no_number =
-    rw (skipped skips)
-    (past_a_sign (cut_place m) skips.taken.terminal (rest_of t) (λ e. no_number (skips.taken.has ∙ sym e)))
-
-no_word : {t u : Tokens} (sort : Option TokenStart) → LooksAhead t u sort → (sort ≡ Some sorts.Word → ⊥)
-    → after_number (rest_of t) ≡ Some (cut_place u)
-no_word None look none = rw (at_end look).0 refl
-no_word (Some sorts.Number) look none = rw (starts look refl).2 refl
-no_word (Some sorts.Word) look none = absurd (none refl)
-no_word (Some (sorts.Operator op)) look none = rw (starts look refl).1 refl
-no_word (Some sorts.Other) look none = rw (starts look refl).1 refl
-
--- a unit is missing where no word follows a number
-pub missing_here : {s m t u : Tokens} {sort : Option TokenStart} → Skips s m t sorts.Number → LooksAhead t u sort
-    → (sort ≡ Some sorts.Word → ⊥) → missing_place (rest_of s) ≡ Some (cut_place u)
-missing_here {sort = sort} skips look none = past_number skips ∙ no_word sort look none
-
-pub none_missing : {s m : Tokens} → LooksAhead s m None → missing_place (rest_of s) ≡ None
-none_missing look = rw (at_end look).0 refl
 
 -- ---- The place is that of the definition
 
@@ -220,12 +158,6 @@ lacks_unit o text e =
     let (count, first, at) = rw e at (finds o (byte_len text) (tokens_of o text)) in
     record { count = count; first = first; same = rw at refl }
 
-pub lacks_placed : {o : Options} {bs : List ℕ} {cause : Cause} → IsUtf8 bs → LacksUnit o (chars bs) cause
-    → ForSome (place_of cause) (IsCharBoundary bs)
-lacks_placed {o} {bs} utf8 lacks place e =
-    let same : place ≡ start_after lacks.count (byte_len (chars bs)) (tokens_of o (chars bs)) = cc (ap place_of lacks.same, e) in
-    rw same (starts_placed o bs lacks.count utf8)
-
 pub refused_alike : {o : Options} {bytes : List ℕ} (f : Fault) → ParsesText o bytes (Err f)
     → ParsesWithUnits o bytes (Err f)
 refused_alike f parsed = record {
@@ -233,6 +165,15 @@ refused_alike f parsed = record {
   accepts = λ nanos read. parsed.accepts nanos read.0;
   refused = (parsed.refused.0, inl parsed.refused.1);
   fits = tt;
+}
+
+pub read_with_units : {o : Options} {bytes : List ℕ} (d : Duration) → ParsesText o bytes (Ok d)
+    → HasUnits (terminals_of o (chars bytes)) → ParsesWithUnits o bytes (Ok d)
+read_with_units d parsed has = record {
+  read = (parsed.read, has);
+  accepts = λ nanos read. parsed.accepts nanos read.0;
+  refused = tt;
+  fits = parsed.fits;
 }
 
 pub refused_for_unit : {o : Options} {bytes : List ℕ} {d : Duration} (f : Fault) → ParsesText o bytes (Ok d)

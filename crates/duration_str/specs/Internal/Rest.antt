@@ -1,5 +1,5 @@
 -- What is left of a text while it is read: the next thing to read, and the answer.
-use Rattle.std.specs.Prelude.{◌≡◌, ℕ, zero, suc, ◌≤◌, Bool, true, false, not, if◌then◌else◌, List, [], ◌∷◌, length, take, drop, Option, Some, None, Result, Ok, Err, IfErr}
+use Rattle.std.specs.Prelude.{◌≡◌, ℕ, zero, suc, ◌≤◌, Bool, false, List, [], ◌∷◌, length, take, drop, Option, Some, None, Result, Ok, Err, IfErr}
 use Rattle.std.specs.Option.{ForSome, ok_or}
 use Rattle.duration_str.specs.declared.options.Options.{Options}
 use Rattle.duration_str.specs.declared.unit.TimeUnit.{TimeUnit}
@@ -140,17 +140,3 @@ pub record CutsOn {A : Type 0} (old new : Tokens) (result : Result A Cause) : Ty
 abbrev pub IsFollowed : Tokens → Option CondUnit → Type 0
 IsFollowed s None = cut_place s ≡ length (source s)
 IsFollowed s (Some op) = IsAhead s (Some Number)
-
--- ---- Units that are missing
-
--- whether a word comes first
-abbrev pub begins_with_word : Rest → Bool
-begins_with_word (terminal_at at (word u) rest) = true
-begins_with_word rest = false
-
--- where the first unit is missing
-abbrev pub missing_place : Rest → Option ℕ
-missing_place (terminal_at at (number n) rest) =
-    if not (begins_with_word rest) then Some (start_left 0 rest) else missing_place rest
-missing_place (terminal_at at terminal rest) = missing_place rest
-missing_place (end_at at) = None

@@ -1,29 +1,14 @@
 -- The code's tables: of units, of names by their packed numbers, and of near words.
-use denote.Ref.{Bor}
 use Rattle.std.specs.Prelude.{All, Bool, List, Option, bytes_eq, count_by, encode_utf8_all, length, map, nat_lt, not, take, [], ℕ, ◌&&◌, ◌++◌, ◌-◌, ◌/◌, ◌==◌, ◌^◌, ◌∷◌, ◌≡◌}
 use Rattle.std.specs.Char.{is_ascii_whitespace, to_ascii_lowercase}
 use Rattle.std.specs.List.{find, list_any, suffix_len}
-use Rattle.duration_str.specs.declared.unit.Row.{Row}
 use Rattle.duration_str.specs.declared.unit.Printed.{Printed}
 use Rattle.duration_str.specs.declared.unit.TimeUnit.{TimeUnit}
 use Rattle.duration_str.specs.Text.{Bytes, Characters}
-use Rattle.duration_str.specs.Units.{UnitRow, nanos_of, row_of, units}
+use Rattle.duration_str.specs.Units.{nanos_of, row_of, units}
 use Rattle.duration_str.specs.Options.{off}
-use Rattle.duration_str.specs.Printing.{long_name}
 use Rattle.duration_str.specs.OneLine.{is_among, small_words}
 use Rattle.duration_str.specs.Internal.Positions.{packed_number}
-
--- The texts are the names in UTF-8.
-abbrev pub AreEncoded : List (Bor Bytes) → List Characters → Type 0
-AreEncoded texts names = map (λ text. text.now) texts ≡ map encode_utf8_all names
-
--- The code's row has the contents of this row.
-pub record IsRow (row : Row) (r : UnitRow) : Type 0 where
-  pub nanos : row.nanos ≡ r.nanos
-  pub printed : row.printed.now ≡ encode_utf8_all r.printed
-  pub long : row.long.now ≡ encode_utf8_all (long_name r)
-  pub names : AreEncoded row.names.now r.names
-  pub chinese : AreEncoded row.chinese.now r.chinese
 
 -- how many units are longer
 abbrev pub rank_of : TimeUnit → ℕ

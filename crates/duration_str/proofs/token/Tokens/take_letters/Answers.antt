@@ -1,4 +1,4 @@
-use Rattle.duration_str.proofs.Common.{arith, refl, rules}
+use Rattle.duration_str.proofs.Common.{arith, refl, rules, ◌∙◌}
 use Rattle.duration_str.proofs.Characters.PackedLemmas.{numbered_letter, unnumbered}
 use Rattle.duration_str.proofs.Cutting.PositionLemmas.{letters_head, letters_none}
 use Rattle.duration_str.proofs.Cutting.StepLemmas.{fewer_ahead, keeps_on, letter_ahead}
@@ -24,7 +24,7 @@ loop-self-preserved c =
     record {
       kept = keeps_on inv.kept more.kept;
       letters = letters_head inv.letters (rw inv.kept.text at (more.past next c.in-Some-head.is))
-          (rw inv.kept.options at letter.0) (rw (letter.1, inv.kept.options) refl);
+          (rw inv.kept.options at letter.0) (c.with_letter-packed.ensures ∙ rw (letter.1, inv.kept.options) refl);
     }
 
 pub loop-self-smaller : goal.loop-self-smaller
