@@ -123,8 +123,11 @@ fn takes_bare_numbers_as_a_unit() {
         let errors = format!("duration: argument 1: {}\n", parse_with_units(text).unwrap_err());
         assert_eq!(run(&["--from", "s", "--", text], b""), (1, "".into(), errors));
     }
-    // 2^64 nanoseconds, a number of 2^64, and one of which a quote has 40 digits
-    for text in ["18446744073.709551616", "99999999999999999999", "1e12", "1e99999", &"9".repeat(40), &"9".repeat(41)] {
+    // 2^64 nanoseconds, a number of 2^64, 2^119 seconds, which are 0 in 128 bits, and one of which a quote has 40 digits
+    const WRAPPING: &str = "664613997892457936451903530140172288";
+    for text in
+        ["18446744073.709551616", "99999999999999999999", "1e12", "1e99999", WRAPPING, &"9".repeat(40), &"9".repeat(41)]
+    {
         let quote = if text.len() > 40 { format!("\"{}\"...", &text[1..]) } else { format!("\"{text}\"") };
         let errors = format!("duration: argument 1: duration of over 584 years in {quote}\n");
         assert_eq!(run(&["--from", "s", &format!(" {text}")], b""), (1, "".into(), errors));

@@ -50,7 +50,7 @@ mod macros {
     use std::time::Duration;
 
     const TIMEOUT: Duration = duration!("1h 30m");
-    static RAW: Duration = duration!(r#"1m * 10ms"#);
+    static RAW: Duration = duration!(r##"1m * 10ms"##);
 
     macro_rules! handed_on {
         ($text:literal) => {
