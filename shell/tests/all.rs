@@ -193,6 +193,7 @@ fn prints_json() {
     assert_eq!((&missing["column"], &missing["found"], &missing["argument"]), (&json!(2), &json!("+"), &json!(2)));
     let wide: Value = serde_json::from_str(&run(&["--json", "1\u{b5}s \u{5206}"], b"").1).unwrap();
     assert_eq!((&wide["column"], &wide["found"]), (&json!(5), &json!("\u{5206}")));
+    assert_eq!(run(&["--json", "-z"], b"1h\n2m\x003h").1.lines().count(), 2);
     let bytes: Value = serde_json::from_str(&run(&["--json"], b"1h\xff\n").1).unwrap();
     assert_eq!((&bytes["text"], &bytes["message"]), (&json!("1h\u{fffd}"), &json!("not UTF-8")));
 }
