@@ -162,6 +162,7 @@ fn converts_a_column() {
     assert_eq!(run(&["--field=3", "-d", "\t"], b"60s\t60s\t60 s\r\n").1, "60s\t60s\t1min\r\n");
     assert_eq!(run(&["--field=2", "-d:"], b"a::b\na:\"\":b\n").1, "a::b\na:\"\":b\n");
     assert_eq!(run(&["--header=2"], b"60s\n60s\n60s\n").1, "60s\n60s\n1min\n");
+    assert_eq!(run(&["--header"], b"60s\n60s").1, "60s\n1min");
     assert_eq!(
         run(&["--field=1", "--header"], b"  ELAPSED COMMAND\n   90 init").1,
         "  ELAPSED COMMAND\n   1min 30s init"
