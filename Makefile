@@ -123,7 +123,7 @@ export DESTDIR
 
 open := (
 calls = $(shell sed '/^static /d' $(header) | grep -o '\<duration_str_[a-z_]*$(open)' | tr -d '$(open)' | sort -u)
-shared = libduration_str.so $(soname) libduration_str.so.$(version)
+shared = libduration_str.so $(soname)
 cmake_files = $(addprefix cmake/duration_str/duration_str-config,.cmake -version.cmake)
 completions = $(addprefix $(datarootdir)/,bash-completion/completions/duration zsh/site-functions/_duration \
     fish/vendor_completions.d/duration.fish)
@@ -178,8 +178,7 @@ install: installable
 	$(call page,docs/man/durstr.1.in) | put_text $(mandir)/man1/durstr.1
 	put $(header) $(includedir)/duration_str.h
 	put "$$libraries/libduration_str.a" $(libdir)/libduration_str.a
-	put "$$libraries/libduration_str.so" $(libdir)/libduration_str.so.$(version)
-	ln -sf libduration_str.so.$(version) "$$DESTDIR$(libdir)/$(soname)"
+	put "$$libraries/libduration_str.so" $(libdir)/$(soname)
 	ln -sf $(soname) "$$DESTDIR$(libdir)/libduration_str.so"
 	$(call filled,duration_str.pc,prefix,$(call up,$(libdir)/pkgconfig,$${pcfiledir})) | put_text $(libdir)/pkgconfig/duration_str.pc
 	$(foreach file,$(cmake_files),$(call filled,$(notdir $(file)),duration_str_prefix,$(cmake_up)) | \

@@ -105,7 +105,7 @@ def said_of(line, options, where):
     answer = Refused("line of over 1,048,576 bytes") if too_long else answer
     if "json" in options:
         told = json_object(line.decode(errors="replace"), answer, options, where).encode()
-        return Said(told + end_of(options), b"", int(isinstance(answer, Refused)))
+        return Said(told + b"\n", b"", int(isinstance(answer, Refused)))
     if not isinstance(answer, Refused):
         return Said(line[:begin] + printed(answer, options).encode() + line[end:] + end_of(options), b"", 0)
     field = f", field {options['field']}" if "field" in options else ""

@@ -1,5 +1,5 @@
 // Durations for Go, over the library for C: a field of a configuration, as `{"timeout": "1h 30m"}`. `go run duration.go TEXT`
-// reads a text as one, and prints it. pkg-config finds the library that `make install` has installed.
+// reads a text as one, and prints it, by itself and in JSON. pkg-config finds the library that `make install` has installed.
 package main
 
 // #cgo pkg-config: duration_str
@@ -37,6 +37,14 @@ func (duration *Duration) UnmarshalText(text []byte) error {
 	return nil
 }
 
+// MarshalText writes a text that UnmarshalText reads, unless the duration is below zero.
+func (duration Duration) MarshalText() ([]byte, error) {
+	if duration.Duration < 0 {
+		return nil, errors.New("a negative duration can't be read back")
+	}
+	return []byte(duration.String()), nil
+}
+
 // String prints the duration; one below zero, which the library doesn't read, as Go does.
 func (duration Duration) String() string {
 	if duration.Duration < 0 {
@@ -49,10 +57,15 @@ func (duration Duration) String() string {
 
 func main() {
 	var settings struct{ Timeout Duration }
+	if len(os.Args) != 2 {
+		fmt.Fprintln(os.Stderr, "usage: go run duration.go TEXT")
+		os.Exit(2)
+	}
 	text, _ := json.Marshal(map[string]string{"timeout": os.Args[1]})
 	if err := json.Unmarshal(text, &settings); err != nil {
 		fmt.Fprintln(os.Stderr, err)
 		os.Exit(1)
 	}
-	fmt.Println(settings.Timeout)
+	text, _ = json.Marshal(settings)
+	fmt.Println(settings.Timeout, string(text))
 }

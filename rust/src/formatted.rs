@@ -168,15 +168,16 @@ impl fmt::Display for FormattedDuration {
     fn fmt(&self, f: &mut fmt::Formatter<'_>) -> fmt::Result {
         match (self.parts_of_text(&mut [0; STYLED_BUFFER_SIZE]), f.width()) {
             (("", magnitude), None) => f.write_str(magnitude),
-            ((sign, magnitude), width) => pad(f, sign, magnitude, width.unwrap_or(0)),
+            ((sign, magnitude), _) => pad(f, &[sign, magnitude]),
         }
     }
 }
 
-/// Writes the sign and the magnitude, and the fill around them that makes so many characters.
+/// Writes the parts of a text, and around them the fill that makes so many characters as are asked for.
 #[inline]
-fn pad(f: &mut fmt::Formatter<'_>, sign: &str, magnitude: &str, width: usize) -> fmt::Result {
-    let missing = width.saturating_sub(sign.len() + magnitude.chars().count());
+pub(crate) fn pad(f: &mut fmt::Formatter<'_>, parts: &[&str]) -> fmt::Result {
+    let count: usize = parts.iter().map(|part| part.chars().count()).sum();
+    let missing = f.width().unwrap_or(0).saturating_sub(count);
     let before = match f.align() {
         Some(fmt::Alignment::Right) => missing,
         Some(fmt::Alignment::Center) => missing / 2,
@@ -184,7 +185,6 @@ fn pad(f: &mut fmt::Formatter<'_>, sign: &str, magnitude: &str, width: usize) ->
     };
     let fill = f.fill();
     (0..before).try_for_each(|_| f.write_char(fill))?;
-    f.write_str(sign)?;
-    f.write_str(magnitude)?;
+    parts.iter().try_for_each(|part| f.write_str(part))?;
     (before..missing).try_for_each(|_| f.write_char(fill))
 }

@@ -58,9 +58,9 @@
 //! ```
 use crate::human_duration::HumanDuration;
 use crate::human_format::Sealed;
-use crate::parser::{ADDITIONS, CASE_SENSITIVE, parse_with};
+use crate::humantime;
+use crate::parser::{ADDITIONS, parse_with};
 use crate::serde_texts::Length;
-use crate::with_units::with_units;
 use crate::{FORMAT_BUFFER_SIZE, write_human};
 use alloc::vec::Vec;
 use core::fmt;
@@ -89,9 +89,9 @@ use serde::ser::{self, Serialize, Serializer};
 )]
 pub trait HumanText: Sealed + Sized {
     #[doc(hidden)]
-    fn serialize_human<S: Serializer>(&self, serializer: S) -> Result<S::Ok, S::Error>;
+    fn serialize_human<S: Serializer, const HOW: u8>(&self, serializer: S) -> Result<S::Ok, S::Error>;
 
-    /// Reads a text, also whole seconds, or with capitals and small letters that differ, as `HOW` says.
+    /// Reads a text, also whole seconds, or what humantime reads, as `HOW` says.
     #[doc(hidden)]
     fn deserialize_human<'de, D: Deserializer<'de>, const HOW: u8>(deserializer: D) -> Result<Self, D::Error>;
 }
@@ -112,7 +112,7 @@ pub trait HumanText: Sealed + Sized {
 /// # Ok::<(), serde_json::Error>(())
 /// ```
 pub fn serialize<T: HumanText, S: Serializer>(value: &T, serializer: S) -> Result<S::Ok, S::Error> {
-    value.serialize_human(serializer)
+    value.serialize_human::<S, TEXT>(serializer)
 }
 
 /// Reads durations, which must be texts.
@@ -132,7 +132,7 @@ pub fn deserialize<'de, T: HumanText, D: Deserializer<'de>>(deserializer: D) -> 
     T::deserialize_human::<D, TEXT>(deserializer)
 }
 
-/// How fields are read: as texts, also as whole seconds, or as humantime reads.
+/// How fields are read and written: as texts, also read as whole seconds, or as by humantime.
 pub(crate) const TEXT: u8 = 0;
 pub(crate) const SECONDS: u8 = 1;
 pub(crate) const STRICT: u8 = 2;
@@ -165,7 +165,7 @@ impl<T: Length, const HOW: u8> Visitor<'_> for Text<T, HOW> {
     }
 
     fn visit_str<E: de::Error>(self, text: &str) -> Result<T, E> {
-        let read = if HOW == STRICT { with_units(text, CASE_SENSITIVE) } else { parse_with(text, ADDITIONS) };
+        let read = if HOW == STRICT { humantime::read(text) } else { parse_with(text, ADDITIONS) };
         // Before the line stands what it is about, since the format adds its own line and column to it.
         read.map(T::of_std).map_err(|fault| E::custom(format_args!("invalid duration: {fault}")))
     }
@@ -179,7 +179,7 @@ impl<T: Length, const HOW: u8> Visitor<'_> for Text<T, HOW> {
 }
 
 impl<T: Length> HumanText for T {
-    fn serialize_human<S: Serializer>(&self, serializer: S) -> Result<S::Ok, S::Error> {
+    fn serialize_human<S: Serializer, const HOW: u8>(&self, serializer: S) -> Result<S::Ok, S::Error> {
         let refused = <S::Error as ser::Error>::custom;
         let Some(duration) = self.to_std() else {
             return Err(refused("a negative duration can't be read back"));
@@ -187,6 +187,9 @@ impl<T: Length> HumanText for T {
         if duration > Duration::from_nanos(u64::MAX) {
             let text = "a duration of over 584 years can't be read back";
             return Err(refused(text));
+        }
+        if HOW == STRICT {
+            return serializer.collect_str(&humantime::format_duration(duration));
         }
         serializer.serialize_str(write_human(&duration, &mut [0; FORMAT_BUFFER_SIZE]))
     }
@@ -200,9 +203,9 @@ impl<T: Length> HumanText for T {
 /// A part of a field, by serde's own traits.
 struct Part<T, const HOW: u8>(T);
 
-impl<T: HumanText> Serialize for Part<&T, TEXT> {
+impl<T: HumanText, const HOW: u8> Serialize for Part<&T, HOW> {
     fn serialize<S: Serializer>(&self, serializer: S) -> Result<S::Ok, S::Error> {
-        self.0.serialize_human(serializer)
+        self.0.serialize_human::<S, HOW>(serializer)
     }
 }
 
@@ -213,8 +216,8 @@ impl<'de, T: HumanText, const HOW: u8> Deserialize<'de> for Part<T, HOW> {
 }
 
 impl<T: HumanText> HumanText for Option<T> {
-    fn serialize_human<S: Serializer>(&self, serializer: S) -> Result<S::Ok, S::Error> {
-        self.as_ref().map(Part).serialize(serializer)
+    fn serialize_human<S: Serializer, const HOW: u8>(&self, serializer: S) -> Result<S::Ok, S::Error> {
+        self.as_ref().map(Part::<&T, HOW>).serialize(serializer)
     }
 
     fn deserialize_human<'de, D: Deserializer<'de>, const HOW: u8>(deserializer: D) -> Result<Self, D::Error> {
@@ -224,8 +227,8 @@ impl<T: HumanText> HumanText for Option<T> {
 }
 
 impl<T: HumanText> HumanText for Vec<T> {
-    fn serialize_human<S: Serializer>(&self, serializer: S) -> Result<S::Ok, S::Error> {
-        serializer.collect_seq(self.iter().map(Part))
+    fn serialize_human<S: Serializer, const HOW: u8>(&self, serializer: S) -> Result<S::Ok, S::Error> {
+        serializer.collect_seq(self.iter().map(Part::<&T, HOW>))
     }
 
     fn deserialize_human<'de, D: Deserializer<'de>, const HOW: u8>(deserializer: D) -> Result<Self, D::Error> {
@@ -236,7 +239,7 @@ impl<T: HumanText> HumanText for Vec<T> {
 
 impl Serialize for HumanDuration {
     fn serialize<S: Serializer>(&self, serializer: S) -> Result<S::Ok, S::Error> {
-        self.0.serialize_human(serializer)
+        self.0.serialize_human::<S, TEXT>(serializer)
     }
 }
 

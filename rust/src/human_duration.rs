@@ -22,7 +22,7 @@ pub struct HumanDuration(pub Duration);
 
 /// What a duration that is written as text has.
 macro_rules! written_as_text {
-    ($Name:ident, $read:path) => {
+    ($Name:ident, $read:path, $print:path) => {
         impl core::str::FromStr for $Name {
             type Err = $crate::DurationError;
 
@@ -33,7 +33,7 @@ macro_rules! written_as_text {
 
         impl core::fmt::Display for $Name {
             fn fmt(&self, f: &mut core::fmt::Formatter<'_>) -> core::fmt::Result {
-                core::fmt::Display::fmt(&$crate::format_duration(self.0), f)
+                core::fmt::Display::fmt(&$print(self.0), f)
             }
         }
 
@@ -66,4 +66,4 @@ macro_rules! written_as_text {
 }
 pub(crate) use written_as_text;
 
-written_as_text!(HumanDuration, crate::parse_duration);
+written_as_text!(HumanDuration, crate::parse_duration, crate::format_duration);

@@ -1,6 +1,12 @@
-//! For those who come from the crate humantime-serde: as [`human`](crate::human), but capitals and small letters differ, as
-//! in the module [`humantime`](crate::humantime). There is no `Serde`: a field that is a
-//! [`HumanDuration`](crate::HumanDuration) needs no `with`.
+//! For those who come from the crate humantime-serde.
+//!
+//! Fields are those of the module [`human`](crate::human), but they are read and printed as the
+//! module [`humantime`](crate::humantime) does. So capitals and small letters differ, a number
+//! without a unit is refused, a month has 30.44 days and a year 365.25, and days are the longest unit
+//! that is printed.
+//!
+//! There is no `Serde`: a field that is a [`HumanDuration`](crate::HumanDuration) needs no `with`,
+//! but reads as the rest of this crate does.
 //!
 //! Needs the feature `serde`.
 //!
@@ -23,9 +29,25 @@
 //! ```
 use crate::human::{HumanText, STRICT};
 use serde::de::Deserializer;
+use serde::ser::Serializer;
 
-#[doc(no_inline)]
-pub use crate::human::serialize;
+/// Prints durations as text, as [`humantime::format_duration`](crate::humantime::format_duration) prints.
+///
+/// # Errors
+///
+/// That of the format, also where the value can't be read back.
+///
+/// ```
+/// use serde_json::value::Serializer;
+/// use std::time::Duration;
+///
+/// let month = Duration::from_secs(30 * 86_400);
+/// assert_eq!(duration_str::humantime_serde::serialize(&month, Serializer)?, "30d");
+/// # Ok::<(), serde_json::Error>(())
+/// ```
+pub fn serialize<T: HumanText, S: Serializer>(value: &T, serializer: S) -> Result<S::Ok, S::Error> {
+    value.serialize_human::<S, STRICT>(serializer)
+}
 
 /// Reads durations, which must be texts, by [`humantime::parse_duration`](crate::humantime::parse_duration).
 ///

@@ -137,7 +137,8 @@
 //!
 //! # From humantime and `duration-str` 0.19.0
 //!
-//! To come from humantime, change one import to `use` the module [`humantime`] of this crate.
+//! To come from humantime, change one import to `use` the module [`humantime`] of this crate. Its months and years have
+//! humantime's lengths.
 //!
 //! This crate has the public interface of `duration-str` 0.19.0 from crates.io: [`parse`], whose error is a `String`,
 //! [`HumanFormat`], `deserialize_duration` and the others, also the calls of the module `dates`, for a moment so long from now.

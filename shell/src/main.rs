@@ -191,6 +191,8 @@ impl Run<'_> {
 
     fn put(&mut self, parts: &[&[u8]]) -> io::Result<()> {
         parts.iter().try_for_each(|part| self.output.write_all(part))?;
-        self.output.write_all(if self.is_open { b"" } else { std::slice::from_ref(&self.end) })
+        // jq takes a NUL for the end, and says nothing.
+        let end = if self.choices.json { b'\n' } else { self.end };
+        self.output.write_all(if self.is_open { b"" } else { std::slice::from_ref(&end) })
     }
 }

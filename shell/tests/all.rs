@@ -123,8 +123,11 @@ fn takes_bare_numbers_as_a_unit() {
         let errors = format!("duration: argument 1: {}\n", parse_with_units(text).unwrap_err());
         assert_eq!(run(&["--from", "s", "--", text], b""), (1, "".into(), errors));
     }
-    // 2^64 nanoseconds, a number of 2^64, and one of which a quote has 40 digits
-    for text in ["18446744073.709551616", "99999999999999999999", "1e12", "1e99999", &"9".repeat(40), &"9".repeat(41)] {
+    // 2^64 nanoseconds, a number of 2^64, 2^119 seconds, which are 0 in 128 bits, and one of which a quote has 40 digits
+    const WRAPPING: &str = "664613997892457936451903530140172288";
+    for text in
+        ["18446744073.709551616", "99999999999999999999", "1e12", "1e99999", WRAPPING, &"9".repeat(40), &"9".repeat(41)]
+    {
         let quote = if text.len() > 40 { format!("\"{}\"...", &text[1..]) } else { format!("\"{text}\"") };
         let errors = format!("duration: argument 1: duration of over 584 years in {quote}\n");
         assert_eq!(run(&["--from", "s", &format!(" {text}")], b""), (1, "".into(), errors));
@@ -159,6 +162,7 @@ fn converts_a_column() {
     assert_eq!(run(&["--field=3", "-d", "\t"], b"60s\t60s\t60 s\r\n").1, "60s\t60s\t1min\r\n");
     assert_eq!(run(&["--field=2", "-d:"], b"a::b\na:\"\":b\n").1, "a::b\na:\"\":b\n");
     assert_eq!(run(&["--header=2"], b"60s\n60s\n60s\n").1, "60s\n60s\n1min\n");
+    assert_eq!(run(&["--header"], b"60s\n60s").1, "60s\n1min");
     assert_eq!(
         run(&["--field=1", "--header"], b"  ELAPSED COMMAND\n   90 init").1,
         "  ELAPSED COMMAND\n   1min 30s init"
@@ -190,6 +194,7 @@ fn prints_json() {
     assert_eq!((&missing["column"], &missing["found"], &missing["argument"]), (&json!(2), &json!("+"), &json!(2)));
     let wide: Value = serde_json::from_str(&run(&["--json", "1\u{b5}s \u{5206}"], b"").1).unwrap();
     assert_eq!((&wide["column"], &wide["found"]), (&json!(5), &json!("\u{5206}")));
+    assert_eq!(run(&["--json", "-z"], b"1h\n2m\x003h").1.lines().count(), 2);
     let bytes: Value = serde_json::from_str(&run(&["--json"], b"1h\xff\n").1).unwrap();
     assert_eq!((&bytes["text"], &bytes["message"]), (&json!("1h\u{fffd}"), &json!("not UTF-8")));
 }

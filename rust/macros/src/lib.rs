@@ -1,14 +1,14 @@
 //! The macro `duration!`, which `duration-str` exports under the feature `macros`.
 #![forbid(unsafe_code)]
 
-use duration_str_core::{Options, parse_with};
+use duration_str_core::{Options, parse_with, parse_with_units};
 use proc_macro::{Delimiter, Span, TokenStream, TokenTree};
 
 /// A duration that is read when the program is compiled: a constant of type [`Duration`](core::time::Duration). A text
 /// that is refused is an error of the compiler, with the fault in one line.
 ///
-/// All options are off, whatever features are on, but for those that are named after the text:
-/// `no_calc`, `lowercase`, `cn_unit`. The text is a literal without escapes.
+/// All options are off, whatever features are on, but for those that are named after the text: `no_calc`, `lowercase`,
+/// `cn_unit`, and `require_unit`, by which each number must have its unit. The text is a literal without escapes.
 ///
 /// ```
 /// use duration_str::duration;
@@ -26,6 +26,10 @@ use proc_macro::{Delimiter, Span, TokenStream, TokenTree};
 /// ```compile_fail
 /// const TIMEOUT: std::time::Duration = duration_str::duration!("1H", lowercase);
 /// ```
+///
+/// ```compile_fail
+/// const TIMEOUT: std::time::Duration = duration_str::duration!("90", require_unit);
+/// ```
 #[proc_macro]
 pub fn duration(input: TokenStream) -> TokenStream {
     value(input).unwrap_or_else(|(message, span)| compile_error(&message, span))
@@ -39,8 +43,9 @@ fn value(input: TokenStream) -> Result<TokenStream, Refusal> {
     let mut tokens = input.into_iter();
     let (written, span) = literal(tokens.next())?;
     let text = text(&written).ok_or_else(|| ("expected a string literal without escapes".to_string(), span))?;
-    let options = options(tokens)?;
-    let value = parse_with(text, options).map_err(|fault| (fault.write_one_line(&mut [0; 384]).to_string(), span))?;
+    let (options, require_unit) = options(tokens)?;
+    let parse = if require_unit { parse_with_units } else { parse_with };
+    let value = parse(text, options).map_err(|fault| (fault.write_one_line(&mut [0; 384]).to_string(), span))?;
     let (secs, nanos) = (value.as_secs(), value.subsec_nanos());
     Ok(code(&format!("::core::time::Duration::new({secs}, {nanos})")))
 }
@@ -75,9 +80,9 @@ fn text(written: &str) -> Option<&str> {
     (is_raw || !text.contains('\\')).then_some(text)
 }
 
-/// The options that are named after the literal, each after a comma.
-fn options(mut tokens: impl Iterator<Item = TokenTree>) -> Result<Options, Refusal> {
-    let mut options = Options::off();
+/// The options that are named after the literal, each after a comma, and whether units are required.
+fn options(mut tokens: impl Iterator<Item = TokenTree>) -> Result<(Options, bool), Refusal> {
+    let (mut options, mut require_unit) = (Options::off(), false);
     while let Some(comma) = tokens.next() {
         if comma.to_string() != "," {
             return Err(("expected a comma".to_string(), comma.span()));
@@ -85,17 +90,18 @@ fn options(mut tokens: impl Iterator<Item = TokenTree>) -> Result<Options, Refus
         let Some(name) = tokens.next() else {
             break;
         };
-        options = match name.to_string().as_str() {
-            "no_calc" => options.with_no_calc(),
-            "lowercase" => options.with_lowercase(),
-            "cn_unit" => options.with_cn_unit(),
+        match name.to_string().as_str() {
+            "no_calc" => options = options.with_no_calc(),
+            "lowercase" => options = options.with_lowercase(),
+            "cn_unit" => options = options.with_cn_unit(),
+            "require_unit" => require_unit = true,
             _ => {
-                let message = "expected `no_calc`, `lowercase` or `cn_unit`";
+                let message = "expected `no_calc`, `lowercase`, `cn_unit` or `require_unit`";
                 return Err((message.to_string(), name.span()));
             }
-        };
+        }
     }
-    Ok(options)
+    Ok((options, require_unit))
 }
 
 /// An error of the compiler at this place.

@@ -1,5 +1,5 @@
 //! Which calls read by the features.
-use duration_str::{HumanDuration, Options, parse, parse_duration, parse_std, parse_with_units};
+use duration_str::{Format, HumanDuration, Options, parse, parse_duration, parse_std, parse_with_units};
 
 /// Texts, and whether they are read by the calls of `duration-str` 0.19.0 and by all others. Of the features only the one
 /// that adds names counts for these.
@@ -14,7 +14,7 @@ const TEXTS: [(&str, bool, bool); 4] = [
 fn adds_options_in_any_order() {
     let all = Options::off().with_no_calc().with_lowercase().with_cn_unit();
     assert!(all.no_calc && all.lowercase && all.cn_unit);
-    assert_eq!(Options::default(), Options::off());
+    assert_eq!((Options::default(), Format::default()), (Options::off(), Format::whole()));
     assert_eq!(all.with_cn_unit().with_lowercase().with_no_calc(), all);
 }
 

@@ -41,14 +41,31 @@ struct FromHumantime {
 }
 
 #[test]
+fn has_the_durations_of_humantime() {
+    let of_humantime = json!({ "timeout": "11months 30days 3h 50m 24s", "keep_alive": "1year" });
+    let read: FromHumantime = from_value(of_humantime).unwrap();
+    assert_eq!(read.timeout, Duration::from_secs(365 * 86_400));
+    assert_eq!(read.keep_alive, Some(Duration::from_secs(365 * 86_400 + 6 * 3_600)));
+    let written = json!({ "timeout": "365d", "keep_alive": "365d 6h" });
+    assert_eq!(to_value(&read).unwrap(), written);
+    let again: FromHumantime = from_value(written).unwrap();
+    assert_eq!((again.timeout, again.keep_alive), (read.timeout, read.keep_alive));
+    let pauses = humantime_serde::serialize(&vec![Duration::from_micros(1), Duration::ZERO], Serializer).unwrap();
+    assert_eq!(pauses, json!(["1us", "0s"]));
+    for too_long in [Duration::MAX, Duration::from_nanos(u64::MAX) + Duration::from_nanos(1)] {
+        assert!(humantime_serde::serialize(&too_long, Serializer).is_err());
+    }
+}
+
+#[test]
 fn refuses_the_month_of_humantime() {
-    let value = json!({ "timeout": "1min", "keep_alive": "1mon" });
-    let read: FromHumantime = from_value(value.clone()).unwrap();
-    assert_eq!(read.keep_alive, Some(Duration::from_secs(30 * 86_400)));
-    assert_eq!(to_value(&read).unwrap(), value);
-    for value in [json!({ "timeout": "1M" }), json!({ "timeout": "1m", "keep_alive": "1M" })] {
+    let month = r#"invalid duration: unknown unit "M" at column 2"#;
+    for (value, line) in [
+        (json!({ "timeout": "1M" }), month),
+        (json!({ "timeout": "1m", "keep_alive": "1M" }), month),
+        (json!({ "timeout": "90" }), "invalid duration: expected a unit at column 3"),
+    ] {
         let refusal = from_value::<FromHumantime>(value).err().unwrap();
-        let line = r#"invalid duration: unknown unit "M" at column 2"#;
         assert!(refusal.to_string().starts_with(line), "{refusal}");
     }
     let minute: Duration = human::deserialize(json!("1M")).unwrap();

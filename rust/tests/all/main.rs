@@ -8,6 +8,7 @@ mod features;
 #[cfg(feature = "serde")]
 mod human;
 mod humantime_items;
+mod lengths;
 mod owned;
 mod printing;
 mod values;

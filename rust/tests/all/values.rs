@@ -50,7 +50,7 @@ mod macros {
     use std::time::Duration;
 
     const TIMEOUT: Duration = duration!("1h 30m");
-    static RAW: Duration = duration!(r#"1m * 10ms"#);
+    static RAW: Duration = duration!(r##"1m * 10ms"##);
 
     macro_rules! handed_on {
         ($text:literal) => {
@@ -71,5 +71,6 @@ mod macros {
     fn reads_literals_under_named_options() {
         assert_eq!(duration!("3分 13秒", cn_unit), Duration::from_secs(193));
         assert_eq!(duration!("2h", no_calc, lowercase,), Duration::from_secs(7_200));
+        assert_eq!(duration!("1h 30m", require_unit), Duration::from_secs(5_400));
     }
 }

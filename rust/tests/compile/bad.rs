@@ -13,6 +13,7 @@ fn main() {
     duration!("1+2", no_calc);
     duration!("3分");
     duration!("2H", lowercase);
+    duration!("1h 30", require_unit);
     duration!();
     duration!(5);
     duration!(b"5s");

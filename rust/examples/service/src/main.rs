@@ -12,6 +12,9 @@ fn main() -> Result<(), Box<dyn Error + Send + Sync>> {
 #[cfg(test)]
 const IS_BEFORE: bool = false;
 
+#[cfg(all(test, feature = "humantime"))]
+mod beside;
+
 #[cfg(test)]
 mod tests {
     use crate::humantime::parse_duration;

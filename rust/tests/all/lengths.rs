@@ -1,0 +1,141 @@
+//! The lengths of years and months in the module `humantime`.
+use duration_str::{Cause, Expected, Options, humantime::parse_duration, parse_with};
+use proptest::prelude::*;
+use std::time::Duration;
+
+const YEAR: u64 = 31_557_600;
+const MONTH: u64 = 2_630_016;
+
+#[test]
+fn has_the_lengths_of_humantime() {
+    for (text, seconds) in [
+        ("1y", YEAR),
+        ("2 years 1year", 3 * YEAR),
+        ("1month", MONTH),
+        ("3mon", 3 * MONTH),
+        ("1y + 1months", YEAR + MONTH),
+        ("2s * 1month * 3s", 6 * MONTH),
+        ("1\ty\n2mon", YEAR + 2 * MONTH),
+        ("584y", 584 * YEAR),
+        ("7013month", 7_013 * MONTH),
+        ("00000000000000000000001year", YEAR),
+        ("0y 0mon", 0),
+        ("4w 5days 1q", (28 + 5 + 91) * 86_400),
+        ("31d", 31 * 86_400),
+    ] {
+        assert_eq!(parse_duration(text), Ok(Duration::from_secs(seconds)), "{text}");
+    }
+}
+
+/// A further name that the module takes for one of another unit would be read as 30 or 365 days.
+#[test]
+fn knows_each_name_of_a_year_and_of_a_month() {
+    let documentation = include_str!("../../src/lib.rs");
+    for (row, seconds) in [("//! | 365 days | ", YEAR), ("//! | 30 days | ", MONTH)] {
+        let (_, rest) = documentation.split_once(row).unwrap();
+        let row = rest.lines().next().unwrap();
+        let names: Vec<&str> = row.split([',', '|', ' ']).filter(|name| !name.is_empty()).collect();
+        assert!(names.len() >= 4, "{row}");
+        for name in names.into_iter().filter(|name| name.is_ascii() || cfg!(feature = "cn_unit")) {
+            assert_eq!(parse_duration(&format!("1{name}")), Ok(Duration::from_secs(seconds)), "{name}");
+        }
+    }
+}
+
+/// The cause of a syntax fault at this place.
+fn is_syntax(cause: Cause, at: usize) -> bool {
+    matches!(cause, Cause::Syntax { place, .. } if place == at)
+}
+
+#[test]
+fn refuses_for_the_first_cause() {
+    let cause = |text| parse_duration(text).unwrap_err().cause();
+    for text in ["585y", "7014month", "7014month x", "7014month 5", "7014mon * 1ns", "7014 months+"] {
+        assert_eq!(cause(text), Cause::Overflow { place: Some(0) }, "{text}");
+    }
+    // With months of 30 days the last but one is a sum mixed with a product.
+    for text in ["1s 7014month", "1s 7014month 5", "580y 5y", "1s + 7014month * 2s", "7013month 1month"] {
+        assert_eq!(cause(text), Cause::Overflow { place: None }, "{text}");
+    }
+    assert_eq!(cause("99999999999999999999y"), Cause::NumberTooLarge { place: Some(0) });
+    assert_eq!(cause("1s 99999999999999999999y"), Cause::NumberTooLarge { place: None });
+    assert!(matches!(cause("1y + 2s * 3s"), Cause::Mixed { .. }));
+    assert_eq!(cause(""), Cause::Empty);
+    for (text, place) in [
+        (" ", 1),
+        ("y", 0),
+        ("mon", 0),
+        ("1M", 1),
+        ("1Y", 1),
+        ("1y x", 3),
+        ("1s 7014month x", 13),
+        ("1y 30", 5),
+        ("1y 30 ", 6),
+        ("30 + 1y", 3),
+        ("30", 2),
+        ("1y + 30 + 2s", 8),
+        ("1year\u{e9}", 5),
+        ("1month.", 6),
+        ("1yr", 1),
+        ("-1y", 0),
+        ("1.5y", 1),
+    ] {
+        assert!(is_syntax(cause(text), place), "{text}: {:?}", cause(text));
+    }
+    let only_unit =
+        |expected: Expected| expected.unit_word && !(expected.number || expected.operator || expected.text_end);
+    assert!(matches!(cause("1y 30"), Cause::Syntax { expected, .. } if only_unit(expected)));
+    assert_eq!(
+        parse_duration("1y 5 mins").unwrap_err().to_string(),
+        r#"unknown unit "mins" at column 6 (did you mean "min"?)"#
+    );
+}
+
+/// The names of units with their length in seconds, if that is another one than elsewhere.
+const NAMES: [(&str, Option<u64>); 7] = [
+    ("y", Some(YEAR)),
+    ("month", Some(MONTH)),
+    ("mon", Some(MONTH)),
+    ("days", None),
+    ("h", None),
+    ("ms", None),
+    ("", None),
+];
+
+proptest! {
+    #[test]
+    fn counts_years_and_months_in_seconds(
+        terms in proptest::collection::vec((prop_oneof![0..9_000u64, any::<u64>()], 0..NAMES.len(), 0..4usize), 1..5),
+        end in proptest::sample::select(&["", "", "", " ", "x", "+"][..]),
+    ) {
+        let (mut text, mut seconds) = (String::new(), String::new());
+        for (number, name, join) in terms {
+            let (name, secs) = NAMES[name];
+            let join = if text.is_empty() { "" } else { [" ", "  ", "+", "*"][join] };
+            text += &format!("{join}{number}{name}");
+            seconds += &match secs {
+                Some(secs) => format!("{join}{}s", number.saturating_mul(secs)),
+                None => format!("{join}{number}{name}"),
+            };
+        }
+        let (read, wanted) = (parse_duration(&(text.clone() + end)), parse_duration(&(seconds + end)));
+        match (read, wanted) {
+            (Ok(read), Ok(wanted)) => prop_assert_eq!(read, wanted),
+            (Err(read), Err(wanted)) if wanted.place().is_none_or(|place| place == 0) => {
+                prop_assert_eq!(read.cause(), wanted.cause(), "{}", text);
+            }
+            (Err(read), Err(wanted)) => prop_assert_eq!(read.as_fault().expected(), wanted.as_fault().expected(), "{}", text),
+            (read, wanted) => prop_assert!(false, "{}: {:?}, {:?}", text, read, wanted),
+        }
+    }
+
+    #[test]
+    fn reads_other_units_as_elsewhere(text in "[0-9dhmsnwkea .+*M]{0,9}") {
+        let others = parse_with(&text, Options::off().with_lowercase());
+        match (parse_duration(&text), others) {
+            (Ok(read), others) => prop_assert_eq!(others, Ok(read)),
+            (Err(read), Err(refused)) => prop_assert_eq!(read.cause(), refused.cause()),
+            (Err(read), Ok(_)) => prop_assert!(read.to_string().starts_with("expected a unit at")),
+        }
+    }
+}
