@@ -4,12 +4,12 @@ page-texts.json has texts and what is shown of them, worked out by hand from doc
 printed and in nanoseconds, milliseconds, seconds and ISO 8601; the rows of their "terms"; "notes" on them; the mark and the
 sentence of "faults", if that is not the library's line; the answers to "lines"; and what is offered where an option is
 "switched". "meant" has the values in seconds that people mean by texts: several where people use a text with several
-meanings, null where nothing may be offered. "typed" texts are typed character by character; "hostile" ones must be shown, and
-do nothing else, and "hostile links" must choose nothing. page.js runs in the page.
+meanings, null where nothing may be offered; page.test.mjs tries these without a browser. "typed" texts are typed character
+by character; "hostile" ones must be shown, and do nothing else, and "hostile links" must choose nothing. page.js runs in the
+page.
 """
 import ast
 import base64
-import decimal
 import json
 import pathlib
 import re
@@ -31,9 +31,8 @@ TEXTS = json.loads((ROOT / "tests/page-texts.json").read_text(encoding="utf-8"))
 SCHEMES = ("light", "dark")
 # A little longer than the page waits after the last key before it tells the answer and writes the link
 PAUSE = 0.8
-# How many bytes the page may have, and how many words a sentence of its own
-LARGEST = 98_500
-WORDS = 9
+# How many bytes the page may have
+LARGEST = 105_000
 # What the keyboard of a phone of 375 by 667 pixels leaves free
 FREE = 300
 OPTIONS = reference_parser.Options._fields
@@ -208,37 +207,13 @@ def try_lines(page):
     page.same("one line", [None, "1h 30min"], [page.text_of("lines"), page.text_of("printed")])
 
 
-def nanoseconds_of(words):
-    """The value of a sum in words, as `1 hour 2 months of 30 days`."""
-    lengths = {name: unit.length for unit in reference_parser.UNITS for name in unit.names.split()}
-    found = re.findall(r"([0-9,]+) ([a-z]+)(?: of \d+ days)?", words)
-    return sum(int(count.replace(",", "")) * lengths[name] for count, name in found)
-
-
-def try_texts(page):
-    """No button has another value than is meant, and each says its value."""
-    page.open()
-    rows = [row for rows in TEXTS["meant"].values() for row in rows]
-    page.same("texts", True, len(rows) >= 150)
-    answers = page.answer_line(f"asked.readOffers({json.dumps([text for text, *_ in rows])})")
-    for (text, *meant), (sentence, is_own, buttons) in zip(rows, answers):
-        values = [int(decimal.Decimal(seconds) * 10**9) for seconds in meant if seconds]
-        # What the text is read as is not offered.
-        expected = [f"{value:,}" for value in values if value != answer_to(text).value]
-        page.same(f"what is offered for {text!r}", expected, [value for *_, value in buttons])
-        is_short = not is_own or len(sentence.split()) <= WORDS
-        page.same(f"a sentence of at most {WORDS} words for {text!r}: {sentence}", True, is_short)
-        for name, words, value in buttons:
-            said = f"{nanoseconds_of(name.removeprefix(f'{words}: ')):,}"
-            page.same(f"the name of a button for {text!r}", [True, value], [name.startswith(f"{words}: "), said])
-
-
 def try_switching(page):
     page.open()
     for text, options, words, meaning, remain in TEXTS["switched"]:
         page.choose(*options)
         page.put(text)
-        page.same(f"{words} for {text}", [words, meaning], page.words("#offered button > *"))
+        name = page.answer_line("document.querySelector('#offered button').ariaLabel")
+        page.same(f"{words} for {text}", [words, meaning, f"{words}: {meaning}"], [*page.words("#offered button > *"), name])
         page.click("#offered button")
         page.same(f"pressed: {words} for {text}", [words, remain], [page.text(), page.chosen()])
     page.choose()
@@ -321,7 +296,8 @@ def try_printing(page):
         ({"style": "compact"}, "1d1h1min1s1ns", {"rust": ".style(Style::Compact)", "python": 'style="compact"'}),
         ({"style": "long", "parts": "2"}, "1 day 1 hour",
          {"rust": ".style(Style::Long).parts(2)", "python": 'style="long", parts=2',
-          "c": "DURATION_STR_UNIT_YEAR, DURATION_STR_UNIT_NANOSECOND,\n    2, DURATION_STR_STYLE_LONG,"}),
+          "c": "answer.nanos / 1000000000, answer.nanos % 1000000000,\n"
+               "    DURATION_STR_UNIT_YEAR, DURATION_STR_UNIT_NANOSECOND,\n    2, DURATION_STR_STYLE_LONG,"}),
         ({"largest": "h", "smallest": "min"}, "25h 1min",
          {"rust": ".largest(TimeUnit::Hour).smallest(TimeUnit::Minute)", "python": 'largest="h", smallest="min"',
           "javascript": '{ largest: "h", smallest: "min" }',
@@ -389,7 +365,7 @@ def try_link(page):
     page.same("the link", "#text=" + urllib.parse.quote("1分 30&no=5%#", safe="") + "&no_calc&cn_unit", link)
     page.open(link)
     page.same("what the link gives", ["1分 30&no=5%#", ["no_calc", "cn_unit"]], [page.text(), page.chosen()])
-    for fragment, text in [("#text=1m+2", "1m+2"), ("#text=%E0%A4%A", ""), ("#", "90m + 45s"), ("#other=1", "")]:
+    for fragment, text in [("#text=1m+2", "1m+2"), ("#text=1m=2", "1m=2"), ("#text=%E0%A4%A", ""), ("#", "90m + 45s"), ("#other=1", "")]:
         page.open(fragment)
         page.same(f"the text of {fragment}", text, page.text())
     page.same("what is told of #other=1", "Not understood in the link: other=1", page.text_of("link-note"))
@@ -397,9 +373,13 @@ def try_link(page):
     time.sleep(PAUSE)
     said = "This text is not UTF-8, so the address can't hold it."
     page.same("what is told of a lone surrogate", [said, None], [page.text_of("link-note"), page.text_of("share")])
+    page.put("1s " * 667)
+    time.sleep(PAUSE)
+    page.same("what is told of 2,001 characters", "This text is too long for the address.", page.text_of("link-note"))
+    page.open("#text=1h&no_calc&style=long")
     page.run("location.hash = 'cn_unit'")
     time.sleep(PAUSE)
-    page.same("another link's text", ["", ["cn_unit"]], [page.text(), page.chosen()])
+    page.same("another link", ["", ["cn_unit"], "short"], [page.text(), page.chosen(), page.find("style").get_property("value")])
 
 
 def try_hostile(page):
@@ -599,6 +579,7 @@ def take_pictures(page):
 def main(file, *words):
     page = Page(file)
     page.same(f"at most {LARGEST} bytes", True, pathlib.Path(file).stat().st_size <= LARGEST)
+    page.same("its licence", True, "Apache License" in pathlib.Path(file).read_text(encoding="utf-8"))
     try:
         if words == ("--pictures",):
             take_pictures(page)

@@ -2,9 +2,8 @@
 // answer: whole texts that the library reads.
 import { formatNs, tryParseNs } from "../js/dist/duration-str.js";
 import { clean, converted } from "./conversions.js";
-import { LONG } from "./elements.js";
 import { say } from "./sentences.js";
-import { terms, UNITS, unitOf } from "./units.js";
+import { LONG, terms, UNITS, unitOf } from "./units.js";
 import { inWords } from "./values.js";
 
 /** Days and months of a date, as the names that `cn_unit` adds */

@@ -4,9 +4,9 @@ import { formatNs, tryParseNs } from "../js/dist/duration-str.js";
 import { notesOn, offersFor, sentence } from "./advice.js";
 import { choose, chosenLimits, chosenOptions, switches } from "./choices.js";
 import { LANGUAGES } from "./code.js";
-import { AROUND, button, element, LONG, LONGEST_LINES, make, text, write } from "./elements.js";
-import { lineOf, parts, say } from "./sentences.js";
-import { terms } from "./units.js";
+import { AROUND, button, element, LONGEST_LINES, make, parts, text, write } from "./elements.js";
+import { lineOf, say } from "./sentences.js";
+import { LONG, terms } from "./units.js";
 import { decimal, groupDigits, iso, seconds, termRows } from "./values.js";
 
 /** What a copy button copies, by the name of the element that shows it. */

@@ -1,7 +1,5 @@
 // What stands in the page. What is typed or stands in the link reaches it only as `textContent` and `value`.
 
-/** Longer texts, in UTF-16 units, are not marked in the input but in an excerpt, and do not stand in the link. */
-export const LONG = 2_000;
 /** Several lines are read one by one in texts of at most so many UTF-16 units. */
 export const LONGEST_LINES = 10_000;
 /** How much of a long text is shown, or stands on each side of a fault, in UTF-16 units. */
@@ -24,6 +22,10 @@ export function make(name, ...content) {
     if (CHINESE.test(one.textContent)) one.lang = "zh";
     return one;
 }
+
+/** The parts of a sentence, as they are shown: a quoted text by itself, so that its direction turns nothing else. */
+export const parts = (sentence) => sentence.map((part) =>
+    part.quoted === undefined ? part : make("code", make("bdi", shorten(part.quoted))));
 
 export function button(press, ...content) {
     const one = make("button", ...content);

@@ -1,6 +1,7 @@
 // The link: it holds the text, the options and how it is printed, as `#text=1h%2030m&no_calc&style=long`.
 import { agree, chosenLimits, printing, switches, WHOLE } from "./choices.js";
-import { element, LONG, shorten, text } from "./elements.js";
+import { element, shorten, text } from "./elements.js";
+import { LONG } from "./units.js";
 
 const boxes = Object.values(switches);
 

@@ -1,5 +1,4 @@
-// Sentences: lists of strings and of quoted texts, which are shown so that nothing in them turns the rest.
-import { make, shorten } from "./elements.js";
+// Sentences: lists of strings and of quoted texts. This and what it takes to know what a text means need no browser.
 
 /** A sentence as a list of strings and of quoted texts: say`A comma can't follow ${"1h"}.` A list stands as it is. */
 export function say(strings, ...values) {
@@ -12,9 +11,3 @@ export function lineOf({ message }) {
     const line = `${message.replace(/^./, (letter) => letter.toUpperCase())}.`;
     return line.split(/"((?:[^"\\]|\\.)*)"/).map((part, place) => place % 2 ? { quoted: part } : part);
 }
-
-/** A quoted text, by itself, so that its direction turns nothing else. */
-const quotation = (words) => make("code", make("bdi", shorten(words)));
-
-/** The parts of a sentence, as they are shown. */
-export const parts = (sentence) => sentence.map((part) => typeof part === "string" ? part : quotation(part.quoted));

@@ -1,6 +1,9 @@
 // The units, and the terms of a text that the library has read. What a text means, the library alone says.
 import { formatNs, parseNs } from "../js/dist/duration-str.js";
 
+/** Longer texts, in UTF-16 units, are not marked in the input but in an excerpt, and do not stand in the link. */
+export const LONG = 2_000;
+
 // The list is made by tests/repository --write.
 /** All units, the longest first: their lengths in nanoseconds and in words, their printed names, their names, of which the
  * last two are the singular and the plural, the names that `cn_unit` adds, and the words that the library says are near. */
