@@ -196,13 +196,13 @@ def try_lines(page):
     page.click("#lines button")
     page.same("a line that is mended", "30s\n5 min\n1h", page.text())
     page.same("how many are read", ["3 of 3 lines are read."], page.words("#lines caption"))
-    page.put("90s\n" * 600)
-    page.same("600 lines", ["90s", "1min 30s"] * 600, page.words("#lines :is(th, td > *)"))
-    page.put("90s\n" * 3_000)
-    said = "Over 10,000 characters, lines are added up and not read one by one."
-    page.same("3,000 lines", ["3d 3h", [said]], [page.text_of("printed"), page.words("#notes p")])
-    page.put("x\n" + "90s\n" * 3_000)
-    page.same("3,000 lines, of which one is refused", f"{line_of('x')} {said}", page.text_of("sentence"))
+    page.put("90s\n" * 200)
+    page.same("200 lines", ["90s", "1min 30s"] * 200, page.words("#lines :is(th, td > *)"))
+    page.put("90s\n" * 10_000 + "x")
+    shown = ["x", line_of("x"), *["90s", "1min 30s"] * 199]
+    page.same("10,001 lines", [shown, None], [page.words("#lines :is(th, td > *)"), page.text_of("printed")])
+    told = "10,000 of 10,001 lines are read; 200 are shown, the refused ones first."
+    page.same("how many of 10,001 lines are read", [told], page.words("#lines caption"))
     page.put("1h 30m\n")
     page.same("one line", [None, "1h 30min"], [page.text_of("lines"), page.text_of("printed")])
 

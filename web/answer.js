@@ -4,8 +4,8 @@ import { formatNs, tryParseNs } from "../js/dist/duration-str.js";
 import { notesOn, offersFor, sentence } from "./advice.js";
 import { choose, chosenLimits, chosenOptions, switches } from "./choices.js";
 import { LANGUAGES } from "./code.js";
-import { AROUND, button, element, LONGEST_LINES, make, parts, text, write } from "./elements.js";
-import { lineOf, say } from "./sentences.js";
+import { AROUND, button, element, make, MOST_LINES, parts, text, write } from "./elements.js";
+import { lineOf } from "./sentences.js";
 import { LONG, terms } from "./units.js";
 import { decimal, groupDigits, iso, seconds, termRows } from "./values.js";
 
@@ -88,13 +88,10 @@ function showOffers(offers) {
     element("offered").replaceChildren(...offers.map((offer) => offerButton(offer)));
 }
 
-const ADDED_UP = say`Over 10,000 characters, lines are added up and not read one by one.`;
-
 /** The sentences on a line, and what is offered beside it. */
 function remarksOn({ words, value, fault }) {
     const said = fault ? [sentence(words, fault.code, chosenOptions()) ?? lineOf(fault)] : [];
-    const added = words.trim().includes("\n") ? [ADDED_UP] : [];
-    if (words.length > LONG) return { sentences: [...said, ...added], offers: [] };
+    if (words.length > LONG) return { sentences: said, offers: [] };
     if (!fault) return notesOn(words, value, chosenOptions());
     return { sentences: said, offers: offersFor(words, chosenOptions()) };
 }
@@ -152,11 +149,20 @@ function showCode(isShown) {
 /** The lines with something in them, each with where it starts, where there are several; otherwise all as one. */
 function linesOf(whole) {
     const lines = Array.from(whole.matchAll(/[^\n]*\S[^\n]*/g), ({ 0: words, index }) => ({ words, start: index }));
-    return whole.length <= LONGEST_LINES && lines.length > 1 ? lines : [{ words: whole, start: 0 }];
+    return lines.length > 1 ? lines : [{ words: whole, start: 0 }];
 }
 
+/** The lines that are shown: of very many the refused ones first, and then as many others as there is room for. */
+function linesToShow(lines) {
+    if (lines.length <= MOST_LINES) return lines;
+    const refused = lines.filter(({ ok }) => !ok);
+    const read = lines.filter(({ ok }) => ok);
+    return [...refused, ...read].slice(0, MOST_LINES);
+}
+
+/** Shows the value or the fault of each line, and returns how many are read, as the table says it. */
 function showLines(lines) {
-    fill(element("lines"), lines.map((line) => {
+    fill(element("lines"), linesToShow(lines).map((line) => {
         const { words, start, ok, value } = line;
         const { sentences, offers } = remarksOn(line);
         return [
@@ -166,6 +172,11 @@ function showLines(lines) {
         ];
     }));
     showOffers([]);
+    const [read, all] = [lines.filter(({ ok }) => ok), lines].map(({ length }) => groupDigits(`${length}`));
+    const shown = lines.length > MOST_LINES ? `; ${MOST_LINES} are shown, the refused ones first` : "";
+    const told = `${read} of ${all} lines are read${shown}.`;
+    element("lines").caption.textContent = told;
+    return told;
 }
 
 /** The sentences and what is offered, as screen readers are told them. */
@@ -189,12 +200,7 @@ export function showAnswer() {
     for (const id of ["sentence", "line"]) element(id).replaceChildren();
     if (!isOne || isRead) text.removeAttribute("aria-describedby");
     else text.setAttribute("aria-describedby", "sentence");
-    if (!isOne) {
-        showLines(lines);
-        const told = `${lines.filter(({ ok }) => ok).length} of ${lines.length} lines are read.`;
-        element("lines").caption.textContent = told;
-        return told;
-    }
+    if (!isOne) return showLines(lines);
     if (isRead) {
         showValue(line);
         return announcement([`${copied.printed}.`, ...Array.from(element("notes").children, (note) => note.textContent)]);

@@ -1,7 +1,7 @@
 // What stands in the page. What is typed or stands in the link reaches it only as `textContent` and `value`.
 
-/** Several lines are read one by one in texts of at most so many UTF-16 units. */
-export const LONGEST_LINES = 10_000;
+/** Of several lines at most so many are shown. */
+export const MOST_LINES = 200;
 /** How much of a long text is shown, or stands on each side of a fault, in UTF-16 units. */
 export const AROUND = 40;
 const CHINESE = /\p{Script=Han}/u;
