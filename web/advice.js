@@ -69,16 +69,32 @@ function inDays(value) {
     return lengths.length > 0 ? [say`That is ${formatNs(value, { largest: "d" })}: ${[lengths.join(", ")]}.`] : [];
 }
 
+/** The first term of minutes by which people mean months: after years, or before weeks or days. */
+function monthIn(sum) {
+    const unitAt = (place) => unitOf(sum[place]?.unit ?? "")?.names[0];
+    const isMonth = (place) => unitAt(place - 1) === "y" || ["w", "d"].includes(unitAt(place + 1));
+    return sum.find(({ unit }, place) => /^m$/i.test(unit) && isMonth(place));
+}
+
+/** A sum with this term in months. */
+function inMonths(sum, month) {
+    const words = (term) => term === month ? `${term.number}mon` : term.words;
+    return sum.map((term) => `${term.operator} ${words(term)}`.trim()).join(" ");
+}
+
 /** What is said of a text that is read, and what is offered beside it. */
 export function notesOn(text, value, options) {
     const found = Array.from(terms(text, options));
-    const isProduct = found[1]?.operator === "*";
-    const bare = isProduct ? null : found.find(({ number, unit }) => !unit && !/^0+$/.test(number));
-    const sentences = [
-        ...(bare ? [say`${bare.number} has no unit: seconds.`] : []),
-        ...(found.some(({ unit }) => unit === "M") ? [say`${"M"} is minutes; months are ${"mon"}.`] : []),
-        ...inDays(value),
-    ];
-    const offers = bare ? offer(complete(text, options), options).filter((each) => each.value !== value) : [];
+    const sum = found[1]?.operator === "*" ? [] : found;
+    const bare = sum.find(({ number, unit }) => !unit && !/^0+$/.test(number));
+    const month = monthIn(sum);
+    const minutes = month ?? found.find(({ unit }) => unit === "M");
+    const sentences = [];
+    if (bare) sentences.push(say`${bare.number} has no unit: seconds.`);
+    if (minutes) sentences.push(say`${minutes.unit} is minutes; months are ${"mon"}.`);
+    sentences.push(...inDays(value));
+    if (!bare && !month) return { sentences, offers: [] };
+    const meant = complete(month ? inMonths(sum, month) : text, options);
+    const offers = offer(meant, options).filter((each) => each.value !== value);
     return { sentences, offers };
 }
