@@ -35,7 +35,8 @@ PAUSE = 0.8
 LARGEST = 105_000
 # What the keyboard of a phone of 375 by 667 pixels leaves free
 FREE = 300
-OPTIONS = reference_parser.Options._fields
+# The reference parser reads without units; rows with this option say what is expected.
+OPTIONS = (*reference_parser.Options._fields, "require_unit")
 
 MEGABYTE = 1 << 20
 # Texts of 1 MiB, and what is printed of them, or None; 349,525 s are 4 d 1 h 5 min 25 s.
@@ -273,6 +274,22 @@ def try_code(page):
     for name, end in taken.items():
         page.same(f"the code in {name}", True, any(line.endswith(end) for line in page.text_of(name).splitlines()))
     page.same("no shell's line of two lines", None, page.text_of("shell"))
+    page.choose("require_unit")
+    page.put("1h 30m")
+    taken = {
+        "rust": ('use duration_str::{format_duration, parse_with_units};', 'parse_with_units("1h 30m")?;'),
+        "python": ('duration_str.parse("1h 30m", require_unit=True)',),
+        "javascript": ('parse("1h 30m", { requireUnit: true });',),
+        "c": ("sizeof text - 1, DURATION_STR_OPTION_REQUIRE_UNIT, &answer);",),
+        "shell": ("duration --require-unit -- '1h 30m'",),
+    }
+    for name, ends in taken.items():
+        for end in ends:
+            page.same(f"{end} in {name}", True, any(line.endswith(end) for line in page.text_of(name).splitlines()))
+    page.choose("no_calc", "require_unit")
+    page.same("no call of Rust and no program has both options", [None, None], [page.text_of("rust"), page.text_of("shell")])
+    page.choose("cn_unit", "require_unit")
+    page.same("the shell's line with both options", "duration --cn-unit --require-unit -- '1h 30m'", page.text_of("shell"))
     page.choose()
     for text in ("1h", "\t1m\n", "2 * 5 µs"):
         page.put(text)
@@ -292,8 +309,10 @@ def try_code(page):
 def try_printing(page):
     """A duration of 90,061.000000001 s, which is 1 day 1 hour 1 minute 1 second 1 nanosecond, in chosen ways."""
     rows = [
-        ({}, "1d 1h 1min 1s 1ns", {}),
-        ({"style": "compact"}, "1d1h1min1s1ns", {"rust": ".style(Style::Compact)", "python": 'style="compact"'}),
+        ({}, "1d 1h 1min 1s 1ns", {"shell": "printf '%s\\n' '90061s 1ns' | durstr"}),
+        ({"style": "compact"}, "1d1h1min1s1ns",
+         {"rust": ".style(Style::Compact)", "python": 'style="compact"',
+          "shell": "duration --style compact -- '90061s 1ns'"}),
         ({"style": "long", "parts": "2"}, "1 day 1 hour",
          {"rust": ".style(Style::Long).parts(2)", "python": 'style="long", parts=2',
           "c": "answer.nanos / 1000000000, answer.nanos % 1000000000,\n"
@@ -301,6 +320,7 @@ def try_printing(page):
         ({"largest": "h", "smallest": "min"}, "25h 1min",
          {"rust": ".largest(TimeUnit::Hour).smallest(TimeUnit::Minute)", "python": 'largest="h", smallest="min"',
           "javascript": '{ largest: "h", smallest: "min" }',
+          "shell": "duration --largest h --smallest min -- '90061s 1ns'",
           "c": "DURATION_STR_UNIT_HOUR, DURATION_STR_UNIT_MINUTE,\n"
                f"    {len(reference_parser.UNITS)}, DURATION_STR_STYLE_SHORT,"}),
         ({"smallest": "µs"}, "1d 1h 1min 1s", {"rust": "TimeUnit::MicroSecond", "javascript": 'smallest: "µs"'}),
@@ -309,7 +329,6 @@ def try_printing(page):
         limits = "".join(f"&{name}={urllib.parse.quote(value)}" for name, value in chosen.items())
         page.open("#text=90061s%201ns" + limits)
         page.same(f"printed by {chosen}", printed, page.text_of("printed"))
-        page.same(f"the shell's line for {chosen}", not chosen, page.text_of("shell") is not None)
         for name, part in code.items():
             page.same(f"{part} in {name}", True, part in page.text_of(name))
         page.type("90061s 1ns")

@@ -15,13 +15,26 @@ function rustLimit([name, value]) {
     return `.${name}(TimeUnit::${capital(wordOf(value)).replace(/(?<=[io])sec/, "Sec")})`;
 }
 
+/** Rust's call that reads the text, and what it imports; nothing where the crate has no call with these options. */
+function rustReading(text, options) {
+    const literal = JSON.stringify(text);
+    const names = namesOf(options);
+    if (!options.requireUnit) {
+        const fields = names.map((name) => `${switches[name].id}: true, `).join("");
+        const taken = fields ? `Options { ${fields}..Options::off() }` : "Options::off()";
+        return { call: `parse_with(${literal}, ${taken})`, imports: ["parse_with", "Options"] };
+    }
+    if (names.length > 1) return null;
+    return { call: `parse_with_units(${literal})`, imports: ["parse_with_units"] };
+}
+
 function rust(text, options, limits) {
-    const fields = namesOf(options).map((name) => `${switches[name].id}: true, `).join("");
-    const taken = fields ? `Options { ${fields}..Options::off() }` : "Options::off()";
+    const reading = rustReading(text, options);
+    if (!reading) return "";
     const calls = Object.entries(limits).map(rustLimit).join("");
-    const types = ["Style", "TimeUnit"].filter((name) => calls.includes(name)).map((name) => `, ${name}`).join("");
-    return `use duration_str::{format_duration, parse_with, Options${types}};\n\n`
-        + `let duration = parse_with(${JSON.stringify(text)}, ${taken})?;\n`
+    const types = ["Style", "TimeUnit"].filter((name) => calls.includes(name));
+    return `use duration_str::{${["format_duration", ...reading.imports, ...types].join(", ")}};\n\n`
+        + `let duration = ${reading.call}?;\n`
         + `let text = format_duration(duration)${calls}.to_string();`;
 }
 
@@ -63,10 +76,15 @@ function c(text, options, limits) {
         + cPrintCall(limits);
 }
 
-/** The program reads lines, and prints all of a duration. */
+/** `durstr` reads lines, and prints a duration whole. `duration` can do more, but has no `no_calc`. */
 function shell(text, options, limits) {
-    if (/\p{C}/u.test(text) || Object.keys(limits).length > 0) return "";
-    return ["printf '%s\\n'", `'${text}'`, "| durstr", ...namesOf(options).map((name) => switches[name].id)].join(" ");
+    if (/\p{C}/u.test(text)) return "";
+    const names = namesOf(options).map((name) => switches[name].id);
+    const chosen = Object.entries(limits);
+    if (!options.requireUnit && chosen.length === 0) return ["printf '%s\\n'", `'${text}'`, "| durstr", ...names].join(" ");
+    if (options.noCalc) return "";
+    const words = [...names.map((name) => `--${name.replace("_", "-")}`), ...chosen.map(([name, value]) => `--${name} ${value}`)];
+    return ["duration", ...words, "--", `'${text}'`].join(" ");
 }
 
 /** What reads and prints the text, by the language's name in the page, with its title and how it is got in a clone of the
@@ -76,5 +94,5 @@ export const LANGUAGES = {
     python: ["Python", "pip install ./python", python],
     javascript: ["JavaScript", "npm pack ./js", javascript],
     c: ["C", "make install", c],
-    shell: ["Shell", "./durstr", shell],
+    shell: ["Shell", "make install", shell],
 };
