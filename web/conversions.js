@@ -36,9 +36,13 @@ const COMMON = new Map([
 ]);
 /** Whole words for lengths in other languages; not those that are abbreviated, or name a date or an hour of the day too. */
 const FOREIGN = byWord({
-    y: "年間", mon: "个月 か月 개월", w: "woche wochen semaine semaines semana semanas 星期 週間", d: "tag tage jour jours día días 日間",
-    h: "stunde stunden std heure heures hora horas 小时 時間 시간", min: "minuten minuto minutos 分钟 分間",
-    sec: "sekunde sekunden seconde secondes segundo segundos 秒钟 秒間",
+    y: "年間",
+    mon: "个月 か月 개월",
+    w: "woche wochen semaine semaines semana semanas неделя недели недель 星期 週間",
+    d: "tag tage jour jours día días день дня дней 日間",
+    h: "stunde stunden std heure heures hora horas час часа часов 小时 時間 시간",
+    min: "minuten minuto minutos минута минуты минут 分钟 分間",
+    sec: "sekunde sekunden seconde secondes segundo segundos секунда секунды секунд 秒钟 秒間",
 });
 
 /** Whether one word becomes the other by one letter put in, left out or replaced, or two neighbours swapped. */
@@ -192,9 +196,9 @@ function clock(text) {
 
 const COUNT = "([0-9]+(?:[.,][0-9]+)?)";
 const TIME = `(?:${COUNT}H)?(?:${COUNT}M)?(?:${COUNT}S)?`;
-const ISO = new RegExp(`^P(?=.)(?:${COUNT}W|(?:${COUNT}D)?(?:T(?=.)${TIME})?)$`, "i");
+const ISO = new RegExp(`^P(?=.)(?:${COUNT}W)?(?:${COUNT}D)?(?:T(?=.)${TIME})?$`, "i");
 
-/** `PT5M`, in which the last count alone can be a decimal */
+/** `PT5M`, in which the last count alone can be a decimal; weeks beside days, as in `P1W2D`, are from ISO 8601-2. */
 function iso8601(text) {
     if (!/^P[0-9T][0-9.,YMWDTHS]*$/i.test(text)) return null;
     const counts = (ISO.exec(text) ?? []).slice(1);
@@ -208,6 +212,14 @@ function iso8601(text) {
     if (/^P[^T]*M/i.test(text)) return meaning(text, [], say`A calendar month varies: ${"1mon"} is 30 days.`);
     if (/^P[^T]*Y/i.test(text)) return meaning(text, [], say`A calendar year varies: ${"1y"} is 365 days.`);
     return meaning(text, [], say`This is not ISO 8601.`);
+}
+
+/** `10' 30"`; one of the signs alone may stand for feet or inches. */
+function primes(text) {
+    const [, minutes, seconds] = /^([0-9]+)\s*['′’]\s*([0-5]?[0-9])\s*(?:["″”]|['′’]{2})$/.exec(text) ?? [];
+    if (!minutes) return null;
+    const nanos = BigInt(minutes) * MINUTE.nanos + BigInt(seconds) * SECOND.nanos;
+    return meaning(text, [reading(nanos, MINUTE)], say`Write ${"m"} for ${"'"}, and ${"s"} for ${'"'}.`);
 }
 
 // ---- Sums
@@ -356,6 +368,14 @@ function sumOfTerms(text) {
     return meaning(text, readings, wrongIn(sum));
 }
 
+const BLANKS_IN_NUMBER = /^[1-9][0-9]{0,2}(?: [0-9]{3})+(?=\s*\p{L}+\.?$)/u;
+
+/** `1 000 s`, whose blank groups digits as in SI: a number right before another one means nothing else. */
+function groupedByBlanks(text) {
+    const grouped = text.replace(BLANKS_IN_NUMBER, (digits) => digits.replaceAll(" ", "\u202f"));
+    return grouped === text ? null : sumOfTerms(grouped);
+}
+
 // ---- What can't be converted
 
 const LIST = new RegExp(String.raw`^(?!${NUMBER}\s*\p{L}+\.?$)${NUMBER}\s*\p{L}*\s*(?:[,;]|and\b|or\b)\s*[0-9]`, "iu");
@@ -381,6 +401,7 @@ const REFUSED = [
     [/\bdecades?\b/i, say`A decade is ${"10y"}.`],
     [/\bcentur(?:y|ies)\b/i, say`A century is ${"100y"}.`],
     [/\b(?:forever|never|infinit\w*)\b/i, (words) => say`${words} has no fixed length.`],
+    [/^0x[0-9a-f]/i, say`Hexadecimal numbers can't be read.`],
     [/[0-9](?:\s*\p{L}+\s)?\s*[x×]\s*[0-9]/iu, say`Multiply with ${"*"}.`],
     [new RegExp(String.raw`^${NUMBER}$`, "iu"), (words) => say`${words} has no unit.`],
     [LIST, NO_LIST],
@@ -392,7 +413,10 @@ const REFUSED = [
  * that says why it is refused, if that isn't the library's reason; nothing where the notation is unknown. */
 export function converted(text, options) {
     const words = plain(text);
-    for (const convert of [afterKey, withinQuotes, clock, clockWithUnit, iso8601, sumOfTerms, halves]) {
+    const conversions = [
+        afterKey, withinQuotes, clock, clockWithUnit, iso8601, primes, groupedByBlanks, sumOfTerms, halves,
+    ];
+    for (const convert of conversions) {
         const meant = convert(words, options);
         if (meant) return meant;
     }
