@@ -10,6 +10,7 @@ page.
 """
 import ast
 import base64
+import hashlib
 import json
 import pathlib
 import re
@@ -35,6 +36,9 @@ PAUSE = 0.8
 LARGEST = 105_000
 # What the keyboard of a phone of 375 by 667 pixels leaves free
 FREE = 300
+PICTURES = ROOT / "docs/images"
+PICTURE_WIDTH = 640
+PICTURE_MARGIN = 12
 # The reference parser reads without units; rows with this option say what is expected.
 OPTIONS = (*reference_parser.Options._fields, "require_unit")
 
@@ -552,6 +556,37 @@ def try_looks(page):
     page.same("the diagram is drawn", True, page.run("return document.querySelector('img').naturalWidth > 300"))
 
 
+def shown_in_picture(page, scheme):
+    """Opens what the pictures show, and gives how high that is."""
+    emulate(page, scheme, PICTURE_WIDTH)
+    page.open("#text=1%3A30")
+    page.run("document.activeElement.blur()")
+    return page.run("return document.getElementById('answer').getBoundingClientRect().bottom") + PICTURE_MARGIN
+
+
+def said_in_picture(page):
+    """The words in the pictures, and a digest of how they look: whether a picture is stale is seen by these."""
+    selectors = ["header", "#examples", "#options", "#answer"]
+    words = page.answer_line(f"{json.dumps(selectors)}.map((each) => document.querySelector(each).innerText)")
+    style = hashlib.sha256((ROOT / "web/style.css").read_bytes()).hexdigest()
+    return "\n".join([*words, f"style.css: {style}", ""])
+
+
+def take_pictures(page):
+    for scheme in SCHEMES:
+        clip = {"x": 0, "y": 0, "width": PICTURE_WIDTH, "height": shown_in_picture(page, scheme), "scale": 2}
+        words = {"format": "webp", "quality": 50, "clip": clip}
+        taken = page.driver.execute_cdp_cmd("Page.captureScreenshot", words)
+        (PICTURES / f"page-{scheme}.webp").write_bytes(base64.b64decode(taken["data"]))
+    (PICTURES / "page.txt").write_text(said_in_picture(page), encoding="utf-8")
+
+
+def try_pictures(page):
+    shown_in_picture(page, "light")
+    taken = (PICTURES / "page.txt").read_text(encoding="utf-8")
+    page.same("what the pictures show; tests/page --pictures takes them anew", said_in_picture(page), taken)
+
+
 def try_outside(page):
     """Nothing was asked for outside so far, no rule was broken and nothing complained of; and the policy holds."""
     messages = [json.loads(entry["message"])["message"] for entry in page.driver.get_log("performance")]
@@ -584,15 +619,6 @@ def try_without(page):
     same("with both", True)
     page.before("delete globalThis.WebAssembly")
     same("without WebAssembly", False)
-
-
-def take_pictures(page):
-    for scheme in SCHEMES:
-        emulate(page, scheme, 640, 430)
-        page.open("#text=1%3A30")
-        page.run("document.activeElement.blur()")
-        taken = page.driver.execute_cdp_cmd("Page.captureScreenshot", {"format": "webp", "quality": 50})
-        (ROOT / f"docs/images/page-{scheme}.webp").write_bytes(base64.b64decode(taken["data"]))
 
 
 def main(file, *words):
