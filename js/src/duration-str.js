@@ -4,10 +4,13 @@
 import { instance } from "instance";
 
 const PAGE = 65_536;
-const SECOND = 1_000_000_000n;
-const MILLISECOND = 1_000_000n;
+/** The nanoseconds of a millisecond and of a second. */
+const MILLISECOND = 1_000_000;
+const SECOND = 1_000_000_000;
 /** Durations are below this many nanoseconds. */
 const LIMIT = 1n << 64n;
+/** A count of 64 bits has two halves, each below this. */
+const HALF = 2 ** 32;
 const LONE_SURROGATE = /\p{Surrogate}/u;
 
 /** The codes of the refusals, in the order of `enum duration_str_cause` in the library's header. */
@@ -27,7 +30,7 @@ const WRITTEN_SIZE = 867;
 /** Texts of at most so many UTF-16 units are written without an encoder, and of so many bytes read without a decoder, for
  * which these take longer to call. */
 const SHORT = 40;
-const SHORT_WRITTEN = 12;
+const SHORT_WRITTEN = 28;
 
 export const version = VERSION;
 
@@ -86,13 +89,12 @@ function decode(bytes) {
 /** What a call has written, of this length. */
 function output(length) {
     if (length > SHORT_WRITTEN) return decode(buffer.subarray(0, length));
-    let text = "";
+    const codes = new Array(length);
     for (let place = 0; place < length; place++) {
-        const byte = buffer[place];
-        // Beyond ASCII so little has the micro sign alone: after the byte 0xc2 the next one is its number.
-        if (byte !== 0xc2) text += String.fromCharCode(byte);
+        codes[place] = buffer[place];
+        if (codes[place] > 0x7f) return decode(buffer.subarray(0, length));
     }
-    return text;
+    return String.fromCharCode(...codes);
 }
 
 /** What is wrong with a text, and the report, whose last line says so. */
@@ -250,12 +252,19 @@ function faultIn(text, options) {
     return reportLength > 0 ? faultOf(text, length, reportLength) : null;
 }
 
+/** The duration at ANSWER in nanoseconds. */
 const nanoseconds = () => fields.getBigUint64(ANSWER, true);
 
-/** The nearest number of milliseconds. Up to 2^53 nanoseconds are a number themselves, and so the quotient is the nearest. */
-function milliseconds() {
+/** The same, as a number where that is exact, below 2^53: bigints take longer to count with. */
+function count() {
     const high = fields.getUint32(ANSWER + 4, true);
-    return high < 2 ** 21 ? (high * 2 ** 32 + fields.getUint32(ANSWER, true)) / 1_000_000 : Number(`${nanoseconds()}e-6`);
+    return high < 2 ** 21 ? high * HALF + fields.getUint32(ANSWER, true) : nanoseconds();
+}
+
+/** The same in milliseconds, to the nearest number. The quotient of two exact numbers is the nearest one. */
+function milliseconds() {
+    const nanos = count();
+    return typeof nanos === "number" ? nanos / MILLISECOND : Number(`${nanos}e-6`);
 }
 
 function resultOf(fault, value) {
@@ -300,69 +309,98 @@ function countOf(parts) {
     return Math.min(parts, UNITS.length);
 }
 
+const ALL_PARTS = { largest: "d", smallest: "ns", parts: Infinity };
+const ALL = { largest: "y", smallest: "ns", parts: Infinity, style: "short" };
+
 /** The limits that are chosen, with numbers for names, and the others as in `defaults`, which has all that are known. */
 function limitsOf(options, defaults) {
     checkPlain(options);
-    const limits = { ...defaults };
+    let { largest, smallest, parts, style } = defaults;
     for (const name of Object.keys(options)) {
-        if (!isOwn.call(limits, name)) throw unknown(name);
-        if (options[name] !== undefined) limits[name] = options[name];
+        if (!isOwn.call(defaults, name)) throw unknown(name);
+        const value = options[name];
+        if (value === undefined) continue;
+        if (name === "largest") largest = value;
+        else if (name === "smallest") smallest = value;
+        else if (name === "parts") parts = value;
+        else style = value;
     }
-    const largest = numberOf("largest", limits.largest, UNITS);
-    const smallest = numberOf("smallest", limits.smallest, UNITS);
-    if (largest > smallest) {
-        throw new RangeError(`the largest unit, ${limits.largest}, is shorter than the smallest, ${limits.smallest}`);
-    }
-    return { ...limits, largest, smallest, parts: countOf(limits.parts) };
+    const [first, last] = [numberOf("largest", largest, UNITS), numberOf("smallest", smallest, UNITS)];
+    if (first > last) throw new RangeError(`the largest unit, ${largest}, is shorter than the smallest, ${smallest}`);
+    return { largest: first, smallest: last, parts: countOf(parts), style };
 }
 
-const ALL = { largest: "y", smallest: "ns", parts: Infinity, style: "short" };
+const negative = (value) => new RangeError(`a duration is not negative: ${value}`);
+const tooLong = (longest) => new RangeError(`a duration is at most 584 years, ${longest}`);
 
-/** Checks a duration, which is this value and at most `longest` in the unit that the value has. */
-function checkRange(nanoseconds, value, longest) {
-    if (value < 0) throw new RangeError(`a duration is not negative: ${value}`);
-    if (nanoseconds >= LIMIT) throw new RangeError(`a duration is at most 584 years, ${longest}`);
-}
-
-/** The nanoseconds of a bigint, which is them, or of a number of milliseconds, to the nearest one. */
-function nanosecondsOf(value) {
+/** Puts a duration at ANSWER, as reading does: a bigint of nanoseconds, or a number of milliseconds, to the nearest
+ * nanosecond. */
+function put(value) {
     if (typeof value === "bigint") {
-        checkRange(value, value, "2^64 - 1 ns");
-        return value;
+        if (value < 0n) throw negative(value);
+        if (value >= LIMIT) throw tooLong("2^64 - 1 ns");
+        if (!calls) start();
+        fields.setBigUint64(ANSWER, value, true);
+        return;
     }
     if (!Number.isFinite(value)) throw new RangeError(`milliseconds must be finite, not ${value}`);
+    if (value < 0) throw negative(value);
     const whole = Math.trunc(value);
-    const nanoseconds = BigInt(whole) * MILLISECOND + BigInt(Math.round((value - whole) * 1_000_000));
-    checkRange(nanoseconds, value, "18446744073709.55 ms");
-    return nanoseconds;
+    const fraction = Math.round((value - whole) * MILLISECOND);
+    // The halves are multiplied one by one, so that each step is exact: below 2^32 * 1,000,001.
+    const upper = Math.trunc(whole / HALF);
+    const lower = (whole - upper * HALF) * MILLISECOND + fraction;
+    const high = upper * MILLISECOND + Math.trunc(lower / HALF);
+    if (high >= HALF) throw tooLong("18446744073709.55 ms");
+    if (!calls) start();
+    fields.setUint32(ANSWER, lower, true);
+    fields.setUint32(ANSWER + 4, high, true);
 }
 
-/** The text of so many nanoseconds. */
-function print(nanoseconds, options) {
-    if (!calls) start();
-    if (options === undefined) return output(calls.duration_str_format(nanoseconds, WRITTEN));
+/** The text of the duration at ANSWER. */
+function print(options) {
+    // The module takes a count of 64 bits as its lower and its upper half.
+    if (options === undefined) {
+        const [low, high] = [fields.getInt32(ANSWER, true), fields.getInt32(ANSWER + 4, true)];
+        return output(calls.duration_str_format(low, high, WRITTEN));
+    }
+    // First of all, since options can have getters, which may call this package.
+    const total = count();
     const { largest, smallest, parts, style } = limitsOf(options, ALL);
-    const [secs, nanos] = [nanoseconds / SECOND, Number(nanoseconds % SECOND)];
-    const number = numberOf("style", style, STYLES);
-    return output(calls.duration_str_format_styled(secs, nanos, largest, smallest, parts, number, WRITTEN));
+    const styleNumber = numberOf("style", style, STYLES);
+    const second = typeof total === "number" ? SECOND : BigInt(SECOND);
+    const nanos = total % second;
+    const secs = Number((total - nanos) / second);
+    const [low, high] = [secs | 0, Math.trunc(secs / HALF)];
+    const length = calls.duration_str_format_styled(
+        low, high, Number(nanos), largest, smallest, parts, styleNumber, WRITTEN,
+    );
+    return output(length);
 }
 
 export function formatNs(nanoseconds, options) {
     if (typeof nanoseconds !== "bigint") {
         throw new TypeError(`nanoseconds must be a bigint, not ${typeOf(nanoseconds)}; format takes milliseconds`);
     }
-    return print(nanosecondsOf(nanoseconds), options);
+    put(nanoseconds);
+    return print(options);
 }
 
 export function format(milliseconds, options) {
     if (typeof milliseconds !== "number") {
         throw new TypeError(`milliseconds must be a number, not ${typeOf(milliseconds)}; formatNs takes nanoseconds`);
     }
-    return print(nanosecondsOf(milliseconds), options);
+    put(milliseconds);
+    return print(options);
 }
 
-/** The length of each unit, which the library is asked for. */
+/** The length of each unit in nanoseconds, which the library is asked for: as numbers and as bigints. */
 let lengths;
+
+function askLengths() {
+    const bigints = UNITS.map((name) => parseNs(`1${name}`));
+    return { number: bigints.map(Number), bigint: bigints };
+}
 
 /** A count that a number holds exactly. */
 function exact(count) {
@@ -375,15 +413,21 @@ export function parts(value, options = {}) {
     if (typeof value !== "number" && typeof value !== "bigint") {
         throw new TypeError(`a duration is a number of milliseconds or a bigint of nanoseconds, not ${typeOf(value)}`);
     }
-    let rest = nanosecondsOf(value);
-    const { largest, smallest, parts: most } = limitsOf(options, { largest: "d", smallest: "ns", parts: Infinity });
+    put(value);
+    let rest = count();
+    const { largest, smallest, parts: most } = limitsOf(options, ALL_PARTS);
     if (!PARTS[largest] || !PARTS[smallest]) throw new RangeError("parts has no quarters");
-    lengths ??= UNITS.map((name) => parseNs(`1${name}`));
-    const found = {};
-    for (let unit = largest; unit <= smallest && Object.keys(found).length < most; unit++) {
-        if (!PARTS[unit] || rest < lengths[unit]) continue;
-        found[PARTS[unit]] = exact(rest / lengths[unit]);
-        rest %= lengths[unit];
+    lengths ??= askLengths();
+    const lengthOf = lengths[typeof rest];
+    const counts = {};
+    let room = most;
+    for (let unit = largest; unit <= smallest && room > 0; unit++) {
+        if (!PARTS[unit] || rest < lengthOf[unit]) continue;
+        const under = rest % lengthOf[unit];
+        counts[PARTS[unit]] = exact((rest - under) / lengthOf[unit]);
+        rest = under;
+        room--;
     }
-    return Object.keys(found).length > 0 ? found : { [PARTS[Math.min(smallest, UNITS.indexOf("s"))]]: 0 };
+    if (room < most) return counts;
+    return { [PARTS[Math.min(smallest, UNITS.indexOf("s"))]]: 0 };
 }
