@@ -1,5 +1,5 @@
-// The answer below the text: its value in all notations, or its fault, and what is offered beside it; of several lines each
-// line's value or fault.
+// The answer below the text: its value in all notations, or its fault and what is offered instead.
+// Of several lines, it is each line's value or fault.
 import { formatNs, tryParseNs } from "../js/dist/duration-str.js";
 import { notesOn, offersFor, sentence } from "./advice.js";
 import { choose, chosenLimits, chosenOptions, switches } from "./choices.js";
@@ -19,7 +19,8 @@ function show(id, words, shown = words) {
 
 // ---- Marks
 
-/** The part of the text that the fault of a line is about, from and to as UTF-16 units; none where it has no place. */
+/** The part of the text that a line's fault is about, from and to as indexes; none if the fault has
+ * no place. */
 function markedParts({ words, start, fault }) {
     if (!fault || words === "" || fault.index === null) return [];
     const { code, index, found } = fault;
@@ -72,14 +73,15 @@ function changesTo(options) {
     return changed.map(([, box]) => `${box.dataset.switched}, `).join("");
 }
 
-/** A button that puts what is offered in place of the text, or of the part that starts and ends there. */
+/** A button that puts the offer in place of the text, or of the part that starts and ends there. */
 function offerButton({ text: words, options, meaning }, ...part) {
     const press = () => {
         choose(options);
         write(words, ...part);
     };
-    const one = button(press, make("code", make("bdi", words)), make("span", changesTo(options) + meaning));
-    one.ariaLabel = `${words}: ${changesTo(options)}${meaning}`;
+    const said = changesTo(options) + meaning;
+    const one = button(press, make("code", make("bdi", words)), make("span", said));
+    one.ariaLabel = `${words}: ${said}`;
     return one;
 }
 
@@ -100,7 +102,8 @@ function remarksOn({ words, value, fault }) {
 
 function showFault(line) {
     const { sentences: [said, ...others], offers } = remarksOn(line);
-    element("sentence").replaceChildren(...parts(said), ...others.flatMap((each) => [" ", ...parts(each)]));
+    const more = others.flatMap((each) => [" ", ...parts(each)]);
+    element("sentence").replaceChildren(...parts(said), ...more);
     element("sentence").classList.toggle("hint", text.value === "");
     element("line").replaceChildren(...parts(lineOf(line.fault)));
     const isOwn = element("sentence").textContent !== element("line").textContent;
@@ -146,13 +149,15 @@ function showCode(isShown) {
 
 // ---- Several lines
 
-/** The lines with something in them, each with where it starts, where there are several; otherwise all as one. */
+/** The lines that are not blank, each with the index where it starts. Of fewer than two lines, the
+ * whole text is one. */
 function linesOf(whole) {
-    const lines = Array.from(whole.matchAll(/[^\n]*\S[^\n]*/g), ({ 0: words, index }) => ({ words, start: index }));
+    const found = Array.from(whole.matchAll(/[^\n]*\S[^\n]*/g));
+    const lines = found.map(({ 0: words, index }) => ({ words, start: index }));
     return lines.length > 1 ? lines : [{ words: whole, start: 0 }];
 }
 
-/** The lines that are shown: of very many the refused ones first, and then as many others as there is room for. */
+/** The lines that are shown: of very many, first the refused ones, then as many others as fit. */
 function linesToShow(lines) {
     if (lines.length <= MOST_LINES) return lines;
     const refused = lines.filter(({ ok }) => !ok);
@@ -160,34 +165,47 @@ function linesToShow(lines) {
     return [...refused, ...read].slice(0, MOST_LINES);
 }
 
-/** Shows the value or the fault of each line, and returns how many are read, as the table says it. */
+/** A line, and beside it its value or fault, and what is offered instead. */
+function lineRow(line) {
+    const { words, start, ok, value } = line;
+    const { sentences, offers } = remarksOn(line);
+    return [
+        words.trim(),
+        ...(ok ? [make("code", formatNs(value, chosenLimits()))] : []),
+        ...sentences.map((each) => make("p", ...parts(each))),
+        ...offers.map((offer) => offerButton(offer, start, start + words.length)),
+    ];
+}
+
+/** How many of the lines are read. */
+function howMany(lines) {
+    const read = groupDigits(`${lines.filter(({ ok }) => ok).length}`);
+    const all = groupDigits(`${lines.length}`);
+    if (lines.length <= MOST_LINES) return `${read} of ${all} lines are read.`;
+    return `${read} of ${all} lines are read; ${MOST_LINES} are shown, the refused ones first.`;
+}
+
+/** Shows the lines, and returns what a screen reader is told of them. */
 function showLines(lines) {
-    fill(element("lines"), linesToShow(lines).map((line) => {
-        const { words, start, ok, value } = line;
-        const { sentences, offers } = remarksOn(line);
-        return [
-            words.trim(), ...(ok ? [make("code", formatNs(value, chosenLimits()))] : []),
-            ...sentences.map((each) => make("p", ...parts(each))),
-            ...offers.map((offer) => offerButton(offer, start, start + words.length)),
-        ];
-    }));
+    fill(element("lines"), linesToShow(lines).map(lineRow));
     showOffers([]);
-    const [read, all] = [lines.filter(({ ok }) => ok), lines].map(({ length }) => groupDigits(`${length}`));
-    const shown = lines.length > MOST_LINES ? `; ${MOST_LINES} are shown, the refused ones first` : "";
-    const told = `${read} of ${all} lines are read${shown}.`;
-    element("lines").caption.textContent = told;
-    return told;
+    element("lines").caption.textContent = howMany(lines);
+    return howMany(lines);
 }
 
 /** The sentences and what is offered, as screen readers are told them. */
 function announcement(sentences) {
     const offers = Array.from(element("offered").children, (one) => one.ariaLabel);
-    return [...sentences, ...(offers.length > 0 ? [`Try instead ${offers.join("; ")}.`] : [])].join(" ");
+    const tried = offers.length > 0 ? [`Try instead ${offers.join("; ")}.`] : [];
+    return [...sentences, ...tried].join(" ");
 }
 
-/** Reads the text, shows its value or its fault, or those of its lines, and returns what a screen reader is told of it. */
+/** Reads the text and shows its value or fault, or those of its lines. Returns what a screen reader
+ * is told. */
 export function showAnswer() {
-    const lines = linesOf(text.value).map((line) => ({ ...line, ...tryParseNs(line.words, chosenOptions()) }));
+    const options = chosenOptions();
+    const lines = linesOf(text.value)
+        .map((line) => ({ ...line, ...tryParseNs(line.words, options) }));
     const [line] = lines;
     const isOne = lines.length === 1;
     const isRead = lines.every(({ ok }) => ok);
@@ -203,7 +221,8 @@ export function showAnswer() {
     if (!isOne) return showLines(lines);
     if (isRead) {
         showValue(line);
-        return announcement([`${copied.printed}.`, ...Array.from(element("notes").children, (note) => note.textContent)]);
+        const notes = Array.from(element("notes").children, (note) => note.textContent);
+        return announcement([`${copied.printed}.`, ...notes]);
     }
     showFault(line);
     return announcement([element("sentence").textContent]);

@@ -1,4 +1,5 @@
-// What stands in the page. What is typed or stands in the link reaches it only as `textContent` and `value`.
+// The elements of the page. What is typed, or comes from the link, reaches them only as
+// `textContent` and `value`.
 
 /** Of several lines at most so many are shown. */
 export const MOST_LINES = 200;
@@ -23,9 +24,13 @@ export function make(name, ...content) {
     return one;
 }
 
-/** The parts of a sentence, as they are shown: a quoted text by itself, so that its direction turns nothing else. */
-export const parts = (sentence) => sentence.map((part) =>
-    part.quoted === undefined ? part : make("code", make("bdi", shorten(part.quoted))));
+/** A quoted text, by itself, so that its direction turns nothing else. */
+const quotation = (words) => make("code", make("bdi", shorten(words)));
+
+/** The parts of a sentence, as they are shown. */
+export function parts(sentence) {
+    return sentence.map((part) => part.quoted === undefined ? part : quotation(part.quoted));
+}
 
 export function button(press, ...content) {
     const one = make("button", ...content);
@@ -34,8 +39,8 @@ export function button(press, ...content) {
     return one;
 }
 
-/** Puts the words in place of the text, or of its part that starts and ends there, as typing does, so that they can be
- * undone. */
+/** Puts the words in place of the text, or of the part that starts and ends there. It does so as
+ * typing does, so that it can be undone. */
 export function write(words, start = 0, end = text.value.length) {
     text.focus();
     if (words === text.value.slice(start, end)) return;
