@@ -1,12 +1,13 @@
 """page.py FILE [--pictures]: tries the page in this file in Chromium, or takes its pictures; called by tests/page.
 
-page-texts.json has texts and what is shown of them, worked out by hand from docs/GRAMMAR.md: "values",
-printed and in nanoseconds, milliseconds, seconds and ISO 8601; the rows of their "terms"; "notes" on them; the mark and the
-sentence of "faults", if that is not the library's line; the answers to "lines"; and what is offered where an option is
-"switched". "meant" has the values in seconds that people mean by texts: several where people use a text with several
-meanings, null where nothing may be offered; page.test.mjs tries these without a browser. "typed" texts are typed character
-by character; "hostile" ones must be shown, and do nothing else, and "hostile links" must choose nothing. page.js runs in the
-page.
+page-texts.json has texts and what is shown of them, worked out by hand from docs/GRAMMAR.md:
+"values", printed and in nanoseconds, milliseconds, seconds and ISO 8601; the rows of their "terms";
+"notes" on them; the mark and the sentence of "faults", if that is not the library's line; what
+texts mean "elsewhere"; the answers to "lines"; and what is offered where an option is "switched".
+"meant" has the values in seconds that people mean by texts: several where people use a text with
+several meanings, null where nothing may be offered; page.test.mjs tries these without a browser.
+"typed" texts are typed character by character; "hostile" ones must be shown, and do nothing else,
+and "hostile links" must choose nothing. page.js runs in the page.
 """
 import ast
 import base64
@@ -188,6 +189,17 @@ def try_faults(page):
     page.same("a mark of no width", 1, len(page.words("mark.thin")))
     page.put("1h -x" + "😀" * 1_500)
     page.same("a part of a long text", ["1h -x" + "😀" * 20], page.words("#excerpt"))
+
+
+def try_elsewhere(page):
+    """Other programs are named where they read a text in another way."""
+    page.open()
+    for text, rows in TEXTS["elsewhere"]:
+        page.put(text)
+        got = page.words("#elsewhere th, #elsewhere td")
+        page.same(f"{text} elsewhere", [rows, bool(rows)], [got, page.find("elsewhere").is_displayed()])
+    page.put("1.5h\n1y")
+    page.same("nothing elsewhere of several lines", False, page.find("elsewhere").is_displayed())
 
 
 def try_lines(page):

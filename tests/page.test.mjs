@@ -14,7 +14,12 @@ const TEXTS = JSON.parse(readFileSync(new URL("page-texts.json", import.meta.url
 const MOST_WORDS = 9;
 
 /** The names of the options in JavaScript, and their names in page-texts.json. */
-const OPTIONS = { noCalc: "no_calc", lowercase: "lowercase", cnUnit: "cn_unit", requireUnit: "require_unit" };
+const OPTIONS = {
+    noCalc: "no_calc",
+    lowercase: "lowercase",
+    cnUnit: "cn_unit",
+    requireUnit: "require_unit",
+};
 const NONE = optionsOf([]);
 
 function optionsOf(names) {

@@ -4,6 +4,7 @@ import { formatNs, tryParseNs } from "../js/dist/duration-str.js";
 import { notesOn, offersFor, sentence } from "./advice.js";
 import { choose, chosenLimits, chosenOptions, switches } from "./choices.js";
 import { LANGUAGES } from "./code.js";
+import { elsewhere } from "./elsewhere.js";
 import { AROUND, button, element, make, MOST_LINES, parts, text, write } from "./elements.js";
 import { lineOf } from "./sentences.js";
 import { LONG, terms } from "./units.js";
@@ -138,6 +139,13 @@ function showValue(line) {
     showOffers(offers);
 }
 
+/** What other programs read, where they differ; nothing of a long text. */
+function showElsewhere({ words, ok, value }) {
+    const rows = words.length <= LONG ? elsewhere(words, ok ? value : null) : [];
+    element("elsewhere").hidden = rows.length === 0;
+    fill(element("elsewhere"), rows);
+}
+
 function showCode(isShown) {
     element("no-code").hidden = isShown;
     for (const id of ["how", "codes"]) element(id).hidden = !isShown;
@@ -218,7 +226,9 @@ export function showAnswer() {
     for (const id of ["sentence", "line"]) element(id).replaceChildren();
     if (!isOne || isRead) text.removeAttribute("aria-describedby");
     else text.setAttribute("aria-describedby", "sentence");
+    element("elsewhere").hidden = true;
     if (!isOne) return showLines(lines);
+    showElsewhere(line);
     if (isRead) {
         showValue(line);
         const notes = Array.from(element("notes").children, (note) => note.textContent);
