@@ -21,27 +21,6 @@ function timeAnswer(text, pasted, done) {
     requestAnimationFrame(() => requestAnimationFrame(() => done(performance.now() - start)));
 }
 
-/** For each text its sentence, with each quoted text as one word, whether it is the page's own and not the library's, and of
- * each button its name, and the text and its value in nanoseconds after it is pressed. */
-function readOffers(texts) {
-    const quoted = (node) => node.nodeName === "CODE" ? "x" : node.textContent;
-    const buttons = (text) => {
-        for (const box of all("input:checked")) box.click();
-        put(text);
-        return all("#offered button");
-    };
-    return texts.map((text) => {
-        const count = buttons(text).length;
-        const sentence = [...all("#sentence")[0].childNodes].map(quoted).join("");
-        const isOwn = !all("#library")[0].hidden;
-        return [sentence, isOwn, Array.from({ length: count }, (_, place) => {
-            const button = buttons(text)[place];
-            button.click();
-            return [button.ariaLabel, all("#text")[0].value, seen("#nanoseconds")[0]?.textContent ?? null];
-        })];
-    });
-}
-
 /** Each name of a unit, and the text and its nanoseconds after its button is pressed for the empty text. */
 function pressedUnits() {
     return all("#units button").map((button) => {
@@ -115,4 +94,4 @@ function brokenRules() {
     };
 }
 
-window.asked = { words, timeAnswer, readOffers, pressedUnits, places, lowest, pale, brokenRules };
+window.asked = { words, timeAnswer, pressedUnits, places, lowest, pale, brokenRules };

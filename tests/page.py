@@ -1,15 +1,17 @@
 """page.py FILE [--pictures]: tries the page in this file in Chromium, or takes its pictures; called by tests/page.
 
-page-texts.json has texts and what is shown of them, worked out by hand from docs/GRAMMAR.md: "values",
-printed and in nanoseconds, milliseconds, seconds and ISO 8601; the rows of their "terms"; "notes" on them; the mark and the
-sentence of "faults", if that is not the library's line; the answers to "lines"; and what is offered where an option is
-"switched". "meant" has the values in seconds that people mean by texts: several where people use a text with several
-meanings, null where nothing may be offered. "typed" texts are typed character by character; "hostile" ones must be shown, and
-do nothing else, and "hostile links" must choose nothing. page.js runs in the page.
+page-texts.json has texts and what is shown of them, worked out by hand from docs/GRAMMAR.md:
+"values", printed and in nanoseconds, milliseconds, seconds and ISO 8601; the rows of their "terms";
+"notes" on them; the mark and the sentence of "faults", if that is not the library's line; what
+texts mean "elsewhere"; the answers to "lines"; and what is offered where an option is "switched".
+"meant" has the values in seconds that people mean by texts: several where people use a text with
+several meanings, null where nothing may be offered; page.test.mjs tries these without a browser.
+"typed" texts are typed character by character; "hostile" ones must be shown, and do nothing else,
+and "hostile links" must choose nothing. page.js runs in the page.
 """
 import ast
 import base64
-import decimal
+import hashlib
 import json
 import pathlib
 import re
@@ -31,12 +33,15 @@ TEXTS = json.loads((ROOT / "tests/page-texts.json").read_text(encoding="utf-8"))
 SCHEMES = ("light", "dark")
 # A little longer than the page waits after the last key before it tells the answer and writes the link
 PAUSE = 0.8
-# How many bytes the page may have, and how many words a sentence of its own
-LARGEST = 98_500
-WORDS = 9
+# How many bytes the page may have
+LARGEST = 105_000
 # What the keyboard of a phone of 375 by 667 pixels leaves free
 FREE = 300
-OPTIONS = reference_parser.Options._fields
+PICTURES = ROOT / "docs/images"
+PICTURE_WIDTH = 640
+PICTURE_MARGIN = 12
+# The reference parser reads without units; rows with this option say what is expected.
+OPTIONS = (*reference_parser.Options._fields, "require_unit")
 
 MEGABYTE = 1 << 20
 # Texts of 1 MiB, and what is printed of them, or None; 349,525 s are 4 d 1 h 5 min 25 s.
@@ -186,6 +191,17 @@ def try_faults(page):
     page.same("a part of a long text", ["1h -x" + "😀" * 20], page.words("#excerpt"))
 
 
+def try_elsewhere(page):
+    """Other programs are named where they read a text in another way."""
+    page.open()
+    for text, rows in TEXTS["elsewhere"]:
+        page.put(text)
+        got = page.words("#elsewhere th, #elsewhere td")
+        page.same(f"{text} elsewhere", [rows, bool(rows)], [got, page.find("elsewhere").is_displayed()])
+    page.put("1.5h\n1y")
+    page.same("nothing elsewhere of several lines", False, page.find("elsewhere").is_displayed())
+
+
 def try_lines(page):
     """Of several lines each has its value or its fault, and is mended alone."""
     page.open("#text=1:30")
@@ -197,40 +213,15 @@ def try_lines(page):
     page.click("#lines button")
     page.same("a line that is mended", "30s\n5 min\n1h", page.text())
     page.same("how many are read", ["3 of 3 lines are read."], page.words("#lines caption"))
-    page.put("90s\n" * 600)
-    page.same("600 lines", ["90s", "1min 30s"] * 600, page.words("#lines :is(th, td > *)"))
-    page.put("90s\n" * 3_000)
-    said = "Over 10,000 characters, lines are added up and not read one by one."
-    page.same("3,000 lines", ["3d 3h", [said]], [page.text_of("printed"), page.words("#notes p")])
-    page.put("x\n" + "90s\n" * 3_000)
-    page.same("3,000 lines, of which one is refused", f"{line_of('x')} {said}", page.text_of("sentence"))
+    page.put("90s\n" * 200)
+    page.same("200 lines", ["90s", "1min 30s"] * 200, page.words("#lines :is(th, td > *)"))
+    page.put("90s\n" * 10_000 + "x")
+    shown = ["x", line_of("x"), *["90s", "1min 30s"] * 199]
+    page.same("10,001 lines", [shown, None], [page.words("#lines :is(th, td > *)"), page.text_of("printed")])
+    told = "10,000 of 10,001 lines are read; 200 are shown, the refused ones first."
+    page.same("how many of 10,001 lines are read", [told], page.words("#lines caption"))
     page.put("1h 30m\n")
     page.same("one line", [None, "1h 30min"], [page.text_of("lines"), page.text_of("printed")])
-
-
-def nanoseconds_of(words):
-    """The value of a sum in words, as `1 hour 2 months of 30 days`."""
-    lengths = {name: unit.length for unit in reference_parser.UNITS for name in unit.names.split()}
-    found = re.findall(r"([0-9,]+) ([a-z]+)(?: of \d+ days)?", words)
-    return sum(int(count.replace(",", "")) * lengths[name] for count, name in found)
-
-
-def try_texts(page):
-    """No button has another value than is meant, and each says its value."""
-    page.open()
-    rows = [row for rows in TEXTS["meant"].values() for row in rows]
-    page.same("texts", True, len(rows) >= 150)
-    answers = page.answer_line(f"asked.readOffers({json.dumps([text for text, *_ in rows])})")
-    for (text, *meant), (sentence, is_own, buttons) in zip(rows, answers):
-        values = [int(decimal.Decimal(seconds) * 10**9) for seconds in meant if seconds]
-        # What the text is read as is not offered.
-        expected = [f"{value:,}" for value in values if value != answer_to(text).value]
-        page.same(f"what is offered for {text!r}", expected, [value for *_, value in buttons])
-        is_short = not is_own or len(sentence.split()) <= WORDS
-        page.same(f"a sentence of at most {WORDS} words for {text!r}: {sentence}", True, is_short)
-        for name, words, value in buttons:
-            said = f"{nanoseconds_of(name.removeprefix(f'{words}: ')):,}"
-            page.same(f"the name of a button for {text!r}", [True, value], [name.startswith(f"{words}: "), said])
 
 
 def try_switching(page):
@@ -238,7 +229,8 @@ def try_switching(page):
     for text, options, words, meaning, remain in TEXTS["switched"]:
         page.choose(*options)
         page.put(text)
-        page.same(f"{words} for {text}", [words, meaning], page.words("#offered button > *"))
+        name = page.answer_line("document.querySelector('#offered button').ariaLabel")
+        page.same(f"{words} for {text}", [words, meaning, f"{words}: {meaning}"], [*page.words("#offered button > *"), name])
         page.click("#offered button")
         page.same(f"pressed: {words} for {text}", [words, remain], [page.text(), page.chosen()])
     page.choose()
@@ -298,6 +290,22 @@ def try_code(page):
     for name, end in taken.items():
         page.same(f"the code in {name}", True, any(line.endswith(end) for line in page.text_of(name).splitlines()))
     page.same("no shell's line of two lines", None, page.text_of("shell"))
+    page.choose("require_unit")
+    page.put("1h 30m")
+    taken = {
+        "rust": ('use duration_str::{format_duration, parse_with_units};', 'parse_with_units("1h 30m")?;'),
+        "python": ('duration_str.parse("1h 30m", require_unit=True)',),
+        "javascript": ('parse("1h 30m", { requireUnit: true });',),
+        "c": ("sizeof text - 1, DURATION_STR_OPTION_REQUIRE_UNIT, &answer);",),
+        "shell": ("duration --require-unit -- '1h 30m'",),
+    }
+    for name, ends in taken.items():
+        for end in ends:
+            page.same(f"{end} in {name}", True, any(line.endswith(end) for line in page.text_of(name).splitlines()))
+    page.choose("no_calc", "require_unit")
+    page.same("no call of Rust and no program has both options", [None, None], [page.text_of("rust"), page.text_of("shell")])
+    page.choose("cn_unit", "require_unit")
+    page.same("the shell's line with both options", "duration --cn-unit --require-unit -- '1h 30m'", page.text_of("shell"))
     page.choose()
     for text in ("1h", "\t1m\n", "2 * 5 µs"):
         page.put(text)
@@ -317,14 +325,18 @@ def try_code(page):
 def try_printing(page):
     """A duration of 90,061.000000001 s, which is 1 day 1 hour 1 minute 1 second 1 nanosecond, in chosen ways."""
     rows = [
-        ({}, "1d 1h 1min 1s 1ns", {}),
-        ({"style": "compact"}, "1d1h1min1s1ns", {"rust": ".style(Style::Compact)", "python": 'style="compact"'}),
+        ({}, "1d 1h 1min 1s 1ns", {"shell": "printf '%s\\n' '90061s 1ns' | durstr"}),
+        ({"style": "compact"}, "1d1h1min1s1ns",
+         {"rust": ".style(Style::Compact)", "python": 'style="compact"',
+          "shell": "duration --style compact -- '90061s 1ns'"}),
         ({"style": "long", "parts": "2"}, "1 day 1 hour",
          {"rust": ".style(Style::Long).parts(2)", "python": 'style="long", parts=2',
-          "c": "DURATION_STR_UNIT_YEAR, DURATION_STR_UNIT_NANOSECOND,\n    2, DURATION_STR_STYLE_LONG,"}),
+          "c": "answer.nanos / 1000000000, answer.nanos % 1000000000,\n"
+               "    DURATION_STR_UNIT_YEAR, DURATION_STR_UNIT_NANOSECOND,\n    2, DURATION_STR_STYLE_LONG,"}),
         ({"largest": "h", "smallest": "min"}, "25h 1min",
          {"rust": ".largest(TimeUnit::Hour).smallest(TimeUnit::Minute)", "python": 'largest="h", smallest="min"',
           "javascript": '{ largest: "h", smallest: "min" }',
+          "shell": "duration --largest h --smallest min -- '90061s 1ns'",
           "c": "DURATION_STR_UNIT_HOUR, DURATION_STR_UNIT_MINUTE,\n"
                f"    {len(reference_parser.UNITS)}, DURATION_STR_STYLE_SHORT,"}),
         ({"smallest": "µs"}, "1d 1h 1min 1s", {"rust": "TimeUnit::MicroSecond", "javascript": 'smallest: "µs"'}),
@@ -333,7 +345,6 @@ def try_printing(page):
         limits = "".join(f"&{name}={urllib.parse.quote(value)}" for name, value in chosen.items())
         page.open("#text=90061s%201ns" + limits)
         page.same(f"printed by {chosen}", printed, page.text_of("printed"))
-        page.same(f"the shell's line for {chosen}", not chosen, page.text_of("shell") is not None)
         for name, part in code.items():
             page.same(f"{part} in {name}", True, part in page.text_of(name))
         page.type("90061s 1ns")
@@ -389,7 +400,7 @@ def try_link(page):
     page.same("the link", "#text=" + urllib.parse.quote("1分 30&no=5%#", safe="") + "&no_calc&cn_unit", link)
     page.open(link)
     page.same("what the link gives", ["1分 30&no=5%#", ["no_calc", "cn_unit"]], [page.text(), page.chosen()])
-    for fragment, text in [("#text=1m+2", "1m+2"), ("#text=%E0%A4%A", ""), ("#", "90m + 45s"), ("#other=1", "")]:
+    for fragment, text in [("#text=1m+2", "1m+2"), ("#text=1m=2", "1m=2"), ("#text=%E0%A4%A", ""), ("#", "90m + 45s"), ("#other=1", "")]:
         page.open(fragment)
         page.same(f"the text of {fragment}", text, page.text())
     page.same("what is told of #other=1", "Not understood in the link: other=1", page.text_of("link-note"))
@@ -397,9 +408,13 @@ def try_link(page):
     time.sleep(PAUSE)
     said = "This text is not UTF-8, so the address can't hold it."
     page.same("what is told of a lone surrogate", [said, None], [page.text_of("link-note"), page.text_of("share")])
+    page.put("1s " * 667)
+    time.sleep(PAUSE)
+    page.same("what is told of 2,001 characters", "This text is too long for the address.", page.text_of("link-note"))
+    page.open("#text=1h&no_calc&style=long")
     page.run("location.hash = 'cn_unit'")
     time.sleep(PAUSE)
-    page.same("another link's text", ["", ["cn_unit"]], [page.text(), page.chosen()])
+    page.same("another link", ["", ["cn_unit"], "short"], [page.text(), page.chosen(), page.find("style").get_property("value")])
 
 
 def try_hostile(page):
@@ -553,6 +568,37 @@ def try_looks(page):
     page.same("the diagram is drawn", True, page.run("return document.querySelector('img').naturalWidth > 300"))
 
 
+def shown_in_picture(page, scheme):
+    """Opens what the pictures show, and gives how high that is."""
+    emulate(page, scheme, PICTURE_WIDTH)
+    page.open("#text=1%3A30")
+    page.run("document.activeElement.blur()")
+    return page.run("return document.getElementById('answer').getBoundingClientRect().bottom") + PICTURE_MARGIN
+
+
+def said_in_picture(page):
+    """The words in the pictures, and a digest of how they look: whether a picture is stale is seen by these."""
+    selectors = ["header", "#examples", "#options", "#answer"]
+    words = page.answer_line(f"{json.dumps(selectors)}.map((each) => document.querySelector(each).innerText)")
+    style = hashlib.sha256((ROOT / "web/style.css").read_bytes()).hexdigest()
+    return "\n".join([*words, f"style.css: {style}", ""])
+
+
+def take_pictures(page):
+    for scheme in SCHEMES:
+        clip = {"x": 0, "y": 0, "width": PICTURE_WIDTH, "height": shown_in_picture(page, scheme), "scale": 2}
+        words = {"format": "webp", "quality": 50, "clip": clip}
+        taken = page.driver.execute_cdp_cmd("Page.captureScreenshot", words)
+        (PICTURES / f"page-{scheme}.webp").write_bytes(base64.b64decode(taken["data"]))
+    (PICTURES / "page.txt").write_text(said_in_picture(page), encoding="utf-8")
+
+
+def try_pictures(page):
+    shown_in_picture(page, "light")
+    taken = (PICTURES / "page.txt").read_text(encoding="utf-8")
+    page.same("what the pictures show; tests/page --pictures takes them anew", said_in_picture(page), taken)
+
+
 def try_outside(page):
     """Nothing was asked for outside so far, no rule was broken and nothing complained of; and the policy holds."""
     messages = [json.loads(entry["message"])["message"] for entry in page.driver.get_log("performance")]
@@ -587,18 +633,10 @@ def try_without(page):
     same("without WebAssembly", False)
 
 
-def take_pictures(page):
-    for scheme in SCHEMES:
-        emulate(page, scheme, 640, 430)
-        page.open("#text=1%3A30")
-        page.run("document.activeElement.blur()")
-        taken = page.driver.execute_cdp_cmd("Page.captureScreenshot", {"format": "webp", "quality": 50})
-        (ROOT / f"docs/images/page-{scheme}.webp").write_bytes(base64.b64decode(taken["data"]))
-
-
 def main(file, *words):
     page = Page(file)
     page.same(f"at most {LARGEST} bytes", True, pathlib.Path(file).stat().st_size <= LARGEST)
+    page.same("its licence", True, "Apache License" in pathlib.Path(file).read_text(encoding="utf-8"))
     try:
         if words == ("--pictures",):
             take_pictures(page)

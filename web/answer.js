@@ -1,12 +1,13 @@
-// The answer below the text: its value in all notations, or its fault, and what is offered beside it; of several lines each
-// line's value or fault.
+// The answer below the text: its value in all notations, or its fault and what is offered instead.
+// Of several lines, it is each line's value or fault.
 import { formatNs, tryParseNs } from "../js/dist/duration-str.js";
 import { notesOn, offersFor, sentence } from "./advice.js";
 import { choose, chosenLimits, chosenOptions, switches } from "./choices.js";
 import { LANGUAGES } from "./code.js";
-import { AROUND, button, element, LONG, LONGEST_LINES, make, text, write } from "./elements.js";
-import { lineOf, parts, say } from "./sentences.js";
-import { terms } from "./units.js";
+import { elsewhere } from "./elsewhere.js";
+import { AROUND, button, element, make, MOST_LINES, parts, text, write } from "./elements.js";
+import { lineOf } from "./sentences.js";
+import { LONG, terms } from "./units.js";
 import { decimal, groupDigits, iso, seconds, termRows } from "./values.js";
 
 /** What a copy button copies, by the name of the element that shows it. */
@@ -19,7 +20,8 @@ function show(id, words, shown = words) {
 
 // ---- Marks
 
-/** The part of the text that the fault of a line is about, from and to as UTF-16 units; none where it has no place. */
+/** The part of the text that a line's fault is about, from and to as indexes; none if the fault has
+ * no place. */
 function markedParts({ words, start, fault }) {
     if (!fault || words === "" || fault.index === null) return [];
     const { code, index, found } = fault;
@@ -72,14 +74,15 @@ function changesTo(options) {
     return changed.map(([, box]) => `${box.dataset.switched}, `).join("");
 }
 
-/** A button that puts what is offered in place of the text, or of the part that starts and ends there. */
+/** A button that puts the offer in place of the text, or of the part that starts and ends there. */
 function offerButton({ text: words, options, meaning }, ...part) {
     const press = () => {
         choose(options);
         write(words, ...part);
     };
-    const one = button(press, make("code", make("bdi", words)), make("span", changesTo(options) + meaning));
-    one.ariaLabel = `${words}: ${changesTo(options)}${meaning}`;
+    const said = changesTo(options) + meaning;
+    const one = button(press, make("code", make("bdi", words)), make("span", said));
+    one.ariaLabel = `${words}: ${said}`;
     return one;
 }
 
@@ -88,13 +91,10 @@ function showOffers(offers) {
     element("offered").replaceChildren(...offers.map((offer) => offerButton(offer)));
 }
 
-const ADDED_UP = say`Over 10,000 characters, lines are added up and not read one by one.`;
-
 /** The sentences on a line, and what is offered beside it. */
 function remarksOn({ words, value, fault }) {
     const said = fault ? [sentence(words, fault.code, chosenOptions()) ?? lineOf(fault)] : [];
-    const added = words.trim().includes("\n") ? [ADDED_UP] : [];
-    if (words.length > LONG) return { sentences: [...said, ...added], offers: [] };
+    if (words.length > LONG) return { sentences: said, offers: [] };
     if (!fault) return notesOn(words, value, chosenOptions());
     return { sentences: said, offers: offersFor(words, chosenOptions()) };
 }
@@ -103,7 +103,8 @@ function remarksOn({ words, value, fault }) {
 
 function showFault(line) {
     const { sentences: [said, ...others], offers } = remarksOn(line);
-    element("sentence").replaceChildren(...parts(said), ...others.flatMap((each) => [" ", ...parts(each)]));
+    const more = others.flatMap((each) => [" ", ...parts(each)]);
+    element("sentence").replaceChildren(...parts(said), ...more);
     element("sentence").classList.toggle("hint", text.value === "");
     element("line").replaceChildren(...parts(lineOf(line.fault)));
     const isOwn = element("sentence").textContent !== element("line").textContent;
@@ -138,6 +139,13 @@ function showValue(line) {
     showOffers(offers);
 }
 
+/** What other programs read, where they differ; nothing of a long text. */
+function showElsewhere({ words, ok, value }) {
+    const rows = words.length <= LONG ? elsewhere(words, ok ? value : null) : [];
+    element("elsewhere").hidden = rows.length === 0;
+    fill(element("elsewhere"), rows);
+}
+
 function showCode(isShown) {
     element("no-code").hidden = isShown;
     for (const id of ["how", "codes"]) element(id).hidden = !isShown;
@@ -149,34 +157,63 @@ function showCode(isShown) {
 
 // ---- Several lines
 
-/** The lines with something in them, each with where it starts, where there are several; otherwise all as one. */
+/** The lines that are not blank, each with the index where it starts. Of fewer than two lines, the
+ * whole text is one. */
 function linesOf(whole) {
-    const lines = Array.from(whole.matchAll(/[^\n]*\S[^\n]*/g), ({ 0: words, index }) => ({ words, start: index }));
-    return whole.length <= LONGEST_LINES && lines.length > 1 ? lines : [{ words: whole, start: 0 }];
+    const found = Array.from(whole.matchAll(/[^\n]*\S[^\n]*/g));
+    const lines = found.map(({ 0: words, index }) => ({ words, start: index }));
+    return lines.length > 1 ? lines : [{ words: whole, start: 0 }];
 }
 
+/** The lines that are shown: of very many, first the refused ones, then as many others as fit. */
+function linesToShow(lines) {
+    if (lines.length <= MOST_LINES) return lines;
+    const refused = lines.filter(({ ok }) => !ok);
+    const read = lines.filter(({ ok }) => ok);
+    return [...refused, ...read].slice(0, MOST_LINES);
+}
+
+/** A line, and beside it its value or fault, and what is offered instead. */
+function lineRow(line) {
+    const { words, start, ok, value } = line;
+    const { sentences, offers } = remarksOn(line);
+    return [
+        words.trim(),
+        ...(ok ? [make("code", formatNs(value, chosenLimits()))] : []),
+        ...sentences.map((each) => make("p", ...parts(each))),
+        ...offers.map((offer) => offerButton(offer, start, start + words.length)),
+    ];
+}
+
+/** How many of the lines are read. */
+function howMany(lines) {
+    const read = groupDigits(`${lines.filter(({ ok }) => ok).length}`);
+    const all = groupDigits(`${lines.length}`);
+    if (lines.length <= MOST_LINES) return `${read} of ${all} lines are read.`;
+    return `${read} of ${all} lines are read; ${MOST_LINES} are shown, the refused ones first.`;
+}
+
+/** Shows the lines, and returns what a screen reader is told of them. */
 function showLines(lines) {
-    fill(element("lines"), lines.map((line) => {
-        const { words, start, ok, value } = line;
-        const { sentences, offers } = remarksOn(line);
-        return [
-            words.trim(), ...(ok ? [make("code", formatNs(value, chosenLimits()))] : []),
-            ...sentences.map((each) => make("p", ...parts(each))),
-            ...offers.map((offer) => offerButton(offer, start, start + words.length)),
-        ];
-    }));
+    fill(element("lines"), linesToShow(lines).map(lineRow));
     showOffers([]);
+    element("lines").caption.textContent = howMany(lines);
+    return howMany(lines);
 }
 
 /** The sentences and what is offered, as screen readers are told them. */
 function announcement(sentences) {
     const offers = Array.from(element("offered").children, (one) => one.ariaLabel);
-    return [...sentences, ...(offers.length > 0 ? [`Try instead ${offers.join("; ")}.`] : [])].join(" ");
+    const tried = offers.length > 0 ? [`Try instead ${offers.join("; ")}.`] : [];
+    return [...sentences, ...tried].join(" ");
 }
 
-/** Reads the text, shows its value or its fault, or those of its lines, and returns what a screen reader is told of it. */
+/** Reads the text and shows its value or fault, or those of its lines. Returns what a screen reader
+ * is told. */
 export function showAnswer() {
-    const lines = linesOf(text.value).map((line) => ({ ...line, ...tryParseNs(line.words, chosenOptions()) }));
+    const options = chosenOptions();
+    const lines = linesOf(text.value)
+        .map((line) => ({ ...line, ...tryParseNs(line.words, options) }));
     const [line] = lines;
     const isOne = lines.length === 1;
     const isRead = lines.every(({ ok }) => ok);
@@ -189,15 +226,13 @@ export function showAnswer() {
     for (const id of ["sentence", "line"]) element(id).replaceChildren();
     if (!isOne || isRead) text.removeAttribute("aria-describedby");
     else text.setAttribute("aria-describedby", "sentence");
-    if (!isOne) {
-        showLines(lines);
-        const told = `${lines.filter(({ ok }) => ok).length} of ${lines.length} lines are read.`;
-        element("lines").caption.textContent = told;
-        return told;
-    }
+    element("elsewhere").hidden = true;
+    if (!isOne) return showLines(lines);
+    showElsewhere(line);
     if (isRead) {
         showValue(line);
-        return announcement([`${copied.printed}.`, ...Array.from(element("notes").children, (note) => note.textContent)]);
+        const notes = Array.from(element("notes").children, (note) => note.textContent);
+        return announcement([`${copied.printed}.`, ...notes]);
     }
     showFault(line);
     return announcement([element("sentence").textContent]);

@@ -1,5 +1,5 @@
-// A text that is read, in programs of each language, and printed in the same way. Such a text has no character that JSON
-// and a language escape differently.
+// Programs that read and print the text, in each language. Text that is read has no character that
+// JSON and one of the languages escape differently.
 import { switches } from "./choices.js";
 import { UNITS } from "./units.js";
 
@@ -15,66 +15,124 @@ function rustLimit([name, value]) {
     return `.${name}(TimeUnit::${capital(wordOf(value)).replace(/(?<=[io])sec/, "Sec")})`;
 }
 
+/** Rust's call that reads the text, and what it imports; null if the crate has no call with these
+ * options. */
+function rustReading(text, options) {
+    const literal = JSON.stringify(text);
+    const names = namesOf(options);
+    if (!options.requireUnit) {
+        const fields = names.map((name) => `${switches[name].id}: true, `).join("");
+        const taken = fields ? `Options { ${fields}..Options::off() }` : "Options::off()";
+        return { call: `parse_with(${literal}, ${taken})`, imports: ["parse_with", "Options"] };
+    }
+    if (names.length > 1) return null;
+    return { call: `parse_with_units(${literal})`, imports: ["parse_with_units"] };
+}
+
 function rust(text, options, limits) {
-    const fields = namesOf(options).map((name) => `${switches[name].id}: true, `).join("");
-    const taken = fields ? `Options { ${fields}..Options::off() }` : "Options::off()";
+    const reading = rustReading(text, options);
+    if (!reading) return "";
     const calls = Object.entries(limits).map(rustLimit).join("");
-    const types = ["Style", "TimeUnit"].filter((name) => calls.includes(name)).map((name) => `, ${name}`).join("");
-    return `use duration_str::{format_duration, parse_with, Options${types}};\n\n`
-        + `let duration = parse_with(${JSON.stringify(text)}, ${taken})?;\n`
-        + `let text = format_duration(duration)${calls}.to_string();`;
+    const types = ["Style", "TimeUnit"].filter((name) => calls.includes(name));
+    const imports = ["format_duration", ...reading.imports, ...types].join(", ");
+    return [
+        `use duration_str::{${imports}};`,
+        "",
+        `let duration = ${reading.call}?;`,
+        `let text = format_duration(duration)${calls}.to_string();`,
+    ].join("\n");
 }
 
 function python(text, options, limits) {
-    const taken = namesOf(options).map((name) => `, ${switches[name].id}=True`).join("");
-    const printed = Object.entries(limits).map(([name, value]) => `, ${name}=${JSON.stringify(value)}`).join("");
-    return `import duration_str\n\nduration = duration_str.parse(${JSON.stringify(text)}${taken})\n`
-        + `text = duration_str.format(duration${printed})`;
+    const taken = namesOf(options).map((name) => `, ${switches[name].id}=True`);
+    const printed = Object.entries(limits)
+        .map(([name, value]) => `, ${name}=${JSON.stringify(value)}`);
+    return [
+        "import duration_str",
+        "",
+        `duration = duration_str.parse(${JSON.stringify(text)}${taken.join("")})`,
+        `text = duration_str.format(duration${printed.join("")})`,
+    ].join("\n");
+}
+
+/** JavaScript's last argument with these properties; none without any. */
+function argument(properties) {
+    const fields = Object.entries(properties)
+        .map(([name, value]) => `${name}: ${JSON.stringify(value)}`);
+    return fields.length > 0 ? `, { ${fields.join(", ")} }` : "";
 }
 
 function javascript(text, options, limits) {
-    const field = ([name, value]) => `${name}: ${JSON.stringify(value)}`;
-    const object = (pairs) => pairs.length > 0 ? `, { ${pairs.map(field).join(", ")} }` : "";
-    return `import { format, parse } from "duration-str";\n\n`
-        + `const milliseconds = parse(${JSON.stringify(text)}${object(namesOf(options).map((name) => [name, true]))});\n`
-        + `const text = format(milliseconds${object(Object.entries(limits))});`;
+    const taken = Object.fromEntries(namesOf(options).map((name) => [name, true]));
+    return [
+        'import { format, parse } from "duration-str";',
+        "",
+        `const milliseconds = parse(${JSON.stringify(text)}${argument(taken)});`,
+        `const text = format(milliseconds${argument(limits)});`,
+    ].join("\n");
 }
 
 /** C's call that prints the answer. */
 function cPrintCall(limits) {
     if (Object.keys(limits).length === 0) {
-        return "char buffer[DURATION_STR_FORMAT_BUFFER_SIZE];\nduration_str_format(answer.nanos, buffer);";
+        return [
+            "char buffer[DURATION_STR_FORMAT_BUFFER_SIZE];",
+            "duration_str_format(answer.nanos, buffer);",
+        ];
     }
-    const value = "answer.nanos / 1000000000, answer.nanos % 1000000000";
     const { largest = "y", smallest = "ns", parts = UNITS.length, style = "short" } = limits;
-    const [from, to] = [largest, smallest].map((unit) => `DURATION_STR_UNIT_${wordOf(unit).toUpperCase()}`);
-    return `char buffer[DURATION_STR_STYLED_BUFFER_SIZE];\nduration_str_format_styled(\n    ${value},\n`
-        + `    ${from}, ${to},\n    ${parts}, DURATION_STR_STYLE_${style.toUpperCase()}, buffer);`;
+    const constantOf = (unit) => `DURATION_STR_UNIT_${wordOf(unit).toUpperCase()}`;
+    return [
+        "char buffer[DURATION_STR_STYLED_BUFFER_SIZE];",
+        "duration_str_format_styled(",
+        "    answer.nanos / 1000000000, answer.nanos % 1000000000,",
+        `    ${constantOf(largest)}, ${constantOf(smallest)},`,
+        `    ${parts}, DURATION_STR_STYLE_${style.toUpperCase()}, buffer);`,
+    ];
+}
+
+/** C's literal of a text, in which bytes beyond ASCII are escaped. */
+function cLiteral(text) {
+    const escaped = (byte) => `\\${byte.toString(8).padStart(3, "0")}`;
+    const isPlain = (byte) => byte >= 0x20 && byte < 0x7f;
+    const written = (byte) => isPlain(byte) ? String.fromCharCode(byte) : escaped(byte);
+    return `"${Array.from(new TextEncoder().encode(text), written).join("")}"`;
 }
 
 function c(text, options, limits) {
-    const bytes = new TextEncoder().encode(text);
-    const escaped = (byte) => `\\${byte.toString(8).padStart(3, "0")}`;
-    const isPlain = (byte) => byte >= 0x20 && byte < 0x7f;
-    const words = Array.from(bytes, (byte) => isPlain(byte) ? String.fromCharCode(byte) : escaped(byte));
-    const taken = namesOf(options).map((name) => `DURATION_STR_OPTION_${switches[name].id.toUpperCase()}`).join(" | ") || "0";
-    return `#include <duration_str.h>\n\nconst char text[] = "${words.join("")}";\nstruct duration_str_answer answer;\n`
-        + `bool is_read = duration_str_parse_with(\n    text, sizeof text - 1, ${taken}, &answer);\n`
-        + cPrintCall(limits);
+    const ids = namesOf(options).map((name) => switches[name].id);
+    const bits = ids.map((id) => `DURATION_STR_OPTION_${id.toUpperCase()}`);
+    return [
+        "#include <duration_str.h>",
+        "",
+        `const char text[] = ${cLiteral(text)};`,
+        "struct duration_str_answer answer;",
+        "bool is_read = duration_str_parse_with(",
+        `    text, sizeof text - 1, ${bits.join(" | ") || "0"}, &answer);`,
+        ...cPrintCall(limits),
+    ].join("\n");
 }
 
-/** The program reads lines, and prints all of a duration. */
+/** `durstr` reads lines and prints durations whole. `duration` can do more, but lacks `no_calc`. */
 function shell(text, options, limits) {
-    if (/\p{C}/u.test(text) || Object.keys(limits).length > 0) return "";
-    return ["printf '%s\\n'", `'${text}'`, "| durstr", ...namesOf(options).map((name) => switches[name].id)].join(" ");
+    if (/\p{C}/u.test(text)) return "";
+    const names = namesOf(options).map((name) => switches[name].id);
+    const chosen = Object.entries(limits);
+    if (!options.requireUnit && chosen.length === 0) {
+        return ["printf '%s\\n'", `'${text}'`, "| durstr", ...names].join(" ");
+    }
+    if (options.noCalc) return "";
+    const taken = names.map((name) => `--${name.replace("_", "-")}`);
+    const printed = chosen.map(([name, value]) => `--${name} ${value}`);
+    return ["duration", ...taken, ...printed, "--", `'${text}'`].join(" ");
 }
 
-/** What reads and prints the text, by the language's name in the page, with its title and how it is got in a clone of the
- * repository; an empty text where it can't. */
+/** For each language, by its id in the page: its title, how to get the package in a clone, and what
+ * makes the program, which is empty if there is none. */
 export const LANGUAGES = {
     rust: ["Rust", 'duration-str = { path = "../duration_str/rust" }', rust],
     python: ["Python", "pip install ./python", python],
     javascript: ["JavaScript", "npm pack ./js", javascript],
     c: ["C", "make install", c],
-    shell: ["Shell", "./durstr", shell],
+    shell: ["Shell", "make install", shell],
 };

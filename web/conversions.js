@@ -1,5 +1,6 @@
-// Texts in other notations, each recognised as a whole, with their exact values. What people use with two meanings has
-// two readings, and what has no meaning, or none that is a duration, has a sentence alone.
+// Texts in other notations, each recognised as a whole, with their exact values. A text that people
+// use with two meanings has two readings. One that means nothing, or no duration, has no reading
+// but a sentence.
 import { tryParseNs } from "../js/dist/duration-str.js";
 import { terms, UNITS, unitOf } from "./units.js";
 import { say } from "./sentences.js";
@@ -11,10 +12,13 @@ const [WEEK, DAY, HOUR, MINUTE, SECOND] = ["w", "d", "h", "m", "s"].map(unitOf);
 
 // ---- Characters and names
 
-/** The text with the digits of other scripts as ASCII's, `µ` for the other mu, `microseconds` for `micro seconds`, and
- * without zero-width characters and marks of direction around it. */
+/** Marks of direction around a text, and characters without width anywhere in it. */
+const UNSEEN = /^[\u202a\u2066]|[\u202c\u2069]$|[\u00ad\u200b-\u200f\u2060\ufeff]/g;
+
+/** The text without what is unseen, with the digits of other scripts as ASCII's, `µ` for the other
+ * mu, and `microseconds` for `micro seconds`. */
 function plain(text) {
-    const seen = text.trim().replace(/^[\u202a\u2066]|[\u202c\u2069]$|[\u00ad\u200b-\u200f\u2060\ufeff]/g, "");
+    const seen = text.trim().replace(UNSEEN, "");
     const joined = seen.replace(/\b(milli|micro|nano)[ -](?=sec)/gi, "$1");
     return joined.replace(/\u03bc/g, "µ").replace(/\p{Nd}/gu, (digit) => {
         // The ten digits of a script follow one another.
@@ -26,7 +30,8 @@ function plain(text) {
 
 /** From a list of words for each name of the library, the name of each word. */
 function byWord(rows) {
-    return new Map(Object.entries(rows).flatMap(([name, words]) => words.split(" ").map((word) => [word, name])));
+    const pairs = ([name, words]) => words.split(" ").map((word) => [word, name]);
+    return new Map(Object.entries(rows).flatMap(pairs));
 }
 
 /** Names that people use and the library doesn't have: those near its own, and others. */
@@ -34,14 +39,20 @@ const COMMON = new Map([
     ...UNITS.flatMap(({ near, printed }) => near.map((word) => [word, printed])),
     ...byWord({ ms: "millisec millisecs", µs: "microsec microsecs", ns: "nanosec nanosecs" }),
 ]);
-/** Whole words for lengths in other languages; not those that are abbreviated, or name a date or an hour of the day too. */
+/** Whole words for lengths in other languages. Words that are abbreviated, or that name a date or
+ * an hour of the day too, are left out. */
 const FOREIGN = byWord({
-    y: "年間", mon: "个月 か月 개월", w: "woche wochen semaine semaines semana semanas 星期 週間", d: "tag tage jour jours día días 日間",
-    h: "stunde stunden std heure heures hora horas 小时 時間 시간", min: "minuten minuto minutos 分钟 分間",
-    sec: "sekunde sekunden seconde secondes segundo segundos 秒钟 秒間",
+    y: "年間",
+    mon: "个月 か月 개월",
+    w: "woche wochen semaine semaines semana semanas неделя недели недель 星期 週間",
+    d: "tag tage jour jours día días день дня дней 日間",
+    h: "stunde stunden std heure heures hora horas час часа часов 小时 時間 시간",
+    min: "minuten minuto minutos минута минуты минут 分钟 分間",
+    sec: "sekunde sekunden seconde secondes segundo segundos секунда секунды секунд 秒钟 秒間",
 });
 
-/** Whether one word becomes the other by one letter put in, left out or replaced, or two neighbours swapped. */
+/** Whether one word becomes the other by one letter more, one less or another one, or if two
+ * neighbours are swapped. */
 function isOneEdit(one, other) {
     let start = 0;
     while (start < one.length && one[start] === other[start]) start++;
@@ -51,15 +62,19 @@ function isOneEdit(one, other) {
     return less === otherLess || less === otherRest || rest === otherLess || swapped === otherRest;
 }
 
-/** What a misspelt word of four letters or more means: names of one unit alone, one edit away, with its first letter. */
+/** The name that a misspelt word of four letters or more means. It has the same first letter and is
+ * one edit away, and so is no name of another unit. */
 function correction(word) {
     if (word.length < 4) return null;
     const isNear = (name) => name[0] === word[0] && isOneEdit(name, word);
     const near = UNITS.map(({ names }) => names.filter(isNear)).filter((names) => names.length > 0);
-    return near.length === 1 ? near[0].find((name) => name.at(-1) === word.at(-1)) ?? near[0][0] : null;
+    if (near.length !== 1) return null;
+    const [names] = near;
+    return names.find((name) => name.at(-1) === word.at(-1)) ?? names[0];
 }
 
-/** The library's name for a word, for a common name and for a misspelt one; nothing where there is none. */
+/** The library's name for a word, be it one of the library's, a common one or misspelt; null if
+ * there is none. */
 function unitName(word) {
     const small = word.toLowerCase();
     if (unitOf(word)) return word;
@@ -80,12 +95,13 @@ export function clean(text) {
 
 // ---- Readings
 
-/** A count of a unit in nanoseconds, where the count is so many tens to this power, over a divisor; nothing where it is
- * finer than one. */
+/** The nanoseconds of a count of a unit, where the count is digits times ten to this power, over a
+ * divisor; null if they are not whole. */
 function nanosOf([digits, power, divisor = 1n], { nanos }) {
     const ten = 10n ** BigInt(Math.abs(power));
-    const [whole, under] = power >= 0 ? [digits * nanos * ten, divisor] : [digits * nanos, divisor * ten];
-    return whole % under === 0n ? whole / under : null;
+    const above = digits * nanos * (power > 0 ? ten : 1n);
+    const below = divisor * (power < 0 ? ten : 1n);
+    return above % below === 0n ? above / below : null;
 }
 
 /** The reading with this value, whose text counts this unit and, from days down, smaller ones. */
@@ -102,10 +118,14 @@ function reading(nanos, longest) {
 
 /** What is found: the readings, each value once, if all can be read. */
 function meaning(text, readings, sentence) {
-    const none = (why) => ({ readings: [], sentence: why });
-    if (readings.some(({ nanos }) => nanos === null)) return none(say`${text} is finer than a nanosecond.`);
-    if (readings.some(({ nanos }) => nanos >= LIMIT)) return none(say`${text} is ${LONGEST}.`);
-    const isFirst = ({ nanos }, place) => readings.findIndex((each) => each.nanos === nanos) === place;
+    const values = readings.map(({ nanos }) => nanos);
+    if (values.includes(null)) {
+        return { readings: [], sentence: say`${text} is finer than a nanosecond.` };
+    }
+    if (values.some((nanos) => nanos >= LIMIT)) {
+        return { readings: [], sentence: say`${text} is ${LONGEST}.` };
+    }
+    const isFirst = ({ nanos }, place) => values.indexOf(nanos) === place;
     return { readings: readings.filter(isFirst), sentence };
 }
 
@@ -113,9 +133,11 @@ function meaning(text, readings, sentence) {
 
 const NO_LIST = say`Write one duration, not a list.`;
 const without = (words) => say`Write the duration alone, without ${words}.`;
-/** `"ttl": 5m`, `every 5m`, `--timeout 5m`, `-t 5m`, `keepalive_timeout 65s;`, `INTERVAL '1 day'` and `+5m` */
-const LED = new RegExp(String.raw`^(?:(?<quote>["'\`]?)(?<key>(?!P[0-9])[A-Za-z_][\w.-]*)\k<quote>\s*[:=]\s*`
-    + String.raw`|(?<word>(?:every|for|sleep|timeout|interval|[a-z]+_\w+|-[a-z]|--[a-z][\w-]*)(?=[=\s])|\+)=?\s*)`
+/** `"ttl": 5m`, `every 5m`, `--timeout 5m`, `-t 5m`, `keepalive_timeout 65s;`, `INTERVAL '1 day'`
+ * and `+5m` */
+const KEY = String.raw`(?<quote>["'\`]?)(?<key>(?!P[0-9])[A-Za-z_][\w.-]*)\k<quote>\s*[:=]\s*`;
+const LEADING = String.raw`every|for|sleep|timeout|interval|[a-z]+_\w+|-[a-z]|--[a-z][\w-]*`;
+const LED = new RegExp(String.raw`^(?:${KEY}|(?<word>(?:${LEADING})(?=[=\s])|\+)=?\s*)`
     + String.raw`(?<words>\S.*?)\s*[,;]?$`, "is");
 const ENCLOSED = /^(?:"(.+)"|'(.+)'|`(.+)`|“(.+)”|‘(.+)’|«(.+)»|\((.+)\)|\[(.+)\]|\{(.+)\})$/s;
 
@@ -128,10 +150,12 @@ function inside(text, options) {
     return converted(text, options);
 }
 
-/** Whether these terms, each with a unit, may be two durations: in a sum without operators the units get smaller. */
+/** Whether these terms, each with a unit, may be several durations: in a sum without operators the
+ * units get smaller. */
 function isListOf(sum) {
-    const units = sum.map(({ unit }) => unitOf(unit));
-    return sum.some(({ operator }, place) => place > 0 && !operator && units[place].nanos >= units[place - 1].nanos);
+    const lengths = sum.map(({ unit }) => unitOf(unit).nanos);
+    const isLonger = (place) => place > 0 && lengths[place] >= lengths[place - 1];
+    return sum.some(({ operator }, place) => !operator && isLonger(place));
 }
 
 /** One duration after a key or another word, where every term has a unit. */
@@ -146,8 +170,10 @@ function afterKey(text, options) {
     if (!bare && !words.includes(":")) return meaning(text, meant.readings, without(key ?? word));
     const unit = /(?:[._-]|[a-z](?=[A-Z]))([A-Za-z]+)$/.exec(key ?? word)?.[1];
     if (unit && unitName(unit)) return meaning(text, [], say`Write the unit after the number.`);
-    const isNumber = /^[0-9]+$/.test(words);
-    return meaning(text, [], isNumber ? say`Write ${words} alone: without a unit it is seconds.` : say`${bare?.number ?? words} has no unit.`);
+    if (/^[0-9]+$/.test(words)) {
+        return meaning(text, [], say`Write ${words} alone: without a unit it is seconds.`);
+    }
+    return meaning(text, [], say`${bare?.number ?? words} has no unit.`);
 }
 
 /** `"30m"` and `(30m)` */
@@ -155,20 +181,26 @@ function withinQuotes(text, options) {
     const words = (ENCLOSED.exec(text) ?? []).slice(1).find(Boolean);
     const meant = words ? inside(words, options) : null;
     if (!meant || meant.sentence) return meant;
-    return meaning(text, meant.readings, /^[([{]/.test(text) ? say`Remove the brackets.` : say`Remove the quotes.`);
+    const isBracket = /^[([{]/.test(text);
+    const sentence = isBracket ? say`Remove the brackets.` : say`Remove the quotes.`;
+    return meaning(text, meant.readings, sentence);
 }
 
 // ---- Clocks and ISO 8601
 
-const CLOCK = /^(?:([0-9]+)(?: days?,?|d) (?=[0-9]{1,2}:..:))?([0-9]+):([0-5][0-9])(?::([0-5][0-9]))?(?:\.([0-9]+))?$/;
+const COLONS = say`Write units in place of colons.`;
+const DAYS_BEFORE = "(?:([0-9]+)(?: days?,?|d) (?=[0-9]{1,2}:..:))?";
+const FIELDS = String.raw`([0-9]+):([0-5][0-9])(?::([0-5][0-9]))?(?:\.([0-9]+))?`;
+const CLOCK = new RegExp(`^${DAYS_BEFORE}${FIELDS}$`);
+const CLOCK_AND_UNIT = /^([0-9]+)([:,])([0-5][0-9])\s*(?!M$)(\p{L}+)\.?$/u;
 
 /** `1:30h` and `1:30 min`, where the unit is the first field's; `1,30h` may be a decimal, too. */
 function clockWithUnit(text) {
-    const [, first, mark, second, name] = /^([0-9]+)([:,])([0-5][0-9])\s*(?!M$)(\p{L}+)\.?$/u.exec(text) ?? [];
+    const [, first, mark, second, name] = CLOCK_AND_UNIT.exec(text) ?? [];
     const unit = unitOf(unitName(name ?? "") ?? "");
     if (unit !== HOUR && (unit !== MINUTE || mark === ",")) return null;
     const clock = reading(BigInt(first) * unit.nanos + BigInt(second) * unit.nanos / 60n, unit);
-    if (mark === ":") return meaning(text, [clock], say`Write units in place of colons.`);
+    if (mark === ":") return meaning(text, [clock], COLONS);
     const decimal = reading(nanosOf([BigInt(first + second), -2], unit), unit);
     return meaning(text, [decimal, clock], say`A decimal, or hours and minutes?`);
 }
@@ -181,20 +213,22 @@ function clock(text) {
     const sum = (...nanos) => nanos.includes(null) ? null : nanos.reduce((a, b) => a + b);
     const hours = BigInt(first) * HOUR.nanos;
     if (third) {
-        const nanos = sum(BigInt(days ?? 0) * DAY.nanos, hours, BigInt(second) * MINUTE.nanos, seconds);
-        return meaning(text, [reading(nanos, days ? DAY : HOUR)], say`Write units in place of colons.`);
+        const wholeDays = BigInt(days ?? 0) * DAY.nanos;
+        const nanos = sum(wholeDays, hours, BigInt(second) * MINUTE.nanos, seconds);
+        return meaning(text, [reading(nanos, days ? DAY : HOUR)], COLONS);
     }
     const minutes = reading(sum(BigInt(first) * MINUTE.nanos, seconds), MINUTE);
-    if (fraction) return meaning(text, [minutes], say`Write units in place of colons.`);
+    if (fraction) return meaning(text, [minutes], COLONS);
     const both = [reading(sum(hours, BigInt(second) * MINUTE.nanos), HOUR), minutes];
     return meaning(text, both, say`Hours and minutes, or minutes and seconds?`);
 }
 
 const COUNT = "([0-9]+(?:[.,][0-9]+)?)";
 const TIME = `(?:${COUNT}H)?(?:${COUNT}M)?(?:${COUNT}S)?`;
-const ISO = new RegExp(`^P(?=.)(?:${COUNT}W|(?:${COUNT}D)?(?:T(?=.)${TIME})?)$`, "i");
+const ISO = new RegExp(`^P(?=.)(?:${COUNT}W)?(?:${COUNT}D)?(?:T(?=.)${TIME})?$`, "i");
 
-/** `PT5M`, in which the last count alone can be a decimal */
+/** `PT5M`, in which only the last count can be a decimal. Weeks beside days, as in `P1W2D`, are
+ * from ISO 8601-2. */
 function iso8601(text) {
     if (!/^P[0-9T][0-9.,YMWDTHS]*$/i.test(text)) return null;
     const counts = (ISO.exec(text) ?? []).slice(1);
@@ -205,28 +239,43 @@ function iso8601(text) {
         const sum = nanos.includes(null) ? null : nanos.reduce((a, b) => a + b);
         return meaning(text, [reading(sum, given[0])], say`ISO 8601 can't be read.`);
     }
-    if (/^P[^T]*M/i.test(text)) return meaning(text, [], say`A calendar month varies: ${"1mon"} is 30 days.`);
-    if (/^P[^T]*Y/i.test(text)) return meaning(text, [], say`A calendar year varies: ${"1y"} is 365 days.`);
-    return meaning(text, [], say`This is not ISO 8601.`);
+    let why = say`This is not ISO 8601.`;
+    if (/^P[^T]*M/i.test(text)) why = say`A calendar month varies: ${"1mon"} is 30 days.`;
+    else if (/^P[^T]*Y/i.test(text)) why = say`A calendar year varies: ${"1y"} is 365 days.`;
+    return meaning(text, [], why);
+}
+
+const PRIMES = /^([0-9]+)\s*['′’]\s*([0-5]?[0-9])\s*(?:["″”]|['′’]{2})$/;
+
+/** `10' 30"`; one of the signs alone may stand for feet or inches. */
+function primes(text) {
+    const [, minutes, seconds] = PRIMES.exec(text) ?? [];
+    if (!minutes) return null;
+    const nanos = BigInt(minutes) * MINUTE.nanos + BigInt(seconds) * SECOND.nanos;
+    const sentence = say`Write ${"m"} for ${"'"}, and ${"s"} for ${'"'}.`;
+    return meaning(text, [reading(nanos, MINUTE)], sentence);
 }
 
 // ---- Sums
 
-const ONES = "one two three four five six seven eight nine ten eleven twelve thirteen fourteen fifteen sixteen seventeen "
-    + "eighteen nineteen";
+const ONES = "one two three four five six seven eight nine ten eleven twelve thirteen fourteen "
+    + "fifteen sixteen seventeen eighteen nineteen";
 const WORDS = ["", ...ONES.split(" ")];
 const TENS = ["", "", ..."twenty thirty forty fifty sixty seventy eighty ninety".split(" ")];
 const oneOf = (words) => words.filter(Boolean).join("|");
 const DIGIT = oneOf(WORDS.slice(0, 10));
 const BELOW_HUNDRED = `(?:${oneOf(TENS)})(?:[-\\s](?:${DIGIT}))?|${oneOf(WORDS)}`;
-const WORD = `(?:${DIGIT}) hundred(?: (?:and )?(?:${BELOW_HUNDRED}))?|${BELOW_HUNDRED}|an?|half(?: an?)?`;
+const HUNDREDS = `(?:${DIGIT}) hundred(?: (?:and )?(?:${BELOW_HUNDRED}))?`;
+const WORD = `${HUNDREDS}|${BELOW_HUNDRED}|an?|half(?: an?)?`;
 const VULGAR = "¼½¾⅐⅑⅒⅓⅔⅕⅖⅗⅘⅙⅚⅛⅜⅝⅞";
 const FRACTION = String.raw`(?:[0-9]+\s*)?[${VULGAR}]|(?:[0-9]+\s+)?[0-9]+\/[0-9]+`;
 // A point right after a letter abbreviates.
 const NUMBER = String.raw`(?:(?<!\p{L})\.)?[0-9](?:[.,_'’\u00a0\u202f]?[0-9])*(?:e[+\-]?[0-9]+)?`;
-const TERM = new RegExp(String.raw`(?:(${FRACTION})\s*|(${NUMBER})\s*|(${WORD})\s+)(\p{L}+)(?:\.(?=\s|$))?`, "iuy");
+const COUNT_OF_TERM = String.raw`(${FRACTION})\s*|(${NUMBER})\s*|(${WORD})\s+`;
+const TERM = new RegExp(String.raw`(?:${COUNT_OF_TERM})(\p{L}+)(?:\.(?=\s|$))?`, "iuy");
 const JOINED = /\s*,\s*(?:and\s+)?|\s+and\s+|\s*[+&:]\s*|\s*/iy;
-const GROUPED = /^([1-9][0-9]{0,2}(?:([.,_'’\u00a0\u202f])[0-9]{3})(?:\2[0-9]{3})*)(?:(?!\2)[.,]([0-9]+))?$/;
+const GROUPS = String.raw`[1-9][0-9]{0,2}(?:([.,_'’\u00a0\u202f])[0-9]{3})(?:\2[0-9]{3})*`;
+const GROUPED = new RegExp(String.raw`^(${GROUPS})(?:(?!\2)[.,]([0-9]+))?$`);
 const EXPONENT = /^([0-9]+(?:\.[0-9]+)?)e([+-]?[0-9]{1,2})$/i;
 
 /** A decimal as its digits and a power of ten. */
@@ -235,13 +284,15 @@ function digitsOf(words) {
     return [BigInt(whole + fraction), -fraction.length];
 }
 
-/** What a number can mean, as digits and a power of ten, and what is wrong with it; nothing where it means nothing. */
+/** What a number can mean, each time as digits and a power of ten, and what is wrong with it; null
+ * if it means nothing. */
 function numberOf(words) {
     if (/^[0-9]+$/.test(words)) return { counts: [[BigInt(words), 0]] };
     const [, mantissa, power] = EXPONENT.exec(words) ?? [];
     if (mantissa) {
         const [digits, shift] = digitsOf(mantissa);
-        return { counts: [[digits, shift + Number(power)]], sentence: say`Exponents can't be read.` };
+        const count = [digits, shift + Number(power)];
+        return { counts: [count], sentence: say`Exponents can't be read.` };
     }
     const counts = [];
     const [, whole, , fraction = ""] = GROUPED.exec(words) ?? [];
@@ -249,39 +300,54 @@ function numberOf(words) {
     if (/^[0-9]*[.,][0-9]+$/.test(words)) counts.push(digitsOf(words));
     if (counts.length === 2) return { counts, sentence: say`Thousands, or a decimal?` };
     if (counts.length === 0) return null;
-    return { counts, sentence: whole ? say`Digits can't be grouped.` : say`Decimals can't be read.` };
+    if (whole) return { counts, sentence: say`Digits can't be grouped.` };
+    return { counts, sentence: say`Decimals can't be read.` };
 }
 
 const isPlural = (name) => /\p{L}{2}s$/iu.test(name);
 
-/** What a number word means in the same way, before a unit whose number fits it: `twenty second` may be an ordinal. */
+/** What a number word means, in the same way; null if the unit should be in the plural, or in the
+ * singular: `twenty second` may be an ordinal. */
 function wordOf(words, name) {
     const [, hundreds = "", rest] = /^(?:(\w+) hundred(?: and)? ?)?(.*)/.exec(words.toLowerCase());
     const [first, second = ""] = rest.split(/[-\s]+/);
     const isOne = !hundreds && /^(?:one|an?|half)$/.test(first);
     if (isOne ? isPlural(name) : unitOf(name)?.names.at(-2) === name.toLowerCase()) return null;
     const [ten, one] = [TENS.indexOf(first), WORDS.indexOf(TENS.includes(first) ? second : first)];
-    const number = 100 * WORDS.indexOf(hundreds) + 10 * Math.max(ten, 0) + Math.max(one, ten < 0 ? 1 : 0);
-    return { counts: [first === "half" ? [5n, -1] : [BigInt(number), 0]], sentence: say`Write numbers in digits.` };
+    const least = ten < 0 ? 1 : 0;
+    const number = 100 * WORDS.indexOf(hundreds) + 10 * Math.max(ten, 0) + Math.max(one, least);
+    const count = first === "half" ? [5n, -1] : [BigInt(number), 0];
+    return { counts: [count], sentence: say`Write numbers in digits.` };
 }
 
-/** What a fraction below one means, in lowest terms and after a whole number or none; nothing for what can be two numbers,
- * as `5/10 minutes`. */
+const IN_LINE = /^(?:([0-9]+)\s+)?([0-9]{1,2})\/([0-9]{1,2})$/;
+
+/** What a fraction below one means, after a whole number or without; null if it is not in lowest
+ * terms, and so may be two numbers, as in `5/10 minutes`. */
 function fractionOf(words, name) {
-    const ascii = words.replace(/[^0-9\s/]/, (one) => ` ${one.normalize("NFKD").replace("⁄", "/")}`).trim();
-    const [, whole = "", ...parts] = /^(?:([0-9]+)\s+)?([0-9]{1,2})\/([0-9]{1,2})$/.exec(ascii) ?? [];
+    const inLine = (vulgar) => ` ${vulgar.normalize("NFKD").replace("⁄", "/")}`;
+    const ascii = words.replace(/[^0-9\s/]/, inLine).trim();
+    const [, whole = "", ...parts] = IN_LINE.exec(ascii) ?? [];
     const [top, bottom] = parts.map(Number);
     if (!(top > 0 && top < bottom)) return null;
-    for (let divisor = 2; divisor <= top; divisor++) if (top % divisor === 0 && bottom % divisor === 0) return null;
+    for (let divisor = 2; divisor <= top; divisor++) {
+        if (top % divisor === 0 && bottom % divisor === 0) return null;
+    }
     if (!whole && ascii === words && (isPlural(name) || !unitOf(name))) return null;
     const count = BigInt(whole) * BigInt(bottom) + BigInt(top);
     return { counts: [[count, 0, BigInt(bottom)]], sentence: say`Fractions can't be read.` };
 }
 
-/** A term's unit and what its number can mean; nothing where it means nothing. */
+/** What a number means that is a fraction, a numeral or in words. */
+function anyNumberOf(fraction, numeral, words, name) {
+    if (fraction) return fractionOf(fraction, name);
+    return numeral ? numberOf(numeral) : wordOf(words, name);
+}
+
+/** A term's unit and what its number can mean; null if it means nothing. */
 function termOf(fraction, numeral, words, name) {
-    const number = fraction ? fractionOf(fraction, name) : numeral ? numberOf(numeral) : wordOf(words, name);
-    // There the language decides between thousands and decimals.
+    const number = anyNumberOf(fraction, numeral, words, name);
+    // With foreign words, the language decides between thousands and decimals.
     if (number?.counts.length === 2 && FOREIGN.has(name.toLowerCase())) return null;
     if (number && /^fortnights?$/i.test(name)) {
         const weeks = number.counts.map(([digits, ...rest]) => [2n * digits, ...rest]);
@@ -296,7 +362,9 @@ function termOf(fraction, numeral, words, name) {
 
 const OF_TERM = /^(?:(?:(?:a|one) )?quarter(?: of an?)?|(three) quarters of an?)[ -](\p{L}+)$/iu;
 const COUNTED = `(${WORD}|[0-9]+)`;
-const AND_HALF = new RegExp(`^(?:${COUNTED} (\\p{L}{3,}) and a half|${COUNTED} and a half (\\p{L}{3,}))$`, "iu");
+const HALF_AFTER_UNIT = `${COUNTED} (\\p{L}{3,}) and a half`;
+const HALF_BEFORE_UNIT = `${COUNTED} and a half (\\p{L}{3,})`;
+const AND_HALF = new RegExp(`^(?:${HALF_AFTER_UNIT}|${HALF_BEFORE_UNIT})$`, "iu");
 
 /** `an hour and a half`, `one and a half hours`, `quarter hour` and `three quarters of an hour` */
 function halves(text) {
@@ -308,9 +376,11 @@ function halves(text) {
     }
     const [, count, before, wholes, after] = AND_HALF.exec(text) ?? [];
     const words = count ?? wholes;
-    if (!words || /^half/i.test(words) || after && (!isPlural(after) || /^an?$/i.test(words))) return null;
+    if (!words || /^half/i.test(words)) return null;
+    if (after && (!isPlural(after) || /^an?$/i.test(words))) return null;
     // After `one and a half` the unit is in the plural.
-    const unit = before ?? (/^one$/i.test(words) ? after.slice(0, -1) : after);
+    const singular = after?.slice(0, -1);
+    const unit = before ?? (/^one$/i.test(words) ? singular : after);
     const [numeral, word] = /^[0-9]/.test(words) ? [words] : [undefined, words];
     const term = termOf(undefined, numeral, word, unit);
     if (!term) return null;
@@ -318,7 +388,7 @@ function halves(text) {
     return meaning(text, [reading((2n * digits + 1n) * term.unit.nanos / 2n, term.unit)], sentence);
 }
 
-/** The terms of a sum, and whether it is a list; nothing where a part of the text is none of it. */
+/** The terms of a sum, and whether it is a list; null if a part of the text is none of it. */
 function termsOfSum(text) {
     const sum = [];
     let isList = false;
@@ -336,30 +406,46 @@ function termsOfSum(text) {
     return { sum, isList };
 }
 
-/** What is wrong first in a sum; nothing where the library says it. */
+/** What is wrong first in a sum; null if the library says it. */
 function wrongIn(sum) {
-    const first = sum.find(({ sentence, isForeign, joined }) => sentence || isForeign || joined.trim() !== "");
-    return first?.sentence ?? null;
+    const isWrong = ({ sentence, isForeign, joined }) => sentence || isForeign || joined.trim();
+    return sum.find(isWrong)?.sentence ?? null;
 }
 
 /** `1.5h`, `1h, 30m` and `two hours and five minutes` */
 function sumOfTerms(text) {
     const { sum = [], isList } = termsOfSum(text) ?? {};
     if (sum.length === 0) return null;
-    const isFalling = sum.every(({ unit }, place) => place === 0 || unit.nanos < sum[place - 1].unit.nanos);
+    const lengths = sum.map(({ unit }) => unit.nanos);
+    const isFalling = lengths.every((nanos, place) => place === 0 || nanos < lengths[place - 1]);
     if (isList && !isFalling) return meaning(text, [], NO_LIST);
     const readings = [0, 1].map((choice) => {
-        const parts = sum.map(({ counts, unit }) => reading(nanosOf(counts[choice] ?? counts[0], unit), unit));
-        const nanos = parts.some((each) => each.nanos === null) ? null : parts.reduce((a, b) => a + b.nanos, 0n);
-        return { nanos, text: parts.map((each) => each.text).join(" ") };
+        const parts = sum.map(({ counts, unit }) => {
+            const count = counts[choice] ?? counts[0];
+            return reading(nanosOf(count, unit), unit);
+        });
+        const values = parts.map((part) => part.nanos);
+        const nanos = values.includes(null) ? null : values.reduce((a, b) => a + b);
+        return { nanos, text: parts.map((part) => part.text).join(" ") };
     });
     return meaning(text, readings, wrongIn(sum));
 }
 
+const BLANKS_IN_NUMBER = /^[1-9][0-9]{0,2}(?: [0-9]{3})+(?=\s*\p{L}+\.?$)/u;
+
+/** `1 000 s`, whose blank groups digits as in SI. A number right before another one means nothing
+ * else. */
+function groupedByBlanks(text) {
+    const grouped = text.replace(BLANKS_IN_NUMBER, (digits) => digits.replaceAll(" ", "\u202f"));
+    return grouped === text ? null : sumOfTerms(grouped);
+}
+
 // ---- What can't be converted
 
-const LIST = new RegExp(String.raw`^(?!${NUMBER}\s*\p{L}+\.?$)${NUMBER}\s*\p{L}*\s*(?:[,;]|and\b|or\b)\s*[0-9]`, "iu");
+const FIRST_OF_LIST = String.raw`^(?!${NUMBER}\s*\p{L}+\.?$)${NUMBER}\s*\p{L}*\s*`;
+const LIST = new RegExp(String.raw`${FIRST_OF_LIST}(?:[,;]|and\b|or\b)\s*[0-9]`, "iu");
 
+const EXACT = say`Only exact durations can be read.`;
 /** Notations without a reading, and what is said of them. */
 const REFUSED = [
     [/^[-−–]\s*[0-9P.]|^PT?-/i, say`A duration can't be negative.`],
@@ -368,10 +454,12 @@ const REFUSED = [
     [/[0-9]\s*[ap]\.?m\b|o'clock|[a-z] past\b/i, say`A time of day is not a duration.`],
     [/[0-9]:[0-9]/, say`Write units in place of colons, as in ${"1h 30m"}.`],
     [/\b(?:ago|later|from now|timeout)\b|^(?:in|every|each|for|after|within|sleep)\b/i, without],
-    [/^[~≈]|^(?:about|around|approx\w*|a (?:few|couple|moment|while))\b/i, say`Only exact durations can be read.`],
+    [/^[~≈]|^(?:about|around|approx\w*)\b/i, EXACT],
+    [/^a (?:few|couple|moment|while)\b/i, EXACT],
     [/^(?:[<>]=?|[≤≥±]|less than|more than|at least|at most|up to)/i, without],
     [/[0-9]\s*%/, say`A percentage is not a duration.`],
-    [/(?<=^[^'"]*[0-9]\s*)['"′″’”]/, (words) => say`${words} has two meanings: write ${"m"} or ${"s"}.`],
+    [/(?<=^[^'"]*[0-9]\s*)['"′″’”]/,
+        (words) => say`${words} has two meanings: write ${"m"} or ${"s"}.`],
     [/[¼-¾⅐-⅞⁄]|[0-9]\s*\/\s*[0-9]/, say`Fractions can't be read.`],
     [/[/÷]/, say`Durations can't be divided.`],
     [/(?<![a-zµ])([a-zµ]+)\s*-\s*[0-9]+\s*\1\b/i, say`Ranges and subtraction can't be read.`],
@@ -381,6 +469,7 @@ const REFUSED = [
     [/\bdecades?\b/i, say`A decade is ${"10y"}.`],
     [/\bcentur(?:y|ies)\b/i, say`A century is ${"100y"}.`],
     [/\b(?:forever|never|infinit\w*)\b/i, (words) => say`${words} has no fixed length.`],
+    [/^0x[0-9a-f]/i, say`Hexadecimal numbers can't be read.`],
     [/[0-9](?:\s*\p{L}+\s)?\s*[x×]\s*[0-9]/iu, say`Multiply with ${"*"}.`],
     [new RegExp(String.raw`^${NUMBER}$`, "iu"), (words) => say`${words} has no unit.`],
     [LIST, NO_LIST],
@@ -388,17 +477,26 @@ const REFUSED = [
     [new RegExp(`^(?:${WORD})\\b`, "i"), say`Write numbers in digits.`],
 ];
 
-/** What a text in another notation means: its readings, each with its exact value and the text to write, and a sentence
- * that says why it is refused, if that isn't the library's reason; nothing where the notation is unknown. */
+/** Each returns what a text means in a notation, or null if the text is in another one. The first
+ * that knows the text decides. */
+const CONVERSIONS = [
+    afterKey, withinQuotes, clock, clockWithUnit, iso8601, primes, groupedByBlanks, sumOfTerms,
+    halves,
+];
+
+/** What a text in another notation means; null if the notation is unknown. It is a list of
+ * readings, each with its exact value and the text to write, and a sentence that says why the text
+ * is refused, unless the library's line says it. */
 export function converted(text, options) {
     const words = plain(text);
-    for (const convert of [afterKey, withinQuotes, clock, clockWithUnit, iso8601, sumOfTerms, halves]) {
+    for (const convert of CONVERSIONS) {
         const meant = convert(words, options);
         if (meant) return meant;
     }
     for (const [pattern, sentence] of REFUSED) {
         const [part] = pattern.exec(words) ?? [];
-        if (part) return meaning(text, [], typeof sentence === "function" ? sentence(part) : sentence);
+        if (!part) continue;
+        return meaning(text, [], typeof sentence === "function" ? sentence(part) : sentence);
     }
     return null;
 }

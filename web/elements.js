@@ -1,9 +1,8 @@
-// What stands in the page. What is typed or stands in the link reaches it only as `textContent` and `value`.
+// The elements of the page. What is typed, or comes from the link, reaches them only as
+// `textContent` and `value`.
 
-/** Longer texts, in UTF-16 units, are not marked in the input but in an excerpt, and do not stand in the link. */
-export const LONG = 2_000;
-/** Several lines are read one by one in texts of at most so many UTF-16 units. */
-export const LONGEST_LINES = 10_000;
+/** Of several lines at most so many are shown. */
+export const MOST_LINES = 200;
 /** How much of a long text is shown, or stands on each side of a fault, in UTF-16 units. */
 export const AROUND = 40;
 const CHINESE = /\p{Script=Han}/u;
@@ -25,6 +24,14 @@ export function make(name, ...content) {
     return one;
 }
 
+/** A quoted text, by itself, so that its direction turns nothing else. */
+const quotation = (words) => make("code", make("bdi", shorten(words)));
+
+/** The parts of a sentence, as they are shown. */
+export function parts(sentence) {
+    return sentence.map((part) => part.quoted === undefined ? part : quotation(part.quoted));
+}
+
 export function button(press, ...content) {
     const one = make("button", ...content);
     one.type = "button";
@@ -32,8 +39,8 @@ export function button(press, ...content) {
     return one;
 }
 
-/** Puts the words in place of the text, or of its part that starts and ends there, as typing does, so that they can be
- * undone. */
+/** Puts the words in place of the text, or of the part that starts and ends there. It does so as
+ * typing does, so that it can be undone. */
 export function write(words, start = 0, end = text.value.length) {
     text.focus();
     if (words === text.value.slice(start, end)) return;

@@ -1,6 +1,8 @@
-// The link: it holds the text, the options and how it is printed, as `#text=1h%2030m&no_calc&style=long`.
+// The link. It holds the text, the options and how the duration is printed:
+// `#text=1h%2030m&no_calc&style=long`.
 import { agree, chosenLimits, printing, switches, WHOLE } from "./choices.js";
-import { element, LONG, shorten, text } from "./elements.js";
+import { element, shorten, text } from "./elements.js";
+import { LONG } from "./units.js";
 
 const boxes = Object.values(switches);
 
@@ -9,7 +11,8 @@ export function writeLink() {
     let note = "";
     try {
         const chosen = boxes.filter((box) => box.checked).map((box) => box.id);
-        const limits = Object.entries(chosenLimits()).map(([name, value]) => `${name}=${encodeURIComponent(value)}`);
+        const limits = Object.entries(chosenLimits())
+            .map(([name, value]) => `${name}=${encodeURIComponent(value)}`);
         const words = [`text=${encodeURIComponent(text.value)}`, ...chosen, ...limits];
         if (text.value.length > LONG) note = "This text is too long for the address.";
         else history.replaceState(null, "", `#${words.join("&")}`);
@@ -24,7 +27,8 @@ export function writeLink() {
 
 /** Whether there is this choice of how a duration is printed. */
 function isChoice(id, value) {
-    return Object.hasOwn(printing, id) && Array.from(printing[id].options).some((one) => one.value === value);
+    if (!Object.hasOwn(printing, id)) return false;
+    return Array.from(printing[id].options, (one) => one.value).includes(value);
 }
 
 /** Takes a word of the link, and returns whether it is known. */
@@ -39,7 +43,8 @@ function take(word) {
     return true;
 }
 
-/** Takes the state from the link. Words that are unknown or not well written are returned, and change nothing. */
+/** Takes the state from the link. Words that are unknown or badly written change nothing; they are
+ * returned. */
 export function readLink() {
     for (const box of boxes) box.checked = false;
     for (const [name, box] of Object.entries(printing)) box.value = WHOLE[name];

@@ -7,7 +7,7 @@ import { button, element, make, text, write } from "./elements.js";
 import { readLink, showUnknown, writeLink } from "./link.js";
 import { UNITS } from "./units.js";
 
-/** How long nothing must have been typed, in milliseconds, before the answer is told and the link written. */
+/** The milliseconds without a key after which the answer is told and the link is written. */
 const PAUSE = 500;
 /** How long is shown what was copied, in milliseconds. */
 const SHOWN = 4_000;
@@ -28,19 +28,23 @@ function read() {
 
 /** Adds a unit to the text, where it can go on so, or writes it anew. */
 function addUnit(name) {
-    if (UNITS.some(({ chinese }) => chinese.includes(name))) choose({ ...chosenOptions(), cnUnit: true });
+    const isChinese = UNITS.some(({ chinese }) => chinese.includes(name));
+    if (isChinese) choose({ ...chosenOptions(), cnUnit: true });
     const texts = [`${text.value}${name}`, `${text.value.trimEnd()} 1${name}`, `1${name}`];
     write(texts.find((each) => tryParseNs(each, chosenOptions()).ok).trimStart());
 }
 
-/** Makes the buttons in the element one stop of the tab key; the arrow keys lead from one to another. */
+/** Makes the buttons in a toolbar one stop of the tab key. Arrow keys lead from one to the next. */
 function roam(toolbar) {
     const buttons = Array.from(toolbar.querySelectorAll("button"));
     for (const one of buttons) one.tabIndex = one === buttons[0] ? 0 : -1;
     toolbar.addEventListener("keydown", (event) => {
         const place = buttons.indexOf(event.target);
         const [next, previous] = [(place + 1) % buttons.length, place - 1];
-        const ways = { ArrowRight: next, ArrowDown: next, ArrowLeft: previous, ArrowUp: previous, Home: 0, End: -1 };
+        const ways = {
+            ArrowRight: next, ArrowDown: next, ArrowLeft: previous, ArrowUp: previous,
+            Home: 0, End: -1,
+        };
         const to = ways[event.key];
         if (to === undefined) return;
         event.preventDefault();
@@ -59,7 +63,8 @@ function showUnits() {
 }
 
 function showExamples() {
-    element("examples").replaceChildren(...EXAMPLES.map((example) => button(() => write(example), example)));
+    const buttons = EXAMPLES.map((example) => button(() => write(example), example));
+    element("examples").replaceChildren(...buttons);
     roam(element("examples"));
 }
 
@@ -80,16 +85,20 @@ function showPrinting() {
     }
 }
 
-/** A place for the code in each language, which a button copies. */
+/** A place for the code in a language, which a button copies. */
+function placeForCode([id, [title, got]]) {
+    const said = `the code in ${title}`;
+    const code = Object.assign(make("pre"), { id, tabIndex: 0, role: "group", ariaLabel: said });
+    const unseen = Object.assign(make("span", ` ${said}`), { className: "unseen" });
+    const copies = button(() => copy(id), "Copy", unseen);
+    copies.dataset.copies = id;
+    const heading = make("h3", `${title} `, make("code", got));
+    const shown = Object.assign(make("div", code, copies), { className: "code" });
+    return Object.assign(make("div", heading, shown), { id: `${id}-code` });
+}
+
 function showLanguages() {
-    element("codes").replaceChildren(...Object.entries(LANGUAGES).map(([id, [title, got]]) => {
-        const code = Object.assign(make("pre"), { id, tabIndex: 0, role: "group", ariaLabel: `The code in ${title}` });
-        const unseen = Object.assign(make("span", ` the code in ${title}`), { className: "unseen" });
-        const copies = button(() => copy(id), "Copy", unseen);
-        copies.dataset.copies = id;
-        const shown = Object.assign(make("div", code, copies), { className: "code" });
-        return Object.assign(make("div", make("h3", `${title} `, make("code", got)), shown), { id: `${id}-code` });
-    }));
+    element("codes").replaceChildren(...Object.entries(LANGUAGES).map(placeForCode));
 }
 
 /** Copies what the element shows; where that can't be done, selects it. */
@@ -120,7 +129,9 @@ function open() {
 showUnits();
 showExamples();
 showPrinting();
-for (const one of document.querySelectorAll("[data-copies]")) one.addEventListener("click", () => copy(one.dataset.copies));
+for (const one of document.querySelectorAll("[data-copies]")) {
+    one.addEventListener("click", () => copy(one.dataset.copies));
+}
 showLanguages();
 text.addEventListener("input", read);
 for (const box of Object.values(switches)) box.addEventListener("change", read);

@@ -1,20 +1,18 @@
-// Sentences: lists of strings and of quoted texts, which are shown so that nothing in them turns the rest.
-import { make, shorten } from "./elements.js";
+// Sentences, which are lists of strings and of quoted texts. This module needs no browser, nor do
+// advice.js, conversions.js, units.js and values.js, which know what a text means.
 
-/** A sentence as a list of strings and of quoted texts: say`A comma can't follow ${"1h"}.` A list stands as it is. */
+/** A sentence: say`A comma can't follow ${"1h"}.` quotes 1h. A list among the values stands as it
+ * is. */
 export function say(strings, ...values) {
-    const put = (value) => Array.isArray(value) ? value : [{ quoted: value }];
-    return strings.flatMap((each, place) => place === 0 ? [each] : [...put(values[place - 1]), each]).filter(Boolean);
+    const quoted = values.map((value) => Array.isArray(value) ? value : [{ quoted: value }]);
+    const [first, ...others] = strings;
+    return [first, ...others.flatMap((each, place) => [...quoted[place], each])].filter(Boolean);
 }
 
 /** The library's line as a sentence with the words that it quotes. */
 export function lineOf({ message }) {
     const line = `${message.replace(/^./, (letter) => letter.toUpperCase())}.`;
-    return line.split(/"((?:[^"\\]|\\.)*)"/).map((part, place) => place % 2 ? { quoted: part } : part);
+    // Every other part is what stood between quotation marks.
+    const parts = line.split(/"((?:[^"\\]|\\.)*)"/);
+    return parts.map((part, place) => place % 2 === 1 ? { quoted: part } : part);
 }
-
-/** A quoted text, by itself, so that its direction turns nothing else. */
-const quotation = (words) => make("code", make("bdi", shorten(words)));
-
-/** The parts of a sentence, as they are shown. */
-export const parts = (sentence) => sentence.map((part) => typeof part === "string" ? part : quotation(part.quoted));

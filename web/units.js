@@ -1,9 +1,15 @@
-// The units, and the terms of a text that the library has read. What a text means, the library alone says.
+// The units, and the terms of a text that the library has read. Only the library says what a text
+// means.
 import { formatNs, parseNs } from "../js/dist/duration-str.js";
 
+/** A longer text, in UTF-16 units, is marked in an excerpt instead of the input, and the link
+ * doesn't hold it. */
+export const LONG = 2_000;
+
 // The list is made by tests/repository --write.
-/** All units, the longest first: their lengths in nanoseconds and in words, their printed names, their names, of which the
- * last two are the singular and the plural, the names that `cn_unit` adds, and the words that the library says are near. */
+/** All units, the longest first: their names, of which the last two are the singular and the
+ * plural, the names that `cn_unit` adds, the words that the library says are near, their lengths
+ * in nanoseconds and in words, and their printed names. */
 export const UNITS = [
     ["y year years", "年", "yr yrs"],
     ["q quarter quarters", "", "qtr qtrs"],
@@ -25,16 +31,18 @@ export const UNITS = [
 
 const CHINESE_LETTERS = UNITS.flatMap(({ chinese }) => chinese).join("");
 
-/** The unit that has this name under some options; nothing where there is none. */
+/** The unit that has this name under some options; undefined if there is none. */
 export function unitOf(word) {
     const name = word.replace(/[A-Z]/g, (letter) => letter.toLowerCase());
     return UNITS.find(({ names, chinese }) => names.includes(name) || chinese.includes(name));
 }
 
-/** The terms of a text that is read, or of the part before its fault: each as it stands there, the operator before it,
- * its number and its unit's name. */
+/** The terms of a text that is read, or of the part before its fault: the operator before each, the
+ * term as it is written, its number and its unit's name. */
 export function* terms(text, { cnUnit }) {
     const letters = `A-Za-zµ${cnUnit ? CHINESE_LETTERS : ""}`;
     const term = new RegExp(`([+*]?)[ \t\r\n]*(([0-9]+)(?:[ \t\r\n]*([${letters}]+))?)`, "g");
-    for (const [, operator, words, number, unit] of text.matchAll(term)) yield { operator, words, number, unit };
+    for (const [, operator, words, number, unit] of text.matchAll(term)) {
+        yield { operator, words, number, unit };
+    }
 }

@@ -20,14 +20,17 @@ function countInWords(number, unit) {
 
 /** A sum that is read, in words: `1 hour 30 minutes`. */
 export function inWords(text, options) {
-    return Array.from(terms(text, options), ({ number, unit }) => countInWords(number, unitOf(unit ?? "s"))).join(" ");
+    const counts = Array.from(terms(text, options));
+    return counts.map(({ number, unit }) => countInWords(number, unitOf(unit ?? "s"))).join(" ");
 }
 
 /** A count of nanoseconds in units of this length, exactly: `193.029`. */
 export function decimal(nanos, length) {
     const places = length.toString().length - 1;
-    const fraction = places ? (nanos % length).toString().padStart(places, "0").replace(/0+$/, "") : "";
-    return fraction ? `${nanos / length}.${fraction}` : `${nanos / length}`;
+    const rest = nanos % length;
+    if (rest === 0n) return `${nanos / length}`;
+    const fraction = rest.toString().padStart(places, "0").replace(/0+$/, "");
+    return `${nanos / length}.${fraction}`;
 }
 
 export const seconds = (nanos) => decimal(nanos, SECOND);
@@ -36,19 +39,25 @@ export const seconds = (nanos) => decimal(nanos, SECOND);
 export function iso(nanos) {
     const { days, hours, minutes } = parts(nanos, { smallest: "min" });
     const rest = nanos % MINUTE;
-    const clock = [hours && `${hours}H`, minutes && `${minutes}M`, rest && `${seconds(rest)}S`].filter(Boolean).join("");
-    const date = days ? `${days}D` : "";
-    return clock || !date ? `P${date}T${clock || "0S"}` : `P${date}`;
+    const date = days ? `P${days}D` : "P";
+    let clock = "";
+    if (hours) clock += `${hours}H`;
+    if (minutes) clock += `${minutes}M`;
+    if (rest) clock += `${seconds(rest)}S`;
+    if (clock) return `${date}T${clock}`;
+    return days ? date : "PT0S";
 }
 
 const inSeconds = (nanos) => `${groupDigits(seconds(nanos))} s`;
 
-/** The steps of a product, as the library takes them: first the later terms from left to right, then the first term. */
+/** The steps of a product, as the library takes them: first the later terms from left to right, and
+ * then the first term. */
 function steps(values) {
     const rows = [];
     const multiply = (one, other) => {
         const product = one * other / SECOND;
-        rows.push([`${groupDigits(seconds(one))} × ${groupDigits(seconds(other))}`, inSeconds(product)]);
+        const factors = [one, other].map((each) => groupDigits(seconds(each)));
+        rows.push([factors.join(" × "), inSeconds(product)]);
         return product;
     };
     const [first, second, ...others] = values;
@@ -56,7 +65,8 @@ function steps(values) {
     return rows;
 }
 
-/** Rows with the terms of a text that is read and what each is, and of a product the steps; of one term there are none. */
+/** Rows with the terms of a text that is read and the value of each, and with the steps of a
+ * product. There are none for a single term. */
 export function termRows(text, options) {
     const found = [];
     for (const term of terms(text, options)) if (found.push(term) > SHOWN) break;
@@ -64,7 +74,8 @@ export function termRows(text, options) {
     const values = found.slice(0, SHOWN).map(({ words }) => parseNs(words, options));
     const rows = values.map((value, place) => {
         const { operator, words } = found[place];
-        return [`${place === 0 ? "" : `${operator || "+"} `}${words.replace(/\s+/g, " ")}`, inSeconds(value)];
+        const before = place === 0 ? "" : `${operator || "+"} `;
+        return [before + words.replace(/\s+/g, " "), inSeconds(value)];
     });
     if (found.length > SHOWN) return [...rows, ["and more terms", ""]];
     if (found[1].operator === "*") return [...rows, ...steps(values)];

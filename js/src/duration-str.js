@@ -1,49 +1,60 @@
-// Durations as people write them, read and printed by a proved library, which is a WebAssembly module, or JavaScript that is
-// made of one: `instance` is compiled.js or plain.js.
-// index.d.ts documents what is exported.
+// Durations as people write them, read and printed by a proved library. The library is a module of
+// WebAssembly (compiled.js), or JavaScript made from that module (plain.js): `instance` is one of
+// the two. index.d.ts documents the exports.
 import { instance } from "instance";
 
+/** The bytes by which a memory grows. */
 const PAGE = 65_536;
-const SECOND = 1_000_000_000n;
-const MILLISECOND = 1_000_000n;
-/** Durations are below this many nanoseconds. */
+/** A count of 64 bits is two halves of 32 bits, each below this. */
+const HALF = 2 ** 32;
+/** The nanoseconds in a millisecond and in a second. */
+const MILLISECOND = 1_000_000;
+const SECOND = 1_000_000_000;
+/** All durations are below this many nanoseconds. */
 const LIMIT = 1n << 64n;
 const LONE_SURROGATE = /\p{Surrogate}/u;
 
-/** The codes of the refusals, in the order of `enum duration_str_cause` in the library's header. */
-const CODES = ["READ", "EMPTY", "SYNTAX", "NUMBER_TOO_LARGE", "OVERFLOW", "MIXED", "OUT_OF_RANGE", "NOT_TEXT"];
+/** The codes of refusals, in the order of `enum duration_str_cause` in the library's header. */
+const CODES = [
+    "READ", "EMPTY", "SYNTAX", "NUMBER_TOO_LARGE", "OVERFLOW", "MIXED", "OUT_OF_RANGE", "NOT_TEXT",
+];
 
-/** The printed names of the units, in the order of `enum duration_str_unit`, and their names in `parts`. */
+/** The printed names of the units, in the order of `enum duration_str_unit`, and their names in
+ * `parts`, which has no quarters. */
 // Made by tests/repository --write.
 const UNITS = ["y", "q", "mon", "w", "d", "h", "min", "s", "ms", "µs", "ns"];
 const PARTS = [
-    "years", null, "months", "weeks", "days", "hours", "minutes", "seconds", "milliseconds", "microseconds", "nanoseconds",
+    "years", null, "months", "weeks", "days", "hours", "minutes",
+    "seconds", "milliseconds", "microseconds", "nanoseconds",
 ];
-/** In the order of `enum duration_str_style` */
+/** The styles, in the order of `enum duration_str_style`. */
 const STYLES = ["short", "compact", "long"];
+/** The options of reading, in the order of their bits in `enum duration_str_option`. */
+const OPTIONS = ["noCalc", "lowercase", "cnUnit", "requireUnit"];
 
-/** The bytes of the buffer for what is written of a text or a value, which is more than any needs. */
+/** The size of the buffer that the module writes to, which is enough for all that it writes. */
 const WRITTEN_SIZE = 867;
-/** Texts of at most so many UTF-16 units are written without an encoder, and of so many bytes read without a decoder, for
- * which these take longer to call. */
-const SHORT = 40;
-const SHORT_WRITTEN = 12;
+/** An encoder and a decoder take longer to call than a short text takes to copy: up to so many
+ * UTF-16 units of a text to read, and so many bytes of what is written. */
+const SHORT_TEXT = 40;
+const SHORT_WRITTEN = 28;
 
 export const version = VERSION;
 
+// ---- The module and its memory
+
 let memory;
 let calls;
-// In the memory above the module's own stands a `struct duration_str_answer`, whose fields have the offsets below, then the
-// buffer and then the text.
+// Above the module's own memory stand a `struct duration_str_answer`, whose fields have the
+// addresses below, the buffer that the module writes to, and the text that it reads.
 let ANSWER, PLACE, FOUND_LENGTH, CAUSE, EXPECTED, HAS_PLACE, WRITTEN, TEXT;
-// The whole memory, the buffer and what stands from TEXT on; `see` sets them anew, since views end when a memory grows.
+// Views of the whole memory, of the buffer, and of all from TEXT on.
 let fields;
-let buffer;
+let written;
 let texts;
-let encoder;
-let decoder;
 
-/** Has the module made at the first call, so that importing takes no time and, where that is refused, does no harm. */
+/** Makes the module. This is done at the first call, so that an import takes no time, and does not
+ * throw where WebAssembly is refused. */
 function start() {
     const { memory: all, __heap_base: heap, ...others } = instance();
     ANSWER = Math.ceil(heap.value / 8) * 8;
@@ -55,47 +66,92 @@ function start() {
     WRITTEN = ANSWER + 32;
     TEXT = WRITTEN + WRITTEN_SIZE;
     memory = all;
-    // For the text, there is a page at least.
+    // So there is at least a page for the text.
     memory.grow(1);
-    see();
+    makeViews();
     calls = others;
+}
+
+/** Makes the views. Those from before end when the memory grows. */
+function makeViews() {
+    fields = new DataView(memory.buffer);
+    written = new Uint8Array(memory.buffer, WRITTEN, WRITTEN_SIZE);
+    texts = new Uint8Array(memory.buffer, TEXT);
 }
 
 /** Grows the memory so that it has this many bytes from TEXT on. */
 function reserve(length) {
     if (texts.length >= length) return;
     memory.grow(Math.ceil((length - texts.length) / PAGE));
-    see();
+    makeViews();
 }
 
-function see() {
-    fields = new DataView(memory.buffer);
-    buffer = new Uint8Array(memory.buffer, WRITTEN, WRITTEN_SIZE);
-    texts = new Uint8Array(memory.buffer, TEXT);
-}
+// ---- Texts out of the memory
+
+let decoder;
 
 const percentCode = (byte) => `%${byte.toString(16).padStart(2, "0")}`;
 
-/** What these bytes of UTF-8 say; also where, as in jsdom, nothing but the URI functions knows it. */
+/** The text of these bytes of UTF-8. jsdom has no decoder, but it has the URI functions. */
 function decode(bytes) {
-    if (typeof TextDecoder === "undefined") return decodeURIComponent(Array.from(bytes, percentCode).join(""));
+    if (typeof TextDecoder === "undefined") {
+        return decodeURIComponent(Array.from(bytes, percentCode).join(""));
+    }
     decoder ??= new TextDecoder("utf-8", { ignoreBOM: true });
     return decoder.decode(bytes);
 }
 
-/** What a call has written, of this length. */
+/** The text of this length that a call has written. */
 function output(length) {
-    if (length > SHORT_WRITTEN) return decode(buffer.subarray(0, length));
-    let text = "";
+    if (length > SHORT_WRITTEN) return decode(written.subarray(0, length));
+    const codes = new Array(length);
     for (let place = 0; place < length; place++) {
-        const byte = buffer[place];
-        // Beyond ASCII so little has the micro sign alone: after the byte 0xc2 the next one is its number.
-        if (byte !== 0xc2) text += String.fromCharCode(byte);
+        codes[place] = written[place];
+        if (codes[place] > 0x7f) return decode(written.subarray(0, length));
     }
-    return text;
+    return String.fromCharCode(...codes);
 }
 
-/** What is wrong with a text, and the report, whose last line says so. */
+// ---- Texts into the memory
+
+let encoder;
+
+/** Copies a short text of ASCII to TEXT and returns its length; -1 for any other text. */
+function copyShort(text) {
+    if (text.length > SHORT_TEXT) return -1;
+    for (let index = 0; index < text.length; index++) {
+        const unit = text.charCodeAt(index);
+        if (unit > 0x7f) return -1;
+        texts[index] = unit;
+    }
+    return text.length;
+}
+
+/** Does what `write` does where there is no encoder. */
+function writeEscaped(text) {
+    const lone = text.search(LONE_SURROGATE);
+    const bytes = lone >= 0 ? "" : unescape(encodeURIComponent(text));
+    for (let index = 0; index < bytes.length; index++) texts[index] = bytes.charCodeAt(index);
+    return { length: bytes.length, lone };
+}
+
+/** Writes a text in UTF-8 to TEXT. Returns its length in bytes, and the index of the first lone
+ * surrogate, which is -1 if there is none. */
+function write(text) {
+    reserve(3 * text.length);
+    const short = copyShort(text);
+    if (short >= 0) return { length: short, lone: -1 };
+    if (typeof TextEncoder === "undefined") return writeEscaped(text);
+    encoder ??= new TextEncoder();
+    const { written: length } = encoder.encodeInto(text, texts);
+    // A text that has no more bytes than units is ASCII, without surrogates.
+    const lone = length > text.length ? text.search(LONE_SURROGATE) : -1;
+    return { length, lone };
+}
+
+// ---- Refusals
+
+/** What is wrong with a text. The report's last line is the message. */
 class Fault {
     #report;
 
@@ -113,13 +169,15 @@ class Fault {
     }
 }
 
-/** A refused text. What is wrong but for the line is the error's cause, since a structured clone of an error keeps no other
- * field. */
+/** A refused text. All about the fault but its message is in `cause`, since a structured clone of
+ * an error keeps no other field. */
 export class DurationError extends Error {
     #report;
 
     constructor(fault) {
-        if (!(fault instanceof Fault)) throw new TypeError("a DurationError is made of a fault, as tryParse returns it");
+        if (!(fault instanceof Fault)) {
+            throw new TypeError("a DurationError is made of a fault, as tryParse returns it");
+        }
         const { message, ...cause } = fault;
         super(message, { cause });
         this.#report = fault.report;
@@ -134,80 +192,64 @@ export class DurationError extends Error {
     }
 }
 
-Object.defineProperty(DurationError.prototype, "name", { value: "DurationError", writable: true, configurable: true });
+// A plain assignment would throw where the prototype of errors is frozen.
+Object.defineProperty(DurationError.prototype, "name", {
+    value: "DurationError", writable: true, configurable: true,
+});
 for (const field of ["code", "text", "index", "byte", "found", "expected"]) {
-    Object.defineProperty(DurationError.prototype, field, { get() { return this.cause[field]; }, configurable: true });
+    Object.defineProperty(DurationError.prototype, field, {
+        get() { return this.cause[field]; }, configurable: true,
+    });
 }
 
-/** The flags of what could stand at the place, by the bits of `enum duration_str_expected`. */
-function expectedOf(kinds) {
-    return { number: (kinds & 1) !== 0, unit: (kinds & 2) !== 0, operator: (kinds & 4) !== 0, end: (kinds & 8) !== 0 };
+/** What could stand at the place, from the bits of `enum duration_str_expected`. */
+function expectedOf(bits) {
+    return {
+        number: (bits & 1) !== 0,
+        unit: (bits & 2) !== 0,
+        operator: (bits & 4) !== 0,
+        end: (bits & 8) !== 0,
+    };
 }
 
-/** Why the text at TEXT is refused, after the call that refused it and wrote a report of `reportLength` bytes. */
+/** Why the text at TEXT is refused, from the answer and the report that the call has written. */
 function faultOf(text, length, reportLength) {
+    const code = CODES[fields.getUint32(CAUSE, true)];
     const byte = fields.getUint8(HAS_PLACE) ? fields.getUint32(PLACE, true) : null;
     const foundLength = fields.getUint32(FOUND_LENGTH, true);
-    // Of ASCII alone, bytes and UTF-16 units are the same.
-    const isAscii = length === text.length;
-    const index = isAscii || byte === null ? byte : decode(texts.subarray(0, byte)).length;
-    const token = () => isAscii ? text.slice(byte, byte + foundLength) : decode(texts.subarray(byte, byte + foundLength));
-    const code = CODES[fields.getUint32(CAUSE, true)];
-    const found = foundLength ? token() : null;
     const expected = expectedOf(fields.getUint32(EXPECTED, true));
+    let index = byte;
+    let found = foundLength ? text.slice(byte, byte + foundLength) : null;
+    // Beyond ASCII, bytes and UTF-16 units differ.
+    if (byte !== null && length !== text.length) {
+        index = decode(texts.subarray(0, byte)).length;
+        if (foundLength) found = decode(texts.subarray(byte, byte + foundLength));
+    }
     return new Fault({ code, text, index, byte, found, expected }, output(reportLength));
 }
 
-/** Why a text is refused whose character at this index is half of a surrogate pair. */
-function noText(text, index) {
-    const cause = { code: "NOT_TEXT", text, index, byte: null, found: null, expected: expectedOf(0) };
+/** Why a text is refused that has a lone surrogate at this index. */
+function loneSurrogateAt(text, index) {
+    const expected = expectedOf(0);
+    const cause = { code: "NOT_TEXT", text, index, byte: null, found: null, expected };
     return new Fault(cause, `not UTF-8: a lone surrogate at index ${index}`);
 }
 
-/** Writes a short text of ASCII at TEXT, and returns its length; -1 for another. */
-function asciiLength(text) {
-    if (text.length > SHORT) return -1;
-    for (let index = 0; index < text.length; index++) {
-        const unit = text.charCodeAt(index);
-        if (unit > 0x7f) return -1;
-        texts[index] = unit;
-    }
-    return text.length;
-}
-
-/** What `write` does, where there is no encoder. */
-function writeEscaped(text) {
-    const lone = text.search(LONE_SURROGATE);
-    const bytes = lone >= 0 ? "" : unescape(encodeURIComponent(text));
-    for (let index = 0; index < bytes.length; index++) texts[index] = bytes.charCodeAt(index);
-    return { length: bytes.length, lone };
-}
-
-/** Writes the text at TEXT, and returns its length in bytes, and the index of a lone surrogate, -1 without one. */
-function write(text) {
-    reserve(3 * text.length);
-    const short = asciiLength(text);
-    if (short >= 0) return { length: short, lone: -1 };
-    if (typeof TextEncoder === "undefined") return writeEscaped(text);
-    encoder ??= new TextEncoder();
-    const { written: length } = encoder.encodeInto(text, texts);
-    // What is longer in UTF-8 has characters beyond ASCII, and only there a surrogate can be.
-    const lone = length > text.length ? text.search(LONE_SURROGATE) : -1;
-    return { length, lone };
-}
-
-function typeOf(value) {
-    return value === null ? "null" : Array.isArray(value) ? "array" : typeof value;
-}
+// ---- Options
 
 const isOwn = Object.prototype.hasOwnProperty;
 
-/** Whether nothing is inherited but what every object has, also where that is another realm's. */
+function typeOf(value) {
+    if (value === null) return "null";
+    return Array.isArray(value) ? "array" : typeof value;
+}
+
+/** Whether an object inherits nothing but what every object has, in this realm or another. */
 function isPlain(options) {
     if (typeof options !== "object" || options === null) return false;
     const prototype = Object.getPrototypeOf(options);
-    return prototype === Object.prototype || prototype === null
-        || (Object.getPrototypeOf(prototype) === null && isOwn.call(prototype, "isPrototypeOf"));
+    if (prototype === Object.prototype || prototype === null) return true;
+    return Object.getPrototypeOf(prototype) === null && isOwn.call(prototype, "isPrototypeOf");
 }
 
 function checkPlain(options, hint = "") {
@@ -218,44 +260,130 @@ function checkPlain(options, hint = "") {
 
 const unknown = (name) => new TypeError(`unknown option: ${name}`);
 
-/** The options of reading, in the order of their bits in `enum duration_str_option`. */
-const OPTIONS = ["noCalc", "lowercase", "cnUnit", "requireUnit"];
-
 /** The bits of the options that are on. */
 function bitsOf(options) {
     if (options === undefined) return 0;
-    // Whoever hands a call over, as to `map`, hands in other arguments, too.
+    // `map` passes the index as the second argument.
     checkPlain(options, ": write (text) => parse(text)");
     let bits = 0;
     for (const name of Object.keys(options)) {
         const bit = OPTIONS.indexOf(name);
         const value = options[name];
         if (bit < 0) throw unknown(name);
-        if (value === true) bits |= 1 << bit;
-        else if (value !== false && value !== undefined) {
+        if (value === true) {
+            bits |= 1 << bit;
+        } else if (value !== false && value !== undefined) {
             throw new TypeError(`the option ${name} must be a boolean, not ${typeOf(value)}`);
         }
     }
     return bits;
 }
 
-/** Reads a text, and returns what is wrong with it; nothing where it is read, and its value stands at ANSWER. */
+/** The number of a name in this list, which an option chooses from. */
+function numberOf(option, name, names) {
+    if (typeof name !== "string") {
+        throw new TypeError(`the option ${option} must be a string, not ${typeOf(name)}`);
+    }
+    const number = names.indexOf(name === "us" ? "µs" : name);
+    if (number >= 0) return number;
+    throw new RangeError(`the option ${option} must be one of ${names.join(", ")}, not ${name}`);
+}
+
+/** How many parts are printed at most. There are no more than units. */
+function countOf(parts) {
+    if (typeof parts !== "number") {
+        throw new TypeError(`the option parts must be a number, not ${typeOf(parts)}`);
+    }
+    if (parts < 1 || !Number.isInteger(parts) && parts !== Infinity) {
+        throw new RangeError(`the option parts must be a whole number from 1 on, not ${parts}`);
+    }
+    return Math.min(parts, UNITS.length);
+}
+
+/** What is chosen where nothing is, for printing and for counting parts. */
+const PRINTED_WHOLE = { largest: "y", smallest: "ns", parts: Infinity, style: "short" };
+const COUNTED_WHOLE = { largest: "d", smallest: "ns", parts: Infinity };
+
+/** The options of printing or of counting, with the units as numbers. `defaults` has all names. */
+function limitsOf(options, defaults) {
+    checkPlain(options);
+    let { largest, smallest, parts, style } = defaults;
+    for (const name of Object.keys(options)) {
+        if (!isOwn.call(defaults, name)) throw unknown(name);
+        const value = options[name];
+        if (value === undefined) continue;
+        if (name === "largest") largest = value;
+        else if (name === "smallest") smallest = value;
+        else if (name === "parts") parts = value;
+        else style = value;
+    }
+    const first = numberOf("largest", largest, UNITS);
+    const last = numberOf("smallest", smallest, UNITS);
+    if (first > last) {
+        const why = `the largest unit, ${largest}, is shorter than the smallest, ${smallest}`;
+        throw new RangeError(why);
+    }
+    return { largest: first, smallest: last, parts: countOf(parts), style };
+}
+
+// ---- The duration in the memory, at ANSWER
+
+/** The duration in nanoseconds. */
+const nanoseconds = () => fields.getBigUint64(ANSWER, true);
+
+/** The same, but a number where a number is exact, below 2^53: it is faster to count with. */
+function count() {
+    const high = fields.getUint32(ANSWER + 4, true);
+    return high < 2 ** 21 ? high * HALF + fields.getUint32(ANSWER, true) : nanoseconds();
+}
+
+/** The number of milliseconds that is nearest to the duration. */
+function milliseconds() {
+    const nanos = count();
+    return typeof nanos === "number" ? nanos / MILLISECOND : Number(`${nanos}e-6`);
+}
+
+const negative = (value) => new RangeError(`a duration is not negative: ${value}`);
+const tooLong = (longest) => new RangeError(`a duration is at most 584 years, ${longest}`);
+
+/** Puts a duration there: a bigint of nanoseconds, or a number of milliseconds, which is rounded to
+ * the nearest nanosecond. */
+function put(value) {
+    if (typeof value === "bigint") {
+        if (value < 0n) throw negative(value);
+        if (value >= LIMIT) throw tooLong("2^64 - 1 ns");
+        if (!calls) start();
+        fields.setBigUint64(ANSWER, value, true);
+        return;
+    }
+    if (!Number.isFinite(value)) throw new RangeError(`milliseconds must be finite, not ${value}`);
+    if (value < 0) throw negative(value);
+    const whole = Math.trunc(value);
+    const fraction = Math.round((value - whole) * MILLISECOND);
+    // Halves are multiplied apart, so that all numbers stay below 2^53 and are exact.
+    const upper = Math.trunc(whole / HALF);
+    const low = (whole - upper * HALF) * MILLISECOND + fraction;
+    const high = upper * MILLISECOND + Math.trunc(low / HALF);
+    if (high >= HALF) throw tooLong("18446744073709.55 ms");
+    if (!calls) start();
+    // Of a larger number, this takes the lower 32 bits.
+    fields.setUint32(ANSWER, low, true);
+    fields.setUint32(ANSWER + 4, high, true);
+}
+
+// ---- Reading
+
+/** Reads a text. Returns what is wrong with it, or null: then its value stands at ANSWER. */
 function faultIn(text, options) {
-    if (typeof text !== "string") throw new TypeError(`a duration's text must be a string, not ${typeOf(text)}`);
+    if (typeof text !== "string") {
+        throw new TypeError(`a duration's text must be a string, not ${typeOf(text)}`);
+    }
     const bits = bitsOf(options);
     if (!calls) start();
     const { length, lone } = write(text);
-    if (lone >= 0) return noText(text, lone);
+    if (lone >= 0) return loneSurrogateAt(text, lone);
     const reportLength = calls.duration_str_report(TEXT, length, bits, ANSWER, WRITTEN);
     return reportLength > 0 ? faultOf(text, length, reportLength) : null;
-}
-
-const nanoseconds = () => fields.getBigUint64(ANSWER, true);
-
-/** The nearest number of milliseconds. Up to 2^53 nanoseconds are a number themselves, and so the quotient is the nearest. */
-function milliseconds() {
-    const high = fields.getUint32(ANSWER + 4, true);
-    return high < 2 ** 21 ? (high * 2 ** 32 + fields.getUint32(ANSWER, true)) / 1_000_000 : Number(`${nanoseconds()}e-6`);
 }
 
 function resultOf(fault, value) {
@@ -283,89 +411,62 @@ export function parse(text, options) {
     return valueOf(faultIn(text, options), milliseconds);
 }
 
-/** The number that a name has among these, of which the option of this name must be one. */
-function numberOf(option, name, names) {
-    if (typeof name !== "string") throw new TypeError(`the option ${option} must be a string, not ${typeOf(name)}`);
-    const number = names.indexOf(name === "us" ? "µs" : name);
-    if (number < 0) throw new RangeError(`the option ${option} must be one of ${names.join(", ")}, not ${name}`);
-    return number;
-}
+// ---- Printing
 
-/** How many parts are printed at most; there are no more than units. */
-function countOf(parts) {
-    if (typeof parts !== "number") throw new TypeError(`the option parts must be a number, not ${typeOf(parts)}`);
-    if (parts !== Infinity && !Number.isInteger(parts) || parts < 1) {
-        throw new RangeError(`the option parts must be a whole number from 1 on, not ${parts}`);
+/** The text of the duration at ANSWER. The module takes a count of 64 bits as its two halves. */
+function print(options) {
+    if (options === undefined) {
+        const low = fields.getInt32(ANSWER, true);
+        const high = fields.getInt32(ANSWER + 4, true);
+        return output(calls.duration_str_format(low, high, WRITTEN));
     }
-    return Math.min(parts, UNITS.length);
-}
-
-/** The limits that are chosen, with numbers for names, and the others as in `defaults`, which has all that are known. */
-function limitsOf(options, defaults) {
-    checkPlain(options);
-    const limits = { ...defaults };
-    for (const name of Object.keys(options)) {
-        if (!isOwn.call(limits, name)) throw unknown(name);
-        if (options[name] !== undefined) limits[name] = options[name];
-    }
-    const largest = numberOf("largest", limits.largest, UNITS);
-    const smallest = numberOf("smallest", limits.smallest, UNITS);
-    if (largest > smallest) {
-        throw new RangeError(`the largest unit, ${limits.largest}, is shorter than the smallest, ${limits.smallest}`);
-    }
-    return { ...limits, largest, smallest, parts: countOf(limits.parts) };
-}
-
-const ALL = { largest: "y", smallest: "ns", parts: Infinity, style: "short" };
-
-/** Checks a duration, which is this value and at most `longest` in the unit that the value has. */
-function checkRange(nanoseconds, value, longest) {
-    if (value < 0) throw new RangeError(`a duration is not negative: ${value}`);
-    if (nanoseconds >= LIMIT) throw new RangeError(`a duration is at most 584 years, ${longest}`);
-}
-
-/** The nanoseconds of a bigint, which is them, or of a number of milliseconds, to the nearest one. */
-function nanosecondsOf(value) {
-    if (typeof value === "bigint") {
-        checkRange(value, value, "2^64 - 1 ns");
-        return value;
-    }
-    if (!Number.isFinite(value)) throw new RangeError(`milliseconds must be finite, not ${value}`);
-    const whole = Math.trunc(value);
-    const nanoseconds = BigInt(whole) * MILLISECOND + BigInt(Math.round((value - whole) * 1_000_000));
-    checkRange(nanoseconds, value, "18446744073709.55 ms");
-    return nanoseconds;
-}
-
-/** The text of so many nanoseconds. */
-function print(nanoseconds, options) {
-    if (!calls) start();
-    if (options === undefined) return output(calls.duration_str_format(nanoseconds, WRITTEN));
-    const { largest, smallest, parts, style } = limitsOf(options, ALL);
-    const [secs, nanos] = [nanoseconds / SECOND, Number(nanoseconds % SECOND)];
-    const number = numberOf("style", style, STYLES);
-    return output(calls.duration_str_format_styled(secs, nanos, largest, smallest, parts, number, WRITTEN));
+    // This comes before the options are looked at: one may have a getter that calls this package.
+    const total = count();
+    const { largest, smallest, parts, style } = limitsOf(options, PRINTED_WHOLE);
+    const styleNumber = numberOf("style", style, STYLES);
+    const second = typeof total === "number" ? SECOND : BigInt(SECOND);
+    const nanos = total % second;
+    const secs = Number((total - nanos) / second);
+    const [low, high] = [secs | 0, Math.trunc(secs / HALF)];
+    const length = calls.duration_str_format_styled(
+        low, high, Number(nanos), largest, smallest, parts, styleNumber, WRITTEN,
+    );
+    return output(length);
 }
 
 export function formatNs(nanoseconds, options) {
     if (typeof nanoseconds !== "bigint") {
-        throw new TypeError(`nanoseconds must be a bigint, not ${typeOf(nanoseconds)}; format takes milliseconds`);
+        const type = typeOf(nanoseconds);
+        const why = `nanoseconds must be a bigint, not ${type}; format takes milliseconds`;
+        throw new TypeError(why);
     }
-    return print(nanosecondsOf(nanoseconds), options);
+    put(nanoseconds);
+    return print(options);
 }
 
 export function format(milliseconds, options) {
     if (typeof milliseconds !== "number") {
-        throw new TypeError(`milliseconds must be a number, not ${typeOf(milliseconds)}; formatNs takes nanoseconds`);
+        const type = typeOf(milliseconds);
+        const why = `milliseconds must be a number, not ${type}; formatNs takes nanoseconds`;
+        throw new TypeError(why);
     }
-    return print(nanosecondsOf(milliseconds), options);
+    put(milliseconds);
+    return print(options);
 }
 
-/** The length of each unit, which the library is asked for. */
+// ---- Counting parts
+
+/** The lengths of all units in nanoseconds, as numbers and as bigints. */
 let lengths;
 
-/** A count that a number holds exactly. */
-function exact(count) {
+/** Asks the library for the lengths. */
+function askLengths() {
+    const bigints = UNITS.map((name) => parseNs(`1${name}`));
+    return { number: bigints.map(Number), bigint: bigints };
+}
+
+/** The count as a number, which must hold it exactly. */
+function exactly(count) {
     const number = Number(count);
     if (Number.isSafeInteger(number)) return number;
     throw new RangeError(`no number holds ${count} exactly: choose a larger unit`);
@@ -373,17 +474,26 @@ function exact(count) {
 
 export function parts(value, options = {}) {
     if (typeof value !== "number" && typeof value !== "bigint") {
-        throw new TypeError(`a duration is a number of milliseconds or a bigint of nanoseconds, not ${typeOf(value)}`);
+        const wanted = "a number of milliseconds or a bigint of nanoseconds";
+        throw new TypeError(`a duration is ${wanted}, not ${typeOf(value)}`);
     }
-    let rest = nanosecondsOf(value);
-    const { largest, smallest, parts: most } = limitsOf(options, { largest: "d", smallest: "ns", parts: Infinity });
+    put(value);
+    let rest = count();
+    const { largest, smallest, parts: most } = limitsOf(options, COUNTED_WHOLE);
     if (!PARTS[largest] || !PARTS[smallest]) throw new RangeError("parts has no quarters");
-    lengths ??= UNITS.map((name) => parseNs(`1${name}`));
-    const found = {};
-    for (let unit = largest; unit <= smallest && Object.keys(found).length < most; unit++) {
-        if (!PARTS[unit] || rest < lengths[unit]) continue;
-        found[PARTS[unit]] = exact(rest / lengths[unit]);
-        rest %= lengths[unit];
+    lengths ??= askLengths();
+    const lengthOf = lengths[typeof rest];
+    const counts = {};
+    let room = most;
+    for (let unit = largest; unit <= smallest && room > 0; unit++) {
+        if (!PARTS[unit] || rest < lengthOf[unit]) continue;
+        const under = rest % lengthOf[unit];
+        counts[PARTS[unit]] = exactly((rest - under) / lengthOf[unit]);
+        rest = under;
+        room--;
     }
-    return Object.keys(found).length > 0 ? found : { [PARTS[Math.min(smallest, UNITS.indexOf("s"))]]: 0 };
+    if (room < most) return counts;
+    // Nothing is left: 0 of the smallest unit, or of seconds where that is shorter.
+    const zero = Math.min(smallest, UNITS.indexOf("s"));
+    return { [PARTS[zero]]: 0 };
 }

@@ -83,10 +83,27 @@ test("prints milliseconds", () => {
     }
     assert.equal(format(parse("1m 30s")), "1min 30s");
     assert.equal(format(18_446_744_073_709.55, { parts: 1 }), "584y");
+    // Where a half of 32 bits is full, and where a number of nanoseconds no longer is exact
+    for (const whole of [4_294, 4_295, 4_294_967_295, 4_294_967_296, 9_007_199_254, 9_007_199_255]) {
+        for (const fraction of [0, 0.25, 0.5]) {
+            const nanoseconds = BigInt(whole) * 1_000_000n + BigInt(fraction * 1_000_000);
+            for (const options of [undefined, { largest: "ns" }, { style: "long", largest: "d" }]) {
+                assert.equal(format(whole + fraction, options), formatNs(nanoseconds, options));
+            }
+            assert.equal(formatNs(nanoseconds, { largest: "ns" }), `${nanoseconds}ns`);
+            assert.deepEqual(parts(whole + fraction), parts(nanoseconds));
+        }
+    }
     // The last nanosecond that a number of milliseconds has to have, and the first that it lacks
     for (const [text, isSame] of [["8589934591999999ns", true], ["8589934592000001ns", false]]) {
         assert.equal(format(parse(text)) === formatNs(parseNs(text)), isSame);
     }
+});
+
+test("prints what it is given, whatever an option's getter calls", () => {
+    const options = { get parts() { return parse("2ms"); } };
+    assert.equal(format(5_445_000, options), "1h 30min");
+    assert.deepEqual(parts(5_445_000, options), { hours: 1, minutes: 30 });
 });
 
 test("refuses what is negative, not finite or too large", () => {

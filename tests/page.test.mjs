@@ -1,0 +1,82 @@
+// What the page says about texts and offers for them, without a browser.
+// Run js/build first, then: node --test tests/page.test.mjs
+// page-texts.json has the texts and what is expected of them; tests/page.py describes its parts.
+import assert from "node:assert/strict";
+import { readFileSync } from "node:fs";
+import test from "node:test";
+
+import { formatNs, parseNs, tryParseNs } from "../js/dist/duration-str.js";
+import { notesOn, offersFor, sentence } from "../web/advice.js";
+import { decimal, groupDigits, iso, seconds, termRows } from "../web/values.js";
+
+const TEXTS = JSON.parse(readFileSync(new URL("page-texts.json", import.meta.url), "utf8"));
+/** A sentence of the page has at most so many words; a quoted text counts as one. */
+const MOST_WORDS = 9;
+
+/** The names of the options in JavaScript, and their names in page-texts.json. */
+const OPTIONS = {
+    noCalc: "no_calc",
+    lowercase: "lowercase",
+    cnUnit: "cn_unit",
+    requireUnit: "require_unit",
+};
+const NONE = optionsOf([]);
+
+function optionsOf(names) {
+    const pairs = Object.entries(OPTIONS).map(([name, id]) => [name, names.includes(id)]);
+    return Object.fromEntries(pairs);
+}
+
+/** The nanoseconds in a decimal number of seconds. */
+function nanosOf(decimalSeconds) {
+    const [whole, fraction = ""] = decimalSeconds.split(".");
+    return BigInt(whole + fraction.padEnd(9, "0"));
+}
+
+/** A sentence as one string. */
+function wordsOf(parts) {
+    return parts.map((part) => part.quoted ?? part).join("");
+}
+
+function countWords(parts) {
+    return wordsOf(parts.map((part) => (part.quoted === undefined ? part : "x"))).split(" ").length;
+}
+
+test("shows a value in each notation", () => {
+    for (const [text, names, ...wanted] of TEXTS.values) {
+        const value = parseNs(text, optionsOf(names));
+        const numbers = [decimal(value, 1n), decimal(value, 1_000_000n), seconds(value)];
+        assert.deepEqual([formatNs(value), ...numbers.map(groupDigits), iso(value)], wanted, text);
+    }
+});
+
+test("shows a text term by term", () => {
+    for (const [text, names, rows] of TEXTS.terms) {
+        assert.deepEqual(termRows(text, optionsOf(names)).flat(), rows ?? [], text);
+    }
+});
+
+test("has notes on texts that are read", () => {
+    for (const [text, notes] of TEXTS.notes) {
+        assert.deepEqual(notesOn(text, parseNs(text), NONE).sentences.map(wordsOf), notes, text);
+    }
+});
+
+for (const [group, rows] of Object.entries(TEXTS.meant)) {
+    test(`offers what is meant: ${group}`, () => {
+        for (const [text, ...meant] of rows) {
+            const { ok, value, fault } = tryParseNs(text);
+            const offers = ok ? notesOn(text, value, NONE).offers : offersFor(text, NONE);
+            // What the text is read as is not offered.
+            const wanted = meant.filter(Boolean).map(nanosOf).filter((each) => each !== value);
+            assert.deepEqual(offers.map((each) => each.value), wanted, text);
+            for (const each of offers) {
+                // The meaning in words is a text, too: "1,000 seconds", "2 months of 30 days".
+                const inWords = each.meaning.replace(/,| of \d+ days/g, "");
+                assert.equal(parseNs(inWords), each.value, text);
+            }
+            const said = fault ? sentence(text, fault.code, NONE) : null;
+            assert.ok(countWords(said ?? []) <= MOST_WORDS, text);
+        }
+    });
+}
