@@ -1,14 +1,21 @@
-//! humantime's names for durations, so that a program moves by one import: `use duration_str::humantime;`.
+//! humantime's names for durations. To move a program, change one import:
+//! `use duration_str::humantime;`.
 //!
-//! What differs is that a year has 365 days and a month 30, where humantime's have 365.25 and 30.44: to keep the length of
-//! `1y`, write `365d 6h`. `1M`, a month of humantime, is refused, since capitals and small letters differ here as there;
-//! [`duration_str::parse_duration`](crate::parse_duration) reads a minute. `secs`, `mins`, `hrs`, `millis` and `nanos` are
-//! refused too, by a line that says what to write. A number without a unit is refused, as by humantime. Operators are
-//! read, and printed texts have other names of units; `docs/MIGRATING.md` of the repository lists them.
+//! What differs from humantime:
 //!
-//! All items and traits of humantime 2.1 that are about durations are here, but not the variants of its error, in whose
-//! place [`DurationError::cause`] says why. Times of the calendar are not provided. In place of the crate humantime-serde
-//! the module `humantime_serde` reads so too.
+//! - A year has 365 days and a month 30. In humantime they have 365.25 and 30.44. To keep the length
+//!   of `1y`, write `365d 6h`.
+//! - `1M`, a month of humantime, is refused. Capitals and small letters differ, as in humantime;
+//!   [`duration_str::parse_duration`](crate::parse_duration) reads it as a minute.
+//! - `secs`, `mins`, `hrs`, `millis` and `nanos` are refused. The error says what to write.
+//! - Operators are read.
+//! - Printed texts have other names of units; `docs/MIGRATING.md` of the repository lists them.
+//!
+//! As in humantime, a number without a unit is refused.
+//!
+//! All items and traits of humantime 2.1 that are about durations are here, except the variants of
+//! its error: [`DurationError::cause`] says why a text is refused. Times of the calendar are not
+//! provided. In place of the crate humantime-serde, use the module `humantime_serde`.
 //!
 //! ```
 //! use duration_str::humantime;
@@ -25,11 +32,11 @@ use crate::with_units::with_units;
 
 pub use crate::{DurationError, FormattedDuration, format_duration};
 
-/// Reads a text; capitals and small letters differ, and each number needs a unit.
+/// Reads a text. Capitals and small letters differ, and each number needs a unit.
 ///
 /// # Errors
 ///
-/// Why the text is refused, with a copy of it.
+/// Returns why the text is refused, with a copy of the text.
 ///
 /// ```
 /// use duration_str::humantime;
@@ -43,7 +50,7 @@ pub fn parse_duration(text: &str) -> Result<core::time::Duration, DurationError>
     with_units(text, CASE_SENSITIVE).map_err(Fault::into_owned)
 }
 
-/// A duration that is read as [`parse_duration`] reads, and printed as [`format_duration`] prints.
+/// A duration. [`parse_duration`] reads it, and [`format_duration`] prints it.
 ///
 /// ```
 /// use duration_str::humantime;

@@ -1,6 +1,6 @@
-//! For those who come from the crate humantime-serde: as [`human`](crate::human), but capitals and small letters differ, as
-//! in the module [`humantime`](crate::humantime). There is no `Serde`: a field that is a
-//! [`HumanDuration`](crate::HumanDuration) needs no `with`.
+//! For those who come from the crate humantime-serde. This is like [`human`](crate::human), but
+//! capitals and small letters differ, as in the module [`humantime`](crate::humantime). There is no
+//! `Serde`: a field of the type [`HumanDuration`](crate::HumanDuration) needs no `with`.
 //!
 //! Needs the feature `serde`.
 //!
@@ -27,11 +27,12 @@ use serde::de::Deserializer;
 #[doc(no_inline)]
 pub use crate::human::serialize;
 
-/// Reads durations, which must be texts, by [`humantime::parse_duration`](crate::humantime::parse_duration).
+/// Reads durations, which must be texts, with
+/// [`humantime::parse_duration`](crate::humantime::parse_duration).
 ///
 /// # Errors
 ///
-/// That of the format, also for a text that is refused.
+/// Returns the format's error, also if a text is refused.
 ///
 /// ```
 /// use serde_json::json;
@@ -45,7 +46,7 @@ pub fn deserialize<'de, T: HumanText, D: Deserializer<'de>>(deserializer: D) -> 
     T::deserialize_human::<D, STRICT>(deserializer)
 }
 
-/// The same, under the name that humantime-serde has for an `Option`.
+/// The same for an `Option`, under the name that humantime-serde gives it.
 pub mod option {
     #[doc(no_inline)]
     pub use super::{deserialize, serialize};
