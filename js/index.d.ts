@@ -1,59 +1,66 @@
 /**
- * Durations as people write them. `3m + 13s + 29ms` is read as 193,029 milliseconds, and printed as
- * `3min 13s 29ms`. A text that can't be read is refused with an error that says what is wrong, and
- * where. A proved library reads and prints.
+ * Reads durations as people write them, such as `3m + 13s + 29ms`, and prints them, such as
+ * `3min 13s 29ms`. An error says what is wrong, and where. The library that reads and prints is
+ * proved.
  *
- * A text has terms, each a number and a unit, such as `3m` or `29 ms`. Terms are joined by `+` or
- * by `*`, or follow one another, which adds them. A product multiplies its terms in seconds. A
- * number without a unit counts seconds; it must be last, or before an operator. Blanks may be
- * anywhere except inside a number or a unit. Numbers are below 2^64, and values below 2^64
- * nanoseconds.
+ * A text is one term or several. A term is a number and a unit. Terms are joined by `+` or by `*`;
+ * terms that follow one another are added. A product multiplies its terms in seconds. A number
+ * without a unit counts seconds, and must be last or before an operator. Blanks may be anywhere
+ * except inside a number or a unit. Numbers are below 2^64, and values below 2^64 nanoseconds.
  */
 
 /**
- * Options for reading, all off by default. Only a plain object's own properties count, and an
- * unknown name is a `TypeError`.
+ * Options for reading, all off by default. Only a plain object's own properties count; other names
+ * are a `TypeError`.
  */
 export interface Options {
-    /** `+` and `*` are not read; terms are added as they come. */
+    /** `+` and `*` are not read; terms are added one by one. */
     noCalc?: boolean | undefined;
-    /** Words are compared as written; otherwise ASCII capitals are read as small letters. */
+    /**
+     * Units are compared as written. Without this option, ASCII capitals are read as small letters.
+     */
     lowercase?: boolean | undefined;
     /** The Chinese names of the units are read too. */
     cnUnit?: boolean | undefined;
-    /** A number without a unit is refused, as in `90` and `1h 30`. Otherwise it counts seconds. */
+    /**
+     * A number without a unit is refused, as in `90` and `1h 30`. Without this option, it counts
+     * seconds.
+     */
     requireUnit?: boolean | undefined;
 }
 
-/** The units by their printed names, the longest first. `us` is another name of `µs`. */
+/** The units by their printed names, the longest first. `us` is the same as `µs`. */
 // Made by tests/repository --write.
 export type Unit = "y" | "q" | "mon" | "w" | "d" | "h" | "min" | "s" | "ms" | "µs" | "us" | "ns";
 
-/** How much of a duration is counted. Only a plain object's own properties count. */
+/** Limits for what is counted. Only a plain object's own properties count. */
 interface Counted<Name extends Unit> {
-    /** The most parts; `Infinity` for all. What is left is cut off, never rounded up. */
+    /**
+     * At most so many parts. `Infinity` is all of them. The rest is left out, and nothing is
+     * rounded up.
+     */
     parts?: number | undefined;
     /** The largest unit. With `d`, 120 days are `120d`. */
     largest?: Name | undefined;
     /**
-     * The smallest unit. A shorter duration is 0 of this unit, or 0 seconds if this unit is shorter
-     * than a second.
+     * The smallest unit. If nothing is left, it is 0 of this unit, or 0 seconds if this unit is
+     * shorter than a second.
      */
     smallest?: Name | undefined;
 }
 
-/** How a duration is printed: by default all of it, from `y` to `ns`. */
+/** How much of a duration is printed, and how. By default it is all, from `y` to `ns`. */
 export interface Limits extends Counted<Unit> {
-    /** `1h 30min` is short, which is the default, `1h30min` compact, `1 hour 30 minutes` long. */
+    /** `short`, the default, is `1h 30min`; `compact` is `1h30min`; `long` is `1 hour 30 minutes`. */
     style?: "short" | "compact" | "long" | undefined;
 }
 
-/** What `parts` counts: by default all, from days to nanoseconds. */
+/** What `parts` counts. By default it is all, from days to nanoseconds. */
 export type PartLimits = Counted<Exclude<Unit, "q">>;
 
 /**
- * The parts of a duration that are not 0, by the names that `Intl.DurationFormat` and
- * `Temporal.Duration.from` take.
+ * The parts of a duration that are not 0. `Intl.DurationFormat` and `Temporal.Duration.from` take
+ * these names.
  */
 export type Parts = Partial<Record<PartName, number>>;
 type PartName =
@@ -77,20 +84,23 @@ interface Refused {
     readonly expected: Expected;
 }
 
-/** The token at a place can't follow what is before it. */
+/** The token at the place can't follow the text before it. */
 export interface SyntaxFault extends Refused {
     readonly code: "SYNTAX";
-    /** Where the fault is, as an index of the string. `text.slice(index)` begins with `found`. */
+    /**
+     * Where the fault is, in UTF-16 units, as strings count: `text.slice(index)` begins with
+     * `found`.
+     */
     readonly index: number;
-    /** The same place in the bytes of the text in UTF-8. */
+    /** The same place, in bytes of UTF-8. */
     readonly byte: number;
-    /** The token at the place, or null at the end. */
+    /** The token at the place, or null at the end of the text. */
     readonly found: string | null;
 }
 
 /**
- * A number, or a value in nanoseconds, is 2^64 or more. If the first term is, the index is 0;
- * otherwise there is none.
+ * A number, or a value in nanoseconds, is 2^64 or more. In the first term it has the place 0; later
+ * it has no place.
  */
 export interface SizeFault extends Refused {
     readonly code: "NUMBER_TOO_LARGE" | "OVERFLOW";
@@ -99,7 +109,7 @@ export interface SizeFault extends Refused {
     readonly found: null;
 }
 
-/** The text has a lone surrogate at the index, so it can't be written in UTF-8. */
+/** The text has a lone surrogate at `index`, so it can't be written in UTF-8. */
 export interface TextFault extends Refused {
     readonly code: "NOT_TEXT";
     readonly index: number;
@@ -115,27 +125,32 @@ export interface OtherFault extends Refused {
     readonly found: null;
 }
 
-/** Why a text is refused. TypeScript tells the cases by `code`. */
+/**
+ * Why a text is refused. Look at `code` to tell the cases apart: only `SYNTAX` always has a `byte`.
+ */
 export type Refusal = SyntaxFault | SizeFault | TextFault | OtherFault;
 
 interface Told {
-    /** What is wrong, where, and often what to write. One line, safe for terminals and logs. */
+    /**
+     * One line that says what is wrong, where, and often what to write. It is safe in a terminal
+     * and a log.
+     */
     readonly message: string;
     /**
      * For a terminal: the text, a caret below the place, and the message. It is the message alone
-     * if the code is not `SYNTAX`, if the text has more than 80 characters, or if it has characters
-     * that the message would escape.
+     * if the code is not `SYNTAX`, if the text has more than 80 characters, or if the message would
+     * escape something in it.
      */
     readonly report: string;
 }
 
-/** Why a text is refused, and the message. Converted to a string, it is the message. */
+/** Why a text is refused, with the message. As a string it is the message. */
 export type Fault = Refusal & Told;
 
 /**
- * A refused text, with the fault's fields. A structured clone keeps the message and the `cause`,
- * and `toJSON` returns both. In Node, `import` and `require` give the same class.
- * `duration-str/plain` has another class of the same name.
+ * The error for a refused text. A structured clone keeps the message and the `cause`, and `toJSON`
+ * gives both. In Node `import` and `require` give the same class; `duration-str/plain` has another
+ * class of the same name.
  *
  * ```js
  * try {
@@ -161,71 +176,73 @@ export type Result<Value = number> =
 export declare const version: string;
 
 /**
- * Reads a text, and returns its value in milliseconds: `parse("1m 30s")` is `90000`, and
- * `parse("1500us")` is `1.5`. It is the nearest number. Below 2^33 ms (99 days) `format` prints
- * each nanosecond of it; above, the last nanoseconds may differ.
+ * Returns the value of a text in milliseconds: `parse("1m 30s")` is `90000`, and `parse("1500us")`
+ * is `1.5`.
  *
- * To read an array, write `texts.map((text) => parse(text))`: `map` passes the index, too.
+ * The value is the number nearest to the exact one. Below 2^33 ms (99 days) `format` prints every
+ * nanosecond of it; above that the last ones may differ. To read an array, write
+ * `texts.map((text) => parse(text))`, since `map` also passes the index.
  *
  * ```js
- * setTimeout(retry, parse("1m 30s")); // which takes up to 24.8 days
+ * setTimeout(retry, parse("1m 30s")); // setTimeout takes at most 24.8 days
  * ```
  *
  * @throws DurationError if the text is refused
- * @throws TypeError if it is no string, or an option is unknown or no boolean
- * @throws Error, as each call does, if WebAssembly is missing or refused. The message says what to
- * do, and the cause is what the engine threw. The next call tries again.
+ * @throws TypeError if `text` is not a string, or if an option is unknown or not a boolean
+ * @throws Error if WebAssembly is missing or refused, as every call does; the message says what to
+ * do, and the `cause` is what the engine threw. The next call tries again.
  */
 export function parse(text: string, options?: Options): number;
 
 /**
- * Reads a text as `parse` does, and returns its value or what is wrong with it. That is faster than
- * an error with its stack.
+ * Returns what `parse` returns, or what is wrong with the text. It makes no error and no stack.
  *
- * @throws TypeError if it is no string, or an option is unknown or no boolean
+ * @throws TypeError if `text` is not a string, or if an option is unknown or not a boolean
  */
 export function tryParse(text: string, options?: Options): Result;
 
 /**
- * Reads a text, and returns its exact value in nanoseconds: `parseNs("3m + 13s + 29ms")` is
+ * Returns the exact value of a text in nanoseconds: `parseNs("3m + 13s + 29ms")` is
  * `193029000000n`.
  *
  * @throws DurationError, TypeError as `parse` does
  */
 export function parseNs(text: string, options?: Options): bigint;
 
-/** Reads a text as `parseNs` does, and returns its value or what is wrong with it. */
+/** Returns what `parseNs` returns, or what is wrong with the text, as `tryParse` does. */
 export function tryParseNs(text: string, options?: Options): Result<bigint>;
 
 /**
- * Prints a duration in milliseconds: `format(5_400_000)` is `1h 30min`, and with `{ parts: 1 }` it
- * is `1h`. A fraction, as in a difference of `performance.now()`, is rounded to the nearest
+ * Prints a duration of so many milliseconds: `format(5_400_000)` is `1h 30min`, and with
+ * `{ parts: 1 }` it is `1h`.
+ *
+ * A number with a fraction, such as a difference of `performance.now()`, is rounded to the nearest
  * nanosecond: `format(1.005)` is `1ms 5µs`.
  *
- * @throws RangeError if it is negative, 2^64 nanoseconds or more, NaN or infinite; if there is no
- * such unit, style or count of parts; and if the largest unit is shorter than the smallest
- * @throws TypeError if it is no number, or an option is unknown or of another type
+ * @throws RangeError if the number is negative, 2^64 nanoseconds or more, NaN or infinite; if there
+ * is no such unit, style or count of parts; or if the largest unit is shorter than the smallest
+ * @throws TypeError if it is not a number, or if an option is unknown or of another type
  */
 export function format(milliseconds: number, options?: Limits): string;
 
 /**
- * Prints a duration in nanoseconds: `formatNs(5_400_000_000_000n)` is `1h 30min`.
+ * Prints a duration of so many nanoseconds: `formatNs(5_400_000_000_000n)` is `1h 30min`.
  *
- * @throws RangeError if it is negative, or 2^64 or more; and as `format` does for the options
- * @throws TypeError if it is no bigint; and as `format` does for the options
+ * @throws RangeError if the number is negative, or 2^64 or more; for the options as `format` does
+ * @throws TypeError if it is not a bigint; for the options as `format` does
  */
 export function formatNs(nanoseconds: bigint, options?: Limits): string;
 
 /**
- * Counts the parts of a duration, which is a number of milliseconds or a bigint of nanoseconds:
- * `parts(5_400_000)` is `{ hours: 1, minutes: 30 }`, and `parts(0)` is `{ seconds: 0 }`. Quarters
- * are not counted.
+ * Returns the parts of a duration as numbers: `parts(5_400_000)` is `{ hours: 1, minutes: 30 }`.
+ * The duration is a number of milliseconds or a bigint of nanoseconds. Quarters are not counted.
+ * Those of 0 are `{ seconds: 0 }`.
  *
  * ```js
  * new Intl.DurationFormat("en").format(parts(parse("1h 30m"))); // 1 hr, 30 min
  * ```
  *
- * @throws RangeError if no number holds a count exactly; and as `format` does
- * @throws TypeError if it is neither; and as `format` does
+ * @throws RangeError if a number does not hold a count exactly; for the rest as `format` does
+ * @throws TypeError if the duration is neither; for the limits as `format` does
  */
 export function parts(duration: number | bigint, limits?: PartLimits): Parts;

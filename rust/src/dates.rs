@@ -1,21 +1,22 @@
-//! Moments after and before another, by chrono's own checked arithmetic.
+//! Moments after and before another one, by chrono's own checked arithmetic.
 //!
-//! All calls are also at the root of the crate, where `duration-str` 0.19.0 has those from now. They need the feature
-//! `chrono`.
+//! All calls are also at the root of the crate, where `duration-str` 0.19.0 has those that start
+//! from now. They need the feature `chrono`.
 use crate::fault::Fault;
 use crate::parser::{FEATURES, chrono_of, parse_with};
 use alloc::string::String;
 use chrono::{NaiveDate, NaiveDateTime, Utc};
 use duration_str_core::{Cause, Options};
 
-/// The moment that comes after this one by the value of a text. Both are in the same zone, such as UTC.
+/// The moment that comes after this one by the value of a text. Both are in the same time zone, such
+/// as UTC.
 ///
-/// The text is read first, and its fault comes first. The cause is [`Cause::OutOfRange`] where
-/// chrono has no such moment.
+/// The text is read first, and its fault comes first. If chrono has no such moment, the cause is
+/// [`Cause::OutOfRange`].
 ///
 /// # Errors
 ///
-/// The fault of the text, or [`Cause::OutOfRange`].
+/// Returns the fault of the text, or [`Cause::OutOfRange`].
 ///
 /// ```
 /// use chrono::NaiveDate;
@@ -31,11 +32,11 @@ pub fn moment_after(moment: NaiveDateTime, input: &str, options: Options) -> Res
     moment.checked_add_signed(length).ok_or(Fault::of(input, Cause::OutOfRange, options))
 }
 
-/// The moment that comes before this one by the value of a text. All else is as with [`moment_after`].
+/// The moment that comes before this one by the value of a text. It is otherwise like [`moment_after`].
 ///
 /// # Errors
 ///
-/// The fault of the text, or [`Cause::OutOfRange`].
+/// Returns the fault of the text, or [`Cause::OutOfRange`].
 ///
 /// ```
 /// use chrono::NaiveDate;
@@ -51,11 +52,12 @@ pub fn moment_before(moment: NaiveDateTime, input: &str, options: Options) -> Re
     moment.checked_sub_signed(length).ok_or(Fault::of(input, Cause::OutOfRange, options))
 }
 
-/// The moment, in UTC, that comes after now by the value of a text, which is read as [`parse`](crate::parse) reads it.
+/// The moment in UTC that comes after now by the value of a text, which [`parse`](crate::parse)
+/// reads.
 ///
 /// # Errors
 ///
-/// The message of the fault of the text, or of a date out of range.
+/// Returns the message of the text's fault, or of a date out of range.
 ///
 /// ```
 /// use chrono::{Duration, Utc};
@@ -69,11 +71,12 @@ pub fn after_naive_date_time(input: impl AsRef<str>) -> Result<NaiveDateTime, St
     moment_after(now(), input.as_ref(), FEATURES).map_err(|fault| fault.message())
 }
 
-/// The moment, in UTC, that comes before now by the value of a text, which is read as [`parse`](crate::parse) reads it.
+/// The moment in UTC that comes before now by the value of a text, which [`parse`](crate::parse)
+/// reads.
 ///
 /// # Errors
 ///
-/// The message of the fault of the text, or of a date out of range.
+/// Returns the message of the text's fault, or of a date out of range.
 ///
 /// ```
 /// use chrono::{Duration, Utc};
@@ -91,7 +94,7 @@ pub fn before_naive_date_time(input: impl AsRef<str>) -> Result<NaiveDateTime, S
 ///
 /// # Errors
 ///
-/// The message of the fault of the text, or of a date out of range.
+/// Returns the message of the text's fault, or of a date out of range.
 ///
 /// ```
 /// assert!(duration_str::after_naive_date("180d")? > chrono::Utc::now().date_naive());
@@ -105,7 +108,7 @@ pub fn after_naive_date(input: impl AsRef<str>) -> Result<NaiveDate, String> {
 ///
 /// # Errors
 ///
-/// The message of the fault of the text, or of a date out of range.
+/// Returns the message of the text's fault, or of a date out of range.
 ///
 /// ```
 /// assert!(duration_str::before_naive_date("180d")? < chrono::Utc::now().date_naive());

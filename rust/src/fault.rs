@@ -4,11 +4,11 @@ use alloc::string::{String, ToString};
 use core::fmt;
 use duration_str_core::{self as proved, Cause, Expected, Options};
 
-/// A refused text: why and where.
+/// Why and where a text is refused.
 ///
-/// It displays as one line, for terminals and logs: what is wrong, at which column, counted in characters from 1, and at
-/// most 40 characters of the text, escaped where they are not safe within one line. [`Fault::report`] has the text and a
-/// caret, too.
+/// It displays as one line, for terminals and logs. The line says what is wrong, and at which
+/// column, counted in characters from 1. It quotes at most 40 characters of the text, and escapes
+/// those that are not safe within one line. [`Fault::report`] also has the text and a caret.
 ///
 /// ```
 /// use duration_str::{Cause, Options, parse_with};
@@ -21,7 +21,7 @@ use duration_str_core::{self as proved, Cause, Expected, Options};
 /// assert_eq!(format!("{fault:?}"), format!("Fault({fault})"));
 /// ```
 ///
-/// It borrows the text; [`Fault::into_owned`] gives an error that outlives it.
+/// It borrows the text. [`Fault::into_owned`] gives an error that outlives the text.
 #[derive(Clone, Copy, PartialEq, Eq, Hash)]
 pub struct Fault<'a> {
     fault: proved::Fault<'a>,
@@ -52,7 +52,7 @@ impl<'a> Fault<'a> {
         self.fault.text()
     }
 
-    /// Why it is refused.
+    /// Why the text is refused.
     ///
     /// ```
     /// use duration_str::{Cause, Options, parse_with};
@@ -64,7 +64,7 @@ impl<'a> Fault<'a> {
         self.fault.cause()
     }
 
-    /// The byte of the text at which the fault is, or `None` if it has no place.
+    /// The byte of the text at which the fault is, from 0, or `None` if it has no place.
     ///
     /// ```
     /// use duration_str::{Options, parse_with};
@@ -121,9 +121,11 @@ impl<'a> Fault<'a> {
         self.fault.write_one_line(buffer)
     }
 
-    /// For a terminal: the text, below it a caret at the place of a syntax fault, and below that the line; or the line
-    /// alone for another cause, for a text of more than 80 characters, and for one with characters that the line would
-    /// escape.
+    /// For a terminal: the text, below it a caret at the place of a syntax fault, and below that the
+    /// line.
+    ///
+    /// It is the line alone if the fault is no syntax fault, if the text has more than 80
+    /// characters, or if the line would escape something in it.
     ///
     /// ```
     /// use duration_str::{Options, parse_with};
@@ -158,7 +160,7 @@ impl<'a> Fault<'a> {
         }
     }
 
-    /// The same, as an error that owns its text.
+    /// The same fault as an error that owns its text.
     ///
     /// ```
     /// use duration_str::{DurationError, Fault, Options, parse_with};
@@ -196,7 +198,7 @@ impl core::error::Error for Fault<'_> {}
 
 /// The error of [`parse_duration`](crate::parse_duration) and of `str::parse`: a [`Fault`] that owns its text.
 ///
-/// It displays as one line, as that does.
+/// It displays as one line, like a [`Fault`].
 ///
 /// ```
 /// use duration_str::parse_duration;
@@ -237,7 +239,7 @@ impl DurationError {
         &self.text
     }
 
-    /// Why it is refused.
+    /// Why the text is refused.
     ///
     /// ```
     /// use duration_str::{Cause, HumanDuration};
@@ -259,7 +261,7 @@ impl DurationError {
         self.cause.place()
     }
 
-    /// The text with a caret and the line, as in [`Fault::report`].
+    /// The text, a caret and the line, as in [`Fault::report`].
     ///
     /// ```
     /// let error = "600y".parse::<duration_str::HumanDuration>().unwrap_err();

@@ -5,14 +5,11 @@ use core::fmt::{self, Write};
 use core::time::Duration;
 use duration_str_core::{Format, STYLED_BUFFER_SIZE, Style, TimeUnit, write_within};
 
-/// A duration that is printed for people by its `Display`, which allocates nothing: whole, or in some units, in so many
-/// parts and in a style. [`format_duration`] makes it, and for durations of `chrono` and `time`
-/// [`HumanFormat::formatted`](crate::HumanFormat::formatted).
+/// A duration that its `Display` prints for people, without allocating. You choose the units, the
+/// number of parts and the style.
 ///
-/// The text has the greatest possible count of the largest unit, then that of the next in what is left, and so on down to
-/// the smallest unit, until there are so many parts. Counts of 0 are left out, and what is left then is too. If all counts
-/// are 0, the text is `0` and the smallest unit's name, or `0s` for a unit shorter than a second; so it is for every
-/// duration if there are no parts, or the largest unit is shorter than the smallest.
+/// [`format_duration`] makes it. For durations of `chrono` and `time`,
+/// [`HumanFormat::formatted`](crate::HumanFormat::formatted) does.
 ///
 /// ```
 /// use duration_str::{Style, TimeUnit, format_duration};
@@ -25,8 +22,20 @@ use duration_str_core::{Format, STYLED_BUFFER_SIZE, Style, TimeUnit, write_withi
 /// assert_eq!(uptime.parts(2).style(Style::Long).to_string(), "1 week 4 days");
 /// ```
 ///
-/// Width and fill pad the text, and a precision is ignored. A negative duration has a minus before the text, unless that is a
-/// zero. A duration of 2^64 nanoseconds or more, some 584 years, and one with a minus print as texts that no call reads.
+/// # What is printed
+///
+/// The text has the greatest possible count of the largest unit, then the greatest count of the next
+/// unit in what is left, and so on down to the smallest unit, until there are so many parts. Counts
+/// of 0 are left out. What is left at the end is left out too.
+///
+/// If all counts are 0, the text is `0` and the smallest unit's name, or `0s` if that unit is
+/// shorter than a second. The text is also this if there are no parts, or if the largest unit is
+/// shorter than the smallest.
+///
+/// Width and fill pad the text. A precision is ignored.
+///
+/// A negative duration has a minus before its text, unless that is a zero. No call reads back a text
+/// with a minus, or one of 2^64 nanoseconds or more, some 584 years.
 #[derive(Clone, Copy, Debug, PartialEq, Eq, Hash)]
 pub struct FormattedDuration {
     is_negative: bool,
@@ -34,7 +43,7 @@ pub struct FormattedDuration {
     format: Format,
 }
 
-/// The duration as what prints it. It has the name of humantime's function.
+/// Prints a duration for people. It has the name of humantime's function.
 ///
 /// ```
 /// use duration_str::format_duration;
@@ -53,7 +62,7 @@ impl FormattedDuration {
         FormattedDuration { is_negative, magnitude, format: Format::whole() }
     }
 
-    /// The duration; of a negative one the magnitude. It has the name of humantime's method.
+    /// The duration, or its magnitude if it is negative. It has the name of humantime's method.
     ///
     /// ```
     /// use duration_str::format_duration;
@@ -66,7 +75,8 @@ impl FormattedDuration {
         &self.magnitude
     }
 
-    /// The text, as [`ToString`](alloc::string::ToString) gives it, but in less time: not by way of a formatter.
+    /// The text, as [`ToString`](alloc::string::ToString) gives it. This is faster, since it needs
+    /// no formatter.
     ///
     /// ```
     /// use duration_str::format_duration;
@@ -90,7 +100,8 @@ impl FormattedDuration {
     }
 }
 
-/// The calls that choose how a duration is printed: of what is printed, and of [`HumanDuration`], which becomes that.
+/// The calls that choose how a duration is printed. `FormattedDuration` and [`HumanDuration`] have
+/// them; on the latter they return the former.
 macro_rules! chooses {
     ($($(#[$doc:meta])* $name:ident: $Value:ty,)+) => {
         impl FormattedDuration {$(
@@ -115,7 +126,7 @@ macro_rules! chooses {
 }
 
 chooses! {
-    /// The duration, printed in this unit and shorter ones.
+    /// Prints the duration in this unit and shorter ones.
     ///
     /// ```
     /// use duration_str::{TimeUnit, format_duration};
@@ -126,7 +137,7 @@ chooses! {
     /// ```
     largest: TimeUnit,
 
-    /// The duration, printed in this unit and longer ones.
+    /// Prints the duration in this unit and longer ones.
     ///
     /// ```
     /// use duration_str::{TimeUnit, format_duration};
@@ -138,7 +149,7 @@ chooses! {
     /// ```
     smallest: TimeUnit,
 
-    /// The duration, printed in at most so many parts.
+    /// Prints the duration in at most so many parts.
     ///
     /// ```
     /// use duration_str::format_duration;
@@ -149,7 +160,7 @@ chooses! {
     /// ```
     parts: usize,
 
-    /// The duration, printed in this style.
+    /// Prints the duration in this style.
     ///
     /// ```
     /// use duration_str::{Style, format_duration};
@@ -162,8 +173,9 @@ chooses! {
     style: Style,
 }
 
-/// A minus where the duration is negative and the text no zero, the text of its magnitude, and the fill that is asked for
-/// around them. A precision, which `Formatter::pad` cuts at, is ignored.
+/// Writes a minus if the duration is negative and its text is not a zero, then the text of its
+/// magnitude, and around them the fill that is asked for. A precision, at which `Formatter::pad`
+/// would cut, is ignored.
 impl fmt::Display for FormattedDuration {
     fn fmt(&self, f: &mut fmt::Formatter<'_>) -> fmt::Result {
         match (self.parts_of_text(&mut [0; STYLED_BUFFER_SIZE]), f.width()) {

@@ -1,14 +1,19 @@
-//! For `#[serde(with = "duration_str::human")]`: durations as text, printed as
-//! [`format_duration`](crate::format_duration) prints and read as [`parse_duration`](crate::parse_duration) reads.
+//! For `#[serde(with = "duration_str::human")]`: durations as text.
+//! [`format_duration`](crate::format_duration) prints them, and
+//! [`parse_duration`](crate::parse_duration) reads them.
 //!
-//! The field is a duration of `std`, `chrono` or `time`, or an `Option` or a `Vec` of what can be such a field; in other
-//! collections, such as a map, [`HumanDuration`] needs no `with`. One rule holds for all of them: the format is asked for a
-//! text, and the empty one is refused. So YAML's `90` is 90 seconds, and formats that don't tell their values' types, such
-//! as bincode, are read too; [`human_or_seconds`](crate::human_or_seconds) reads numbers as well. `None` is null, and with
-//! `#[serde(default)]` a missing field. A refusal is `invalid duration: ` and the line of its fault.
+//! The field is a duration of `std`, `chrono` or `time`, or an `Option` or a `Vec` of what can be
+//! such a field. In other collections, such as a map, use [`HumanDuration`], which needs no `with`.
 //!
-//! What is written can be read: a negative duration, and one of 2^64 nanoseconds or more, some 584 years, is an error of the
-//! format.
+//! - The format is asked for a text. So YAML's `90` is 90 seconds, and formats that don't tell the
+//!   types of their values, such as bincode, are read too.
+//!   [`human_or_seconds`](crate::human_or_seconds) also reads numbers.
+//! - The empty text is refused.
+//! - `None` is null, and with `#[serde(default)]` a missing field.
+//! - The error is `invalid duration: ` and the line of the fault.
+//!
+//! Everything that is written can be read. So a negative duration is an error of the format, and so
+//! is one of 2^64 nanoseconds or more, some 584 years.
 //!
 //! Needs the feature `serde`.
 //!
@@ -33,7 +38,7 @@
 //! # Ok::<(), serde_json::Error>(())
 //! ```
 //!
-//! Other calls and options take a function of two lines, for `deserialize_with`:
+//! To use another call or options, write a function of two lines for `deserialize_with`:
 //!
 //! ```
 //! use duration_str::parse_with_units;
@@ -100,7 +105,7 @@ pub trait HumanText: Sealed + Sized {
 ///
 /// # Errors
 ///
-/// That of the format, also where the value can't be read back.
+/// Returns the format's error, also if the text couldn't be read back.
 ///
 /// ```
 /// use serde_json::value::Serializer;
@@ -119,7 +124,7 @@ pub fn serialize<T: HumanText, S: Serializer>(value: &T, serializer: S) -> Resul
 ///
 /// # Errors
 ///
-/// That of the format, also for a text that is refused.
+/// Returns the format's error, also if a text is refused.
 ///
 /// ```
 /// use std::time::Duration;

@@ -1,11 +1,11 @@
 //! A duration that is written as text.
 use core::time::Duration;
 
-/// A [`Duration`] that is read from text and printed as text: by `FromStr` and `Display`, so that it can be the value of
-/// a command line's option (`value_parser` of clap takes it as it is), and by serde.
+/// A [`Duration`] that is read from text and printed as text, by `FromStr`, by `Display` and by
+/// serde. So it can be the type of an option in clap, without a `value_parser`.
 ///
-/// It is read as [`parse_duration`](crate::parse_duration) reads, and printed as
-/// [`format_duration`](crate::format_duration) prints; other units, parts and styles are chosen as there.
+/// [`parse_duration`](crate::parse_duration) reads it, and
+/// [`format_duration`](crate::format_duration) prints it. You choose units, parts and style as there.
 ///
 /// ```
 /// use duration_str::{HumanDuration, Style};

@@ -14,10 +14,11 @@ use duration_str_core::{FORMAT_BUFFER_SIZE, write_human};
 /// assert_eq!(Duration::ZERO.human_format(), "0s");
 /// ```
 ///
-/// A duration of 2^64 nanoseconds or more, some 584 years, prints as a text that no call reads.
+/// No call reads back the text of a duration of 2^64 nanoseconds or more, some 584 years.
 ///
-/// A duration of `chrono` or `time` may be negative. Then it is printed as a minus and the text of its magnitude, which no
-/// call reads back, since texts have no minus. A zero, which can be printed in larger units, has none:
+/// A duration of `chrono` or `time` may be negative. Then it prints as a minus and the text of its
+/// magnitude, which no call reads back, since texts have no minus. If that text is a zero, as it can
+/// be in larger units, it has no minus:
 ///
 #[cfg_attr(feature = "chrono", doc = "```")]
 #[cfg_attr(not(feature = "chrono"), doc = "```ignore")]
@@ -28,7 +29,7 @@ use duration_str_core::{FORMAT_BUFFER_SIZE, write_human};
 /// assert_eq!(build.smallest(duration_str::TimeUnit::Second).to_string(), "0s");
 /// ```
 pub trait HumanFormat: Sealed {
-    /// The duration as what prints it, in units, in so many parts and in a style that are chosen.
+    /// Prints the duration in the units, the number of parts and the style that you choose.
     ///
     /// ```
     /// use duration_str::{HumanFormat, Style};

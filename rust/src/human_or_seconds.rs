@@ -1,9 +1,11 @@
-//! For `#[serde(with = "duration_str::human_or_seconds")]`: as [`human`], and numbers are read too,
+//! For `#[serde(with = "duration_str::human_or_seconds")]`: like [`human`], but numbers are read too,
 //! as seconds.
 //!
-//! So `timeout = 30` of TOML, `"timeout": 30` of JSON and `timeout: 30` of YAML are 30 seconds. The number is whole, and not
-//! negative; for anything shorter there are texts such as `"1500ms"`. A text is written. The format has to tell its values'
-//! types, which bincode and its like don't.
+//! So `timeout = 30` in TOML, `"timeout": 30` in JSON and `timeout: 30` in YAML are 30 seconds. The
+//! number must be whole, and not negative; for anything shorter, write a text such as `"1500ms"`.
+//!
+//! Durations are written as text. The format has to tell the types of its values, which bincode and
+//! similar formats don't do.
 //!
 //! Needs the feature `serde`.
 //!
@@ -35,7 +37,7 @@ pub use human::serialize;
 ///
 /// # Errors
 ///
-/// That of the format, also for a text or a number that is refused.
+/// Returns the format's error, also if a text or a number is refused.
 ///
 /// ```
 /// use duration_str::human_or_seconds;

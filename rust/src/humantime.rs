@@ -1,26 +1,26 @@
-//! humantime's names for durations, so that a program moves by one import:
+//! humantime's names for durations. To move a program, change one import:
 //! `use duration_str::humantime;`.
 //!
-//! A text that humantime reads, and this module too, is the same duration in both. So a month has
-//! 30.44 days here, whatever it is called, and a year 365.25, and not 30 and 365 as in the rest of
-//! this crate. What humantime printed and a program stored is read as it was meant.
+//! A text that both humantime and this module read is the same duration in both. So a month has
+//! 30.44 days here, whatever it is called, and a year 365.25. In the rest of this crate they have 30
+//! and 365. What humantime printed and a program stored is read as it was meant.
 //!
-//! This module prints days and shorter units, with `us` for microseconds, and humantime reads that.
+//! This module prints days and shorter units, with `us` for microseconds, so that humantime reads
+//! it.
 //!
-//! Some texts that humantime reads are refused, each by a line that says what to write:
+//! Some texts that humantime reads are refused. The error says what to write:
 //!
-//! - `1M`. Capitals and small letters differ here, as in humantime; in the rest of this crate `1M`
-//!   is a minute.
+//! - `1M`. Capitals and small letters differ, as in humantime; in the rest of this crate `1M` is a
+//!   minute.
 //! - `secs`, `mins`, `hrs`, `millis` and `nanos`
-//! - of humantime 2.4 the fractions and abbreviations, such as `1.5h` and `1yr`
+//! - fractions and abbreviations of humantime 2.4, such as `1.5h` and `1yr`
 //!
-//! A number without a unit is refused, as in humantime. `+`, `*`, `mon` and the quarter of 91 days
+//! As in humantime, a number without a unit is refused. `+`, `*`, `mon` and the quarter of 91 days
 //! are read, which humantime doesn't have. `docs/MIGRATING.md` of the repository has the rest.
 //!
-//! All items and traits of humantime 2.4 that are about durations are here, but not the variants of
+//! All items and traits of humantime 2.4 that are about durations are here, except the variants of
 //! its error: [`DurationError::cause`] says why a text is refused. Times of the calendar are not
-//! provided. In place of the crate humantime-serde the module `humantime_serde` reads and writes so
-//! too.
+//! provided. In place of the crate humantime-serde, use the module `humantime_serde`.
 //!
 //! ```
 //! use duration_str::humantime;
@@ -44,11 +44,11 @@ use duration_str_core::{self as proved, Cause, Format, STYLED_BUFFER_SIZE, TimeU
 
 pub use crate::DurationError;
 
-/// Reads a text; capitals and small letters differ, and each number needs a unit.
+/// Reads a text. Capitals and small letters differ, and each number needs a unit.
 ///
 /// # Errors
 ///
-/// Why the text is refused, with a copy of it.
+/// Returns why the text is refused, with a copy of the text.
 ///
 /// ```
 /// use duration_str::humantime;
@@ -193,7 +193,7 @@ impl fmt::Display for FormattedDuration {
     }
 }
 
-/// A duration that is read as [`parse_duration`] reads, and printed as [`format_duration`] prints.
+/// A duration. [`parse_duration`] reads it, and [`format_duration`] prints it.
 ///
 /// ```
 /// use duration_str::humantime;

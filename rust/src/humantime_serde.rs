@@ -1,12 +1,12 @@
 //! For those who come from the crate humantime-serde.
 //!
-//! Fields are those of the module [`human`](crate::human), but they are read and printed as the
-//! module [`humantime`](crate::humantime) does. So capitals and small letters differ, a number
-//! without a unit is refused, a month has 30.44 days and a year 365.25, and days are the longest unit
-//! that is printed.
+//! This is like the module [`human`](crate::human), but fields are read and printed as the module
+//! [`humantime`](crate::humantime) does. So capitals and small letters differ, a number without a
+//! unit is refused, a month has 30.44 days and a year 365.25, and days are the longest unit that is
+//! printed.
 //!
-//! There is no `Serde`: a field that is a [`HumanDuration`](crate::HumanDuration) needs no `with`,
-//! but reads as the rest of this crate does.
+//! There is no `Serde`: a field of the type [`HumanDuration`](crate::HumanDuration) needs no `with`,
+//! but is read as in the rest of this crate.
 //!
 //! Needs the feature `serde`.
 //!
@@ -49,11 +49,12 @@ pub fn serialize<T: HumanText, S: Serializer>(value: &T, serializer: S) -> Resul
     value.serialize_human::<S, STRICT>(serializer)
 }
 
-/// Reads durations, which must be texts, by [`humantime::parse_duration`](crate::humantime::parse_duration).
+/// Reads durations, which must be texts, with
+/// [`humantime::parse_duration`](crate::humantime::parse_duration).
 ///
 /// # Errors
 ///
-/// That of the format, also for a text that is refused.
+/// Returns the format's error, also if a text is refused.
 ///
 /// ```
 /// use serde_json::json;
@@ -67,7 +68,7 @@ pub fn deserialize<'de, T: HumanText, D: Deserializer<'de>>(deserializer: D) -> 
     T::deserialize_human::<D, STRICT>(deserializer)
 }
 
-/// The same, under the name that humantime-serde has for an `Option`.
+/// The same for an `Option`, under the name that humantime-serde gives it.
 pub mod option {
     #[doc(no_inline)]
     pub use super::{deserialize, serialize};

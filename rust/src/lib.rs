@@ -1,5 +1,6 @@
-//! Durations as people write them: `1h 30m` is read from a command line, a configuration file or any other text, or refused
-//! with what is wrong in one line, and a duration is printed as `1h 30min`.
+//! Reads durations as people write them, such as `1h 30m`, from a command line, a configuration
+//! file or any other text, and prints them, such as `1h 30min`. If a text can't be read, the error
+//! says in one line what is wrong.
 //!
 //! ```
 //! use duration_str::{format_duration, parse_duration};
@@ -13,16 +14,18 @@
 //!
 //! # Which call to take
 //!
-//! - [`parse_duration`] for most texts. Its [`DurationError`] owns the text, so it goes through `?`, threads and chains of
-//!   errors.
-//! - [`parse_with_units`] to refuse `90` and `1h 30`, which the others read as seconds.
-//! - [`parse_with`] for other options, and where nothing may be allocated: its [`Fault`] borrows the text.
-//! - [`parse`], [`parse_std`], which is the same, and the calls for `chrono` and `time` are those of `duration-str` 0.19.0.
-//!   Their error is a `String` of three lines, and the features of the whole program decide what they read.
-#![cfg_attr(feature = "macros", doc = "- [`duration!`] for a text in the source, which is read at compile time:")]
+//! - Use [`parse_duration`] for most texts. Its [`DurationError`] owns the text, so it can go
+//!   through `?`, threads and chains of errors.
+//! - Use [`parse_with_units`] to refuse `90` and `1h 30`, which the other calls read as seconds.
+//! - Use [`parse_with`] to set options, or if nothing may be allocated: its [`Fault`] borrows the
+//!   text.
+//! - [`parse`], [`parse_std`] (which is the same) and the calls for `chrono` and `time` are those of
+//!   `duration-str` 0.19.0. Their error is a `String` of up to three lines. The features of the
+//!   whole program decide what they read.
+#![cfg_attr(feature = "macros", doc = "- Use [`duration!`] for a text in the source, which is read at compile time:")]
 #![cfg_attr(
     not(feature = "macros"),
-    doc = "- `duration!` for a text in the source, which is read at compile time, by the feature `macros`:"
+    doc = "- Use `duration!` for a text in the source, which is read at compile time (feature `macros`):"
 )]
 //!
 #![cfg_attr(feature = "macros", doc = "```")]
@@ -33,7 +36,8 @@
 //!
 //! # Configuration files
 //!
-//! The module `human` is for fields that serde writes and reads as text; `human_or_seconds` reads `timeout = 30` too.
+//! The module `human` is for fields that serde writes and reads as text. `human_or_seconds` also
+//! reads a number of seconds, such as `timeout = 30`.
 //!
 #![cfg_attr(feature = "serde", doc = "```")]
 #![cfg_attr(not(feature = "serde"), doc = "```ignore")]
@@ -50,13 +54,14 @@
 //! # Ok::<(), serde_json::Error>(())
 //! ```
 //!
-//! `"timeout": "5 mins"` is refused by
+//! `"timeout": "5 mins"` is refused with
 //! `invalid duration: unknown unit "mins" at column 3 (did you mean "min"?) at line 4 column 17`.
 //!
 //! # Command lines
 //!
-//! clap takes a [`HumanDuration`], and [`parse_duration`] for a `Duration`. With `allow_hyphen_values` `-5m` is
-//! refused as a negative duration, and not taken for an option.
+//! For clap, use [`HumanDuration`] as the field's type, or a `Duration` with [`parse_duration`] as
+//! its `value_parser`. If you set `allow_hyphen_values`, `-5m` is refused as a negative duration,
+//! and not taken for an option.
 //!
 //! ```text
 //! /// How long a request may take
@@ -81,13 +86,13 @@
 //! assert_eq!(uptime.largest(TimeUnit::Day).parts(2).style(Style::Long).to_string(), "11 days 13 hours");
 //! ```
 //!
-//! Durations of `chrono` and `time` have the same by [`HumanFormat::formatted`]. [`write_within`] writes into a buffer, and
-//! allocates nothing.
+//! For durations of `chrono` and `time`, [`HumanFormat::formatted`] does the same. [`write_within`]
+//! writes into a buffer, and allocates nothing.
 //!
 //! # Why and where a text is refused
 //!
-//! A [`Fault`] and a [`DurationError`] display as one line. Their `report` has the text with a caret below the place,
-//! and the line.
+//! A [`Fault`] and a [`DurationError`] display as one line. Their `report` has the text, a caret
+//! below the place, and the line.
 //!
 //! ```
 //! use duration_str::{Options, parse_with};
@@ -101,9 +106,10 @@
 //!
 //! # What a text means
 //!
-//! Terms, each a number and a unit, are joined by `+` or by `*`, or follow one another, which adds them; one text has sums
-//! or products, not both. A product multiplies its terms in seconds. After a number the unit may be left out before an
-//! operator and at the end, and is seconds. Blanks may be anywhere except inside a number or a unit.
+//! A text is one term or several. A term is a number and a unit. Terms are joined by `+` or by `*`;
+//! terms that follow one another are added. A text is a sum or a product, and can't mix both. A
+//! product multiplies its terms in seconds. A number without a unit counts seconds, and must be last
+//! or before an operator. Blanks may be anywhere except inside a number or a unit.
 //!
 //! <!-- The table is made by tests/repository --write. -->
 //! | unit | names | with `cn_unit` also |
@@ -120,28 +126,37 @@
 //! | microsecond | µs, µsec, µsecond, us, usec, usecond, microsecond, microseconds | 微秒 |
 //! | nanosecond | ns, nsec, nanosecond, nanoseconds | 纳秒 |
 //!
-//! Each number stays below 2^64, and each term, each step and the value below 2^64 nanoseconds, some 584 years.
+//! Each number must be below 2^64. Each term, each step and the value must be below 2^64
+//! nanoseconds, some 584 years.
 //!
 //! # Features
 //!
-//! The crate is `no_std`, and needs `alloc`. `serde`, `chrono` and `time`, which are on by default, have the calls for these
-//! crates; only those of `duration-str` 0.19.0 and fields in configuration files need them. `macros` has `duration!`. For
-//! the calls of `duration-str` 0.19.0 `no_calc` (no operators), `lowercase` (capitals are not folded) and `cn_unit` (Chinese
-//! names) turn the option of their name on. Cargo joins the features that all crates of a program ask for, so the
-//! other calls follow `cn_unit` alone, which takes nothing away; [`parse_with`] takes options.
+//! The crate is `no_std`, and needs `alloc`.
+//!
+//! - `serde`, `chrono` and `time` are on by default, and have the calls for these crates. You need
+//!   them only for calls of `duration-str` 0.19.0, and for fields in configuration files.
+//! - `macros` has `duration!`.
+//! - `no_calc` (operators are not read), `lowercase` (capitals are not read as small letters) and
+//!   `cn_unit` (Chinese names are read) turn on the option of their name for the calls of
+//!   `duration-str` 0.19.0.
+//!
+//! Cargo joins the features that all crates of a program ask for. So of these three only `cn_unit`
+//! affects the other calls: it takes nothing away. To set options for one call, use [`parse_with`].
 //!
 //! # What is proved
 //!
-//! What reads and prints is proved: it is the source of a proved library without its contracts. There are three
-//! `unsafe` blocks, proved with the rest of it, where a printed duration, a message and a line are known to be UTF-8.
+//! Reading and printing are proved: they are the source of a proved library, without its contracts.
+//! Three `unsafe` blocks are proved with it: there a printed duration, a message and a line are
+//! known to be UTF-8.
 //!
 //! # From humantime and `duration-str` 0.19.0
 //!
-//! To come from humantime, change one import to `use` the module [`humantime`] of this crate. Its months and years have
-//! humantime's lengths.
+//! If you come from humantime, change one import: `use` the module [`humantime`] of this crate. Its
+//! months and years have humantime's lengths.
 //!
-//! This crate has the public interface of `duration-str` 0.19.0 from crates.io: [`parse`], whose error is a `String`,
-//! [`HumanFormat`], `deserialize_duration` and the others, also the calls of the module `dates`, for a moment so long from now.
+//! This crate has the public interface of `duration-str` 0.19.0 from crates.io: [`parse`], whose
+//! error is a `String`, [`HumanFormat`], `deserialize_duration` and the others. The module `dates`
+//! has its calls for a moment that lies so long from now.
 //!
 //! ```
 //! use duration_str::{parse, HumanFormat};

@@ -4,11 +4,11 @@ use alloc::string::String;
 use core::time::Duration;
 use duration_str_core::{self as proved, Options};
 
-/// Reads a text under these options. The fault, where it is refused, says why and where.
+/// Reads a text under these options. If the text is refused, the fault says why and where.
 ///
 /// # Errors
 ///
-/// The [`Fault`], if the text means no duration.
+/// Returns the [`Fault`] if the text is refused.
 ///
 /// ```
 /// use duration_str::{Options, parse_with};
@@ -57,12 +57,12 @@ fn read(text: &str) -> Result<Duration, String> {
 ///
 /// assert_eq!(parse("3m 13s 29ms"), Ok(Duration::from_millis(193_029)));
 /// assert_eq!(parse("1d"), Ok(Duration::from_secs(86_400)));
-/// // Seconds are left out.
+/// // A number without a unit counts seconds.
 /// assert_eq!(parse("3m 31"), Ok(Duration::from_secs(211)));
 /// assert_eq!(parse("600y").unwrap_err(), "600y\n^\noverflow error");
 /// ```
 ///
-/// Without the feature `no_calc` terms are added by `+` or multiplied by `*`, in seconds:
+/// Unless the feature `no_calc` is on, terms are added by `+`, or multiplied by `*`, in seconds:
 ///
 #[cfg_attr(feature = "no_calc", doc = "```ignore")]
 #[cfg_attr(not(feature = "no_calc"), doc = "```")]
@@ -75,18 +75,20 @@ fn read(text: &str) -> Result<Duration, String> {
 ///
 /// # Errors
 ///
-/// The message of the fault.
+/// Returns the message of the fault.
 pub fn parse(input: impl AsRef<str>) -> Result<Duration, String> {
     read(input.as_ref())
 }
 
-/// Reads a text such as `1h 30m`. It can be a `value_parser` of clap, and has the name of humantime's function.
+/// Reads a text such as `1h 30m`. You can use it as a `value_parser` of clap. It has the name of
+/// humantime's function.
 ///
-/// All options are off, whatever features are on, except that `cn_unit` adds its names. [`parse_with`] takes options.
+/// All options are off, whatever features are on, except that the feature `cn_unit` adds its names.
+/// To set options, use [`parse_with`].
 ///
 /// # Errors
 ///
-/// Why the text is refused, with a copy of it.
+/// Returns why the text is refused, with a copy of the text.
 ///
 /// ```
 /// use duration_str::parse_duration;
@@ -109,7 +111,7 @@ pub fn parse_duration(input: &str) -> Result<Duration, DurationError> {
 ///
 /// # Errors
 ///
-/// The message of the fault.
+/// Returns the message of the fault.
 ///
 /// ```
 /// assert_eq!(duration_str::parse_std("2h 37m"), Ok(std::time::Duration::from_secs(9_420)));
@@ -124,7 +126,7 @@ pub fn parse_std(input: impl AsRef<str>) -> Result<Duration, String> {
 ///
 /// # Errors
 ///
-/// The message of the fault.
+/// Returns the message of the fault.
 ///
 /// ```
 /// assert_eq!(duration_str::parse_chrono("2h 37m"), Ok(chrono::Duration::minutes(157)));
@@ -147,7 +149,7 @@ pub(crate) fn chrono_of(length: Duration) -> chrono::Duration {
 ///
 /// # Errors
 ///
-/// The message of the fault.
+/// Returns the message of the fault.
 ///
 /// ```
 /// assert_eq!(duration_str::parse_time("2h 37m"), Ok(time::Duration::minutes(157)));

@@ -13,7 +13,7 @@ pub trait DeserializeDuration<'de>: Sealed + Sized {
     ///
     /// # Errors
     ///
-    /// That of the format, also for a text that is refused.
+    /// Returns the format's error, also if the text is refused.
     fn deserialize_duration<D: Deserializer<'de>>(deserializer: D) -> Result<Self, D::Error>;
 }
 
@@ -78,19 +78,19 @@ impl<'de, T: Length> Visitor<'de> for Optional<T> {
     }
 }
 
-/// Reads a duration, which must be a text, or an optional one, for which null and the empty text are `None`. With
-/// `#[serde(default)]` a missing field is `None` too.
+/// Reads a duration, which must be a text, or an optional duration, for which null and the empty text
+/// are `None`. With `#[serde(default)]` a missing field is `None` too.
 ///
 /// Needs the feature `serde`.
 ///
-/// As in `duration-str` 0.19.0 a required duration is what the format says a value is, and an optional one what it gives
-/// if it is asked for a text. So YAML's `90` is refused where a duration is required, and read where it is optional; and
-/// formats that don't tell their values' types, such as bincode, can't have a required one. [`human`](crate::human) has
-/// one rule for both.
+/// As in `duration-str` 0.19.0, two rules differ. A required duration must be what the format itself
+/// calls a text. For an optional one the format is asked for a text. So YAML's `90` is refused as a
+/// required duration, and read as an optional one. Formats that don't tell the types of their
+/// values, such as bincode, can't have a required one. [`human`](crate::human) has one rule for both.
 ///
 /// # Errors
 ///
-/// That of the format, also for a text that is refused.
+/// Returns the format's error, also if the text is refused.
 ///
 /// ```
 /// use duration_str::deserialize_duration;
@@ -147,7 +147,7 @@ macro_rules! deserializes {
         ///
         /// # Errors
         ///
-        /// That of the format, also for a text that is refused.
+        /// Returns the format's error, also if the text is refused.
         #[deprecated(since = "0.19.0", note = "[`deserialize_duration`] reads optional durations too")]
         pub fn $option_name<'de, D: Deserializer<'de>>(deserializer: D) -> Result<Option<$length>, D::Error> {
             DeserializeDuration::deserialize_duration(deserializer)
@@ -177,7 +177,7 @@ deserializes!(
 ///
 /// # Errors
 ///
-/// That of [`deserialize_duration`].
+/// Returns the error of [`deserialize_duration`].
 #[cfg(feature = "chrono")]
 pub fn deserialize_duration_chrono<'de, D: Deserializer<'de>>(deserializer: D) -> Result<chrono::Duration, D::Error> {
     DeserializeDuration::deserialize_duration(deserializer)
@@ -189,7 +189,7 @@ pub fn deserialize_duration_chrono<'de, D: Deserializer<'de>>(deserializer: D) -
 ///
 /// # Errors
 ///
-/// That of [`deserialize_duration`].
+/// Returns the error of [`deserialize_duration`].
 #[cfg(feature = "time")]
 pub fn deserialize_duration_time<'de, D: Deserializer<'de>>(deserializer: D) -> Result<time::Duration, D::Error> {
     DeserializeDuration::deserialize_duration(deserializer)

@@ -6,12 +6,12 @@ use duration_str_core::{self as proved, Options};
 
 /// Reads a text as [`parse_duration`](crate::parse_duration) does, but refuses a number without a unit.
 ///
-/// Otherwise `90` and `1h 30` are read, as seconds, which may not be what was meant. clap takes this function by
-/// `value_parser = duration_str::parse_with_units`, and for serde the module `human` has an example.
+/// The other calls read `90` and `1h 30` as seconds, which may not be what was meant. In clap, write
+/// `value_parser = duration_str::parse_with_units`. For serde, the module `human` has an example.
 ///
 /// # Errors
 ///
-/// Why the text is refused, with a copy of it.
+/// Returns why the text is refused, with a copy of the text.
 ///
 /// ```
 /// use duration_str::{DurationError, parse_with_units};

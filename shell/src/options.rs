@@ -15,62 +15,62 @@ const SHAPES: [&str; 4] = ["style", "parts", "largest", "smallest"];
 #[derive(Parser)]
 #[command(name = "duration", version, after_help = AFTER_HELP, args_override_self = true, max_term_width = 80)]
 pub struct Choices {
-    /// Durations, each an argument of its own; without any, the lines of standard input
+    /// Durations, each an argument of its own; if there are none, the lines of standard input
     #[arg(value_name = "TEXT")]
     pub texts: Vec<OsString>,
-    /// Print a number of this unit, with the decimals that are needed, up to nine
+    /// Print a number in this unit, with as many decimals as needed, up to nine
     #[arg(long, value_name = "UNIT", value_parser = unit, conflicts_with_all = SHAPES)]
     pub to: Option<TimeUnit>,
     /// Print so many decimals, 0 to 9
     #[arg(long, value_name = "N", requires = "to", conflicts_with_all = SHAPES,
         value_parser = value_parser!(u8).range(..=9))]
     decimals: Option<u8>,
-    /// Where a number has more decimals, print the next one below, above, or the nearest
+    /// Round further decimals down, up, or to the nearest
     #[arg(long, value_name = "WAY", requires = "to", conflicts_with_all = SHAPES, default_value = "down")]
     pub round: Round,
-    /// Read a bare number, such as 12.5 or 1e-05, as this unit's; other numbers need a unit
+    /// Read a bare number, such as 12.5 or 1e-05, in this unit; other texts need their units
     #[arg(long, value_name = "UNIT", value_parser = unit)]
     pub from: Option<TimeUnit>,
-    /// Print 1h 30min, 1h30min or 1 hour 30 minutes
+    /// Print 1h 30min (short), 1h30min (compact) or 1 hour 30 minutes (long)
     #[arg(long, default_value_t, value_parser =
         PossibleValuesParser::new(["short", "compact", "long"]).try_map(|word| word.parse::<Style>()))]
     style: Style,
-    /// Print so many parts, and leave out the rest
+    /// Print at most so many parts, and leave out the rest
     #[arg(long, value_name = "N", default_value = "11", value_parser = value_parser!(u8).range(1..))]
     parts: u8,
-    /// Print no unit longer than this one
+    /// Use no unit longer than this one
     #[arg(long, value_name = "UNIT", default_value = "y", value_parser = unit)]
     largest: TimeUnit,
-    /// Print no unit shorter than this one
+    /// Use no unit shorter than this one
     #[arg(long, value_name = "UNIT", default_value = "ns", value_parser = unit)]
     smallest: TimeUnit,
-    /// Convert the Nth field, and print the line around it; a refused one stays as it is
+    /// Convert the Nth field of each line, and print the whole line; a refused field stays as it is
     #[arg(long, value_name = "N", value_parser = value_parser!(u16).range(1..))]
     pub field: Option<u16>,
-    /// What divides fields, an ASCII character [default: runs of blanks]
+    /// Divide fields at this ASCII character [default: runs of blanks]
     #[arg(short, long, value_name = "CHAR", requires = "field", value_parser = |text: &str|
         <[u8; 1]>::try_from(text.as_bytes()).map_or(Err("not one ASCII character"), |[byte]| Ok(byte)))]
     pub delimiter: Option<u8>,
-    /// Print the first line, or the first N, unchanged
+    /// Print the first line, or the first N lines, unchanged
     #[arg(long, value_name = "N", num_args = ..=1, require_equals = true, default_missing_value = "1",
         conflicts_with = "texts")]
     pub header: Option<u64>,
-    /// Print an object of JSON for each text, also for one that is refused
+    /// Print a JSON object for each text, also for a refused one
     #[arg(long, conflicts_with_all = ["field", "delimiter", "header"])]
     pub json: bool,
-    /// Print nothing: the status says whether all were read
+    /// Print nothing; the status says whether all texts were read
     #[arg(short, long)]
     pub quiet: bool,
-    /// Lines end with NUL, not with a line feed
+    /// End lines with NUL instead of a line feed
     #[arg(short, long)]
     pub zero_terminated: bool,
     /// Tell capitals from small letters, so that 1M is refused
     #[arg(long)]
     pub lowercase: bool,
-    /// Read the Chinese names of units, too
+    /// Read the Chinese names of units too
     #[arg(long)]
     pub cn_unit: bool,
-    /// Refuse a number without a unit, which otherwise is in seconds
+    /// Refuse a number without a unit, which otherwise counts seconds
     #[arg(long)]
     pub require_unit: bool,
     /// Print the completions for a shell
@@ -88,7 +88,7 @@ pub enum Round {
 
 const AFTER_HELP: &str = "\
 Units are y, q (91 days), mon (30 days), w, d, h, m, s, ms, us, ns, and longer names.
-The status is 0 if all were read, 1 if one was refused, and 2 for an error.
+The status is 0 if all texts were read, 1 if one was refused, and 2 for an error.
 
 Examples:
   $ sleep \"$(duration --to s '1m 30s')\"

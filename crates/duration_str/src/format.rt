@@ -7,8 +7,9 @@ ghost use Rattle.duration_str.specs.Internal.UnitTable.{AreRight, units_in};
 
 use crate::unit::{PRINTED, Printed, TimeUnit, UNITS};
 
-/// How a duration is printed: in which units, in how many parts at most, and in which style. It begins with
-/// [`Format::whole`], since a later version may have more fields.
+/// How a duration is printed: the units, the greatest number of parts, and the style.
+///
+/// Start from [`Format::whole`], since a later version may have more fields.
 ///
 /// ```
 /// use duration_str::{Format, STYLED_BUFFER_SIZE, TimeUnit, write_within};
@@ -25,7 +26,7 @@ pub struct Format {
     pub largest: TimeUnit,
     /// The smallest unit that is printed.
     pub smallest: TimeUnit,
-    /// How many parts are printed at most. If it is 0, every duration prints as the zero.
+    /// The greatest number of parts. If it is 0, every duration prints as the zero.
     pub parts: usize,
     /// How the parts are written.
     pub style: Style,
@@ -43,8 +44,8 @@ pub enum Style {
 }
 
 impl Format {
-    /// All units, as many parts as there are units, and the short style: so everything is printed, as `write_human`
-    /// does.
+    /// All units, as many parts as there are units, and the short style. With it everything is
+    /// printed, as `write_human` prints it.
     ///
     /// ```
     /// assert_eq!(duration_str::Format::whole().parts, 11);
@@ -97,7 +98,7 @@ impl Format {
         Format { smallest, ..self }
     }
 
-    /// The same format with so many parts at most.
+    /// The same format with at most so many parts.
     ///
     /// ```
     /// use duration_str::{Format, STYLED_BUFFER_SIZE, write_within};

@@ -33,16 +33,16 @@ use crate::token::is_blank;
 /// ```
 pub const MAX_ONE_LINE_LEN: usize = 294;
 
-/// The bytes of a buffer for a line.
+/// The size of a buffer for a line.
 pub const ONE_LINE_BUFFER_SIZE: usize = 384;
 
 /// The most characters that are shown of a text.
 const MOST_SHOWN: usize = 40;
 
 impl Fault<'_> {
-    /// Writes the fault in one line to the start of a buffer, whatever the buffer holds: what is wrong, at which
-    /// column, and what stands there. At most 40 characters show the text, and what isn't safe or can't be seen is
-    /// escaped. Allocates nothing and cannot fail.
+    /// Writes the fault in one line to the start of a buffer, whatever the buffer holds: what is
+    /// wrong, at which column, and what stands there. At most 40 characters show the text.
+    /// Characters that aren't safe or can't be seen are escaped. Allocates nothing and cannot fail.
     ///
     /// ```
     /// use duration_str::{ONE_LINE_BUFFER_SIZE, Options, parse_with};

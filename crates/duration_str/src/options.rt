@@ -2,8 +2,10 @@
 ghost use Rattle.std.specs.Prelude.{◌≡◌, ◌↔◌, IsTrue};
 ghost use Rattle.duration_str.specs.Options.{off};
 
-/// Which grammar is read, and which words name units. A literal ends with `..Options::off()`, as here, so that it
-/// stands when a later version has another option.
+/// Options for reading: which grammar is read, and which words name units.
+///
+/// End a literal with `..Options::off()`, as here, so that it still compiles when a later version
+/// has another option.
 ///
 /// ```
 /// use duration_str::{Options, parse_with};
@@ -13,11 +15,11 @@ ghost use Rattle.duration_str.specs.Options.{off};
 /// ```
 #[derive(Clone, Copy, Debug, PartialEq, Eq, Hash)]
 pub struct Options {
-    /// Operators are not read, and the terms are added one by one.
+    /// Operators are not read; terms are added one by one.
     pub no_calc: bool,
-    /// Words are compared as written; otherwise ASCII capitals are read as small letters.
+    /// Units are compared as written. Without this option ASCII capitals are read as small letters.
     pub lowercase: bool,
-    /// The Chinese names of the units are also read.
+    /// The Chinese names of the units are read too.
     pub cn_unit: bool,
 }
 

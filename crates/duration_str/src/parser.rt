@@ -52,11 +52,17 @@ pub fn parse_std(input: &str) -> Result<Duration, Fault<'_>>
 
 /// The duration that a text means under these options.
 ///
-/// `Ok` exactly if a sentence of the grammar spells the text and evaluates, with its value, which is below 2^64
-/// nanoseconds. A refusal holds the text, and the first of these causes: `Empty` for the empty text; a fault in the
-/// value of the first term; `Syntax` if no sentence continues as the text does, with what could stand there; the first
-/// fault of the evaluation. Under `no_calc` the terms are added one by one, and their faults precede later syntax
-/// faults. Allocates nothing.
+/// Returns `Ok` if and only if a sentence of the grammar spells the text and evaluates. The value
+/// is below 2^64 nanoseconds.
+///
+/// A refusal holds the text, and the first of these causes:
+/// - `Empty` for the empty text
+/// - a fault in the value of the first term
+/// - `Syntax` at the first token that can't follow the text before it, with what could stand there
+/// - the first fault of the evaluation
+///
+/// Under `no_calc` the terms are added one by one, and their faults precede later syntax faults.
+/// Allocates nothing.
 ///
 /// # Errors
 ///

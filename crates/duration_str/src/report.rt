@@ -20,10 +20,12 @@ pub const REPORT_BUFFER_SIZE: usize = 80 * 4 + 80 * 2 + 3 + ONE_LINE_BUFFER_SIZE
 const MOST_ABOVE: usize = 80;
 
 impl Fault<'_> {
-    /// Writes the fault for a terminal to the start of a buffer, whatever the buffer holds: the text, below it a caret
-    /// at the place of a syntax fault, and below that the line of `write_one_line`. It is the line alone for another
-    /// cause, for a text of more than 80 characters, and for one with characters that the line would escape. Allocates
-    /// nothing and cannot fail.
+    /// Writes the fault for a terminal to the start of a buffer, whatever the buffer holds: the text,
+    /// below it a caret at the place of a syntax fault, and below that the line of
+    /// `write_one_line`.
+    ///
+    /// It is the line alone for another cause, for a text of more than 80 characters, and for a
+    /// text with characters that the line would escape. Allocates nothing and cannot fail.
     ///
     /// ```
     /// use duration_str::{Options, REPORT_BUFFER_SIZE, parse_with};

@@ -15,10 +15,11 @@ use crate::parser::parse_with;
 use crate::token::is_blank;
 use std::time::Duration;
 
-/// What `parse_with` returns, but a text that lacks a unit is refused.
+/// Reads a text as `parse_with` does, but refuses a text that lacks a unit.
 ///
-/// What `parse_with` refuses is refused alike. Of what it reads, the first number that no unit follows is refused by
-/// `Syntax`, at the place of what follows it or at the end, where only a unit could stand. Allocates nothing.
+/// A text that `parse_with` refuses keeps its cause. Any other text with a number without a unit is
+/// refused by `Syntax`, right after the first such number: at the next token, or at the end. Only a
+/// unit could stand there. Allocates nothing.
 ///
 /// # Errors
 ///
@@ -38,9 +39,10 @@ pub fn parse_with_units(input: &str, o: Options) -> Result<Duration, Fault<'_>>
     }
 }
 
-/// The fault of a text that is read and lacks a unit: where no word follows a number first.
+/// The fault of a text that is read and lacks a unit: after the first number that no word follows.
 ///
-/// `None` if each number has its unit. Ask it only of a text that is read: what it answers for any other means nothing.
+/// `None` if each number has its unit. Ask it only of a text that is read: what it answers for any
+/// other means nothing.
 ///
 /// ```text
 /// unit_fault("1h 30 + 5") // at 6, where the operator stands

@@ -1,6 +1,6 @@
-"""Durations as people write them: `3m + 13s + 29ms` is read, or refused
-with an error that points at its place, and a duration is printed as
-`3min 13s 29ms`. A proved library reads and prints.
+"""Reads durations as people write them, such as `3m + 13s + 29ms`, and
+prints them, such as `3min 13s 29ms`. An error says what is wrong, and where.
+The library that reads and prints is proved.
 
 >>> import duration_str
 >>> duration_str.parse("3m + 13s + 29ms")
@@ -8,11 +8,12 @@ datetime.timedelta(seconds=193, microseconds=29000)
 >>> duration_str.format(193_029_000_000)
 '3min 13s 29ms'
 
-A text is terms, each a number and a unit, joined by `+` or by `*`, or
-following one another, which adds them. A product multiplies its terms in
-seconds. A number without a unit counts seconds, and must be last or before
-an operator. Blanks may be anywhere except inside a number or a unit.
-Numbers stay below 2**64, and values below 2**64 nanoseconds.
+A text is one term or several. A term is a number and a unit. Terms are
+joined by `+` or by `*`; terms that follow one another are added. A product
+multiplies its terms in seconds. A number without a unit counts seconds, and
+must be last or before an operator. Blanks may be anywhere except inside a
+number or a unit. Numbers are below 2**64, and values below 2**64
+nanoseconds.
 
 The units:
 
@@ -28,25 +29,38 @@ The units:
   microsecond  µs, µsec, µsecond, us, usec, usecond, microsecond, microseconds
   nanosecond   ns, nsec, nanosecond, nanoseconds
 
-With `cn_unit` these are read, too:
+With `cn_unit` these are read too:
 年 year, 月 month, 周 week, 日 天 day, 时 hour, 分 minute, 秒
 second, 毫秒 millisecond, 微秒 microsecond, 纳秒 nanosecond.
 
-`parse` reads a text as a timedelta, `parse_ns` as a number of nanoseconds,
-and `parse_seconds` as a float of seconds, as `time.sleep` and
-`asyncio.wait_for` take it. `format` prints an int of nanoseconds or a
-timedelta; it is not in `__all__`, so that `from duration_str import *`
-leaves the builtin function:
+To read a text:
+
+  parse          as a timedelta
+  parse_ns       as an int of nanoseconds
+  parse_seconds  as a float of seconds, for time.sleep and asyncio.wait_for
+
+To print an int of nanoseconds or a timedelta:
 
 format(value, /, *, parts=11, largest="y", smallest="ns", style="short")
 
-`parse_many` reads a column of texts, `parse_buffers` one in buffers,
-`to_timedelta` one for NumPy or pandas, and `format_many` prints a column.
-`Duration` is a field of pydantic's models, and `DurationWithUnits` one that
-refuses a number without a unit; both are annotations: `parse` makes a value.
-`duration_str.click.DURATION` is a type of Click's options, and
-`duration_str.argparse.DURATION` one of argparse's. `Unit` and `Style` are
-the types of what `format` takes by name.
+`format` is not in `__all__`, so `from duration_str import *` doesn't hide
+the builtin function. `Unit` and `Style` are the types of its options.
+
+For a column:
+
+  parse_many     reads texts into an array of nanoseconds
+  parse_buffers  reads texts that are in buffers
+  to_timedelta   reads texts for NumPy or pandas
+  format_many    prints durations
+
+For other packages:
+
+  duration_str.click.DURATION     a type of Click's options
+  duration_str.argparse.DURATION  a type of argparse's arguments
+
+In a model of pydantic a field may have the type `Duration`, or
+`DurationWithUnits`, which refuses a number without a unit. These are only
+annotations: `parse` makes a value.
 """
 # The table of units above is made by tests/repository --write.
 

@@ -1,4 +1,4 @@
-"""Columns of NumPy and pandas, neither of which is needed before it is used."""
+"""Columns of NumPy and pandas, which are imported only when they are used."""
 
 from __future__ import annotations
 
@@ -68,7 +68,7 @@ def _like(values: Any, result: Any) -> Any:
 
 
 def _nanos_of_value(value: Any, index: int, raises: bool) -> int:
-    """The timedelta64[ns] of a value that is no text: NaT where it is missing, or refused and not raised."""
+    """The timedelta64[ns] of a value that is not a text: NaT if it is missing, or refused without an error."""
     import numpy
 
     if _is_missing(value):
@@ -119,22 +119,24 @@ def to_timedelta(
     values: Any, *, errors: Errors = "raise",
     no_calc: bool = False, lowercase: bool = False, cn_unit: bool = False, require_unit: bool = False,
 ) -> Any:
-    """As `pandas.to_timedelta`, of texts: of a Series a Series of
-    timedelta64[ns] with its index and its name, of an Index an Index, and
-    of a NumPy array or any other sequence an array of the same shape; of
-    one text a Timedelta where pandas is imported, or else a timedelta64. It
-    needs NumPy, and no pandas. The options are those of `parse_ns`.
+    """Reads texts as timedelta64[ns], like `pandas.to_timedelta`. It needs
+    NumPy, but not pandas. The options are those of `parse_ns`.
+
+    A Series gives a Series with the same index and name, an Index gives an
+    Index. A NumPy array or any other sequence gives an array of the same
+    shape. One text gives a Timedelta if pandas is imported, or else a
+    timedelta64.
 
     Timedeltas are kept, and an array of timedelta64[ns] is returned as it
-    is. None, NaN, NaT, pandas' NA, and what an array masks become NaT; but
-    None by itself is None, as for pandas.
+    is. None, NaN, NaT, pandas' NA, and what an array masks become NaT. None
+    by itself stays None, as for pandas.
 
     With `errors="raise"` the first text that is refused raises its
-    DurationError, which has its position as `index`. So does a value of
-    2**63 nanoseconds or more, some 292 years, which timedelta64 does not
-    have. Any other value, such as a number or bytes, raises
-    DurationTypeError, also where a text before it is refused. With
-    `errors="coerce"` all of these become NaT.
+    DurationError, which has its position as `index`. So does a text of
+    2**63 nanoseconds or more, some 292 years, which timedelta64 can't hold.
+    Any other value, such as a number or bytes, raises DurationTypeError,
+    even if a text before it is refused. With `errors="coerce"` all of these
+    become NaT.
     """
     raises, options = raises_errors(errors), option_bits(no_calc, lowercase, cn_unit, require_unit)
     if values is None:
@@ -158,12 +160,13 @@ def to_timedelta(
 def format_many(
     values: Any, *, parts: int = 11, largest: Unit = "y", smallest: Unit = "ns", style: Style = "short"
 ) -> Any:
-    """The texts of a column of durations, each an int of nanoseconds or a
-    timedelta, as `format` prints it within the same limits and in the same
-    style: of a list or any other iterable a list of str, of a Series, an
-    Index or a NumPy array one of objects, with the same shape, index and
-    name. These may also have timedelta64, of units from weeks to
-    nanoseconds. What is missing, as in `to_timedelta`, is None.
+    """Prints a column of durations, each as `format` does. A duration is an
+    int of nanoseconds or a timedelta. The options are those of `format`.
+
+    A list or any other iterable gives a list of str. A Series, an Index or a
+    NumPy array gives one of objects, with the same shape, index and name.
+    These may also have timedelta64, in units from weeks to nanoseconds.
+    Missing values, such as None, NaN and NaT, become None.
 
     Raises what `format` raises, with the position in its message.
 

@@ -9,7 +9,7 @@ from typing import Any, Literal, overload
 from . import _native
 from ._texts import option_bits
 
-#: What happens to what is refused
+#: What to do with a refused value
 Errors = Literal["raise", "coerce"]
 
 
@@ -48,15 +48,15 @@ def parse_many(
     texts: Any, *, errors: Errors = "raise",
     no_calc: bool = False, lowercase: bool = False, cn_unit: bool = False, require_unit: bool = False,
 ) -> array[int] | tuple[array[int], array[int]]:
-    """The values in nanoseconds of texts, any iterable of str, as an
-    `array('Q')`. The options are those of `parse_ns`.
+    """Reads texts, any iterable of str, and returns their values in
+    nanoseconds as an `array('Q')`. The options are those of `parse_ns`.
 
     With `errors="raise"` the first text that is refused raises its
-    DurationError, which has its `index`; a value that is no str, such as
-    None, raises DurationTypeError, also where a text before it is refused.
+    DurationError, which has its `index`. A value that is not a str, such as
+    None, raises DurationTypeError, even if a text before it is refused.
 
-    With `errors="coerce"` there are two arrays: the values, 0 for each
-    value that is refused or no str, and the positions of these.
+    With `errors="coerce"` it returns two arrays: the values, with 0 for each
+    value that is refused or not a str, and the positions of these.
 
     >>> duration_str.parse_many(["1s", "2m"])
     array('Q', [1000000000, 120000000000])
@@ -83,17 +83,18 @@ def parse_buffers(
     data: Any, offsets: Any, *, errors: Errors = "raise",
     no_calc: bool = False, lowercase: bool = False, cn_unit: bool = False, require_unit: bool = False,
 ) -> array[int] | tuple[array[int], array[int]]:
-    """As `parse_many`, of texts in UTF-8 in a buffer: text `k`
+    """Reads texts like `parse_many`, but from a buffer with UTF-8. Text `k`
     is `data[offsets[k] : offsets[k + 1]]`, so there is one offset more than
-    there are texts. `data` is any contiguous buffer, and `offsets` one of
-    integers of 8 bytes or of 4. The bytes must not change during a call, or
-    any text may be read as what was there for a moment. `bytes` are read
-    in place, while other threads run; of any other buffer, read-only or
-    not, small pieces are copied. A file that is mapped must not become
-    shorter meanwhile, which ends the process.
+    there are texts. `data` is any contiguous buffer; `offsets` is a buffer
+    of integers of 8 or 4 bytes.
+
+    The bytes must not change during a call: a text could be read as what was
+    there for a moment. A mapped file must not become shorter during a call:
+    that would end the process. `bytes` are read in place, while other threads
+    run. From other buffers, read-only or not, small pieces are copied.
 
     Bytes that are not UTF-8 are refused. Offsets that decrease or lie
-    beyond the bytes raise ValueError, or with `errors="coerce"` are a
+    beyond the bytes raise ValueError. With `errors="coerce"` they are a
     refused position.
 
     >>> from array import array

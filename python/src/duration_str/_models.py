@@ -81,7 +81,7 @@ class _Texts:
 
 _Duration, _DurationWithUnits = _Texts("Duration", duration), _Texts("DurationWithUnits", duration_with_units)
 Duration = Annotated[datetime.timedelta, _Duration]
-"""A timedelta in a model of pydantic 2: a text is read, a timedelta is kept, and the JSON has the printed text. `gt`, `ge`,
+"""A timedelta in a model of pydantic 2. A text is read, and a timedelta is kept. The JSON has the printed text. `gt`, `ge`,
 `lt` and `le` of a `Field` are timedeltas."""
 DurationWithUnits = Annotated[datetime.timedelta, _DurationWithUnits]
-"""The same, but a number without a unit, as `90` or `1h 30`, is refused."""
+"""The same, but a number without a unit is refused, as in `90` and `1h 30`."""

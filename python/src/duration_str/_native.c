@@ -601,31 +601,34 @@ static PyObject *read_buffers(PyObject *self, PyObject *arguments) {
 }
 
 #define OPTIONS_DOC "($module, text, /, *, no_calc=False, lowercase=False, cn_unit=False, require_unit=False)\n--\n\n"
-PyDoc_STRVAR(parse_ns_doc, "parse_ns" OPTIONS_DOC "The value of a text in nanoseconds.\n\n"
-"`no_calc`: `+` and `*` are not read; terms are added as they come.\n"
-"`lowercase`: words are compared as they stand; else ASCII capitals are\n"
-"folded to small letters. `cn_unit`: the Chinese names of the units are read\n"
-"too. `require_unit`: a number without a unit is refused.\n\n"
-"Raises DurationError where the text is refused, and DurationTypeError where\n"
-"it is no str.");
+PyDoc_STRVAR(parse_ns_doc, "parse_ns" OPTIONS_DOC "Returns the value of a text in nanoseconds.\n\n"
+"The options are off by default:\n\n"
+"  no_calc       `+` and `*` are not read; terms are added one by one\n"
+"  lowercase     units are compared as written; without this option ASCII\n"
+"                capitals are read as small letters\n"
+"  cn_unit       the Chinese names of the units are read too\n"
+"  require_unit  a number without a unit is refused\n\n"
+"Raises DurationError if the text is refused, and DurationTypeError if it is\n"
+"not a str.");
 PyDoc_STRVAR(parse_doc, "parse" OPTIONS_DOC
-"The value of a text as a timedelta, rounded down to whole microseconds;\n"
-"`parse_ns`, which has the same options and errors, is exact.");
+"Returns the value of a text as a timedelta, rounded down to microseconds.\n\n"
+"`parse_ns` is exact; it has the same options and errors.");
 PyDoc_STRVAR(parse_seconds_doc, "parse_seconds" OPTIONS_DOC
-"The value of a text in seconds, rounded to the nearest float; `parse_ns`,\n"
-"which has the same options and errors, is exact.");
+"Returns the value of a text in seconds, rounded to the nearest float.\n\n"
+"`parse_ns` is exact; it has the same options and errors.");
 PyDoc_STRVAR(format_doc, "format($module, value, /, *, parts=11, largest='y', smallest='ns', style='short')\n--\n\n"
-"A duration's text: of an int, which counts nanoseconds, or of a timedelta.\n\n"
-"The timedelta may be NumPy's. Raises ValueError where it is negative,\n"
-"OverflowError where it is 2**64 seconds or more, and TypeError where it is\n"
-"neither.\n\n"
-"It is printed in at most so many parts, and in the units from the largest to\n"
-"the smallest alone: `y`, `q`, `mon`, `w`, `d`, `h`, `min`, `s`, `ms`, `\xc2\xb5s` or\n"
-"`us`, and `ns`. The rest is left out, so a text is never of more than the\n"
-"duration. If all counts are 0, it is `0` and the smallest unit, or `0s`. No\n"
-"parts, and a largest unit that is shorter than the smallest, are a\n"
-"ValueError. The style `compact` leaves out the blanks, and `long` has whole\n"
-"words.\n\n"
+"Prints a duration: an int of nanoseconds, or a timedelta, also NumPy's.\n\n"
+"  parts     at most so many parts\n"
+"  largest   the largest unit: `y`, `q`, `mon`, `w`, `d`, `h`, `min`, `s`,\n"
+"            `ms`, `\xc2\xb5s` or `us`, or `ns`\n"
+"  smallest  the smallest unit\n"
+"  style     `short` (`1h 30min`), `compact` (`1h30min`) or `long`\n"
+"            (`1 hour 30 minutes`)\n\n"
+"The rest is left out, so the text never shows more than the duration. If all\n"
+"counts are 0, it is `0` and the smallest unit, or `0s`.\n\n"
+"Raises ValueError if the duration is negative, if `parts` is 0, or if the\n"
+"largest unit is shorter than the smallest; OverflowError if the duration is\n"
+"2**64 seconds or more; TypeError if it is neither an int nor a timedelta.\n\n"
 ">>> duration_str.format(193_029_000_000, parts=2)\n"
 "'3min 13s'\n"
 ">>> duration_str.format(193_029_000_000, style='long')\n"

@@ -9,7 +9,7 @@ from importlib import import_module
 from typing import Any, Literal
 
 # Made by tests/repository --write.
-#: A unit by the name that is printed, or `us`
+#: A unit by its printed name; `us` is the same as `µs`
 Unit = Literal["y", "q", "mon", "w", "d", "h", "min", "s", "ms", "µs", "us", "ns"]
 
 #: How a duration is printed: `1h 30min`, `1h30min`, `1 hour 30 minutes`
@@ -26,15 +26,15 @@ class Cause(enum.IntEnum):
     EMPTY = 1
     """The text is empty."""
     SYNTAX = 2
-    """No expression continues as the text does at the place."""
+    """The text stops being valid at the place."""
     NUMBER_TOO_LARGE = 3
     """A number is 2**64 or more."""
     OVERFLOW = 4
-    """A term, a step or the value is 2**64 nanoseconds or more; in `to_timedelta`, the value is 2**63 or more."""
+    """A term, a step or the value is 2**64 nanoseconds or more. In `to_timedelta` the value is 2**63 or more."""
     MIXED = 5
     """`+` and `*` are mixed."""
     NOT_TEXT = 7
-    """The string holds a lone surrogate, or the bytes are not UTF-8, so it is no text."""
+    """The string has a lone surrogate, or the bytes are not UTF-8."""
 
 
 class Expected(enum.Flag):
@@ -47,8 +47,8 @@ class Expected(enum.Flag):
 
 
 class DurationTypeError(TypeError, ValueError):
-    """A value that is no text. It is a ValueError too, since pydantic takes
-    only these for refusals."""
+    """A value is not a text. It is a ValueError too, since pydantic takes only
+    these for refusals."""
 
 
 _CAUSES = {int(cause): cause for cause in Cause}
@@ -56,9 +56,9 @@ _EXPECTED = [Expected(bits) for bits in range(16)]
 
 
 class DurationError(ValueError):
-    """A refused text. As a string it is one line for people, which says what
-    is wrong, where, and often what to write; for a text of a column it begins
-    with its index.
+    """A text is refused. As a string, the error is one line for people: it
+    says what is wrong, where, and often what to write. For a text of a column
+    the line begins with the text's index.
 
     >>> try:
     ...     duration_str.parse("3h 2 mins")
@@ -74,20 +74,20 @@ class DurationError(ValueError):
     text: str
     """The whole text that was read."""
     cause: Cause
-    """Why it is refused."""
+    """Why the text is refused."""
     place: int | None
-    """The byte at which the fault is, of the text in UTF-8, or None if it has no place."""
+    """Where the fault is, in bytes of UTF-8 from 0, or None if it has no place."""
     pos: int | None
-    """The same as a count of characters from 0, where the line counts from 1: `text[pos:]` begins with `found`."""
+    """The same in characters: `text[pos:]` begins with `found`. The column in the line counts from 1."""
     expected: Expected
-    """What could stand at the place of a syntax fault; for other faults no flag is set."""
+    """What could stand at the place of a syntax fault. For other faults no flag is set."""
     found: str | None
-    """The token at the place of a syntax fault, or None at the end and for other faults."""
+    """The token at the place of a syntax fault. It is None at the end of the text, and for other faults."""
     index: int | None
-    """The position of the text in the column that was read, or None where it was read by itself."""
+    """The position of the text in the column that was read, or None if it was read by itself."""
     report: str
-    """For a terminal: the text, a caret below the place of a syntax fault, and the line; or the line alone for other faults,
-    for a text of more than 80 characters, and for one with characters that the line would escape."""
+    """For a terminal: the text, a caret below the place, and the line. It is the line alone if the fault is no syntax fault,
+    if the text has more than 80 characters, or if the line would escape something in it."""
 
     def __init__(
         self, report: str, text: str, cause: int, place: int | None = None, expected: int = 0,
@@ -111,7 +111,7 @@ def option_bits(no_calc: bool, lowercase: bool, cn_unit: bool, require_unit: boo
 
 
 def nanos_a_step(dtype: Any) -> int:
-    """The nanoseconds of one step of a timedelta64's type. Raises TypeError where the unit has no fixed length."""
+    """The nanoseconds of one step of a timedelta64's type. Raises TypeError if the unit has no fixed length."""
     numpy: Any = import_module("numpy")
     unit, count = numpy.datetime_data(dtype)
     if unit not in _NANOS:
@@ -120,7 +120,7 @@ def nanos_a_step(dtype: Any) -> int:
 
 
 def nanos_of(value: Any) -> int:
-    """The nanoseconds of a timedelta or an int, also of pandas or NumPy. Raises TypeError where it is neither."""
+    """The nanoseconds of a timedelta or an int, also of pandas or NumPy. Raises TypeError if it is neither."""
     numpy: Any = sys.modules.get("numpy")
     if isinstance(value, datetime.timedelta):
         nanos = ((value.days * 86_400 + value.seconds) * 10**6 + value.microseconds) * 1000

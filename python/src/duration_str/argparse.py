@@ -10,7 +10,7 @@ from ._texts import DurationError
 
 
 class DurationType:
-    """Reads a timedelta from a text, under these options. A refusal is shown as the text and the error's line."""
+    """Reads a timedelta from a text, under these options. For a refused text, argparse shows the text and the error's line."""
 
     def __init__(
         self, *, no_calc: bool = False, lowercase: bool = False, cn_unit: bool = False, require_unit: bool = False

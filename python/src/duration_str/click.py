@@ -15,8 +15,8 @@ from ._texts import DurationError
 
 
 class DurationParamType(click.ParamType):
-    """A timedelta, read from a text under these options. A refusal is shown as the value and the error's line. A default
-    may be a timedelta, too."""
+    """Reads a timedelta from a text, under these options. For a refused text, Click shows the text and the error's line. A
+    default may also be a timedelta."""
 
     name = "duration"
 

@@ -56,7 +56,7 @@ impl Expected {
         }
     }
 
-    /// A unit alone: what must follow a number where units are required.
+    /// Only a unit: what must follow a number if units are required.
     #[inline(always)]
     pub(crate) fn unit() -> Expected {
         Expected {
@@ -78,28 +78,29 @@ impl Expected {
 pub enum Cause {
     /// The text is empty.
     Empty,
-    /// At `place`, no sentence continues as the text does.
+    /// The text stops being valid at `place`.
     Syntax {
-        /// Where the first token stands with which no sentence continues, or the length of the text.
+        /// Where the first token is that can't follow the text before it, or the length of the
+        /// text.
         place: usize,
         /// What could stand there.
         expected: Expected,
     },
     /// A number is 2^64 or more.
     NumberTooLarge {
-        /// 0 for the first number, `None` for a later one.
+        /// 0 for the first number, or `None` for a later one.
         place: Option<usize>,
     },
     /// A term, a step of the evaluation or the value is 2^64 nanoseconds or more.
     Overflow {
-        /// 0 for the first term, `None` for a later one and for a step.
+        /// 0 for the first term, or `None` for a later one and for a step.
         place: Option<usize>,
     },
     /// The operator `later` follows the different operator `first`.
     Mixed {
         /// The first operator.
         first: CondUnit,
-        /// The first that differs from it.
+        /// The first operator that differs from it.
         later: CondUnit,
     },
     /// The date is out of range.
@@ -113,8 +114,10 @@ pub enum Cause {
 }
 
 impl Cause {
-    /// Byte offset of the fault: set for syntax faults, 0 for an oversized first term, otherwise `None`. In a `Fault`
-    /// it is a character boundary within the text.
+    /// The byte offset of the fault. Each syntax fault has one. If the first term is too large, it
+    /// is 0. Otherwise it is `None`.
+    ///
+    /// In a `Fault` it is a character boundary within the text.
     ///
     /// ```
     /// use duration_str::{Options, parse_with};

@@ -1,4 +1,5 @@
-//! What the types have beside the proved source. It stands here, since only the crate of a type may say it.
+//! Traits and methods that the types have in addition to the proved source. They are in this crate,
+//! since only the crate of a type can implement them.
 use super::cause::Cause;
 use super::fault::Fault;
 use super::format::{Format, Style};
@@ -11,7 +12,7 @@ use core::fmt;
 use core::str::FromStr;
 
 impl Options {
-    /// These options, and no operators.
+    /// These options, but operators are not read.
     ///
     /// ```
     /// use duration_str::{Options, parse_with};
@@ -27,7 +28,7 @@ impl Options {
         }
     }
 
-    /// These options, and words compared as they are written.
+    /// These options, but units are compared as written.
     ///
     /// ```
     /// assert!(duration_str::Options::off().with_lowercase().lowercase);
@@ -40,7 +41,7 @@ impl Options {
         }
     }
 
-    /// These options, and the Chinese names.
+    /// These options, but the Chinese names of units are read too.
     ///
     /// ```
     /// assert!(duration_str::Options::off().with_cn_unit().cn_unit);
@@ -99,7 +100,7 @@ impl FromStr for Style {
     }
 }
 
-/// A word that names no style.
+/// The error for a word that names no style.
 ///
 /// ```
 /// use duration_str::{Style, UnknownStyle};
@@ -147,7 +148,7 @@ impl PartialOrd for TimeUnit {
     }
 }
 
-/// All names are read that are read with all options off.
+/// Reads all names that are read with all options off.
 impl FromStr for TimeUnit {
     type Err = UnknownUnit;
 
@@ -156,7 +157,7 @@ impl FromStr for TimeUnit {
     }
 }
 
-/// A word that names no unit.
+/// The error for a word that names no unit.
 ///
 /// ```
 /// use duration_str::{TimeUnit, UnknownUnit};
@@ -178,7 +179,8 @@ impl fmt::Display for UnknownUnit {
 impl Error for UnknownUnit {}
 
 impl<'a> Fault<'a> {
-    /// A text that is refused for a cause. `None` where the cause's place is not at a character of the text or at its end.
+    /// Makes the fault of a text that is refused for a cause. Returns `None` if the cause's place is
+    /// neither at a character of the text nor at its end.
     ///
     /// ```
     /// use duration_str_core::{Cause, Fault};
@@ -196,7 +198,8 @@ impl<'a> Fault<'a> {
 
 impl Error for Fault<'_> {}
 
-/// `Tokens` are not `Clone`: a copy would look at characters again that [`Tokens::looked`] has counted.
+/// `Tokens` are not `Clone`: a copy would look again at characters that [`Tokens::looked`] has
+/// counted.
 impl fmt::Debug for Tokens<'_> {
     fn fmt(&self, f: &mut fmt::Formatter<'_>) -> fmt::Result {
         f.debug_struct("Tokens")
@@ -217,7 +220,7 @@ impl fmt::Display for Cause {
     }
 }
 
-/// By serde a unit and a style are the texts that they print as, and are read from all that `FromStr` reads.
+/// With serde, a unit and a style are written as they print, and read as `FromStr` reads them.
 #[cfg(feature = "serde")]
 mod named {
     use super::{Style, TimeUnit};

@@ -11,7 +11,7 @@ use crate::format::{Format, Style};
 use crate::unit::{Printed, TimeUnit, UNITS};
 use core::time::Duration;
 
-/// The most bytes in a printed duration that is not in the long style:
+/// The length in bytes of the longest printed duration, except in the long style:
 /// `100000000000y 3q 2mon 3w 6d 23h 59min 59s 999ms 999µs 999ns`.
 ///
 /// ```
@@ -23,11 +23,12 @@ use core::time::Duration;
 /// ```
 pub const MAX_PRINTED_LEN: usize = 60;
 
-/// The bytes of the buffer for `write_human`: room for the longest text, and for four bytes of the last name's row.
+/// The size of the buffer for `write_human`. It has room for the longest text, and for four bytes
+/// of the last name's row.
 pub const FORMAT_BUFFER_SIZE: usize = 64;
 
-/// Prints a duration to the start of a buffer, whatever the buffer holds; bytes after the text may change too. The text
-/// has at most `MAX_PRINTED_LEN` bytes. Allocates nothing and cannot fail.
+/// Prints a duration to the start of a buffer, whatever the buffer holds. The text has at most
+/// `MAX_PRINTED_LEN` bytes; bytes after it may change too. Allocates nothing and cannot fail.
 ///
 /// ```
 /// use duration_str::{FORMAT_BUFFER_SIZE, write_human};
@@ -48,15 +49,20 @@ pub fn write_human<'b>(d: &Duration, buffer: &'b mut [u8; FORMAT_BUFFER_SIZE]) -
 /// 999 microseconds 999 nanoseconds`.
 pub const MAX_LONG_LEN: usize = 134;
 
-/// The bytes of the buffer for `write_within`, with such room in every style.
+/// The size of the buffer for `write_within`, with the same room in every style.
 pub const STYLED_BUFFER_SIZE: usize = 144;
 
-/// Prints a duration within limits and in a style to the start of a buffer, whatever the buffer holds: the
-/// lexicographically greatest breakdown with only these units and so few parts that is not above the duration. If all
-/// its counts are 0, the text is the zero: `0` and the smallest unit's name, or that of the second where the unit is
-/// shorter. So it is for every duration if the largest unit is shorter than the smallest, or there are no parts. The
-/// text has at most `MAX_PRINTED_LEN` bytes, in the long style `MAX_LONG_LEN`; bytes after it may change too. Allocates
-/// nothing and cannot fail.
+/// Prints a duration within limits and in a style to the start of a buffer, whatever the buffer
+/// holds.
+///
+/// The text is the lexicographically greatest breakdown, with only these units and at most so many
+/// parts, that is not above the duration. If all its counts are 0, the text is the zero: `0` and
+/// the smallest unit's name, or the second's name if that unit is shorter than a second. Every
+/// duration prints as the zero if the largest unit is shorter than the smallest, or if there are no
+/// parts.
+///
+/// The text has at most `MAX_PRINTED_LEN` bytes, in the long style `MAX_LONG_LEN`; bytes after it
+/// may change too. Allocates nothing and cannot fail.
 ///
 /// ```
 /// use duration_str::{Format, STYLED_BUFFER_SIZE, Style, TimeUnit, write_within};

@@ -186,8 +186,8 @@ impl Printed {
     }
 }
 
-/// What is printed of the units, the longest first. A table beside `row`, and a short one: a program that prints has no
-/// names in it that are read, and a call of `nanos` looks up nothing else.
+/// What is printed of the units, the longest first. It is a table of its own, so that a program that
+/// prints has no names in it that are read.
 pub(crate) static PRINTED: [Printed; 11] = [
     Printed {
         unit: TimeUnit::Year,

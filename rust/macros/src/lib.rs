@@ -4,11 +4,13 @@
 use duration_str_core::{Options, parse_with, parse_with_units};
 use proc_macro::{Delimiter, Span, TokenStream, TokenTree};
 
-/// A duration that is read when the program is compiled: a constant of type [`Duration`](core::time::Duration). A text
-/// that is refused is an error of the compiler, with the fault in one line.
+/// Reads a duration when the program is compiled: a constant of type
+/// [`Duration`](core::time::Duration). If the text is refused, the compiler reports the fault in one
+/// line.
 ///
-/// All options are off, whatever features are on, but for those that are named after the text: `no_calc`, `lowercase`,
-/// `cn_unit`, and `require_unit`, by which each number must have its unit. The text is a literal without escapes.
+/// The text is a literal without escapes. All options are off, whatever features are on, unless you
+/// name them after the text: `no_calc`, `lowercase`, `cn_unit`, and `require_unit`, with which each
+/// number must have its unit.
 ///
 /// ```
 /// use duration_str::duration;
