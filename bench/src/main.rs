@@ -10,8 +10,11 @@
 mod ours;
 mod texts;
 
+use duration_str::{
+    Format, HumanFormat, STYLED_BUFFER_SIZE, Style, TimeUnit, format_duration, parse,
+    parse_duration, write_within,
+};
 use ours::{Crate, Library, ROOM, calls};
-use duration_str::{Format, HumanFormat, STYLED_BUFFER_SIZE, Style, TimeUnit, format_duration, parse, parse_duration, write_within};
 use std::hint::black_box;
 use std::io::Write;
 use std::time::{Duration, Instant};
@@ -73,21 +76,35 @@ fn nanos_a_call<const SIDES: usize>(calls: usize, sides: [&dyn Fn(); SIDES]) -> 
 
 /// The expressions, and their values.
 fn expressions() -> (Vec<&'static str>, Vec<Duration>) {
-    texts::expressions().leak().iter().map(|text| (text.as_str(), Humantime::reading(text))).unzip()
+    texts::expressions()
+        .leak()
+        .iter()
+        .map(|text| (text.as_str(), Humantime::reading(text)))
+        .unzip()
 }
 
 /// Calls this for each element.
 fn all<T: Copy, R>(of: &[T], call: impl Fn(T) -> R) {
-    of.iter().for_each(|each| { black_box(call(black_box(*each))); });
+    of.iter().for_each(|each| {
+        black_box(call(black_box(*each)));
+    });
 }
 
 /// A line for reading and for each way to print: what it is, and the nanoseconds a call of each side.
 fn times() {
     let (texts, lengths) = expressions();
     let sides: [(&str, &dyn Fn(), &dyn Fn()); 3] = [
-        ("read", &|| all(&texts, Crate::reading), &|| all(&texts, Humantime::reading)),
-        ("print", &|| all(&lengths, Crate::printing), &|| all(&lengths, Humantime::printing)),
-        ("print-string", &|| all(&lengths, Crate::printing_string), &|| all(&lengths, Humantime::printing_string)),
+        ("read", &|| all(&texts, Crate::reading), &|| {
+            all(&texts, Humantime::reading)
+        }),
+        ("print", &|| all(&lengths, Crate::printing), &|| {
+            all(&lengths, Humantime::printing)
+        }),
+        (
+            "print-string",
+            &|| all(&lengths, Crate::printing_string),
+            &|| all(&lengths, Humantime::printing_string),
+        ),
     ];
     for (what, ours, theirs) in sides {
         let [ours, theirs] = nanos_a_call(texts.len(), [ours, theirs]);
@@ -98,7 +115,10 @@ fn times() {
 /// A line for each limit and style: what it is, and the nanoseconds a call below a day and of the expressions' values.
 fn styles() {
     let (_, lengths) = expressions();
-    let short: Vec<Duration> = lengths.iter().map(|length| texts::below_day(*length)).collect();
+    let short: Vec<Duration> = lengths
+        .iter()
+        .map(|length| texts::below_day(*length))
+        .collect();
     let whole = Format::whole();
     for (what, format) in [
         ("whole", whole),
@@ -108,23 +128,45 @@ fn styles() {
         ("long", whole.style(Style::Long)),
     ] {
         let print = |length| write_within(&length, format, &mut [0; STYLED_BUFFER_SIZE]).len();
-        let [below_day, all] = nanos_a_call(lengths.len(), [&|| all(&short, print), &|| all(&lengths, print)]);
+        let [below_day, all] = nanos_a_call(
+            lengths.len(),
+            [&|| all(&short, print), &|| all(&lengths, print)],
+        );
         println!("{what}\t{below_day:.1}\t{all:.1}");
     }
 }
 
 /// What `bench/peers` asks of each program, by the calls for a text and a string of this name.
 fn peer(printing: &str) {
-    let texts: Vec<String> = std::io::stdin().lines().map(|line| line.expect("a line").split('\t').next().unwrap().to_string()).collect();
-    let values: Vec<Duration> = texts.iter().map(|text| parse(text).expect("a text that is read")).collect();
+    let texts: Vec<String> = std::io::stdin()
+        .lines()
+        .map(|line| {
+            line.expect("a line")
+                .split('\t')
+                .next()
+                .unwrap()
+                .to_string()
+        })
+        .collect();
+    let values: Vec<Duration> = texts
+        .iter()
+        .map(|text| parse(text).expect("a text that is read"))
+        .collect();
     let texts: Vec<&str> = texts.iter().map(String::as_str).collect();
     let sides: [&dyn Fn(); 2] = match printing {
-        "human_format" => [&|| all(&texts, parse), &|| all(&values, |value| value.human_format())],
-        "to_string" => [&|| all(&texts, parse_duration), &|| all(&values, |value| format_duration(value).to_string())],
+        "human_format" => [&|| all(&texts, parse), &|| {
+            all(&values, |value| value.human_format())
+        }],
+        "to_string" => [&|| all(&texts, parse_duration), &|| {
+            all(&values, |value| format_duration(value).to_string())
+        }],
         _ => panic!("no call: {printing}"),
     };
     let [read, print] = nanos_a_call(texts.len(), sides);
-    println!("{} {read} {print}", values.iter().sum::<Duration>().as_nanos());
+    println!(
+        "{} {read} {print}",
+        values.iter().sum::<Duration>().as_nanos()
+    );
 }
 
 fn main() {

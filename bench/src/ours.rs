@@ -1,7 +1,11 @@
 //! The calls that are measured: those of the Rust crate, and those of the archive through C.
 use crate::texts::{EXPRESSION, below_day, expressions, long_text, refusal, repeat};
-use duration_str::{DurationError, FORMAT_BUFFER_SIZE, Fault, Format, HumanFormat, Options, STYLED_BUFFER_SIZE};
-use duration_str::{parse, parse_duration, parse_with, parse_with_units, write_human, write_within};
+use duration_str::{
+    DurationError, FORMAT_BUFFER_SIZE, Fault, Format, HumanFormat, Options, STYLED_BUFFER_SIZE,
+};
+use duration_str::{
+    parse, parse_duration, parse_with, parse_with_units, write_human, write_within,
+};
 use std::hint::black_box;
 use std::time::Duration;
 
@@ -51,7 +55,15 @@ impl Library for Crate {
 
     fn reading_with(text: &str, options: u32) -> Duration {
         let [no_calc, lowercase, cn_unit] = std::array::from_fn(|bit| options & 1 << bit != 0);
-        parse_with(text, Options { no_calc, lowercase, cn_unit }).expect("a text that is read")
+        parse_with(
+            text,
+            Options {
+                no_calc,
+                lowercase,
+                cn_unit,
+            },
+        )
+        .expect("a text that is read")
     }
 
     fn reading_units(text: &str) -> Duration {
@@ -92,7 +104,8 @@ impl Archive {
     fn answer(text: &str, options: u32) -> (Answer, bool) {
         let mut answer = Answer::default();
         // SAFETY: the pointer and length are a slice's, and `answer` is laid out as the header's.
-        let read = unsafe { duration_str_parse_with(text.as_ptr(), text.len(), options, &mut answer) };
+        let read =
+            unsafe { duration_str_parse_with(text.as_ptr(), text.len(), options, &mut answer) };
         (answer, read)
     }
 }
@@ -115,8 +128,19 @@ struct Answer {
 unsafe extern "C" {
     fn duration_str_parse(text: *const u8, length: usize, nanos: *mut u64) -> bool;
     fn duration_str_format(nanos: u64, buffer: *mut u8) -> usize;
-    fn duration_str_parse_with(text: *const u8, length: usize, options: u32, answer: *mut Answer) -> bool;
-    fn duration_str_one_line(text: *const u8, length: usize, options: u32, answer: *mut Answer, buffer: *mut u8) -> usize;
+    fn duration_str_parse_with(
+        text: *const u8,
+        length: usize,
+        options: u32,
+        answer: *mut Answer,
+    ) -> bool;
+    fn duration_str_one_line(
+        text: *const u8,
+        length: usize,
+        options: u32,
+        answer: *mut Answer,
+        buffer: *mut u8,
+    ) -> usize;
 }
 
 impl Library for Archive {
@@ -153,7 +177,8 @@ impl Library for Archive {
     fn refusing(text: &str, buffer: &mut [u8; ROOM]) -> usize {
         let (mut answer, buffer) = (Answer::default(), buffer.as_mut_ptr());
         // SAFETY: the pointer and length are a slice's, `answer` is laid out as the header's, and the buffer is as long as there.
-        let length = unsafe { duration_str_one_line(text.as_ptr(), text.len(), 0, &mut answer, buffer) };
+        let length =
+            unsafe { duration_str_one_line(text.as_ptr(), text.len(), 0, &mut answer, buffer) };
         assert!(length > 0, "read: {text}");
         length
     }
@@ -169,8 +194,15 @@ impl Library for Archive {
 /// Prints the expressions' values, or what is made of them, so many times; apart, so that other calls stay as compiled.
 #[inline(never)]
 fn print_all<L: Library>(count: u64, of: fn(Duration) -> Duration) {
-    let lengths: Vec<Duration> = expressions().iter().map(|text| of(Crate::reading(text))).collect();
-    repeat(count, || lengths.iter().for_each(|length| { black_box(L::printing(black_box(*length))); }));
+    let lengths: Vec<Duration> = expressions()
+        .iter()
+        .map(|text| of(Crate::reading(text)))
+        .collect();
+    repeat(count, || {
+        lengths.iter().for_each(|length| {
+            black_box(L::printing(black_box(*length)));
+        })
+    });
 }
 
 /// Calls a library so many times, as the first lines of `calls.rs` say.
@@ -178,46 +210,74 @@ pub fn calls<L: Library>(words: &[&str], count: u64) {
     let length = Duration::new(193, 29_000_000);
     let of_nanos = |nanos: &str| Duration::from_nanos(nanos.parse().expect("nanoseconds"));
     match words {
-        ["nothing"] => repeat(count, || { black_box(black_box(EXPRESSION)); }),
-        ["read"] => repeat(count, || { black_box(L::reading(black_box(EXPRESSION))); }),
-        ["units"] => repeat(count, || { black_box(L::reading_units(black_box(EXPRESSION))); }),
-        ["print"] => repeat(count, || { black_box(L::printing(black_box(length))); }),
+        ["nothing"] => repeat(count, || {
+            black_box(black_box(EXPRESSION));
+        }),
+        ["read"] => repeat(count, || {
+            black_box(L::reading(black_box(EXPRESSION)));
+        }),
+        ["units"] => repeat(count, || {
+            black_box(L::reading_units(black_box(EXPRESSION)));
+        }),
+        ["print"] => repeat(count, || {
+            black_box(L::printing(black_box(length)));
+        }),
         ["print", nanos] => {
             let length = of_nanos(nanos);
-            repeat(count, || { black_box(L::printing(black_box(length))); });
+            repeat(count, || {
+                black_box(L::printing(black_box(length)));
+            });
         }
         ["parts", parts, nanos] => {
             let (length, parts) = (of_nanos(nanos), parts.parse().expect("a number of parts"));
-            repeat(count, || { black_box(L::printing_parts(black_box(length), black_box(parts))); });
+            repeat(count, || {
+                black_box(L::printing_parts(black_box(length), black_box(parts)));
+            });
         }
-        ["print-string"] => repeat(count, || { black_box(L::printing_string(black_box(length))); }),
+        ["print-string"] => repeat(count, || {
+            black_box(L::printing_string(black_box(length)));
+        }),
         ["with", options, text] => {
             let options = options.parse().expect("options");
-            repeat(count, || { black_box(L::reading_with(black_box(text), black_box(options))); });
+            repeat(count, || {
+                black_box(L::reading_with(black_box(text), black_box(options)));
+            });
         }
         ["text", bytes] => {
             let text = long_text(bytes.parse().expect("a length"));
-            repeat(count, || { black_box(L::reading(black_box(&text))); });
+            repeat(count, || {
+                black_box(L::reading(black_box(&text)));
+            });
         }
         ["read-expressions"] => {
             let texts = expressions();
-            repeat(count, || texts.iter().for_each(|text| { black_box(L::reading(black_box(text))); }));
+            repeat(count, || {
+                texts.iter().for_each(|text| {
+                    black_box(L::reading(black_box(text)));
+                })
+            });
         }
         ["print-expressions"] => print_all::<L>(count, |length| length),
         ["print-below-day"] => print_all::<L>(count, below_day),
         ["refuse", name] => {
             let text = refusal(name);
             let mut buffer = [0; ROOM];
-            repeat(count, || { black_box(L::refusing(black_box(&text), &mut buffer)); });
+            repeat(count, || {
+                black_box(L::refusing(black_box(&text), &mut buffer));
+            });
             black_box(&buffer);
         }
         ["error", name] => {
             let text = refusal(name);
-            repeat(count, || { black_box(&L::error(black_box(&text))); });
+            repeat(count, || {
+                black_box(&L::error(black_box(&text)));
+            });
         }
         ["printed-error", name] => {
             let text = refusal(name);
-            repeat(count, || { black_box(&L::error(black_box(&text)).to_string()); });
+            repeat(count, || {
+                black_box(&L::error(black_box(&text)).to_string());
+            });
         }
         _ => panic!("see the first lines of src/calls.rs"),
     }

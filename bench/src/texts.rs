@@ -21,7 +21,9 @@ const UNITS: [(&str, u64); 10] = [
 pub fn expressions() -> Vec<String> {
     let mut state: u64 = 19;
     let mut below = move |bound: u64| {
-        state = state.wrapping_mul(6_364_136_223_846_793_005).wrapping_add(1_442_695_040_888_963_407);
+        state = state
+            .wrapping_mul(6_364_136_223_846_793_005)
+            .wrapping_add(1_442_695_040_888_963_407);
         (state >> 33) % bound
     };
     let mut expression = move |_| {
@@ -32,8 +34,16 @@ pub fn expressions() -> Vec<String> {
             if below(units_left) < terms {
                 terms -= 1;
                 let names: Vec<&str> = names.split(' ').collect();
-                let blank = if text.is_empty() || below(10) == 0 { "" } else { " " };
-                text += &format!("{blank}{}{}", 1 + below(*most), names[below(names.len() as u64) as usize]);
+                let blank = if text.is_empty() || below(10) == 0 {
+                    ""
+                } else {
+                    " "
+                };
+                text += &format!(
+                    "{blank}{}{}",
+                    1 + below(*most),
+                    names[below(names.len() as u64) as usize]
+                );
             }
         }
         text

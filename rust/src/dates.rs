@@ -27,9 +27,15 @@ use duration_str_core::{Cause, Options};
 /// assert_eq!(due.to_string(), "2000-02-29 13:00:00");
 /// # Ok::<(), duration_str::Fault<'_>>(())
 /// ```
-pub fn moment_after(moment: NaiveDateTime, input: &str, options: Options) -> Result<NaiveDateTime, Fault<'_>> {
+pub fn moment_after(
+    moment: NaiveDateTime,
+    input: &str,
+    options: Options,
+) -> Result<NaiveDateTime, Fault<'_>> {
     let length = chrono_of(parse_with(input, options)?);
-    moment.checked_add_signed(length).ok_or(Fault::of(input, Cause::OutOfRange, options))
+    moment
+        .checked_add_signed(length)
+        .ok_or(Fault::of(input, Cause::OutOfRange, options))
 }
 
 /// The moment that comes before this one by the value of a text. It is otherwise like [`moment_after`].
@@ -47,9 +53,15 @@ pub fn moment_after(moment: NaiveDateTime, input: &str, options: Options) -> Res
 /// assert_eq!(past.to_string(), "2000-02-29 00:00:00");
 /// # Ok::<(), duration_str::Fault<'_>>(())
 /// ```
-pub fn moment_before(moment: NaiveDateTime, input: &str, options: Options) -> Result<NaiveDateTime, Fault<'_>> {
+pub fn moment_before(
+    moment: NaiveDateTime,
+    input: &str,
+    options: Options,
+) -> Result<NaiveDateTime, Fault<'_>> {
     let length = chrono_of(parse_with(input, options)?);
-    moment.checked_sub_signed(length).ok_or(Fault::of(input, Cause::OutOfRange, options))
+    moment
+        .checked_sub_signed(length)
+        .ok_or(Fault::of(input, Cause::OutOfRange, options))
 }
 
 /// The moment in UTC that comes after now by the value of a text, which [`parse`](crate::parse)

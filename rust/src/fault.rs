@@ -135,7 +135,9 @@ impl<'a> Fault<'a> {
     /// ```
     #[must_use]
     pub fn report(&self) -> String {
-        self.fault.write_report(&mut [0; duration_str_core::REPORT_BUFFER_SIZE]).to_string()
+        self.fault
+            .write_report(&mut [0; duration_str_core::REPORT_BUFFER_SIZE])
+            .to_string()
     }
 
     /// The message with which the calls of `duration-str` 0.19.0 refuse.
@@ -176,7 +178,11 @@ impl<'a> Fault<'a> {
     #[inline(never)]
     #[must_use]
     pub fn into_owned(self) -> DurationError {
-        DurationError { text: self.text().to_string(), cause: self.cause(), options: self.options }
+        DurationError {
+            text: self.text().to_string(),
+            cause: self.cause(),
+            options: self.options,
+        }
     }
 }
 

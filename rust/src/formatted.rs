@@ -59,7 +59,11 @@ pub const fn format_duration(duration: Duration) -> FormattedDuration {
 impl FormattedDuration {
     /// A duration by its sign and magnitude.
     pub(crate) const fn with_sign(is_negative: bool, magnitude: Duration) -> FormattedDuration {
-        FormattedDuration { is_negative, magnitude, format: Format::whole() }
+        FormattedDuration {
+            is_negative,
+            magnitude,
+            format: Format::whole(),
+        }
     }
 
     /// The duration, or its magnitude if it is negative. It has the name of humantime's method.
@@ -92,7 +96,10 @@ impl FormattedDuration {
 
     /// The sign, `-` or nothing, and the text of the magnitude.
     #[inline(always)]
-    fn parts_of_text<'b>(&self, buffer: &'b mut [u8; STYLED_BUFFER_SIZE]) -> (&'static str, &'b str) {
+    fn parts_of_text<'b>(
+        &self,
+        buffer: &'b mut [u8; STYLED_BUFFER_SIZE],
+    ) -> (&'static str, &'b str) {
         let magnitude = write_within(&self.magnitude, self.format, buffer);
         // Only a zero begins with `0`.
         let has_minus = self.is_negative && !magnitude.starts_with('0');

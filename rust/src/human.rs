@@ -94,11 +94,16 @@ use serde::ser::{self, Serialize, Serializer};
 )]
 pub trait HumanText: Sealed + Sized {
     #[doc(hidden)]
-    fn serialize_human<S: Serializer, const HOW: u8>(&self, serializer: S) -> Result<S::Ok, S::Error>;
+    fn serialize_human<S: Serializer, const HOW: u8>(
+        &self,
+        serializer: S,
+    ) -> Result<S::Ok, S::Error>;
 
     /// Reads a text, also whole seconds, or what humantime reads, as `HOW` says.
     #[doc(hidden)]
-    fn deserialize_human<'de, D: Deserializer<'de>, const HOW: u8>(deserializer: D) -> Result<Self, D::Error>;
+    fn deserialize_human<'de, D: Deserializer<'de>, const HOW: u8>(
+        deserializer: D,
+    ) -> Result<Self, D::Error>;
 }
 
 /// Prints durations as text.
@@ -133,7 +138,9 @@ pub fn serialize<T: HumanText, S: Serializer>(value: &T, serializer: S) -> Resul
 /// assert_eq!(duration, Duration::from_secs(60));
 /// # Ok::<(), serde_json::Error>(())
 /// ```
-pub fn deserialize<'de, T: HumanText, D: Deserializer<'de>>(deserializer: D) -> Result<T, D::Error> {
+pub fn deserialize<'de, T: HumanText, D: Deserializer<'de>>(
+    deserializer: D,
+) -> Result<T, D::Error> {
     T::deserialize_human::<D, TEXT>(deserializer)
 }
 
@@ -150,7 +157,11 @@ impl<T: Length, const HOW: u8> Visitor<'_> for Text<T, HOW> {
 
     fn expecting(&self, f: &mut fmt::Formatter<'_>) -> fmt::Result {
         f.write_str("a duration such as '1min 30s'")?;
-        f.write_str(if HOW == SECONDS { ", or whole seconds of at most 584 years" } else { "" })
+        f.write_str(if HOW == SECONDS {
+            ", or whole seconds of at most 584 years"
+        } else {
+            ""
+        })
     }
 
     fn visit_u64<E: de::Error>(self, secs: u64) -> Result<T, E> {
@@ -170,9 +181,14 @@ impl<T: Length, const HOW: u8> Visitor<'_> for Text<T, HOW> {
     }
 
     fn visit_str<E: de::Error>(self, text: &str) -> Result<T, E> {
-        let read = if HOW == STRICT { humantime::read(text) } else { parse_with(text, ADDITIONS) };
+        let read = if HOW == STRICT {
+            humantime::read(text)
+        } else {
+            parse_with(text, ADDITIONS)
+        };
         // Before the line stands what it is about, since the format adds its own line and column to it.
-        read.map(T::of_std).map_err(|fault| E::custom(format_args!("invalid duration: {fault}")))
+        read.map(T::of_std)
+            .map_err(|fault| E::custom(format_args!("invalid duration: {fault}")))
     }
 
     fn visit_bytes<E: de::Error>(self, bytes: &[u8]) -> Result<T, E> {
@@ -184,7 +200,10 @@ impl<T: Length, const HOW: u8> Visitor<'_> for Text<T, HOW> {
 }
 
 impl<T: Length> HumanText for T {
-    fn serialize_human<S: Serializer, const HOW: u8>(&self, serializer: S) -> Result<S::Ok, S::Error> {
+    fn serialize_human<S: Serializer, const HOW: u8>(
+        &self,
+        serializer: S,
+    ) -> Result<S::Ok, S::Error> {
         let refused = <S::Error as ser::Error>::custom;
         let Some(duration) = self.to_std() else {
             return Err(refused("a negative duration can't be read back"));
@@ -199,9 +218,15 @@ impl<T: Length> HumanText for T {
         serializer.serialize_str(write_human(&duration, &mut [0; FORMAT_BUFFER_SIZE]))
     }
 
-    fn deserialize_human<'de, D: Deserializer<'de>, const HOW: u8>(deserializer: D) -> Result<T, D::Error> {
+    fn deserialize_human<'de, D: Deserializer<'de>, const HOW: u8>(
+        deserializer: D,
+    ) -> Result<T, D::Error> {
         let text = Text::<T, HOW>(PhantomData);
-        if HOW == SECONDS { deserializer.deserialize_any(text) } else { deserializer.deserialize_str(text) }
+        if HOW == SECONDS {
+            deserializer.deserialize_any(text)
+        } else {
+            deserializer.deserialize_str(text)
+        }
     }
 }
 
@@ -221,22 +246,32 @@ impl<'de, T: HumanText, const HOW: u8> Deserialize<'de> for Part<T, HOW> {
 }
 
 impl<T: HumanText> HumanText for Option<T> {
-    fn serialize_human<S: Serializer, const HOW: u8>(&self, serializer: S) -> Result<S::Ok, S::Error> {
+    fn serialize_human<S: Serializer, const HOW: u8>(
+        &self,
+        serializer: S,
+    ) -> Result<S::Ok, S::Error> {
         self.as_ref().map(Part::<&T, HOW>).serialize(serializer)
     }
 
-    fn deserialize_human<'de, D: Deserializer<'de>, const HOW: u8>(deserializer: D) -> Result<Self, D::Error> {
+    fn deserialize_human<'de, D: Deserializer<'de>, const HOW: u8>(
+        deserializer: D,
+    ) -> Result<Self, D::Error> {
         let value = Option::<Part<T, HOW>>::deserialize(deserializer)?;
         Ok(value.map(|Part(value)| value))
     }
 }
 
 impl<T: HumanText> HumanText for Vec<T> {
-    fn serialize_human<S: Serializer, const HOW: u8>(&self, serializer: S) -> Result<S::Ok, S::Error> {
+    fn serialize_human<S: Serializer, const HOW: u8>(
+        &self,
+        serializer: S,
+    ) -> Result<S::Ok, S::Error> {
         serializer.collect_seq(self.iter().map(Part::<&T, HOW>))
     }
 
-    fn deserialize_human<'de, D: Deserializer<'de>, const HOW: u8>(deserializer: D) -> Result<Self, D::Error> {
+    fn deserialize_human<'de, D: Deserializer<'de>, const HOW: u8>(
+        deserializer: D,
+    ) -> Result<Self, D::Error> {
         let values = Vec::<Part<T, HOW>>::deserialize(deserializer)?;
         Ok(values.into_iter().map(|Part(value)| value).collect())
     }

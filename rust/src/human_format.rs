@@ -63,7 +63,9 @@ impl HumanFormat for chrono::Duration {
     fn formatted(&self) -> FormattedDuration {
         let secs = self.num_seconds();
         let after_secs = *self - chrono::Duration::seconds(secs);
-        let nanos = after_secs.num_nanoseconds().expect("less than a second is left");
+        let nanos = after_secs
+            .num_nanoseconds()
+            .expect("less than a second is left");
         with_sign(*self < chrono::Duration::zero(), secs, nanos)
     }
 }
@@ -79,7 +81,8 @@ impl HumanFormat for time::Duration {
 /// A duration of so many seconds and nanoseconds, which have one sign.
 #[cfg(any(feature = "chrono", feature = "time"))]
 fn with_sign(is_negative: bool, secs: i64, nanos: i64) -> FormattedDuration {
-    let magnitude = Duration::from_secs(secs.unsigned_abs()) + Duration::from_nanos(nanos.unsigned_abs());
+    let magnitude =
+        Duration::from_secs(secs.unsigned_abs()) + Duration::from_nanos(nanos.unsigned_abs());
     FormattedDuration::with_sign(is_negative, magnitude)
 }
 

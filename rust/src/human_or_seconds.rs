@@ -51,6 +51,8 @@ pub use human::serialize;
 /// assert_eq!(fraction.unwrap_err().to_string(), format!("invalid type: floating point `1.5`, expected {expected}"));
 /// # Ok::<(), serde_json::Error>(())
 /// ```
-pub fn deserialize<'de, T: HumanText, D: Deserializer<'de>>(deserializer: D) -> Result<T, D::Error> {
+pub fn deserialize<'de, T: HumanText, D: Deserializer<'de>>(
+    deserializer: D,
+) -> Result<T, D::Error> {
     T::deserialize_human::<D, { human::SECONDS }>(deserializer)
 }

@@ -40,7 +40,9 @@ use crate::parser::{CASE_SENSITIVE, parse_with};
 use alloc::string::{String, ToString};
 use core::fmt;
 use core::time::Duration as StdDuration;
-use duration_str_core::{self as proved, Cause, Format, STYLED_BUFFER_SIZE, TimeUnit, Tokens, What, write_within};
+use duration_str_core::{
+    self as proved, Cause, Format, STYLED_BUFFER_SIZE, TimeUnit, Tokens, What, write_within,
+};
 
 pub use crate::DurationError;
 
@@ -79,13 +81,18 @@ const MONTH: StdDuration = StdDuration::from_nanos(TimeUnit::Month.nanos());
 /// read.
 #[inline]
 fn has_last_unit(text: &str) -> bool {
-    text.trim_ascii_end().bytes().next_back().is_some_and(|last| !last.is_ascii_digit())
+    text.trim_ascii_end()
+        .bytes()
+        .next_back()
+        .is_some_and(|last| !last.is_ascii_digit())
 }
 
 /// Whether a text may have years or months, which are longer here. Only `day` has a `y` that isn't
 /// a year's, and only names of months have `mo`; the Chinese names are not told apart.
 fn has_longer(text: &str) -> bool {
-    text.as_bytes().windows(2).any(|pair| pair == b"mo" || pair[1] == b'y' && pair[0] != b'a' || pair[0] >= 0xe0)
+    text.as_bytes()
+        .windows(2)
+        .any(|pair| pair == b"mo" || pair[1] == b'y' && pair[0] != b'a' || pair[0] >= 0xe0)
 }
 
 /// The seconds of a unit that is longer here than in the rest of this crate.
@@ -130,14 +137,22 @@ fn in_seconds(text: &str) -> String {
     let mut written = String::from(" ");
     let mut number: Option<(usize, u64)> = None;
     for token in Tokens::new(text, CASE_SENSITIVE) {
-        let secs = if let What::Word(Some(unit)) = token.what { seconds(unit) } else { None };
+        let secs = if let What::Word(Some(unit)) = token.what {
+            seconds(unit)
+        } else {
+            None
+        };
         let before = number.take();
         if let (Some((start, number)), Some(secs)) = (before, secs) {
             written.truncate(start);
             written.push_str(&number.saturating_mul(secs).to_string());
             written.push('s');
         } else {
-            number = token.text.parse().ok().map(|number| (written.len(), number));
+            number = token
+                .text
+                .parse()
+                .ok()
+                .map(|number| (written.len(), number));
             written.push_str(token.text);
         }
         written.push(' ');

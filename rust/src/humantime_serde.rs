@@ -64,7 +64,9 @@ pub fn serialize<T: HumanText, S: Serializer>(value: &T, serializer: S) -> Resul
 /// assert_eq!(minute, Duration::from_secs(60));
 /// # Ok::<(), serde_json::Error>(())
 /// ```
-pub fn deserialize<'de, T: HumanText, D: Deserializer<'de>>(deserializer: D) -> Result<T, D::Error> {
+pub fn deserialize<'de, T: HumanText, D: Deserializer<'de>>(
+    deserializer: D,
+) -> Result<T, D::Error> {
     T::deserialize_human::<D, STRICT>(deserializer)
 }
 

@@ -22,7 +22,10 @@
 //! - [`parse`], [`parse_std`] (which is the same) and the calls for `chrono` and `time` are those of
 //!   `duration-str` 0.19.0. Their error is a `String` of up to three lines. The features of the
 //!   whole program decide what they read.
-#![cfg_attr(feature = "macros", doc = "- Use [`duration!`] for a text in the source, which is read at compile time:")]
+#![cfg_attr(
+    feature = "macros",
+    doc = "- Use [`duration!`] for a text in the source, which is read at compile time:"
+)]
 #![cfg_attr(
     not(feature = "macros"),
     doc = "- Use `duration!` for a text in the source, which is read at compile time (feature `macros`):"
@@ -194,12 +197,13 @@ mod with_units;
 #[cfg(feature = "chrono")]
 #[doc(hidden)]
 pub use dates::{
-    after_naive_date, after_naive_date_time, before_naive_date, before_naive_date_time, moment_after, moment_before,
+    after_naive_date, after_naive_date_time, before_naive_date, before_naive_date_time,
+    moment_after, moment_before,
 };
 #[doc(inline)]
 pub use duration_str_core::{
-    Cause, CondUnit, Expected, FORMAT_BUFFER_SIZE, Format, Options, STYLED_BUFFER_SIZE, Style, TimeUnit, UnknownStyle,
-    UnknownUnit, write_human, write_within,
+    Cause, CondUnit, Expected, FORMAT_BUFFER_SIZE, Format, Options, STYLED_BUFFER_SIZE, Style,
+    TimeUnit, UnknownStyle, UnknownUnit, write_human, write_within,
 };
 // For the core's examples; here the buffers' sizes and `TimeUnit::ALL` say as much.
 #[doc(hidden)]

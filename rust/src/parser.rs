@@ -35,7 +35,10 @@ pub(crate) const FEATURES: Options = Options {
 
 /// Those under which all other calls read that take none. The feature that adds names counts; those that take something
 /// away may be asked for by any crate of a program, and would break what the others read.
-pub(crate) const ADDITIONS: Options = Options { cn_unit: FEATURES.cn_unit, ..Options::off() };
+pub(crate) const ADDITIONS: Options = Options {
+    cn_unit: FEATURES.cn_unit,
+    ..Options::off()
+};
 
 /// Those of the module `humantime`.
 pub(crate) const CASE_SENSITIVE: Options = ADDITIONS.with_lowercase();
@@ -162,5 +165,6 @@ pub fn parse_time(input: impl AsRef<str>) -> Result<time::Duration, String> {
 /// The value of a text as a duration of `time`.
 #[cfg(feature = "time")]
 pub(crate) fn time_of(length: Duration) -> time::Duration {
-    time::Duration::try_from(length).expect("2^64 nanoseconds are 584 years, and time's durations go beyond")
+    time::Duration::try_from(length)
+        .expect("2^64 nanoseconds are 584 years, and time's durations go beyond")
 }

@@ -55,7 +55,9 @@ impl<'de, T: Length> Visitor<'de> for Optional<T> {
         if text.is_empty() {
             return Ok(None);
         }
-        parse(text).map(|length| Some(T::of_std(length))).map_err(E::custom)
+        parse(text)
+            .map(|length| Some(T::of_std(length)))
+            .map_err(E::custom)
     }
 
     fn visit_bytes<E: Error>(self, bytes: &[u8]) -> Result<Option<T>, E> {
@@ -132,13 +134,17 @@ macro_rules! deserializes {
         }
 
         impl<'de> DeserializeDuration<'de> for $length {
-            fn deserialize_duration<D: Deserializer<'de>>(deserializer: D) -> Result<Self, D::Error> {
+            fn deserialize_duration<D: Deserializer<'de>>(
+                deserializer: D,
+            ) -> Result<Self, D::Error> {
                 deserializer.deserialize_any(Required(PhantomData))
             }
         }
 
         impl<'de> DeserializeDuration<'de> for Option<$length> {
-            fn deserialize_duration<D: Deserializer<'de>>(deserializer: D) -> Result<Self, D::Error> {
+            fn deserialize_duration<D: Deserializer<'de>>(
+                deserializer: D,
+            ) -> Result<Self, D::Error> {
                 deserializer.deserialize_option(Optional(PhantomData))
             }
         }
@@ -148,14 +154,24 @@ macro_rules! deserializes {
         /// # Errors
         ///
         /// Returns the format's error, also if the text is refused.
-        #[deprecated(since = "0.19.0", note = "[`deserialize_duration`] reads optional durations too")]
-        pub fn $option_name<'de, D: Deserializer<'de>>(deserializer: D) -> Result<Option<$length>, D::Error> {
+        #[deprecated(
+            since = "0.19.0",
+            note = "[`deserialize_duration`] reads optional durations too"
+        )]
+        pub fn $option_name<'de, D: Deserializer<'de>>(
+            deserializer: D,
+        ) -> Result<Option<$length>, D::Error> {
             DeserializeDuration::deserialize_duration(deserializer)
         }
     };
 }
 
-deserializes!(Duration, core::convert::identity, Some, deserialize_option_duration);
+deserializes!(
+    Duration,
+    core::convert::identity,
+    Some,
+    deserialize_option_duration
+);
 #[cfg(feature = "chrono")]
 deserializes!(
     chrono::Duration,
@@ -179,7 +195,9 @@ deserializes!(
 ///
 /// Returns the error of [`deserialize_duration`].
 #[cfg(feature = "chrono")]
-pub fn deserialize_duration_chrono<'de, D: Deserializer<'de>>(deserializer: D) -> Result<chrono::Duration, D::Error> {
+pub fn deserialize_duration_chrono<'de, D: Deserializer<'de>>(
+    deserializer: D,
+) -> Result<chrono::Duration, D::Error> {
     DeserializeDuration::deserialize_duration(deserializer)
 }
 
@@ -191,6 +209,8 @@ pub fn deserialize_duration_chrono<'de, D: Deserializer<'de>>(deserializer: D) -
 ///
 /// Returns the error of [`deserialize_duration`].
 #[cfg(feature = "time")]
-pub fn deserialize_duration_time<'de, D: Deserializer<'de>>(deserializer: D) -> Result<time::Duration, D::Error> {
+pub fn deserialize_duration_time<'de, D: Deserializer<'de>>(
+    deserializer: D,
+) -> Result<time::Duration, D::Error> {
     DeserializeDuration::deserialize_duration(deserializer)
 }

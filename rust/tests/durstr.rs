@@ -8,7 +8,11 @@ use std::process::ExitCode;
 
 fn main() -> ExitCode {
     let is_on = |name: &str| std::env::args().skip(1).any(|word| word == name);
-    let options = Options { no_calc: is_on("no_calc"), lowercase: is_on("lowercase"), cn_unit: is_on("cn_unit") };
+    let options = Options {
+        no_calc: is_on("no_calc"),
+        lowercase: is_on("lowercase"),
+        cn_unit: is_on("cn_unit"),
+    };
     let mut input = Vec::new();
     std::io::stdin().read_to_end(&mut input).expect("an input");
     let mut refusals = 0;

@@ -19,7 +19,8 @@ const LONGEST: usize = 1 << 20;
 #[unsafe(no_mangle)]
 extern "C" fn main(count: c_int, words: *const *const c_char) -> c_int {
     // SAFETY: C calls it with so many words, each with a zero at its end.
-    let word = |at| OsStr::from_bytes(unsafe { CStr::from_ptr(*words.add(at)) }.to_bytes()).to_os_string();
+    let word =
+        |at| OsStr::from_bytes(unsafe { CStr::from_ptr(*words.add(at)) }.to_bytes()).to_os_string();
     run((0..count as usize).map(word)).unwrap_or_else(|error| {
         let _ = writeln!(io::stderr(), "duration: {error}");
         2
@@ -31,12 +32,20 @@ fn run(words: impl Iterator<Item = OsString>) -> io::Result<c_int> {
     let choices = match Choices::of(words) {
         Ok(choices) => choices,
         Err(told) => {
-            let (stream, status) = if told.use_stderr() { (file(io::stderr()), 2) } else { (file(io::stdout()), 0) };
+            let (stream, status) = if told.use_stderr() {
+                (file(io::stderr()), 2)
+            } else {
+                (file(io::stdout()), 0)
+            };
             stream?.write_all(told.to_string().replace('\0', "").as_bytes())?;
             return Ok(status);
         }
     };
-    let output: Box<dyn Write> = if choices.quiet { Box::new(io::sink()) } else { Box::new(file(io::stdout())?) };
+    let output: Box<dyn Write> = if choices.quiet {
+        Box::new(io::sink())
+    } else {
+        Box::new(file(io::stdout())?)
+    };
     let mut run = Run {
         output: BufWriter::with_capacity(1 << 16, output),
         end: if choices.zero_terminated { 0 } else { b'\n' },
@@ -69,13 +78,23 @@ impl Run<'_> {
     /// Answers each argument, or without any each line of standard input.
     fn all(&mut self) -> io::Result<()> {
         if let Some(shell) = self.choices.completions {
-            clap_complete::generate(shell, &mut options::with_words(), "duration", &mut self.output);
+            clap_complete::generate(
+                shell,
+                &mut options::with_words(),
+                "duration",
+                &mut self.output,
+            );
         } else if self.choices.texts.is_empty() {
             let input = file(io::stdin()).map_err(of_input)?;
             self.lines(BufReader::with_capacity(1 << 16, input))?;
         }
         for (text, number) in self.choices.texts.iter().zip(1..) {
-            self.line(text.as_bytes().strip_prefix(options::ESCAPE).unwrap_or(text.as_bytes()), number)?;
+            self.line(
+                text.as_bytes()
+                    .strip_prefix(options::ESCAPE)
+                    .unwrap_or(text.as_bytes()),
+                number,
+            )?;
         }
         self.output.flush()
     }
@@ -91,13 +110,18 @@ impl Run<'_> {
                 break;
             }
             let text = line.strip_suffix(&[self.end]).unwrap_or(&line);
-            self.is_open = text.len() == line.len() && (self.choices.field.is_some() || self.choices.header.is_some());
+            self.is_open = text.len() == line.len()
+                && (self.choices.field.is_some() || self.choices.header.is_some());
             let is_header = number <= self.choices.header.unwrap_or(0);
             if text.len() > LONGEST {
                 if !is_header {
                     self.tell(Refusal::new("line of over 1,048,576 bytes"), b"", number)?;
                 }
-                self.pass(&mut input, &mut line, is_header || self.choices.field.is_some())?;
+                self.pass(
+                    &mut input,
+                    &mut line,
+                    is_header || self.choices.field.is_some(),
+                )?;
             } else if is_header {
                 self.put(&[text])?;
             } else if self.choices.field.is_none() {
@@ -117,7 +141,12 @@ impl Run<'_> {
     }
 
     /// Reads the rest of a line that is too long, and writes all of it where it stays.
-    fn pass(&mut self, input: &mut BufReader<File>, line: &mut Vec<u8>, stays: bool) -> io::Result<()> {
+    fn pass(
+        &mut self,
+        input: &mut BufReader<File>,
+        line: &mut Vec<u8>,
+        stays: bool,
+    ) -> io::Result<()> {
         while !line.is_empty() && !line.ends_with(&[self.end]) {
             self.output.write_all(if stays { line } else { b"" })?;
             self.next(input, line)?;
@@ -143,8 +172,17 @@ impl Run<'_> {
         let seconds = options::in_unit(nanos, TimeUnit::Second, None, Round::Down);
         let mark = if self.choices.to.is_some() { "" } else { "\"" };
         let (nanos, printed) = (nanos.to_string(), self.choices.printed(nanos));
-        let rest =
-            [",\"nanoseconds\":\"", &nanos, "\",\"seconds\":", &seconds, ",\"printed\":", mark, &printed, mark, "}"];
+        let rest = [
+            ",\"nanoseconds\":\"",
+            &nanos,
+            "\",\"seconds\":",
+            &seconds,
+            ",\"printed\":",
+            mark,
+            &printed,
+            mark,
+            "}",
+        ];
         self.put(&rest.map(str::as_bytes))
     }
 
@@ -154,8 +192,11 @@ impl Run<'_> {
             return Some([b"", line, b""]);
         };
         let delimiter = self.choices.delimiter;
-        let divides = |byte: &u8| delimiter.map_or(b" \t\r\n".contains(byte), |character| *byte == character);
-        let mut fields = line.split(divides).filter(|field| delimiter.is_some() || !field.is_empty());
+        let divides =
+            |byte: &u8| delimiter.map_or(b" \t\r\n".contains(byte), |character| *byte == character);
+        let mut fields = line
+            .split(divides)
+            .filter(|field| delimiter.is_some() || !field.is_empty());
         let field = fields.nth(usize::from(number) - 1)?;
         let is_inside = |byte: &u8| !b" \t\r\n\"".contains(byte);
         let start = field.as_ptr().addr() - line.as_ptr().addr();
@@ -167,7 +208,11 @@ impl Run<'_> {
     /// Says why a text is refused, and writes its line as it was if a field is converted.
     fn refuse(&mut self, refusal: Refusal, parts: [&[u8]; 3], number: u64) -> io::Result<()> {
         self.tell(refusal, parts[1], number)?;
-        if self.choices.field.is_some() { self.put(&parts) } else { Ok(()) }
+        if self.choices.field.is_some() {
+            self.put(&parts)
+        } else {
+            Ok(())
+        }
     }
 
     fn tell(&mut self, refusal: Refusal, text: &[u8], number: u64) -> io::Result<()> {
@@ -181,7 +226,10 @@ impl Run<'_> {
         }
         // A terminal shows what was answered before that first.
         self.output.flush()?;
-        let field = self.choices.field.map_or(String::new(), |field| format!(", field {field}"));
+        let field = self
+            .choices
+            .field
+            .map_or(String::new(), |field| format!(", field {field}"));
         let (gap, said) = match refusal.report.contains('\n') && io::stderr().is_terminal() {
             true => ('\n', refusal.report),
             false => (' ', refusal.message),
@@ -190,9 +238,15 @@ impl Run<'_> {
     }
 
     fn put(&mut self, parts: &[&[u8]]) -> io::Result<()> {
-        parts.iter().try_for_each(|part| self.output.write_all(part))?;
+        parts
+            .iter()
+            .try_for_each(|part| self.output.write_all(part))?;
         // jq takes a NUL for the end, and says nothing.
         let end = if self.choices.json { b'\n' } else { self.end };
-        self.output.write_all(if self.is_open { b"" } else { std::slice::from_ref(&end) })
+        self.output.write_all(if self.is_open {
+            b""
+        } else {
+            std::slice::from_ref(&end)
+        })
     }
 }

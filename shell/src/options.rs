@@ -3,7 +3,9 @@ use clap::builder::{PossibleValuesParser, TypedValueParser};
 use clap::error::ErrorKind;
 use clap::{Command, CommandFactory, Parser, ValueEnum, value_parser};
 use clap_complete::Shell;
-use duration_str::{Format, STYLED_BUFFER_SIZE, Style, TimeUnit, UnknownUnit, parse_duration, write_within};
+use duration_str::{
+    Format, STYLED_BUFFER_SIZE, Style, TimeUnit, UnknownUnit, parse_duration, write_within,
+};
 use std::ffi::{OsStr, OsString};
 use std::os::unix::ffi::OsStrExt;
 use std::time::Duration;
@@ -100,7 +102,10 @@ impl Choices {
     pub fn of(words: impl Iterator<Item = OsString>) -> Result<Choices, clap::Error> {
         let choices = Choices::try_parse_from(words.map(escape))?;
         if choices.largest < choices.smallest {
-            return Err(clap::Error::raw(ErrorKind::ArgumentConflict, "--largest is shorter than --smallest\n"));
+            return Err(clap::Error::raw(
+                ErrorKind::ArgumentConflict,
+                "--largest is shorter than --smallest\n",
+            ));
         }
         Ok(choices)
     }
@@ -112,7 +117,12 @@ impl Choices {
         let parts = Format::whole().parts(self.parts.into());
         let within = parts.largest(self.largest).smallest(self.smallest);
         let mut buffer = [0; STYLED_BUFFER_SIZE];
-        write_within(&Duration::from_nanos(nanos), within.style(self.style), &mut buffer).to_string()
+        write_within(
+            &Duration::from_nanos(nanos),
+            within.style(self.style),
+            &mut buffer,
+        )
+        .to_string()
     }
 }
 
@@ -138,8 +148,12 @@ pub fn in_unit(nanos: u64, unit: TimeUnit, decimals: Option<u8>, round: Round) -
 /// The unit that a word names. Another is refused with the help that a text gets.
 fn unit(word: &str) -> Result<TimeUnit, String> {
     word.parse().map_err(|unknown: UnknownUnit| {
-        let line = parse_duration(&format!("1{word}")).err().map_or(String::new(), |error| error.to_string());
-        let help = line.split_once(" (did").map(|(_, help)| format!("did{}", help.trim_end_matches(')')));
+        let line = parse_duration(&format!("1{word}"))
+            .err()
+            .map_or(String::new(), |error| error.to_string());
+        let help = line
+            .split_once(" (did")
+            .map(|(_, help)| format!("did{}", help.trim_end_matches(')')));
         help.unwrap_or(unknown.to_string())
     })
 }
@@ -147,8 +161,11 @@ fn unit(word: &str) -> Result<TimeUnit, String> {
 /// The command, in which options of units list their words, for completions.
 pub fn with_words() -> Command {
     let units = ["y", "q", "mon", "w", "d", "h", "min", "s", "ms", "us", "ns"];
-    let of_unit = |command: Command, name| command.mut_arg(name, |option| option.value_parser(units));
-    ["to", "from", "largest", "smallest"].into_iter().fold(Choices::command(), of_unit)
+    let of_unit =
+        |command: Command, name| command.mut_arg(name, |option| option.value_parser(units));
+    ["to", "from", "largest", "smallest"]
+        .into_iter()
+        .fold(Choices::command(), of_unit)
 }
 
 /// What no word has, before one that begins as a number below zero, so that clap takes it for no option.

@@ -14,7 +14,10 @@ pub struct Refusal {
 
 impl Refusal {
     pub fn new(message: &str) -> Refusal {
-        Refusal { message: message.to_string(), ..Refusal::default() }
+        Refusal {
+            message: message.to_string(),
+            ..Refusal::default()
+        }
     }
 
     /// The object for the text of a line or an argument.
@@ -22,26 +25,47 @@ impl Refusal {
         let text = String::from_utf8_lossy(text);
         let column = json!(self.place.map(|place| text[..place].chars().count() + 1));
         let (text, found, message) = (json!(text), json!(self.found), json!(self.message));
-        format!(r#"{{"text":{text},"{what}":{number},"column":{column},"found":{found},"message":{message}}}"#)
+        format!(
+            r#"{{"text":{text},"{what}":{number},"column":{column},"found":{found},"message":{message}}}"#
+        )
     }
 }
 
 impl From<Fault<'_>> for Refusal {
     fn from(fault: Fault<'_>) -> Refusal {
-        let (place, found) = (fault.expected().and(fault.place()), fault.found().map(str::to_string));
-        Refusal { message: fault.to_string(), report: fault.report(), place, found }
+        let (place, found) = (
+            fault.expected().and(fault.place()),
+            fault.found().map(str::to_string),
+        );
+        Refusal {
+            message: fault.to_string(),
+            report: fault.report(),
+            place,
+            found,
+        }
     }
 }
 
 /// Reads a text. Under --from a bare number has that unit, and any other must have its own.
 pub fn read<'a>(bytes: &'a [u8], choices: &Choices) -> Result<(&'a str, u64), Refusal> {
     let text = std::str::from_utf8(bytes).map_err(|_| Refusal::new("not UTF-8"))?;
-    if let Some((number, nanos)) = choices.from.and_then(|unit| bare_number(text, unit, choices.round)) {
+    if let Some((number, nanos)) = choices
+        .from
+        .and_then(|unit| bare_number(text, unit, choices.round))
+    {
         let dots = if number.len() > 40 { "..." } else { "" };
-        let too_large = |_| Refusal::new(&format!("duration of over 584 years in \"{number:.40}\"{dots}"));
+        let too_large = |_| {
+            Refusal::new(&format!(
+                "duration of over 584 years in \"{number:.40}\"{dots}"
+            ))
+        };
         return Ok((text, u64::try_from(nanos).map_err(too_large)?));
     }
-    let options = Options { lowercase: choices.lowercase, cn_unit: choices.cn_unit, ..Options::off() };
+    let options = Options {
+        lowercase: choices.lowercase,
+        cn_unit: choices.cn_unit,
+        ..Options::off()
+    };
     let duration = parse_with(text, options)?;
     if choices.require_unit || choices.from.is_some() {
         // What is read under any options is refused here only if a unit is missing.
@@ -56,8 +80,14 @@ fn bare_number(text: &str, unit: TimeUnit, round: Round) -> Option<(&str, u128)>
     let number = text.trim_matches([' ', '\t', '\r', '\n']);
     let (digits, exponent) = number.split_once(['e', 'E']).unwrap_or((number, "0"));
     let (whole, decimals) = digits.split_once('.').unwrap_or((digits, ""));
-    let is_number = [whole, decimals].concat().bytes().all(|byte| byte.is_ascii_digit());
-    let exponent = exponent.parse::<isize>().ok().filter(|_| is_number && digits.ends_with(|last| last != '.'))?;
+    let is_number = [whole, decimals]
+        .concat()
+        .bytes()
+        .all(|byte| byte.is_ascii_digit());
+    let exponent = exponent
+        .parse::<isize>()
+        .ok()
+        .filter(|_| is_number && digits.ends_with(|last| last != '.'))?;
     // So many zeros on both sides that the point can move by the exponent, or beyond all digits that count.
     let exponent = exponent.clamp(-(digits.len() as isize) - 99, digits.len() as isize + 99);
     let zeros = "0".repeat(1 + exponent.unsigned_abs());
@@ -72,5 +102,12 @@ fn bare_number(text: &str, unit: TimeUnit, round: Round) -> Option<(&str, u128)>
         Round::Down | Round::Nearest => part / steps,
     };
     // A whole part that doesn't fit makes more than any duration.
-    Some((number, whole.parse().unwrap_or(u128::MAX).saturating_mul(length).saturating_add(part)))
+    Some((
+        number,
+        whole
+            .parse()
+            .unwrap_or(u128::MAX)
+            .saturating_mul(length)
+            .saturating_add(part),
+    ))
 }

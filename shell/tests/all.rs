@@ -18,7 +18,12 @@ fn program(words: &[&str]) -> Command {
 }
 
 fn piped(words: &[&str]) -> Child {
-    program(words).stdin(Stdio::piped()).stdout(Stdio::piped()).stderr(Stdio::piped()).spawn().unwrap()
+    program(words)
+        .stdin(Stdio::piped())
+        .stdout(Stdio::piped())
+        .stderr(Stdio::piped())
+        .spawn()
+        .unwrap()
 }
 
 fn output(words: &[&str], input: &[u8]) -> Output {
@@ -33,7 +38,11 @@ fn output(words: &[&str], input: &[u8]) -> Output {
 
 /// The status, what is written and what is said on standard error.
 fn run(words: &[&str], input: &[u8]) -> (i32, String, String) {
-    let Output { status, stdout, stderr } = output(words, input);
+    let Output {
+        status,
+        stdout,
+        stderr,
+    } = output(words, input);
     let text = |bytes| String::from_utf8(bytes).unwrap();
     (status.code().unwrap(), text(stdout), text(stderr))
 }
@@ -52,29 +61,51 @@ fn line(text: &str) -> String {
 
 #[test]
 fn answers_each_argument() {
-    assert_eq!(answer(&["1h 30m", "5400", "3m+13s"]), "1h 30min\n1h 30min\n3min 13s\n");
+    assert_eq!(
+        answer(&["1h 30m", "5400", "3m+13s"]),
+        "1h 30min\n1h 30min\n3min 13s\n"
+    );
     let errors = format!("duration: argument 2: {}\n", line("5 mins"));
-    assert_eq!(run(&["1h", "5 mins", "2h"], b"3h\n"), (1, "1h\n2h\n".into(), errors));
-    assert!(run(&["--json", "1h\r"], b"").1.starts_with("{\"text\":\"1h\\r\","));
+    assert_eq!(
+        run(&["1h", "5 mins", "2h"], b"3h\n"),
+        (1, "1h\n2h\n".into(), errors)
+    );
+    assert!(
+        run(&["--json", "1h\r"], b"")
+            .1
+            .starts_with("{\"text\":\"1h\\r\",")
+    );
 }
 
 #[test]
 fn takes_a_minus_for_a_text() {
-    for words in [&["-5m", "--to", "s", "1m"][..], &["--to", "s", "--", "-5m", "1m"]] {
+    for words in [
+        &["-5m", "--to", "s", "1m"][..],
+        &["--to", "s", "--", "-5m", "1m"],
+    ] {
         let errors = format!("duration: argument 1: {}\n", line("-5m"));
         assert_eq!(run(words, b""), (1, "60\n".into(), errors));
     }
     let errors = format!("duration: argument 1: {}\n", line(" -5m"));
     assert_eq!(run(&[" -5m"], b""), (1, "".into(), errors));
     let json = run(&["--json", "-.5"], b"").1;
-    assert!(json.starts_with("{\"text\":\"-.5\",\"argument\":1,\"column\":1,\"found\":\"-\","), "{json}");
+    assert!(
+        json.starts_with("{\"text\":\"-.5\",\"argument\":1,\"column\":1,\"found\":\"-\","),
+        "{json}"
+    );
 }
 
 #[test]
 fn answers_each_line() {
     let errors = ["5 mins", ""].map(line);
-    let errors = format!("duration: line 2: {}\nduration: line 3: {}\n", errors[0], errors[1]);
-    assert_eq!(run(&[], b"1h\n5 mins\n\n90"), (1, "1h\n1min 30s\n".into(), errors));
+    let errors = format!(
+        "duration: line 2: {}\nduration: line 3: {}\n",
+        errors[0], errors[1]
+    );
+    assert_eq!(
+        run(&[], b"1h\n5 mins\n\n90"),
+        (1, "1h\n1min 30s\n".into(), errors)
+    );
     assert_eq!(run(&[], b""), (0, "".into(), "".into()));
 }
 
@@ -91,12 +122,26 @@ fn prints_numbers() {
         ("s --decimals 0 20ms", ["0", "1", "0"]),
         ("s --decimals 3 1h", ["3600.000"; 3]),
         ("s --decimals 1 9950ms", ["9.9", "10.0", "10.0"]),
-        ("min --decimals 9 1s", ["0.016666666", "0.016666667", "0.016666667"]),
-        ("ns --decimals 2 18446744073709551615ns", ["18446744073709551615.00"; 3]),
+        (
+            "min --decimals 9 1s",
+            ["0.016666666", "0.016666667", "0.016666667"],
+        ),
+        (
+            "ns --decimals 2 18446744073709551615ns",
+            ["18446744073709551615.00"; 3],
+        ),
     ] {
-        for (round, wanted) in [("", down), ("--round=down", down), ("--round=up", up), ("--round=nearest", nearest)] {
-            let words: Vec<&str> =
-                ["--to"].into_iter().chain(words.split(' ')).chain(round.split_terminator(' ')).collect();
+        for (round, wanted) in [
+            ("", down),
+            ("--round=down", down),
+            ("--round=up", up),
+            ("--round=nearest", nearest),
+        ] {
+            let words: Vec<&str> = ["--to"]
+                .into_iter()
+                .chain(words.split(' '))
+                .chain(round.split_terminator(' '))
+                .collect();
             assert_eq!(answer(&words), format!("{wanted}\n"), "{words:?}");
         }
     }
@@ -106,33 +151,76 @@ fn prints_numbers() {
 fn takes_bare_numbers_as_a_unit() {
     let rows: [(&[&str], &str); 10] = [
         (&["h", ".50000000000000000000"], "30min\n"),
-        (&["s", "1e-05", "1.2e+06", "12.5E1", "0.00015e4", "0e999"], "10µs\n1w 6d 21h 20min\n2min 5s\n1s 500ms\n0s\n"),
-        (&["ns", "--to", "ns", "18446744073709551.615e3", "1e-99999", "0e99999"], "18446744073709551615\n0\n0\n"),
+        (
+            &["s", "1e-05", "1.2e+06", "12.5E1", "0.00015e4", "0e999"],
+            "10µs\n1w 6d 21h 20min\n2min 5s\n1s 500ms\n0s\n",
+        ),
+        (
+            &[
+                "ns",
+                "--to",
+                "ns",
+                "18446744073709551.615e3",
+                "1e-99999",
+                "0e99999",
+            ],
+            "18446744073709551615\n0\n0\n",
+        ),
         (&["min", " 90 ", "2h"], "1h 30min\n2h\n"),
         (&["ms", "0.5", "0.0000009"], "500µs\n0s\n"),
         (&["us", "1", "1.9999"], "1µs\n1µs 999ns\n"),
-        (&["h", "0.333333333333333333"], "19min 59s 999ms 999µs 999ns\n"),
+        (
+            &["h", "0.333333333333333333"],
+            "19min 59s 999ms 999µs 999ns\n",
+        ),
         (&["y", "1.5"], "1y 2q 12h\n"),
         (&["ns", "007.99"], "7ns\n"),
-        (&["s", "1.250000000999999999999999999999999999999999"], "1s 250ms\n"),
+        (
+            &["s", "1.250000000999999999999999999999999999999999"],
+            "1s 250ms\n",
+        ),
     ];
     for (words, wanted) in rows {
         assert_eq!(answer(&[&["--from"], words].concat()), wanted, "{words:?}");
     }
-    for text in ["1h 30", "-5", "1.", ".", "1,5", "1e", "e5", "1e5.0", "1.e5", "", "+1", "\u{a0}1", "1.5.2"] {
-        let errors = format!("duration: argument 1: {}\n", parse_with_units(text).unwrap_err());
-        assert_eq!(run(&["--from", "s", "--", text], b""), (1, "".into(), errors));
+    for text in [
+        "1h 30", "-5", "1.", ".", "1,5", "1e", "e5", "1e5.0", "1.e5", "", "+1", "\u{a0}1", "1.5.2",
+    ] {
+        let errors = format!(
+            "duration: argument 1: {}\n",
+            parse_with_units(text).unwrap_err()
+        );
+        assert_eq!(
+            run(&["--from", "s", "--", text], b""),
+            (1, "".into(), errors)
+        );
     }
     // 2^64 nanoseconds, a number of 2^64, 2^119 seconds, which are 0 in 128 bits, and one of which a quote has 40 digits
     const WRAPPING: &str = "664613997892457936451903530140172288";
-    for text in
-        ["18446744073.709551616", "99999999999999999999", "1e12", "1e99999", WRAPPING, &"9".repeat(40), &"9".repeat(41)]
-    {
-        let quote = if text.len() > 40 { format!("\"{}\"...", &text[1..]) } else { format!("\"{text}\"") };
+    for text in [
+        "18446744073.709551616",
+        "99999999999999999999",
+        "1e12",
+        "1e99999",
+        WRAPPING,
+        &"9".repeat(40),
+        &"9".repeat(41),
+    ] {
+        let quote = if text.len() > 40 {
+            format!("\"{}\"...", &text[1..])
+        } else {
+            format!("\"{text}\"")
+        };
         let errors = format!("duration: argument 1: duration of over 584 years in {quote}\n");
-        assert_eq!(run(&["--from", "s", &format!(" {text}")], b""), (1, "".into(), errors));
+        assert_eq!(
+            run(&["--from", "s", &format!(" {text}")], b""),
+            (1, "".into(), errors)
+        );
     }
-    assert_eq!(answer(&["--from", "s", "--to", "ns", "18446744073.709551615"]), "18446744073709551615\n");
+    assert_eq!(
+        answer(&["--from", "s", "--to", "ns", "18446744073.709551615"]),
+        "18446744073709551615\n"
+    );
     // Under --round up a text above zero is above zero, and what is whole stays.
     for (unit, text, nanos) in [
         ("s", "1e-10", 1),
@@ -144,7 +232,10 @@ fn takes_bare_numbers_as_a_unit() {
         ("s", "0.000000001000000000000000000", 1),
         ("s", "0.000000001000000000000000001", 2),
     ] {
-        assert_eq!(answer(&["--from", unit, "--to", "ns", "--round=up", text]), format!("{nanos}\n"));
+        assert_eq!(
+            answer(&["--from", unit, "--to", "ns", "--round=up", text]),
+            format!("{nanos}\n")
+        );
     }
 }
 
@@ -155,13 +246,25 @@ fn converts_a_column() {
     let output = b"name,takes,by\nbuild,5400,\xe4\n\"test\",\" 90\",b\r\nrun,5 mins,c\nstop\n";
     let words = ["-d,", "--field", "2", "--header", "--to", "s"];
     let ended = self::output(&words, input);
-    assert_eq!((ended.status.code(), &*ended.stdout), (Some(1), &output[..]));
+    assert_eq!(
+        (ended.status.code(), &*ended.stdout),
+        (Some(1), &output[..])
+    );
     let errors = told(4, &line("5 mins")) + &told(5, "no such field");
     assert_eq!(String::from_utf8(ended.stderr).unwrap(), errors);
     assert_eq!(run(&["--field", "1", "-d="], b"60 s=60s\n").1, "1min=60s\n");
-    assert_eq!(run(&["--field=3", "-d", "\t"], b"60s\t60s\t60 s\r\n").1, "60s\t60s\t1min\r\n");
-    assert_eq!(run(&["--field=2", "-d:"], b"a::b\na:\"\":b\n").1, "a::b\na:\"\":b\n");
-    assert_eq!(run(&["--header=2"], b"60s\n60s\n60s\n").1, "60s\n60s\n1min\n");
+    assert_eq!(
+        run(&["--field=3", "-d", "\t"], b"60s\t60s\t60 s\r\n").1,
+        "60s\t60s\t1min\r\n"
+    );
+    assert_eq!(
+        run(&["--field=2", "-d:"], b"a::b\na:\"\":b\n").1,
+        "a::b\na:\"\":b\n"
+    );
+    assert_eq!(
+        run(&["--header=2"], b"60s\n60s\n60s\n").1,
+        "60s\n60s\n1min\n"
+    );
     assert_eq!(run(&["--header"], b"60s\n60s").1, "60s\n1min");
     assert_eq!(
         run(&["--field=1", "--header"], b"  ELAPSED COMMAND\n   90 init").1,
@@ -175,11 +278,15 @@ fn prints_json() {
     let (status, output, errors) = run(&["--json", "--to", "min"], input);
     assert!(status == 1 && errors.is_empty());
     let refused = |text, number, column: Option<u8>, found: Option<&str>| {
-        let [text, column, found, message] = [json!(text), json!(column), json!(found), json!(line(text))];
-        format!(r#"{{"text":{text},"line":{number},"column":{column},"found":{found},"message":{message}}}"#)
+        let [text, column, found, message] =
+            [json!(text), json!(column), json!(found), json!(line(text))];
+        format!(
+            r#"{{"text":{text},"line":{number},"column":{column},"found":{found},"message":{message}}}"#
+        )
     };
     let wanted = [
-        r#"{"text":"1h 30m","nanoseconds":"5400000000000","seconds":5400,"printed":90}"#.to_string(),
+        r#"{"text":"1h 30m","nanoseconds":"5400000000000","seconds":5400,"printed":90}"#
+            .to_string(),
         refused("5 mins", 2, Some(3), Some("mins")),
         r#"{"text":"90","nanoseconds":"90000000000","seconds":90,"printed":1.5}"#.to_string(),
         refused("1h+", 4, Some(4), None),
@@ -187,16 +294,29 @@ fn prints_json() {
         refused("\u{1}\"1h", 6, Some(1), Some("\u{1}")),
     ];
     assert_eq!(output.lines().collect::<Vec<_>>(), wanted);
-    let wanted = r#"{"text":" 20ms","nanoseconds":"20000000","seconds":0.02,"printed":"20 milliseconds"}"#;
-    assert_eq!(answer(&["--json", "--style", "long", " 20ms"]), format!("{wanted}\n"));
+    let wanted =
+        r#"{"text":" 20ms","nanoseconds":"20000000","seconds":0.02,"printed":"20 milliseconds"}"#;
+    assert_eq!(
+        answer(&["--json", "--style", "long", " 20ms"]),
+        format!("{wanted}\n")
+    );
     let output = run(&["--json", "--require-unit", "1h", "1+2m"], b"").1;
     let missing: Value = serde_json::from_str(output.lines().last().unwrap()).unwrap();
-    assert_eq!((&missing["column"], &missing["found"], &missing["argument"]), (&json!(2), &json!("+"), &json!(2)));
+    assert_eq!(
+        (&missing["column"], &missing["found"], &missing["argument"]),
+        (&json!(2), &json!("+"), &json!(2))
+    );
     let wide: Value = serde_json::from_str(&run(&["--json", "1\u{b5}s \u{5206}"], b"").1).unwrap();
-    assert_eq!((&wide["column"], &wide["found"]), (&json!(5), &json!("\u{5206}")));
+    assert_eq!(
+        (&wide["column"], &wide["found"]),
+        (&json!(5), &json!("\u{5206}"))
+    );
     assert_eq!(run(&["--json", "-z"], b"1h\n2m\x003h").1.lines().count(), 2);
     let bytes: Value = serde_json::from_str(&run(&["--json"], b"1h\xff\n").1).unwrap();
-    assert_eq!((&bytes["text"], &bytes["message"]), (&json!("1h\u{fffd}"), &json!("not UTF-8")));
+    assert_eq!(
+        (&bytes["text"], &bytes["message"]),
+        (&json!("1h\u{fffd}"), &json!("not UTF-8"))
+    );
 }
 
 #[test]
@@ -213,9 +333,18 @@ fn refuses_wrong_usage() {
         assert!(errors.starts_with("error: "), "{words:?}: {errors}");
     }
     for (words, wanted) in [
-        (["--to", "mins", "1h"], "Invalid value 'mins' for '--to <UNIT>': did you mean \"min\"?"),
-        (["--from", "foo", "1h"], "Invalid value 'foo' for '--from <UNIT>': no unit"),
-        (["--parts", "-1", "1h"], "Invalid value '-1' for '--parts <N>': invalid digit found in string"),
+        (
+            ["--to", "mins", "1h"],
+            "Invalid value 'mins' for '--to <UNIT>': did you mean \"min\"?",
+        ),
+        (
+            ["--from", "foo", "1h"],
+            "Invalid value 'foo' for '--from <UNIT>': no unit",
+        ),
+        (
+            ["--parts", "-1", "1h"],
+            "Invalid value '-1' for '--parts <N>': invalid digit found in string",
+        ),
     ] {
         assert!(run(&words, b"").2.starts_with(&format!("error: {wanted}")));
     }
@@ -223,37 +352,69 @@ fn refuses_wrong_usage() {
     assert_eq!(answer(&["--to", "s", "-q", "--to", "ms", "1h", "-q"]), "");
     assert_eq!(answer(&["--to", "s", "--to", "ms", "1h"]), "3600000\n");
     let word = OsStr::from_bytes(b"1h\xff");
-    let ended = program(&[]).args([word, OsStr::new("1h")]).output().unwrap();
-    assert_eq!((ended.status.code(), &*ended.stdout), (Some(1), &b"1h\n"[..]));
+    let ended = program(&[])
+        .args([word, OsStr::new("1h")])
+        .output()
+        .unwrap();
+    assert_eq!(
+        (ended.status.code(), &*ended.stdout),
+        (Some(1), &b"1h\n"[..])
+    );
     assert_eq!(ended.stderr, b"duration: argument 1: not UTF-8\n");
 }
 
 #[test]
 fn reads_hostile_lines() {
     let told = |number, what| format!("duration: line {number}: {what}\n");
-    assert_eq!(run(&[], b"1h\r\n\xff\r\n2h\r\n"), (1, "1h\n2h\n".into(), told(2, "not UTF-8")));
+    assert_eq!(
+        run(&[], b"1h\r\n\xff\r\n2h\r\n"),
+        (1, "1h\n2h\n".into(), told(2, "not UTF-8"))
+    );
     let longest = [b"1h".to_vec(), b" ".repeat((1 << 20) - 2)].concat();
     assert_eq!(run(&[], &longest).1, "1h\n");
-    let lines = [&longest[..], b"\n", &longest, b" \n1m\n", &longest.repeat(2), b"\n2m"].concat();
-    let errors = [2, 4].map(|number| told(number, "line of over 1,048,576 bytes")).concat();
+    let lines = [
+        &longest[..],
+        b"\n",
+        &longest,
+        b" \n1m\n",
+        &longest.repeat(2),
+        b"\n2m",
+    ]
+    .concat();
+    let errors = [2, 4]
+        .map(|number| told(number, "line of over 1,048,576 bytes"))
+        .concat();
     assert_eq!(run(&[], &lines), (1, "1h\n1min\n2min\n".into(), errors));
-    assert_eq!(run(&[], &longest.repeat(2)).2, told(1, "line of over 1,048,576 bytes"));
+    assert_eq!(
+        run(&[], &longest.repeat(2)).2,
+        told(1, "line of over 1,048,576 bytes")
+    );
     // Such a line stays if a field is converted or if it is a header.
     let [long, exact] = [3 << 20, (1 << 20) - 1].map(|count| format!("a,{}", "x".repeat(count)));
     let lines = format!("{long}\nb,60s\n{exact}\n{long}");
     for (word, numbers) in [("--field=2", &[1, 3, 4][..]), ("--header", &[3, 4])] {
         let (status, output, errors) = run(&["-d,", "--field=2", word], lines.as_bytes());
-        assert!(status == 1 && output == format!("{long}\nb,1min\n{exact}\n{long}"), "{word}");
-        let told = |number| format!("duration: line {number}, field 2: line of over 1,048,576 bytes\n");
+        assert!(
+            status == 1 && output == format!("{long}\nb,1min\n{exact}\n{long}"),
+            "{word}"
+        );
+        let told =
+            |number| format!("duration: line {number}, field 2: line of over 1,048,576 bytes\n");
         assert_eq!(errors, numbers.iter().map(told).collect::<String>());
     }
-    assert_eq!(run(&["-q", "--field=2"], lines.as_bytes()), (1, "".into(), "".into()));
+    assert_eq!(
+        run(&["-q", "--field=2"], lines.as_bytes()),
+        (1, "".into(), "".into())
+    );
 }
 
 #[test]
 fn answers_before_it_waits() {
     let mut child = piped(&[]);
-    let (mut stdin, mut lines) = (child.stdin.take().unwrap(), BufReader::new(child.stdout.take().unwrap()).lines());
+    let (mut stdin, mut lines) = (
+        child.stdin.take().unwrap(),
+        BufReader::new(child.stdout.take().unwrap()).lines(),
+    );
     // The beginning of the next line is there already.
     stdin.write_all(b"1h\n1m ").unwrap();
     assert_eq!(lines.next().unwrap().unwrap(), "1h");
@@ -267,27 +428,55 @@ fn answers_before_it_waits() {
 #[test]
 fn tells_of_failing_devices() {
     let full = || File::options().write(true).open("/dev/full").unwrap();
-    for words in [&["1h"][..], &["5 mins", "1h"], &["--completions", "zsh"], &["--json", "1h"], &["--help"], &["-V"]] {
+    for words in [
+        &["1h"][..],
+        &["5 mins", "1h"],
+        &["--completions", "zsh"],
+        &["--json", "1h"],
+        &["--help"],
+        &["-V"],
+    ] {
         let ended = program(words).stdout(full()).output().unwrap();
         assert_eq!(ended.status.code(), Some(2), "{words:?}");
-        assert!(String::from_utf8(ended.stderr).unwrap().ends_with("No space left on device (os error 28)\n"));
+        assert!(
+            String::from_utf8(ended.stderr)
+                .unwrap()
+                .ends_with("No space left on device (os error 28)\n")
+        );
     }
     for (words, status, errors) in [
         ("1h >&-", 2, "duration: Bad file descriptor (os error 9)\n"),
-        ("<&-", 2, "duration: standard input: Bad file descriptor (os error 9)\n"),
+        (
+            "<&-",
+            2,
+            "duration: standard input: Bad file descriptor (os error 9)\n",
+        ),
         ("-q 1h >&-", 0, ""),
         ("-q 1x >&-", 1, ""),
         ("1h >/dev/null", 0, ""),
         ("-x 2>/dev/full", 2, ""),
     ] {
-        let ended = Command::new("sh").args(["-c", &format!("timeout 60 {PROGRAM} {words}")]).output().unwrap();
-        assert_eq!((ended.status.code(), &*ended.stderr), (Some(status), errors.as_bytes()), "{words}");
+        let ended = Command::new("sh")
+            .args(["-c", &format!("timeout 60 {PROGRAM} {words}")])
+            .output()
+            .unwrap();
+        assert_eq!(
+            (ended.status.code(), &*ended.stderr),
+            (Some(status), errors.as_bytes()),
+            "{words}"
+        );
     }
     let ended = program(&["5 mins", "1h"]).stderr(full()).output().unwrap();
     assert_eq!((ended.status.code(), &*ended.stdout), (Some(2), &b""[..]));
-    let ended = program(&[]).stdin(File::open("/").unwrap()).output().unwrap();
+    let ended = program(&[])
+        .stdin(File::open("/").unwrap())
+        .output()
+        .unwrap();
     assert_eq!(ended.status.code(), Some(2));
-    assert_eq!(ended.stderr, b"duration: standard input: Is a directory (os error 21)\n");
+    assert_eq!(
+        ended.stderr,
+        b"duration: standard input: Is a directory (os error 21)\n"
+    );
 }
 
 #[test]
@@ -295,26 +484,47 @@ fn ends_by_the_signal_of_a_closed_pipe() {
     let mut child = piped(&[]);
     let mut stdin = child.stdin.take().unwrap();
     let writer = std::thread::spawn(move || while stdin.write_all(b"1h\n").is_ok() {});
-    child.stdout.take().unwrap().read_exact(&mut [0; 3]).unwrap();
+    child
+        .stdout
+        .take()
+        .unwrap()
+        .read_exact(&mut [0; 3])
+        .unwrap();
     let ended = child.wait_with_output().unwrap();
     writer.join().unwrap();
-    assert_eq!((ended.status.signal(), &*ended.stderr), (Some(13), &b""[..]));
+    assert_eq!(
+        (ended.status.signal(), &*ended.stderr),
+        (Some(13), &b""[..])
+    );
 }
 
 #[test]
 fn shows_a_caret_on_a_terminal() {
     let command = format!("printf '5 mins\\r\\n600y\\n1h' | {PROGRAM}");
-    let ended = Command::new("timeout").args(["60", "script", "-qec", &command, "/dev/null"]).output().unwrap();
+    let ended = Command::new("timeout")
+        .args(["60", "script", "-qec", &command, "/dev/null"])
+        .output()
+        .unwrap();
     let faults = ["5 mins", "600y"].map(|text| parse_duration(text).unwrap_err());
-    let wanted = format!("duration: line 1:\n{}\nduration: line 2: {}\n1h\n", faults[0].report(), faults[1]);
+    let wanted = format!(
+        "duration: line 1:\n{}\nduration: line 2: {}\n1h\n",
+        faults[0].report(),
+        faults[1]
+    );
     assert!(faults[0].report().starts_with("5 mins\n  ^\n"));
-    assert_eq!(String::from_utf8(ended.stdout).unwrap().replace('\r', ""), wanted);
+    assert_eq!(
+        String::from_utf8(ended.stdout).unwrap().replace('\r', ""),
+        wanted
+    );
     assert_eq!(ended.status.code(), Some(1));
 }
 
 #[test]
 fn tells_of_itself() {
-    assert_eq!(answer(&["--version"]), concat!("duration ", env!("CARGO_PKG_VERSION"), "\n"));
+    assert_eq!(
+        answer(&["--version"]),
+        concat!("duration ", env!("CARGO_PKG_VERSION"), "\n")
+    );
     let help = answer(&["--help"]);
     assert_eq!(help, answer(&["-h"]));
     assert!(help.lines().all(|line| line.len() <= 80));

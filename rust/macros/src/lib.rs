@@ -44,12 +44,24 @@ type Refusal = (String, Span);
 fn value(input: TokenStream) -> Result<TokenStream, Refusal> {
     let mut tokens = input.into_iter();
     let (written, span) = literal(tokens.next())?;
-    let text = text(&written).ok_or_else(|| ("expected a string literal without escapes".to_string(), span))?;
+    let text = text(&written).ok_or_else(|| {
+        (
+            "expected a string literal without escapes".to_string(),
+            span,
+        )
+    })?;
     let (options, require_unit) = options(tokens)?;
-    let parse = if require_unit { parse_with_units } else { parse_with };
-    let value = parse(text, options).map_err(|fault| (fault.write_one_line(&mut [0; 384]).to_string(), span))?;
+    let parse = if require_unit {
+        parse_with_units
+    } else {
+        parse_with
+    };
+    let value = parse(text, options)
+        .map_err(|fault| (fault.write_one_line(&mut [0; 384]).to_string(), span))?;
     let (secs, nanos) = (value.as_secs(), value.subsec_nanos());
-    Ok(code(&format!("::core::time::Duration::new({secs}, {nanos})")))
+    Ok(code(&format!(
+        "::core::time::Duration::new({secs}, {nanos})"
+    )))
 }
 
 /// The literal, as it is written, and where it stands. One that a macro by example hands over stands in a group of its

@@ -26,7 +26,11 @@ where
     let of_value = from_value(value).map_err(|error| error.to_string());
     // For a text the message ends in its place.
     assert!(
-        of_text == of_value || of_text.as_ref().unwrap_err().starts_with(of_value.as_ref().unwrap_err()),
+        of_text == of_value
+            || of_text
+                .as_ref()
+                .unwrap_err()
+                .starts_with(of_value.as_ref().unwrap_err()),
         "{of_text:?}"
     );
     of_value
@@ -41,19 +45,44 @@ where
     let rows = [
         (json!({ "timeout": "1m" }), 60, None),
         (json!({ "timeout": "1min30", "keep_alive": null }), 90, None),
-        (json!({ "timeout": "1 y  30", "keep_alive": "" }), 31_536_030, None),
-        (json!({ "timeout": "1m", "keep_alive": "30s" }), 60, Some(30)),
-        (json!({ "timeout": "0", "keep_alive": "1y30" }), 0, Some(31_536_030)),
-        (json!({ "keep_alive": " 2h 37m ", "timeout": "3m31" }), 211, Some(9_420)),
+        (
+            json!({ "timeout": "1 y  30", "keep_alive": "" }),
+            31_536_030,
+            None,
+        ),
+        (
+            json!({ "timeout": "1m", "keep_alive": "30s" }),
+            60,
+            Some(30),
+        ),
+        (
+            json!({ "timeout": "0", "keep_alive": "1y30" }),
+            0,
+            Some(31_536_030),
+        ),
+        (
+            json!({ "keep_alive": " 2h 37m ", "timeout": "3m31" }),
+            211,
+            Some(9_420),
+        ),
     ];
     for (value, timeout, keep_alive) in rows {
-        let wanted = Settings { timeout: length(timeout), keep_alive: keep_alive.map(&length) };
+        let wanted = Settings {
+            timeout: length(timeout),
+            keep_alive: keep_alive.map(&length),
+        };
         assert_eq!(settings(value), Ok(wanted));
     }
     if cfg!(not(feature = "no_calc")) {
         for text in ["1y+30", "1 y + 30"] {
-            let wanted = Settings { timeout: length(31_536_030), keep_alive: Some(length(90)) };
-            assert_eq!(settings(json!({ "timeout": text, "keep_alive": "1min+30" })), Ok(wanted));
+            let wanted = Settings {
+                timeout: length(31_536_030),
+                keep_alive: Some(length(90)),
+            };
+            assert_eq!(
+                settings(json!({ "timeout": text, "keep_alive": "1min+30" })),
+                Ok(wanted)
+            );
         }
     }
     let required = "expected expect duration string, e.g: '1min+30'";
@@ -61,14 +90,38 @@ where
     let rows = [
         (json!({}), "missing field `timeout`".to_string()),
         (json!({ "timeout": "" }), "Empty input".to_string()),
-        (json!({ "timeout": "600y" }), "600y\n^\noverflow error".to_string()),
-        (json!({ "timeout": true }), format!("invalid type: boolean `true`, {required}")),
-        (json!({ "timeout": 30 }), format!("invalid type: integer `30`, {required}")),
-        (json!({ "timeout": null }), format!("invalid type: null, {required}")),
-        (json!({ "timeout": ["1s"] }), format!("invalid type: sequence, {required}")),
-        (json!({ "timeout": "1m", "keep_alive": "600y" }), "600y\n^\noverflow error".to_string()),
-        (json!({ "timeout": "1m", "keep_alive": 30 }), format!("invalid type: integer `30`, {optional}")),
-        (json!({ "timeout": "1m", "keep_alive": [] }), format!("invalid type: sequence, {optional}")),
+        (
+            json!({ "timeout": "600y" }),
+            "600y\n^\noverflow error".to_string(),
+        ),
+        (
+            json!({ "timeout": true }),
+            format!("invalid type: boolean `true`, {required}"),
+        ),
+        (
+            json!({ "timeout": 30 }),
+            format!("invalid type: integer `30`, {required}"),
+        ),
+        (
+            json!({ "timeout": null }),
+            format!("invalid type: null, {required}"),
+        ),
+        (
+            json!({ "timeout": ["1s"] }),
+            format!("invalid type: sequence, {required}"),
+        ),
+        (
+            json!({ "timeout": "1m", "keep_alive": "600y" }),
+            "600y\n^\noverflow error".to_string(),
+        ),
+        (
+            json!({ "timeout": "1m", "keep_alive": 30 }),
+            format!("invalid type: integer `30`, {optional}"),
+        ),
+        (
+            json!({ "timeout": "1m", "keep_alive": [] }),
+            format!("invalid type: sequence, {optional}"),
+        ),
     ];
     for (value, message) in rows {
         assert_eq!(settings::<T>(value), Err(message));
@@ -102,10 +155,20 @@ struct Job {
 
 #[test]
 fn reads_flattened_structs() {
-    let rows = [(json!(null), None), (json!("30s"), Some(Duration::from_secs(30)))];
+    let rows = [
+        (json!(null), None),
+        (json!("30s"), Some(Duration::from_secs(30))),
+    ];
     for (keep_alive, wanted) in rows {
-        let job: Job = from_value(json!({ "name": "a", "timeout": "1m", "keep_alive": keep_alive })).unwrap();
-        assert_eq!(job.settings, Settings { timeout: Duration::from_secs(60), keep_alive: wanted });
+        let job: Job =
+            from_value(json!({ "name": "a", "timeout": "1m", "keep_alive": keep_alive })).unwrap();
+        assert_eq!(
+            job.settings,
+            Settings {
+                timeout: Duration::from_secs(60),
+                keep_alive: wanted
+            }
+        );
     }
 }
 
@@ -121,7 +184,15 @@ fn keeps_the_older_names() {
     }
     reads!(deserialize_option_duration, Duration::from_secs(30));
     #[cfg(feature = "chrono")]
-    reads!(deserialize_option_duration_chrono, chrono::Duration::seconds(30), deserialize_duration_chrono);
+    reads!(
+        deserialize_option_duration_chrono,
+        chrono::Duration::seconds(30),
+        deserialize_duration_chrono
+    );
     #[cfg(feature = "time")]
-    reads!(deserialize_option_duration_time, time::Duration::seconds(30), deserialize_duration_time);
+    reads!(
+        deserialize_option_duration_time,
+        time::Duration::seconds(30),
+        deserialize_duration_time
+    );
 }

@@ -1,8 +1,8 @@
 //! Moments, against arithmetic on nanoseconds since 1970.
 use chrono::{Duration, NaiveDate, NaiveDateTime, TimeZone, Utc};
 use duration_str::{
-    Cause, HumanFormat, Options, after_naive_date, after_naive_date_time, before_naive_date, before_naive_date_time,
-    moment_after, moment_before,
+    Cause, HumanFormat, Options, after_naive_date, after_naive_date_time, before_naive_date,
+    before_naive_date_time, moment_after, moment_before,
 };
 use proptest::prelude::*;
 
@@ -11,8 +11,12 @@ const SECOND: i128 = 1_000_000_000;
 /// The moment so many nanoseconds after 1970, where chrono has it.
 fn after_1970(nanos: i128) -> Result<NaiveDateTime, Cause> {
     let secs = nanos.div_euclid(SECOND) as i64;
-    let moment = Utc.timestamp_opt(secs, nanos.rem_euclid(SECOND) as u32).single();
-    moment.map(|moment| moment.naive_utc()).ok_or(Cause::OutOfRange)
+    let moment = Utc
+        .timestamp_opt(secs, nanos.rem_euclid(SECOND) as u32)
+        .single();
+    moment
+        .map(|moment| moment.naive_utc())
+        .ok_or(Cause::OutOfRange)
 }
 
 fn moment(secs: i64, nanos: u32) -> NaiveDateTime {
@@ -21,8 +25,15 @@ fn moment(secs: i64, nanos: u32) -> NaiveDateTime {
 
 /// Seconds since 1970, most of them near the first or the last that chrono has.
 fn secs() -> impl Strategy<Value = i64> {
-    let (first, last) = (NaiveDateTime::MIN.timestamp(), NaiveDateTime::MAX.timestamp());
-    prop_oneof![first..=last, first..first + 600 * 31_536_000, last - 600 * 31_536_000..=last]
+    let (first, last) = (
+        NaiveDateTime::MIN.timestamp(),
+        NaiveDateTime::MAX.timestamp(),
+    );
+    prop_oneof![
+        first..=last,
+        first..first + 600 * 31_536_000,
+        last - 600 * 31_536_000..=last
+    ]
 }
 
 proptest! {
@@ -41,8 +52,14 @@ proptest! {
 #[test]
 fn refuses_moments_beyond() {
     let fault = moment_after(NaiveDateTime::MAX, "1ns", Options::off()).unwrap_err();
-    assert_eq!((fault.cause(), fault.to_string()), (Cause::OutOfRange, "date out of range".to_string()));
-    assert_eq!((fault.text(), fault.place(), fault.found()), ("1ns", None, None));
+    assert_eq!(
+        (fault.cause(), fault.to_string()),
+        (Cause::OutOfRange, "date out of range".to_string())
+    );
+    assert_eq!(
+        (fault.text(), fault.place(), fault.found()),
+        ("1ns", None, None)
+    );
     let fault = moment_before(NaiveDateTime::MIN, "1ns", Options::off()).unwrap_err();
     assert_eq!(fault.cause(), Cause::OutOfRange);
     // The text's own fault comes first.
@@ -53,12 +70,24 @@ fn refuses_moments_beyond() {
 #[test]
 fn moves_under_the_options() {
     let start = moment(0, 0);
-    let all = Options::off().with_no_calc().with_lowercase().with_cn_unit();
+    let all = Options::off()
+        .with_no_calc()
+        .with_lowercase()
+        .with_cn_unit();
     assert_eq!(moment_after(start, "1分 1s", all), Ok(moment(61, 0)));
-    assert_eq!(moment_before(start, "1m*2", Options::off()), Ok(moment(-120, 0)));
-    assert_eq!(moment_before(start, "1m*2", all).unwrap_err().found(), Some("*"));
+    assert_eq!(
+        moment_before(start, "1m*2", Options::off()),
+        Ok(moment(-120, 0))
+    );
+    assert_eq!(
+        moment_before(start, "1m*2", all).unwrap_err().found(),
+        Some("*")
+    );
     assert_eq!(moment_after(start, "1S", all).unwrap_err().place(), Some(1));
-    assert_eq!(moment_after(start, "", all).unwrap_err().cause(), Cause::Empty);
+    assert_eq!(
+        moment_after(start, "", all).unwrap_err().cause(),
+        Cause::Empty
+    );
 }
 
 #[test]
@@ -66,8 +95,14 @@ fn counts_a_leap_second_as_chrono_does() {
     let date = NaiveDate::from_ymd_opt(2016, 12, 31).unwrap();
     let leap = date.and_hms_milli_opt(23, 59, 59, 1_500).unwrap();
     let next = date.succ_opt().unwrap();
-    assert_eq!(moment_after(leap, "1s", Options::off()), Ok(next.and_hms_milli_opt(0, 0, 0, 500).unwrap()));
-    assert_eq!(moment_before(leap, "1s", Options::off()), Ok(date.and_hms_milli_opt(23, 59, 59, 500).unwrap()));
+    assert_eq!(
+        moment_after(leap, "1s", Options::off()),
+        Ok(next.and_hms_milli_opt(0, 0, 0, 500).unwrap())
+    );
+    assert_eq!(
+        moment_before(leap, "1s", Options::off()),
+        Ok(date.and_hms_milli_opt(23, 59, 59, 500).unwrap())
+    );
 }
 
 #[test]
@@ -82,6 +117,9 @@ fn starts_now() {
     assert!(((from + day).date()..=(to + day).date()).contains(&after.unwrap()));
     let (from, before, to) = (clock(), before_naive_date("1d"), clock());
     assert!(((from - day).date()..=(to - day).date()).contains(&before.unwrap()));
-    assert_eq!(after_naive_date_time("600y").unwrap_err(), "600y\n^\noverflow error");
+    assert_eq!(
+        after_naive_date_time("600y").unwrap_err(),
+        "600y\n^\noverflow error"
+    );
     assert_eq!(before_naive_date("").unwrap_err(), "Empty input");
 }

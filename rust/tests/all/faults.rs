@@ -1,13 +1,17 @@
 //! Texts that are refused, and what their faults tell.
 use crate::{FEATURES, Refused, options_of, vectors};
-use duration_str::{Cause, DError, Expected, Fault, Options, parse, parse_duration, parse_with, parse_with_units};
+use duration_str::{
+    Cause, DError, Expected, Fault, Options, parse, parse_duration, parse_with, parse_with_units,
+};
 use duration_str_core as proved;
 use std::error::Error;
 use std::fmt::Display;
 
 /// The message of the specification for a refused text.
 fn message(text: &str, options: Options) -> String {
-    proved::parse_with(text, options).expect_err(text).to_string()
+    proved::parse_with(text, options)
+        .expect_err(text)
+        .to_string()
 }
 
 fn fault(text: &str, options: Options) -> Fault<'_> {
@@ -26,14 +30,18 @@ fn last_line(cause: &str, kinds: &[String]) -> &'static str {
     }
 }
 
-const UNITS: &str = r#"expected ["y", "q", "mon", "w", "d", "h", "m", "s", "ms", "µs", "us", "ns"]"#;
+const UNITS: &str =
+    r#"expected ["y", "q", "mon", "w", "d", "h", "m", "s", "ms", "µs", "us", "ns"]"#;
 
 /// A text is refused by this message of `duration-str` 0.19.0.
 fn checks_message(text: &str, options: Options, place: Option<usize>, line: &str) {
     let wanted = match place {
         None => line.to_string(),
         Some(place) if text.contains('\n') => format!("byte {place}: {line}"),
-        Some(place) => format!("{text}\n{}^\n{line}", " ".repeat(text[..place].chars().count())),
+        Some(place) => format!(
+            "{text}\n{}^\n{line}",
+            " ".repeat(text[..place].chars().count())
+        ),
     };
     assert_eq!(message(text, options), wanted, "{options:?}");
     assert_eq!(fault(text, options).cause().line(), line);
@@ -54,7 +62,9 @@ fn tells_all_of_a_refusal() {
         assert_eq!(fault.expected().map_or(vec![], kinds_of), *kinds, "{text}");
         let error = fault.into_owned();
         assert_eq!([fault.to_string(), error.to_string()], [&line[..]; 2]);
-        let above = spaces.map_or(String::new(), |spaces| format!("{text}\n{}^\n", " ".repeat(spaces)));
+        let above = spaces.map_or(String::new(), |spaces| {
+            format!("{text}\n{}^\n", " ".repeat(spaces))
+        });
         let report = above + line;
         assert_eq!([fault.report(), error.report()], [&report[..]; 2]);
         if cause != "MIXED" {
@@ -89,7 +99,11 @@ fn kinds_of(expected: Expected) -> Vec<&'static str> {
 fn writes_messages_of_any_length() {
     for length in [100, 150, 200, 256, 10_000] {
         let text = format!("1s{}x", " ".repeat(length));
-        let wanted = format!("{text}\n{}^\n{}", " ".repeat(length + 2), "expected ['+', '*']");
+        let wanted = format!(
+            "{text}\n{}^\n{}",
+            " ".repeat(length + 2),
+            "expected ['+', '*']"
+        );
         assert_eq!(message(&text, Options::off()), wanted);
     }
 }
@@ -99,11 +113,20 @@ fn becomes_an_error() {
     let rows = [
         ("", DError::ParseError("Empty input".to_string())),
         ("1x", DError::ParseError(UNITS.to_string())),
-        ("1s+2*3", DError::ParseError("not support '+' with '*' calculate".to_string())),
-        ("1m*2s 3s", DError::ParseError("not support '*' with '+' calculate".to_string())),
+        (
+            "1s+2*3",
+            DError::ParseError("not support '+' with '*' calculate".to_string()),
+        ),
+        (
+            "1m*2s 3s",
+            DError::ParseError("not support '*' with '+' calculate".to_string()),
+        ),
         ("580y*2", DError::OverflowError),
         ("600y", DError::OverflowError),
-        ("99999999999999999999", DError::ParseError("number too large to fit in target type".to_string())),
+        (
+            "99999999999999999999",
+            DError::ParseError("number too large to fit in target type".to_string()),
+        ),
     ];
     for (text, error) in rows {
         let fault = fault(text, Options::off());
@@ -118,19 +141,39 @@ fn becomes_an_error() {
 
 #[test]
 fn takes_as_much_memory_as_the_message_is_long() {
-    for text in ["", "1m 3-5", "1分 ?", "600y", "580y 580y", "99999999999999999999"] {
+    for text in [
+        "",
+        "1m 3-5",
+        "1分 ?",
+        "600y",
+        "580y 580y",
+        "99999999999999999999",
+    ] {
         let told = parse(text).unwrap_err();
-        assert_eq!((told.capacity(), &told), (told.len(), &message(text, FEATURES)));
+        assert_eq!(
+            (told.capacity(), &told),
+            (told.len(), &message(text, FEATURES))
+        );
     }
 }
 
 #[test]
 fn pads_errors() {
     let fault = fault("", Options::off());
-    let errors: [&dyn Display; 3] = [&fault, &fault.into_owned(), &parse_with_units("").unwrap_err()];
+    let errors: [&dyn Display; 3] = [
+        &fault,
+        &fault.into_owned(),
+        &parse_with_units("").unwrap_err(),
+    ];
     for error in errors {
-        assert_eq!(format!("{error:>12}|{error:-<12}|"), "  empty text|empty text--|");
-        assert_eq!(format!("{error:.5}|{error:1.5}|{error:7.5}|"), "empty|empty|empty  |");
+        assert_eq!(
+            format!("{error:>12}|{error:-<12}|"),
+            "  empty text|empty text--|"
+        );
+        assert_eq!(
+            format!("{error:.5}|{error:1.5}|{error:7.5}|"),
+            "empty|empty|empty  |"
+        );
     }
     let (unit, style) = (duration_str::UnknownUnit, duration_str::UnknownStyle);
     assert_eq!(format!("{unit:.7}|{style:.8}|"), "no unit|no style|");
@@ -139,7 +182,10 @@ fn pads_errors() {
 #[test]
 fn requires_units() {
     for text in ["1h 30m", "1h30m", "0s", "1m*2s", " 1 h + 30 m "] {
-        assert_eq!(parse_with_units(text).unwrap(), parse_duration(text).unwrap());
+        assert_eq!(
+            parse_with_units(text).unwrap(),
+            parse_duration(text).unwrap()
+        );
     }
     let rows = [
         ("90", 2, "column 3, found the end"),
@@ -153,13 +199,27 @@ fn requires_units() {
         let error = parse_with_units(text).unwrap_err();
         let line = format!("expected a unit at {wanted}");
         assert_eq!((error.text(), error.place()), (text, Some(place)));
-        assert_eq!((error.to_string(), format!("{error:?}")), (line.clone(), format!("DurationError({line})")));
+        assert_eq!(
+            (error.to_string(), format!("{error:?}")),
+            (line.clone(), format!("DurationError({line})"))
+        );
         let spaces = " ".repeat(text[..place].chars().count());
         assert_eq!(error.report(), format!("{text}\n{spaces}^\n{line}"));
     }
     // What is refused anyway is refused for the same.
-    for text in ["", "1 2", "1 x", "600y", "1s+2*3", "-5", "99999999999999999999"] {
-        let (error, same) = (parse_with_units(text).unwrap_err(), parse_duration(text).unwrap_err());
+    for text in [
+        "",
+        "1 2",
+        "1 x",
+        "600y",
+        "1s+2*3",
+        "-5",
+        "99999999999999999999",
+    ] {
+        let (error, same) = (
+            parse_with_units(text).unwrap_err(),
+            parse_duration(text).unwrap_err(),
+        );
         assert_eq!(error, same);
     }
 }

@@ -1,5 +1,7 @@
 //! Which calls read by the features.
-use duration_str::{Format, HumanDuration, Options, parse, parse_duration, parse_std, parse_with_units};
+use duration_str::{
+    Format, HumanDuration, Options, parse, parse_duration, parse_std, parse_with_units,
+};
 
 /// Texts, and whether they are read by the calls of `duration-str` 0.19.0 and by all others. Of the features only the one
 /// that adds names counts for these.
@@ -12,23 +14,41 @@ const TEXTS: [(&str, bool, bool); 4] = [
 
 #[test]
 fn adds_options_in_any_order() {
-    let all = Options::off().with_no_calc().with_lowercase().with_cn_unit();
+    let all = Options::off()
+        .with_no_calc()
+        .with_lowercase()
+        .with_cn_unit();
     assert!(all.no_calc && all.lowercase && all.cn_unit);
-    assert_eq!((Options::default(), Format::default()), (Options::off(), Format::whole()));
+    assert_eq!(
+        (Options::default(), Format::default()),
+        (Options::off(), Format::whole())
+    );
     assert_eq!(all.with_cn_unit().with_lowercase().with_no_calc(), all);
 }
 
 #[test]
 fn reads_by_all_features_as_before() {
     for (text, is_read, _) in TEXTS {
-        assert_eq!([parse(text).is_ok(), parse_std(text).is_ok()], [is_read; 2], "{text}");
+        assert_eq!(
+            [parse(text).is_ok(), parse_std(text).is_ok()],
+            [is_read; 2],
+            "{text}"
+        );
         #[cfg(feature = "time")]
         assert_eq!(duration_str::parse_time(text).is_ok(), is_read, "{text}");
         #[cfg(feature = "chrono")]
         {
-            use duration_str::{after_naive_date, after_naive_date_time, before_naive_date, before_naive_date_time};
-            let times = [after_naive_date_time(text).is_ok(), before_naive_date_time(text).is_ok()];
-            let dates = [after_naive_date(text).is_ok(), before_naive_date(text).is_ok()];
+            use duration_str::{
+                after_naive_date, after_naive_date_time, before_naive_date, before_naive_date_time,
+            };
+            let times = [
+                after_naive_date_time(text).is_ok(),
+                before_naive_date_time(text).is_ok(),
+            ];
+            let dates = [
+                after_naive_date(text).is_ok(),
+                before_naive_date(text).is_ok(),
+            ];
             assert_eq!([times, dates], [[is_read; 2]; 2], "{text}");
             assert_eq!(duration_str::parse_chrono(text).is_ok(), is_read, "{text}");
         }
@@ -42,7 +62,11 @@ fn reads_whatever_another_crate_takes_away() {
         assert_eq!(text.parse::<HumanDuration>().is_ok(), is_read, "{text}");
         // The last number has no unit.
         let has_units = text != "1m+1";
-        assert_eq!(parse_with_units(text).is_ok(), is_read && has_units, "{text}");
+        assert_eq!(
+            parse_with_units(text).is_ok(),
+            is_read && has_units,
+            "{text}"
+        );
     }
 }
 

@@ -1,9 +1,12 @@
 //! Durations as text, which serde writes and reads.
 use duration_str::human::{self, HumanText};
 use duration_str::{
-    HumanDuration, Style, TimeUnit, UnknownStyle, UnknownUnit, human_or_seconds, humantime_serde, parse_duration,
+    HumanDuration, Style, TimeUnit, UnknownStyle, UnknownUnit, human_or_seconds, humantime_serde,
+    parse_duration,
 };
-use serde::de::value::{BytesDeserializer, Error, F64Deserializer, I64Deserializer, U64Deserializer};
+use serde::de::value::{
+    BytesDeserializer, Error, F64Deserializer, I64Deserializer, U64Deserializer,
+};
 use serde::de::{Deserializer, Error as _, Visitor};
 use serde::{Deserialize, Serialize, forward_to_deserialize_any};
 use serde_json::{Value, from_value, json, to_value, value::Serializer};
@@ -22,7 +25,11 @@ struct Settings {
 fn writes_what_it_reads() {
     let minute = Duration::from_secs(60);
     for (keep_alive, text) in [(Some(minute), json!("1min")), (None, json!(null))] {
-        let settings = Settings { timeout: minute, keep_alive, pause: HumanDuration(minute * 2) };
+        let settings = Settings {
+            timeout: minute,
+            keep_alive,
+            pause: HumanDuration(minute * 2),
+        };
         let value = json!({ "timeout": "1min", "keep_alive": text, "pause": "2min" });
         assert_eq!(to_value(&settings).unwrap(), value);
         assert_eq!(from_value::<Settings>(value).unwrap(), settings);
@@ -45,14 +52,25 @@ fn has_the_durations_of_humantime() {
     let of_humantime = json!({ "timeout": "11months 30days 3h 50m 24s", "keep_alive": "1year" });
     let read: FromHumantime = from_value(of_humantime).unwrap();
     assert_eq!(read.timeout, Duration::from_secs(365 * 86_400));
-    assert_eq!(read.keep_alive, Some(Duration::from_secs(365 * 86_400 + 6 * 3_600)));
+    assert_eq!(
+        read.keep_alive,
+        Some(Duration::from_secs(365 * 86_400 + 6 * 3_600))
+    );
     let written = json!({ "timeout": "365d", "keep_alive": "365d 6h" });
     assert_eq!(to_value(&read).unwrap(), written);
     let again: FromHumantime = from_value(written).unwrap();
-    assert_eq!((again.timeout, again.keep_alive), (read.timeout, read.keep_alive));
-    let pauses = humantime_serde::serialize(&vec![Duration::from_micros(1), Duration::ZERO], Serializer).unwrap();
+    assert_eq!(
+        (again.timeout, again.keep_alive),
+        (read.timeout, read.keep_alive)
+    );
+    let pauses =
+        humantime_serde::serialize(&vec![Duration::from_micros(1), Duration::ZERO], Serializer)
+            .unwrap();
     assert_eq!(pauses, json!(["1us", "0s"]));
-    for too_long in [Duration::MAX, Duration::from_nanos(u64::MAX) + Duration::from_nanos(1)] {
+    for too_long in [
+        Duration::MAX,
+        Duration::from_nanos(u64::MAX) + Duration::from_nanos(1),
+    ] {
         assert!(humantime_serde::serialize(&too_long, Serializer).is_err());
     }
 }
@@ -63,7 +81,10 @@ fn refuses_the_month_of_humantime() {
     for (value, line) in [
         (json!({ "timeout": "1M" }), month),
         (json!({ "timeout": "1m", "keep_alive": "1M" }), month),
-        (json!({ "timeout": "90" }), "invalid duration: expected a unit at column 3"),
+        (
+            json!({ "timeout": "90" }),
+            "invalid duration: expected a unit at column 3",
+        ),
     ] {
         let refusal = from_value::<FromHumantime>(value).err().unwrap();
         assert!(refusal.to_string().starts_with(line), "{refusal}");
@@ -81,9 +102,18 @@ fn reads_and_writes_names() {
     assert_eq!(read, [Style::Short, Style::Compact, Style::Long]);
     assert_eq!(to_value(&read).unwrap(), styles);
     for (refused, refusal) in [
-        (from_value::<Style>(json!("Long")).err(), UnknownStyle.to_string()),
-        (from_value::<TimeUnit>(json!("5")).err(), UnknownUnit.to_string()),
-        (from_value::<TimeUnit>(json!(5)).err(), "invalid type: integer `5`, expected a name".to_string()),
+        (
+            from_value::<Style>(json!("Long")).err(),
+            UnknownStyle.to_string(),
+        ),
+        (
+            from_value::<TimeUnit>(json!("5")).err(),
+            UnknownUnit.to_string(),
+        ),
+        (
+            from_value::<TimeUnit>(json!(5)).err(),
+            "invalid type: integer `5`, expected a name".to_string(),
+        ),
     ] {
         assert_eq!(refused.unwrap().to_string(), refusal);
     }
@@ -107,7 +137,11 @@ fn reads_optional_bytes_as_text() {
     assert_eq!(read(b"1m"), Ok(Some(Duration::from_secs(60))));
     assert_eq!(read(b""), Ok(None));
     assert_eq!(read(b"600y"), Err("600y\n^\noverflow error".to_string()));
-    assert!(read(b"1m\xff").unwrap_err().starts_with("invalid value: byte array"));
+    assert!(
+        read(b"1m\xff")
+            .unwrap_err()
+            .starts_with("invalid value: byte array")
+    );
 }
 
 /// A text in a format that does not tell its values' types.
@@ -139,7 +173,10 @@ fn read<D: Deserializer<'static, Error = Error>>(text: impl Fn() -> D) -> Result
     let required: Result<Duration, Error> = human::deserialize(text());
     let optional: Result<Option<Duration>, Error> = human::deserialize(text());
     assert_eq!(optional, required.clone().map(Some));
-    assert_eq!(HumanDuration::deserialize(text()).map(Duration::from), required);
+    assert_eq!(
+        HumanDuration::deserialize(text()).map(Duration::from),
+        required
+    );
     required.map_err(|error| error.to_string())
 }
 
@@ -148,10 +185,14 @@ fn reads_required_and_optional_texts_in_one_way() {
     let minute = Ok(Duration::from_secs(60));
     assert_eq!(read(|| Untyped("1m")), minute);
     assert_eq!(read(|| Untyped("60")), minute);
-    assert_eq!(read(|| Untyped("")), Err("invalid duration: empty text".to_string()));
+    assert_eq!(
+        read(|| Untyped("")),
+        Err("invalid duration: empty text".to_string())
+    );
     let required: Result<Duration, Error> = duration_str::deserialize_duration(Untyped("60"));
     assert_eq!(required, Err(Error::custom("the type is not known")));
-    let optional: Result<Option<Duration>, Error> = duration_str::deserialize_duration(Untyped("60"));
+    let optional: Result<Option<Duration>, Error> =
+        duration_str::deserialize_duration(Untyped("60"));
     assert_eq!(optional, Ok(Some(Duration::from_secs(60))));
     let optional = Option::<HumanDuration>::deserialize(Untyped(""));
     assert_eq!(optional, Err(Error::custom("invalid duration: empty text")));
@@ -178,7 +219,10 @@ fn writes_fields_of_all_types() {
     keeps(Vec::<Duration>::new(), json!([]));
     keeps(Some(vec![Some(minute), None]), json!(["1min", null]));
     keeps(None::<Duration>, json!(null));
-    keeps(Duration::from_nanos(u64::MAX), json!("584y 3q 2mon 1w 3d 23h 34min 33s 709ms 551µs 615ns"));
+    keeps(
+        Duration::from_nanos(u64::MAX),
+        json!("584y 3q 2mon 1w 3d 23h 34min 33s 709ms 551µs 615ns"),
+    );
     #[cfg(feature = "chrono")]
     keeps(Some(chrono::Duration::minutes(1)), json!("1min"));
     #[cfg(feature = "time")]
@@ -187,9 +231,14 @@ fn writes_fields_of_all_types() {
 
 #[test]
 fn writes_nothing_that_it_refuses() {
-    let refusal = |value: Result<Value, serde_json::Error>| value.map_err(|error| error.to_string()).unwrap_err();
+    let refusal = |value: Result<Value, serde_json::Error>| {
+        value.map_err(|error| error.to_string()).unwrap_err()
+    };
     let long = "a duration of over 584 years can't be read back";
-    for length in [Duration::from_nanos(u64::MAX) + Duration::from_nanos(1), Duration::MAX] {
+    for length in [
+        Duration::from_nanos(u64::MAX) + Duration::from_nanos(1),
+        Duration::MAX,
+    ] {
         assert_eq!(refusal(to_value(HumanDuration(length))), long);
         assert_eq!(refusal(human::serialize(&length, Serializer)), long);
         assert_eq!(refusal(human::serialize(&Some(length), Serializer)), long);
@@ -197,9 +246,21 @@ fn writes_nothing_that_it_refuses() {
     #[cfg(any(feature = "chrono", feature = "time"))]
     let negative = "a negative duration can't be read back";
     #[cfg(feature = "chrono")]
-    assert_eq!(refusal(human::serialize(&chrono::Duration::nanoseconds(-1), Serializer)), negative);
+    assert_eq!(
+        refusal(human::serialize(
+            &chrono::Duration::nanoseconds(-1),
+            Serializer
+        )),
+        negative
+    );
     #[cfg(feature = "time")]
-    assert_eq!(refusal(human::serialize(&time::Duration::nanoseconds(-1), Serializer)), negative);
+    assert_eq!(
+        refusal(human::serialize(
+            &time::Duration::nanoseconds(-1),
+            Serializer
+        )),
+        negative
+    );
 }
 
 /// What is read of a value of a format, in one way by a field of each type.
@@ -215,7 +276,10 @@ fn reads_whole_seconds_and_texts() {
     assert_eq!(with_numbers(I64Deserializer::new(60)), minute);
     assert_eq!(with_numbers(BytesDeserializer::new(b"1m")), minute);
     let longest = u64::MAX / 1_000_000_000;
-    assert_eq!(with_numbers(U64Deserializer::new(longest)), Ok(Duration::from_secs(longest)));
+    assert_eq!(
+        with_numbers(U64Deserializer::new(longest)),
+        Ok(Duration::from_secs(longest))
+    );
     for value in [json!("1m"), json!("60"), json!(60)] {
         let required: Duration = human_or_seconds::deserialize(value.clone()).unwrap();
         assert_eq!(required, Duration::from_secs(60));
@@ -224,9 +288,16 @@ fn reads_whole_seconds_and_texts() {
     }
     let nothing: Option<Duration> = human_or_seconds::deserialize(json!(null)).unwrap();
     assert_eq!(nothing, None);
-    let several: Vec<Option<Duration>> = human_or_seconds::deserialize(json!([1, "2s", null])).unwrap();
-    assert_eq!(several, [1, 2, 0].map(|secs| (secs > 0).then(|| Duration::from_secs(secs))));
-    assert_eq!(human_or_seconds::serialize(&several, Serializer).unwrap(), json!(["1s", "2s", null]));
+    let several: Vec<Option<Duration>> =
+        human_or_seconds::deserialize(json!([1, "2s", null])).unwrap();
+    assert_eq!(
+        several,
+        [1, 2, 0].map(|secs| (secs > 0).then(|| Duration::from_secs(secs)))
+    );
+    assert_eq!(
+        human_or_seconds::serialize(&several, Serializer).unwrap(),
+        json!(["1s", "2s", null])
+    );
 }
 
 #[test]
@@ -235,10 +306,22 @@ fn refuses_other_numbers_in_one_line() {
         let expected = "a duration such as '1min 30s', or whole seconds of at most 584 years";
         Err(format!("invalid {sort}, expected {expected}"))
     };
-    assert_eq!(with_numbers(I64Deserializer::new(-1)), refusal("value: integer `-1`"));
-    assert_eq!(with_numbers(U64Deserializer::new(18_446_744_074)), refusal("value: integer `18446744074`"));
-    assert_eq!(with_numbers(F64Deserializer::new(1.5)), refusal("type: floating point `1.5`"));
+    assert_eq!(
+        with_numbers(I64Deserializer::new(-1)),
+        refusal("value: integer `-1`")
+    );
+    assert_eq!(
+        with_numbers(U64Deserializer::new(18_446_744_074)),
+        refusal("value: integer `18446744074`")
+    );
+    assert_eq!(
+        with_numbers(F64Deserializer::new(1.5)),
+        refusal("type: floating point `1.5`")
+    );
     let long: Result<Duration, _> = human_or_seconds::deserialize(json!("600y"));
-    assert_eq!(long.unwrap_err().to_string(), format!("invalid duration: {}", parse_duration("600y").unwrap_err()));
+    assert_eq!(
+        long.unwrap_err().to_string(),
+        format!("invalid duration: {}", parse_duration("600y").unwrap_err())
+    );
     assert!(human::deserialize::<Duration, _>(json!(60)).is_err());
 }

@@ -1,6 +1,8 @@
 //! Every item of humantime 2.1 for durations and each of their traits, but for the variants of its error. The example of a
 //! service compiles this over humantime too.
-use crate::humantime::{Duration, DurationError, FormattedDuration, format_duration, parse_duration};
+use crate::humantime::{
+    Duration, DurationError, FormattedDuration, format_duration, parse_duration,
+};
 use std::collections::HashSet;
 use std::error::Error;
 use std::time::Duration as StdDuration;

@@ -23,7 +23,11 @@ fn has_the_lengths_of_humantime() {
         ("4w 5days 1q", (28 + 5 + 91) * 86_400),
         ("31d", 31 * 86_400),
     ] {
-        assert_eq!(parse_duration(text), Ok(Duration::from_secs(seconds)), "{text}");
+        assert_eq!(
+            parse_duration(text),
+            Ok(Duration::from_secs(seconds)),
+            "{text}"
+        );
     }
 }
 
@@ -34,10 +38,20 @@ fn knows_each_name_of_a_year_and_of_a_month() {
     for (row, seconds) in [("//! | 365 days | ", YEAR), ("//! | 30 days | ", MONTH)] {
         let (_, rest) = documentation.split_once(row).unwrap();
         let row = rest.lines().next().unwrap();
-        let names: Vec<&str> = row.split([',', '|', ' ']).filter(|name| !name.is_empty()).collect();
+        let names: Vec<&str> = row
+            .split([',', '|', ' '])
+            .filter(|name| !name.is_empty())
+            .collect();
         assert!(names.len() >= 4, "{row}");
-        for name in names.into_iter().filter(|name| name.is_ascii() || cfg!(feature = "cn_unit")) {
-            assert_eq!(parse_duration(&format!("1{name}")), Ok(Duration::from_secs(seconds)), "{name}");
+        for name in names
+            .into_iter()
+            .filter(|name| name.is_ascii() || cfg!(feature = "cn_unit"))
+        {
+            assert_eq!(
+                parse_duration(&format!("1{name}")),
+                Ok(Duration::from_secs(seconds)),
+                "{name}"
+            );
         }
     }
 }
@@ -50,15 +64,34 @@ fn is_syntax(cause: Cause, at: usize) -> bool {
 #[test]
 fn refuses_for_the_first_cause() {
     let cause = |text| parse_duration(text).unwrap_err().cause();
-    for text in ["585y", "7014month", "7014month x", "7014month 5", "7014mon * 1ns", "7014 months+"] {
+    for text in [
+        "585y",
+        "7014month",
+        "7014month x",
+        "7014month 5",
+        "7014mon * 1ns",
+        "7014 months+",
+    ] {
         assert_eq!(cause(text), Cause::Overflow { place: Some(0) }, "{text}");
     }
     // With months of 30 days the last but one is a sum mixed with a product.
-    for text in ["1s 7014month", "1s 7014month 5", "580y 5y", "1s + 7014month * 2s", "7013month 1month"] {
+    for text in [
+        "1s 7014month",
+        "1s 7014month 5",
+        "580y 5y",
+        "1s + 7014month * 2s",
+        "7013month 1month",
+    ] {
         assert_eq!(cause(text), Cause::Overflow { place: None }, "{text}");
     }
-    assert_eq!(cause("99999999999999999999y"), Cause::NumberTooLarge { place: Some(0) });
-    assert_eq!(cause("1s 99999999999999999999y"), Cause::NumberTooLarge { place: None });
+    assert_eq!(
+        cause("99999999999999999999y"),
+        Cause::NumberTooLarge { place: Some(0) }
+    );
+    assert_eq!(
+        cause("1s 99999999999999999999y"),
+        Cause::NumberTooLarge { place: None }
+    );
     assert!(matches!(cause("1y + 2s * 3s"), Cause::Mixed { .. }));
     assert_eq!(cause(""), Cause::Empty);
     for (text, place) in [
@@ -82,8 +115,9 @@ fn refuses_for_the_first_cause() {
     ] {
         assert!(is_syntax(cause(text), place), "{text}: {:?}", cause(text));
     }
-    let only_unit =
-        |expected: Expected| expected.unit_word && !(expected.number || expected.operator || expected.text_end);
+    let only_unit = |expected: Expected| {
+        expected.unit_word && !(expected.number || expected.operator || expected.text_end)
+    };
     assert!(matches!(cause("1y 30"), Cause::Syntax { expected, .. } if only_unit(expected)));
     assert_eq!(
         parse_duration("1y 5 mins").unwrap_err().to_string(),

@@ -19,13 +19,19 @@ use serde::Deserialize;
 /// Options of which those with these names are on.
 fn options_of(names: &[String]) -> Options {
     let has = |name: &str| names.iter().any(|each| each == name);
-    Options { no_calc: has("no_calc"), lowercase: has("lowercase"), cn_unit: has("cn_unit") }
+    Options {
+        no_calc: has("no_calc"),
+        lowercase: has("lowercase"),
+        cn_unit: has("cn_unit"),
+    }
 }
 
 /// All choices of options, each as the names of those that are on.
 fn choices() -> Vec<Vec<String>> {
     vectors().options.iter().fold(vec![vec![]], |lists, name| {
-        let with_it = lists.iter().map(|names| [names, std::slice::from_ref(name)].concat());
+        let with_it = lists
+            .iter()
+            .map(|names| [names, std::slice::from_ref(name)].concat());
         with_it.chain(lists.iter().cloned()).collect()
     })
 }
@@ -60,7 +66,16 @@ struct Group {
 /// A text, its options, its cause, the byte of its place, what was found and could stand there, the line, and the spaces
 /// before the caret, where the report has one.
 #[derive(Deserialize)]
-struct Refused(String, Vec<String>, String, Option<usize>, Option<String>, Vec<String>, String, Option<usize>);
+struct Refused(
+    String,
+    Vec<String>,
+    String,
+    Option<usize>,
+    Option<String>,
+    Vec<String>,
+    String,
+    Option<usize>,
+);
 
 /// A duration's text, or its seconds and nanoseconds as `1 s 1 ns`; its largest and its smallest unit, how many parts at
 /// most; and the printed text, in the short and in the long style.
@@ -68,5 +83,6 @@ struct Refused(String, Vec<String>, String, Option<usize>, Option<String>, Vec<S
 struct Printed(String, String, String, usize, String, String);
 
 fn vectors() -> Vectors {
-    serde_json::from_str(include_str!("../../vectors.json")).expect("vectors.json is laid out as the struct")
+    serde_json::from_str(include_str!("../../vectors.json"))
+        .expect("vectors.json is laid out as the struct")
 }

@@ -6,7 +6,17 @@ use std::collections::HashSet;
 
 #[test]
 fn owns_what_the_fault_tells() {
-    let texts = ["", "1m 3-5", "1m+", "1分s", "600y", "1s 600y", "99999999999999999999y", "1s+2*3", "1m\n2x"];
+    let texts = [
+        "",
+        "1m 3-5",
+        "1m+",
+        "1分s",
+        "600y",
+        "1s 600y",
+        "99999999999999999999y",
+        "1s+2*3",
+        "1m\n2x",
+    ];
     for names in choices() {
         for text in texts {
             let fault = parse_with(text, options_of(&names)).expect_err(text);
@@ -32,8 +42,18 @@ fn shows_tokens_to_programmers() {
 
 #[test]
 fn keeps_faults_in_sets() {
-    let causes = ["", "1x", "1", "+", "600y", "1s 600y", "1s+2*3", "1s*2+3", "99999999999999999999"]
-        .map(|text| parse_with(text, Options::off()).map_err(|fault| fault.cause()));
+    let causes = [
+        "",
+        "1x",
+        "1",
+        "+",
+        "600y",
+        "1s 600y",
+        "1s+2*3",
+        "1s*2+3",
+        "99999999999999999999",
+    ]
+    .map(|text| parse_with(text, Options::off()).map_err(|fault| fault.cause()));
     let different: HashSet<Cause> = causes.into_iter().filter_map(Result::err).collect();
     assert_eq!(different.len(), 8);
     let faults = ["1x", "1x", "2x"].map(|text| parse_with(text, Options::off()).unwrap_err());

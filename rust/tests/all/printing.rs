@@ -1,8 +1,8 @@
 //! Printed durations.
 use crate::{Printed, vectors};
 use duration_str::{
-    Format, HumanDuration, HumanFormat, Options, Style, TimeUnit, format_duration, parse_with, write_human,
-    write_within,
+    Format, HumanDuration, HumanFormat, Options, Style, TimeUnit, format_duration, parse_with,
+    write_human, write_within,
 };
 #[cfg(any(feature = "chrono", feature = "time"))]
 use proptest::prelude::*;
@@ -10,7 +10,9 @@ use std::time::Duration;
 
 /// The duration with this text, which may be too long to be read.
 fn length_of(text: &str) -> Duration {
-    let numbers = text.strip_suffix(" ns").and_then(|text| text.split_once(" s "));
+    let numbers = text
+        .strip_suffix(" ns")
+        .and_then(|text| text.split_once(" s "));
     match numbers {
         Some((secs, nanos)) => Duration::new(secs.parse().unwrap(), nanos.parse().unwrap()),
         None => parse_with(text, Options::off()).unwrap(),
@@ -27,16 +29,48 @@ fn prints_the_vectors() {
         let length = length_of(&text);
         let (first, last) = (unit(&largest), unit(&smallest));
         let compact = short.replace(' ', "");
-        for (style, printed) in [(Style::Short, &short), (Style::Compact, &compact), (Style::Long, &long)] {
-            let format = Format::whole().largest(first).smallest(last).parts(parts).style(style);
-            assert_eq!(write_within(&length, format, &mut [0xff; 144]), printed, "{text}");
+        for (style, printed) in [
+            (Style::Short, &short),
+            (Style::Compact, &compact),
+            (Style::Long, &long),
+        ] {
+            let format = Format::whole()
+                .largest(first)
+                .smallest(last)
+                .parts(parts)
+                .style(style);
+            assert_eq!(
+                write_within(&length, format, &mut [0xff; 144]),
+                printed,
+                "{text}"
+            );
             let human = HumanDuration(length);
             for other in [
-                format_duration(length).largest(first).smallest(last).parts(parts).style(style),
-                human.parts(parts).largest(first).smallest(last).style(style),
-                human.style(style).smallest(last).parts(parts).largest(first),
-                human.smallest(last).parts(parts).largest(first).style(style),
-                human.largest(first).style(style).parts(parts).smallest(last),
+                format_duration(length)
+                    .largest(first)
+                    .smallest(last)
+                    .parts(parts)
+                    .style(style),
+                human
+                    .parts(parts)
+                    .largest(first)
+                    .smallest(last)
+                    .style(style),
+                human
+                    .style(style)
+                    .smallest(last)
+                    .parts(parts)
+                    .largest(first),
+                human
+                    .smallest(last)
+                    .parts(parts)
+                    .largest(first)
+                    .style(style),
+                human
+                    .largest(first)
+                    .style(style)
+                    .parts(parts)
+                    .smallest(last),
             ] {
                 assert_eq!(other.to_string(), *printed, "{text}");
             }
@@ -64,20 +98,32 @@ fn prints_whole(length: Duration, printed: &str) {
 #[test]
 fn pads_and_ignores_a_precision() {
     let human = format_duration(Duration::from_secs(90));
-    assert_eq!(format!("{human:.2}|{human:*>10.2}|{human:^11}|"), "1min 30s|**1min 30s| 1min 30s  |");
+    assert_eq!(
+        format!("{human:.2}|{human:*>10.2}|{human:^11}|"),
+        "1min 30s|**1min 30s| 1min 30s  |"
+    );
     let micros = format_duration(Duration::from_micros(5));
     assert_eq!(format!("{micros:>5}|{micros:-<6}|"), "  5µs|5µs---|");
     let whole = HumanDuration(Duration::from_secs(90));
-    assert_eq!(format!("{whole:.2}|{whole:>10}|{:>3}|", HumanDuration::default()), "1min 30s|  1min 30s| 0s|");
+    assert_eq!(
+        format!("{whole:.2}|{whole:>10}|{:>3}|", HumanDuration::default()),
+        "1min 30s|  1min 30s| 0s|"
+    );
     let part = human.parts(1);
-    assert_eq!(format!("{part:.2}|{part:*>10.2}|{part:^10}|"), "1min|******1min|   1min   |");
+    assert_eq!(
+        format!("{part:.2}|{part:*>10.2}|{part:^10}|"),
+        "1min|******1min|   1min   |"
+    );
 }
 
 /// How minus 5401 seconds print, padded, in a unit and in a style.
 #[cfg(any(feature = "chrono", feature = "time"))]
 fn prints_negative(length: impl HumanFormat) {
     let printed = length.formatted();
-    assert_eq!(format!("{printed}|{printed:>14}|{printed:14}|"), "-1h 30min 1s|  -1h 30min 1s|-1h 30min 1s  |");
+    assert_eq!(
+        format!("{printed}|{printed:>14}|{printed:14}|"),
+        "-1h 30min 1s|  -1h 30min 1s|-1h 30min 1s  |"
+    );
     assert_eq!(printed.largest(TimeUnit::Minute).to_string(), "-90min 1s");
     assert_eq!(printed.smallest(TimeUnit::Minute).to_string(), "-1h 30min");
     let hours = printed.parts(1).style(Style::Long);
@@ -93,8 +139,8 @@ fn prints_negative(length: impl HumanFormat) {
 fn prints_negative_durations_of_chrono() {
     use chrono::Duration as Signed;
     prints_negative(Signed::seconds(-5_401));
-    let [least, most] =
-        [-Signed::min_value(), Signed::max_value()].map(|length| length.to_std().unwrap().human_format());
+    let [least, most] = [-Signed::min_value(), Signed::max_value()]
+        .map(|length| length.to_std().unwrap().human_format());
     assert_eq!(Signed::min_value().human_format(), format!("-{least}"));
     assert_eq!(Signed::max_value().human_format(), most);
 }
@@ -108,7 +154,10 @@ fn prints_negative_durations_of_time() {
     assert_eq!(Signed::MAX.human_format(), longest);
     assert_eq!((-Signed::MAX).human_format(), format!("-{longest}"));
     // One second more than the longest one.
-    assert_eq!(Signed::MIN.human_format(), format!("-{longest}").replace(" 7s", " 8s"));
+    assert_eq!(
+        Signed::MIN.human_format(),
+        format!("-{longest}").replace(" 7s", " 8s")
+    );
 }
 
 #[cfg(any(feature = "chrono", feature = "time"))]

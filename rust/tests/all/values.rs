@@ -27,7 +27,11 @@ fn check(group: &Group, options: Options, is_read: bool) {
             assert_eq!(answer.ok(), wanted, "{text:?} under {options:?}");
             if options == FEATURES {
                 let wanted = proved::parse_with(text, options).map_err(|fault| fault.to_string());
-                assert!(answers(text).iter().all(|answer| *answer == wanted), "{text:?}: {:?}", answers(text));
+                assert!(
+                    answers(text).iter().all(|answer| *answer == wanted),
+                    "{text:?}: {:?}",
+                    answers(text)
+                );
             }
         }
     }
@@ -38,7 +42,11 @@ fn reads_the_vectors_and_refuses_them_under_the_other_options() {
     for names in choices() {
         for group in &vectors().values {
             let is_on = |name| names.contains(name);
-            check(group, options_of(&names), group.on.iter().all(is_on) && !group.off.iter().any(is_on));
+            check(
+                group,
+                options_of(&names),
+                group.on.iter().all(is_on) && !group.off.iter().any(is_on),
+            );
         }
     }
 }
@@ -70,7 +78,13 @@ mod macros {
     #[test]
     fn reads_literals_under_named_options() {
         assert_eq!(duration!("3分 13秒", cn_unit), Duration::from_secs(193));
-        assert_eq!(duration!("2h", no_calc, lowercase,), Duration::from_secs(7_200));
-        assert_eq!(duration!("1h 30m", require_unit), Duration::from_secs(5_400));
+        assert_eq!(
+            duration!("2h", no_calc, lowercase,),
+            Duration::from_secs(7_200)
+        );
+        assert_eq!(
+            duration!("1h 30m", require_unit),
+            Duration::from_secs(5_400)
+        );
     }
 }

@@ -7,11 +7,22 @@ use std::process::ExitCode;
 /// The line that tells of an expression.
 fn line_of(expression: &str) -> Result<String, Fault<'_>> {
     let off = Options::off();
-    let start = Utc.with_ymd_and_hms(2000, 1, 1, 0, 0, 0).unwrap().naive_utc();
+    let start = Utc
+        .with_ymd_and_hms(2000, 1, 1, 0, 0, 0)
+        .unwrap()
+        .naive_utc();
     let length = parse_with(expression, off)?;
     let moment = Utc.from_utc_datetime(&moment_after(start, expression, off)?);
-    let seconds = format!("{}.{:09}", moment.timestamp(), moment.timestamp_subsec_nanos());
-    Ok(format!("{} {} {seconds}", length.as_nanos(), length.human_format()))
+    let seconds = format!(
+        "{}.{:09}",
+        moment.timestamp(),
+        moment.timestamp_subsec_nanos()
+    );
+    Ok(format!(
+        "{} {} {seconds}",
+        length.as_nanos(),
+        length.human_format()
+    ))
 }
 
 fn main() -> ExitCode {

@@ -32,11 +32,16 @@ mod humantime_serde {
         #[derive(Deserialize, Serialize)]
         struct Part(#[serde(with = "super")] Duration);
 
-        pub fn serialize<S: Serializer>(length: &Option<Duration>, serializer: S) -> Result<S::Ok, S::Error> {
+        pub fn serialize<S: Serializer>(
+            length: &Option<Duration>,
+            serializer: S,
+        ) -> Result<S::Ok, S::Error> {
             length.map(Part).serialize(serializer)
         }
 
-        pub fn deserialize<'de, D: Deserializer<'de>>(deserializer: D) -> Result<Option<Duration>, D::Error> {
+        pub fn deserialize<'de, D: Deserializer<'de>>(
+            deserializer: D,
+        ) -> Result<Option<Duration>, D::Error> {
             let part = Option::deserialize(deserializer)?;
             Ok(part.map(|Part(length)| length))
         }

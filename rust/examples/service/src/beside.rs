@@ -32,8 +32,9 @@ impl Numbers {
 
 /// All names that both read.
 const NAMES: [&str; 29] = [
-    "nsec", "ns", "usec", "us", "msec", "ms", "seconds", "second", "sec", "s", "minutes", "minute", "min", "m", "hours",
-    "hour", "hr", "h", "days", "day", "d", "weeks", "week", "w", "months", "month", "years", "year", "y",
+    "nsec", "ns", "usec", "us", "msec", "ms", "seconds", "second", "sec", "s", "minutes", "minute",
+    "min", "m", "hours", "hour", "hr", "h", "days", "day", "d", "weeks", "week", "w", "months",
+    "month", "years", "year", "y",
 ];
 
 /// 2^64 nanoseconds, from which on no text is read after the change-over.
@@ -49,10 +50,16 @@ fn reads_what_was_read() {
             .map(|_| {
                 let number = numbers.any() >> numbers.below(40);
                 let name = numbers.one_of(&NAMES);
-                format!("{}{number}{}{name}", numbers.one_of(&["", " "]), numbers.one_of(&["", "", " "]))
+                format!(
+                    "{}{number}{}{name}",
+                    numbers.one_of(&["", " "]),
+                    numbers.one_of(&["", "", " "])
+                )
             })
             .collect();
-        let was = before::parse_duration(&text).ok().filter(|length| *length < LIMIT);
+        let was = before::parse_duration(&text)
+            .ok()
+            .filter(|length| *length < LIMIT);
         assert_eq!(after::parse_duration(&text).ok(), was, "{text}");
         read += usize::from(was.is_some());
     }
@@ -62,7 +69,8 @@ fn reads_what_was_read() {
 #[test]
 fn reads_nothing_with_another_value() {
     const PARTS: [&str; 20] = [
-        "1", "7", "30", "584", "7014", "0", "year", "y", "month", "mon", "M", "d", "ay", "s", "ns", "m", "o", " ", "+", "*",
+        "1", "7", "30", "584", "7014", "0", "year", "y", "month", "mon", "M", "d", "ay", "s", "ns",
+        "m", "o", " ", "+", "*",
     ];
     let mut numbers = Numbers(0x2545_f491_4f6c_dd1d);
     let mut read = 0;
@@ -94,7 +102,10 @@ fn reads_what_was_printed_and_the_other_way_round() {
         assert_eq!(before::parse_duration(&is), Ok(length), "{is}");
         assert_eq!(after::parse_duration(&is), Ok(length), "{is}");
         let stored: Stored = serde_json::from_value(serde_json::json!({ "length": was })).unwrap();
-        assert_eq!(serde_json::to_value(&stored).unwrap(), serde_json::json!({ "length": is }));
+        assert_eq!(
+            serde_json::to_value(&stored).unwrap(),
+            serde_json::json!({ "length": is })
+        );
         // Beyond what is read here
         let long = Duration::new(numbers.any(), 999_999_999);
         let is = after::format_duration(long).to_string();

@@ -38,11 +38,19 @@ mod tests {
     #[test]
     fn reads_arguments_and_configurations() {
         assert_eq!(
-            output(&[], r#"{ "timeout": "60s", "keep_alive": "90s", "idle": "1h" }"#).unwrap(),
+            output(
+                &[],
+                r#"{ "timeout": "60s", "keep_alive": "90s", "idle": "1h" }"#
+            )
+            .unwrap(),
             r#"{"timeout":"1min","keep_alive":"1min 30s","idle":"1h"} pause 1s 500ms total 3min 3s"#
         );
         assert_eq!(
-            output(&["--timeout", "2m", "--pause", "1m"], r#"{ "timeout": "60s" }"#).unwrap(),
+            output(
+                &["--timeout", "2m", "--pause", "1m"],
+                r#"{ "timeout": "60s" }"#
+            )
+            .unwrap(),
             r#"{"timeout":"2min","keep_alive":null} pause 1min total 8min"#
         );
     }
@@ -50,10 +58,17 @@ mod tests {
     #[test]
     fn tells_what_is_wrong_in_one_line() {
         let line = |text| parse_duration(text).unwrap_err();
-        for (option, text) in [("timeout", "3h 2 hurs"), ("pause", "5 mins"), ("timeout", "-5m")] {
+        for (option, text) in [
+            ("timeout", "3h 2 hurs"),
+            ("pause", "5 mins"),
+            ("timeout", "-5m"),
+        ] {
             let refusal = output(&[&format!("--{option}"), text], "").unwrap_err();
             let name = option.to_uppercase();
-            let told = format!("error: Invalid value '{text}' for '--{option} <{name}>': {}", line(text));
+            let told = format!(
+                "error: Invalid value '{text}' for '--{option} <{name}>': {}",
+                line(text)
+            );
             assert_eq!(refusal.lines().next(), Some(&told[..]));
         }
         // A month of humantime.

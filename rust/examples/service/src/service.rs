@@ -26,7 +26,11 @@ struct Config {
     timeout: Duration,
     #[serde(default, with = "humantime_serde::option")]
     keep_alive: Option<Duration>,
-    #[serde(default, with = "humantime_serde::option", skip_serializing_if = "Option::is_none")]
+    #[serde(
+        default,
+        with = "humantime_serde::option",
+        skip_serializing_if = "Option::is_none"
+    )]
     idle: Option<Duration>,
 }
 
