@@ -44,13 +44,20 @@ def in_processes(texts):
 
 def main():
     seed = random.Random(19)
-    texts = [f"{seed.randrange(60)}m {seed.randrange(60)}s {seed.randrange(1000)}ms" for _ in range(COUNT)]
-    whole = [f"{seed.randrange(24)}h {seed.randrange(60)}m {seed.randrange(60)}s" for _ in range(FEW)]
+    texts = [
+        f"{seed.randrange(60)}m {seed.randrange(60)}s {seed.randrange(1000)}ms"
+        for _ in range(COUNT)
+    ]
+    whole = [
+        f"{seed.randrange(24)}h {seed.randrange(60)}m {seed.randrange(60)}s" for _ in range(FEW)
+    ]
     series = pandas.Series(texts)
     lengths = duration_str.to_timedelta(series)
     if not lengths.equals(pandas.to_timedelta(series)):
         raise SystemExit("columns: pandas reads the texts otherwise")
-    if duration_str.parse_many(whole).tolist() != [pytimeparse.parse(text) * 10**9 for text in whole]:
+    if duration_str.parse_many(whole).tolist() != [
+        pytimeparse.parse(text) * 10**9 for text in whole
+    ]:
         raise SystemExit("columns: pytimeparse reads the texts otherwise")
     data, offsets = "".join(texts).encode(), array("q", accumulate(map(len, texts), initial=0))
     # Each is a str of its own.
@@ -59,12 +66,24 @@ def main():
     timed = [
         ("`parse_ns`, called one by one", in_a_loop(duration_str.parse_ns), same),
         ("`parse`, called one by one", in_a_loop(duration_str.parse), same),
-        ("`parse_ns` refuses `1m 3-5`, and makes the `DurationError`", refuse_each, ["1m 3-5"] * FEW),
+        (
+            "`parse_ns` refuses `1m 3-5`, and makes the `DurationError`",
+            refuse_each,
+            ["1m 3-5"] * FEW,
+        ),
         ("`format_many` of a Series of timedelta64", duration_str.format_many, lengths[:FEW]),
-        ("`parse_buffers` of texts as `3m 13s 29ms`", lambda _: duration_str.parse_buffers(data, offsets), texts),
+        (
+            "`parse_buffers` of texts as `3m 13s 29ms`",
+            lambda _: duration_str.parse_buffers(data, offsets),
+            texts,
+        ),
         ("`to_timedelta` of a Series of these", duration_str.to_timedelta, series),
         ("`pandas.to_timedelta` of the same", pandas.to_timedelta, series[:FEW]),
-        ("`to_timedelta` of it by Dask, four processes, in time of the clock", in_processes, series),
+        (
+            "`to_timedelta` of it by Dask, four processes, in time of the clock",
+            in_processes,
+            series,
+        ),
         ("pytimeparse of `3h 13m 29s`, called one by one", in_a_loop(pytimeparse.parse), whole),
     ]
     rounds = [[nanos_a_text(call, given) for _, call, given in timed] for _ in range(ROUNDS)]

@@ -34,7 +34,14 @@ def demand(is_there, what):
 
 def copy_crates(folder):
     """Copies what cargo builds the library of."""
-    files = ["Cargo.toml", "c/Cargo.toml", "c/build.rs", "program/Cargo.toml", "rust/Cargo.toml", "rust/core/Cargo.toml"]
+    files = [
+        "Cargo.toml",
+        "c/Cargo.toml",
+        "c/build.rs",
+        "program/Cargo.toml",
+        "rust/Cargo.toml",
+        "rust/core/Cargo.toml",
+    ]
     for pattern in [*files, "c/src/**/*", "program/src/**/*", "rust/core/src/**/*"]:
         for file in filter(pathlib.Path.is_file, CRATES.glob(pattern)):
             copy = pathlib.Path(folder, file.relative_to(CRATES))
@@ -45,11 +52,27 @@ def copy_crates(folder):
 
 def by_cargo(room):
     """The archive that cargo builds in this folder, of a copy, since cargo writes beside the sources."""
-    demand(shutil.which("cargo"), "Rust 1.85 or later, with cargo on the path; or name the library in DURATION_STR_LIB")
+    demand(
+        shutil.which("cargo"),
+        "Rust 1.85 or later, with cargo on the path; or name the library in DURATION_STR_LIB",
+    )
     copy_crates(room / "crates")
-    words = ["cargo", "build", "--quiet", "--release", "-p", "duration-str-c",
-             "--manifest-path", room / "crates/Cargo.toml", "--target-dir", room / "target"]
-    demand(not subprocess.run(words).returncode, "Rust 1.85 or later: cargo could not build the library for C")
+    words = [
+        "cargo",
+        "build",
+        "--quiet",
+        "--release",
+        "-p",
+        "duration-str-c",
+        "--manifest-path",
+        room / "crates/Cargo.toml",
+        "--target-dir",
+        room / "target",
+    ]
+    demand(
+        not subprocess.run(words).returncode,
+        "Rust 1.85 or later: cargo could not build the library for C",
+    )
     # CARGO_BUILD_TARGET adds a folder.
     name = "duration_str.lib" if sys.platform == "win32" else "libduration_str.a"
     return next((room / "target").glob(f"**/release/{name}"))
@@ -59,7 +82,9 @@ def archive(room):
     """The archive's file."""
     named = os.environ.get("DURATION_STR_LIB")
     if named:
-        demand(os.path.isfile(named), f"the library: DURATION_STR_LIB names {named}, which is no file")
+        demand(
+            os.path.isfile(named), f"the library: DURATION_STR_LIB names {named}, which is no file"
+        )
         return pathlib.Path(named)
     return by_cargo(room)
 
@@ -87,7 +112,11 @@ class Sources(sdist):
         copy_crates(base_dir)
         shutil.copyfile(CRATES / "rust/vectors.json", pathlib.Path(base_dir, "rust/vectors.json"))
         for name in ["tests", "examples"]:
-            shutil.copytree(HERE / name, pathlib.Path(base_dir, name), ignore=shutil.ignore_patterns("__pycache__"))
+            shutil.copytree(
+                HERE / name,
+                pathlib.Path(base_dir, name),
+                ignore=shutil.ignore_patterns("__pycache__"),
+            )
         shutil.copytree(INCLUDE, pathlib.Path(base_dir, "include"))
 
 
@@ -95,7 +124,10 @@ class Sources(sdist):
 install.install_layout = install.prefix_option = None
 # Earlier versions of setuptools have the command of another package.
 if {"bdist_wheel", "dist_info"} & set(sys.argv):
-    demand(any(map(importlib.util.find_spec, ["wheel", "setuptools.command.bdist_wheel"])), "wheel, beside setuptools")
+    demand(
+        any(map(importlib.util.find_spec, ["wheel", "setuptools.command.bdist_wheel"])),
+        "wheel, beside setuptools",
+    )
 # Interpreters without a lock have no limited API.
 limited = not sysconfig.get_config_var("Py_GIL_DISABLED")
 if IS_CHECKOUT:

@@ -19,10 +19,21 @@ EDGES = BLANKS.encode() + b'"'  # What is around the text in a field.
 NUMBER = re.compile(rf"[{BLANKS}]*([0-9]+(\.[0-9]+)?|\.[0-9]+)([eE][-+]?[0-9]+)?[{BLANKS}]*")
 LENGTHS = {name: unit.length for unit in reference.UNITS for name in unit.names.split()}
 LENGTHS |= {name.upper(): length for name, length in LENGTHS.items() if name.isascii()}
-VALUES = dict.fromkeys(("to", "from", "largest", "smallest"), list(LENGTHS)) | {
-    "style": ("short", "compact", "long"), "round": ("down", "up", "nearest"), "decimals": range(10),
-    "field": (1, 2, 3, 5), "delimiter": tuple(',,;:\t "-^]5'), "header": (0, 1, 1, 2, 9), "parts": (1, 2, 3, 12, 255),
-} | dict.fromkeys(("json", "quiet", "zero-terminated", "lowercase", "cn-unit", "require-unit"), [""])
+VALUES = (
+    dict.fromkeys(("to", "from", "largest", "smallest"), list(LENGTHS))
+    | {
+        "style": ("short", "compact", "long"),
+        "round": ("down", "up", "nearest"),
+        "decimals": range(10),
+        "field": (1, 2, 3, 5),
+        "delimiter": tuple(',,;:\t "-^]5'),
+        "header": (0, 1, 1, 2, 9),
+        "parts": (1, 2, 3, 12, 255),
+    }
+    | dict.fromkeys(
+        ("json", "quiet", "zero-terminated", "lowercase", "cn-unit", "require-unit"), [""]
+    )
+)
 WRONG_WORDS = """--to= --to=mins --to=年 --from=secs --largest=mo --smallest=5s --style=Long --round=half --decimals=10
 --parts=0 --parts=256 --parts=two --field=0 --field=65536 --field=-1 -dab -dé --header= --header=x --none -x""".split()
 Refused = collections.namedtuple("Refused", "message column found", defaults=(None, None))
@@ -32,23 +43,34 @@ quoted = json.JSONEncoder(ensure_ascii=False).encode
 
 def rounded(number, way):
     """The whole number next below, next above, or the nearest, of two that are as near the upper one."""
-    return {"up": -(-number // 1), "nearest": (number + fractions.Fraction(1, 2)) // 1}.get(way, number // 1)
+    return {"up": -(-number // 1), "nearest": (number + fractions.Fraction(1, 2)) // 1}.get(
+        way, number // 1
+    )
 
 
 def number_in(nanos, unit, decimals=None, way="down"):
     """A duration as a number of this unit, with so many decimals or those that are needed."""
     digits = 9 if decimals is None else decimals
-    whole, rest = divmod(rounded(fractions.Fraction(nanos * 10**digits, LENGTHS[unit]), way), 10**digits)
+    whole, rest = divmod(
+        rounded(fractions.Fraction(nanos * 10**digits, LENGTHS[unit]), way), 10**digits
+    )
     text = f"{whole}.{rest:0{digits}}" if digits else str(whole)
     return text.rstrip("0").rstrip(".") if decimals is None else text
 
 
 def printed(nanos, options):
     if "to" in options:
-        return number_in(nanos, options["to"], options.get("decimals"), options.get("round", "down"))
+        return number_in(
+            nanos, options["to"], options.get("decimals"), options.get("round", "down")
+        )
     lengths = [unit.length for unit in reference.UNITS]
-    largest, smallest = (lengths.index(LENGTHS[options.get(*each)]) for each in (("largest", "y"), ("smallest", "ns")))
-    return reference.print_within(nanos, largest, smallest, options.get("parts", 11), options.get("style", "short"))
+    largest, smallest = (
+        lengths.index(LENGTHS[options.get(*each)])
+        for each in (("largest", "y"), ("smallest", "ns"))
+    )
+    return reference.print_within(
+        nanos, largest, smallest, options.get("parts", 11), options.get("style", "short")
+    )
 
 
 def read_number(text, options):
@@ -56,7 +78,11 @@ def read_number(text, options):
     way = options["round"] if options.get("round") == "up" else "down"
     decimals = rounded(fractions.Fraction(text) * 10**18, way)
     nanos = rounded(fractions.Fraction(decimals * LENGTHS[options["from"]], 10**18), way)
-    return nanos if nanos < reference.LIMIT else Refused(f"duration of over 584 years in {reference.quote(text)}")
+    return (
+        nanos
+        if nanos < reference.LIMIT
+        else Refused(f"duration of over 584 years in {reference.quote(text)}")
+    )
 
 
 def read(data, options):
@@ -67,8 +93,12 @@ def read(data, options):
         return Refused("not UTF-8")
     if "from" in options and NUMBER.fullmatch(text):
         return read_number(text.strip(BLANKS), options)
-    text = text if len(text) < 10_000 else text.strip(BLANKS)  # The blanks around a long one would take long.
-    answer = reference.answer_of(text, reference.Options(False, "lowercase" in options, "cn-unit" in options))
+    text = (
+        text if len(text) < 10_000 else text.strip(BLANKS)
+    )  # The blanks around a long one would take long.
+    answer = reference.answer_of(
+        text, reference.Options(False, "lowercase" in options, "cn-unit" in options)
+    )
     if "from" in options or "require-unit" in options:
         answer = reference.with_units(text, answer)
     if answer.cause == "read":
@@ -107,9 +137,15 @@ def said_of(line, options, where):
         told = json_object(line.decode(errors="replace"), answer, options, where).encode()
         return Said(told + b"\n", b"", int(isinstance(answer, Refused)))
     if not isinstance(answer, Refused):
-        return Said(line[:begin] + printed(answer, options).encode() + line[end:] + end_of(options), b"", 0)
+        return Said(
+            line[:begin] + printed(answer, options).encode() + line[end:] + end_of(options), b"", 0
+        )
     field = f", field {options['field']}" if "field" in options else ""
-    return Said((line + end_of(options)) * bool(field), f"duration: {where}{field}: {answer.message}\n".encode(), 1)
+    return Said(
+        (line + end_of(options)) * bool(field),
+        f"duration: {where}{field}: {answer.message}\n".encode(),
+        1,
+    )
 
 
 def end_of(options):
@@ -122,18 +158,33 @@ def wanted(options, texts, data):
     lines = texts or (data.removesuffix(end).split(end) if data else [])
     header, kind = options.get("header", 0), "argument" if texts else "line"
     said = [Said(line + end, b"", 0) for line in lines[:header]]
-    said += [said_of(line, options, f"{kind} {number}") for number, line in enumerate(lines[header:], header + 1)]
+    said += [
+        said_of(line, options, f"{kind} {number}")
+        for number, line in enumerate(lines[header:], header + 1)
+    ]
     if {"field", "header"} & set(options) and data and not (texts or data.endswith(end)):
         said[-1] = said[-1]._replace(output=said[-1].output.removesuffix(end))
     output, errors, statuses = zip(*said) if said else ((), (), ())
-    return Said(*(b"" if "quiet" in options else b"".join(part) for part in (output, errors)), max(statuses, default=0))
+    return Said(
+        *(b"" if "quiet" in options else b"".join(part) for part in (output, errors)),
+        max(statuses, default=0),
+    )
 
 
 def is_wrong(options, texts):
     """Whether these options can't stand together, or beside texts."""
     names = set(options)
-    numbers = names & {"style", "parts", "largest", "smallest"} if "to" in names else names & {"decimals", "round"}
-    fields = "json" in names and names & {"field", "header"} or "delimiter" in names and "field" not in names
+    numbers = (
+        names & {"style", "parts", "largest", "smallest"}
+        if "to" in names
+        else names & {"decimals", "round"}
+    )
+    fields = (
+        "json" in names
+        and names & {"field", "header"}
+        or "delimiter" in names
+        and "field" not in names
+    )
     order = LENGTHS[options.get("largest", "y")] < LENGTHS[options.get("smallest", "ns")]
     return bool(numbers or fields or order or "header" in names and texts)
 
@@ -145,54 +196,101 @@ class Commands(Texts):
     def words(self, options):
         words = [f"--{name}" + f"={value}" * (value != "") for name, value in options.items()]
         short = {"--quiet": "-q", "--zero-terminated": "-z", "--header=1": "--header"}
-        words = [short.get(word, word.replace("--delimiter=", "-d")) if self.chance(50) else word for word in words]
-        return sum((word.split("=", not re.match("--header|.*-$", word) and self.chance(50)) for word in words), [])
+        words = [
+            short.get(word, word.replace("--delimiter=", "-d")) if self.chance(50) else word
+            for word in words
+        ]
+        return sum(
+            (
+                word.split("=", not re.match("--header|.*-$", word) and self.chance(50))
+                for word in words
+            ),
+            [],
+        )
 
     def bare_number(self):
-        decimals = "0" * self.choice((0, 0, 9, 18)) + str(self.random.randrange(10**9)) * self.choice((1, 1, 2))
-        exponent = self.choice("eE") + self.choice(("", "+", "-", "-0")) + str(self.random.randrange(30))
-        parts = ("", " "), ("", "0", self.number()), ("", ".", "." + decimals), ("", exponent), ("", "\t")
+        decimals = "0" * self.choice((0, 0, 9, 18)) + str(
+            self.random.randrange(10**9)
+        ) * self.choice((1, 1, 2))
+        exponent = (
+            self.choice("eE") + self.choice(("", "+", "-", "-0")) + str(self.random.randrange(30))
+        )
+        parts = (
+            ("", " "),
+            ("", "0", self.number()),
+            ("", ".", "." + decimals),
+            ("", exponent),
+            ("", "\t"),
+        )
         return "".join(map(self.choice, parts)).encode()
 
     def single(self, options):
         if self.chance(5):
-            return b"5" + self.choice((b"x", b"0", "é".encode(), b"0 ")) * self.random.randint(36, 44)
+            return b"5" + self.choice((b"x", b"0", "é".encode(), b"0 ")) * self.random.randint(
+                36, 44
+            )
         if "to" in options and self.chance(30):  # Often as near to one number as to the next.
-            return b"%dns" % (LENGTHS[options["to"]] * self.choice((1, 3)) // 10 ** options.get("decimals", 9) // 2)
+            return b"%dns" % (
+                LENGTHS[options["to"]]
+                * self.choice((1, 3))
+                // 10 ** options.get("decimals", 9)
+                // 2
+            )
         return self.bare_number() if "from" in options and self.chance(60) else self.text()
 
     def line(self, options):
-        fields = [self.single(options) for _ in range(self.random.randint(1, options.get("field", 0) + 1))]
+        fields = [
+            self.single(options) for _ in range(self.random.randint(1, options.get("field", 0) + 1))
+        ]
         if "delimiter" not in options and self.chance(70):
             fields = [re.sub(b"[ \t\r\n]", b"", field) for field in fields]
         edges = [self.choice((b"", b"", b"", b" ", b'"', b'" ', b"\r")) for _ in range(2)]
-        return edges[0] + options.get("delimiter", self.choice(" \t")).encode().join(fields) + edges[1]
+        return (
+            edges[0] + options.get("delimiter", self.choice(" \t")).encode().join(fields) + edges[1]
+        )
 
     def data(self, options):
         lines = [self.line(options) for _ in range(self.choice((0, 1, 2, 5, 20, 40)))]
         if self.chance(5 if {"field", "header"} & set(options) else 0.5):
-            lines.insert(self.choice((0, 1, 99)), b"5m".ljust(LONGEST_LINE + self.choice((-1, 0, 1, 2, LONGEST_LINE))))
+            lines.insert(
+                self.choice((0, 1, 99)),
+                b"5m".ljust(LONGEST_LINE + self.choice((-1, 0, 1, 2, LONGEST_LINE))),
+            )
         return end_of(options).join(lines) + self.choice((b"", end_of(options)))
 
     def command(self):
         """A command's options, texts and input; of one in ten the options may be wrong."""
         likely = {"to": 60, "from": 40, "round": 40, "decimals": 40, "quiet": 4, "json": 12}
-        options = {name: self.choice(values) for name, values in VALUES.items() if self.chance(likely.get(name, 20))}
+        options = {
+            name: self.choice(values)
+            for name, values in VALUES.items()
+            if self.chance(likely.get(name, 20))
+        }
         data = self.data(options)
-        texts = data.replace(b"\0", b"").split(b"\n") if len(data) < 99_999 and self.chance(30) else []
-        return self.command() if is_wrong(options, texts) and self.chance(90) else (options, texts, data)
+        texts = (
+            data.replace(b"\0", b"").split(b"\n") if len(data) < 99_999 and self.chance(30) else []
+        )
+        return (
+            self.command()
+            if is_wrong(options, texts) and self.chance(90)
+            else (options, texts, data)
+        )
 
 
 def run(words, options, data, cuts):
     """What the program says to bytes that come in pieces, whose lines it must answer before the next one comes."""
-    process = subprocess.Popen(words, 0, stdin=subprocess.PIPE, stdout=subprocess.PIPE, stderr=subprocess.PIPE)
+    process = subprocess.Popen(
+        words, 0, stdin=subprocess.PIPE, stdout=subprocess.PIPE, stderr=subprocess.PIPE
+    )
     clock = threading.Timer(10, process.kill)
     clock.start()
     output = b""
     for begin, end in zip(cuts, cuts[1:]):
         process.stdin.write(data[begin:end])
         answers = wanted(options, [], data[: data.rfind(end_of(options), 0, end) + 1]).output
-        while len(output) < len(answers) and (part := process.stdout.read(len(answers) - len(output))):
+        while len(output) < len(answers) and (
+            part := process.stdout.read(len(answers) - len(output))
+        ):
             output += part
     rest, errors = process.communicate(data[cuts[-1] :])
     clock.cancel()
@@ -208,7 +306,11 @@ def main(program, seconds="20", seed=str(time.time_ns())):
         words = [program, *commands.words(options), *wrong, *(["--"] * bool(texts) + texts)]
         usage = bool(wrong) or is_wrong(options, texts)
         must = Said(b"", b"error: ", 2) if usage else wanted(options, texts, data)
-        cuts = [] if usage or texts or len(data) > 9999 else sorted(commands.random.choices(range(len(data) + 1), k=3))
+        cuts = (
+            []
+            if usage or texts or len(data) > 9999
+            else sorted(commands.random.choices(range(len(data) + 1), k=3))
+        )
         got = run(words, options, data, [0, *cuts])
         if (got._replace(errors=got.errors[:7]) if usage else got) != must:
             sys.exit(f"command: {words}\ninput: {data[:9999]}\nwanted: {must}\ngot:    {got}")

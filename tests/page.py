@@ -61,7 +61,13 @@ class Page:
         self.address = pathlib.Path(file).resolve().as_uri()
         self.rows, self.wrong = 0, 0
         options = webdriver.ChromeOptions()
-        for word in ("--headless=new", "--no-sandbox", "--disable-gpu", "--hide-scrollbars", "--window-size=900,1100"):
+        for word in (
+            "--headless=new",
+            "--no-sandbox",
+            "--disable-gpu",
+            "--hide-scrollbars",
+            "--window-size=900,1100",
+        ):
             options.add_argument(word)
         options.set_capability("goog:loggingPrefs", {"browser": "ALL", "performance": "ALL"})
         self.driver = webdriver.Chrome(service=Service("/usr/bin/chromedriver"), options=options)
@@ -131,11 +137,15 @@ class Page:
     def key(self, *keys):
         """Presses the keys in the element that has the focus, and returns the name of the one that has it then."""
         self.driver.switch_to.active_element.send_keys(*keys)
-        return self.run("const e = document.activeElement; return e.id || e.textContent || e.className")
+        return self.run(
+            "const e = document.activeElement; return e.id || e.textContent || e.className"
+        )
 
 
 def answer_to(text, *options):
-    return reference_parser.answer_of(text, reference_parser.Options(**dict.fromkeys(options, True)))
+    return reference_parser.answer_of(
+        text, reference_parser.Options(**dict.fromkeys(options, True))
+    )
 
 
 def line_of(text, *options):
@@ -149,7 +159,10 @@ def try_values(page):
     for text, options, *expected in TEXTS["values"]:
         page.choose(*options)
         page.type(text)
-        got = [page.text_of(name) for name in ("printed", "nanoseconds", "milliseconds", "seconds", "iso")]
+        got = [
+            page.text_of(name)
+            for name in ("printed", "nanoseconds", "milliseconds", "seconds", "iso")
+        ]
         page.same(f"{text} under {options}", expected, got)
         page.same(f"the fault of {text}", None, page.text_of("sentence"))
     for text, options, expected in TEXTS["terms"]:
@@ -171,7 +184,9 @@ def try_faults(page):
         page.choose(*options)
         page.put(text)
         expected = [marked, *(sentence or [line_of(text, *options)])]
-        page.same(f"{text!r} under {options}", expected, [page.marked_part(), page.text_of("sentence")])
+        page.same(
+            f"{text!r} under {options}", expected, [page.marked_part(), page.text_of("sentence")]
+        )
         page.same(f"the value of {text!r}", None, page.text_of("printed"))
     page.choose()
     page.put("1.5h")
@@ -181,10 +196,14 @@ def try_faults(page):
     page.put("5 mins")
     page.same("no second line", None, page.text_of("line"))
     page.put('1s "')
-    page.same("a quotation mark that is quoted", [r'\"'], page.words("#sentence code"))
+    page.same("a quotation mark that is quoted", [r"\""], page.words("#sentence code"))
     for text, hints in (("", 1), ("  ", 0)):
         page.put(text)
-        page.same(f"no library and a hint for {text!r}", [None, hints], [page.text_of("library"), len(page.words(".hint"))])
+        page.same(
+            f"no library and a hint for {text!r}",
+            [None, hints],
+            [page.text_of("library"), len(page.words(".hint"))],
+        )
     page.put("1\u200bh")
     page.same("a mark of no width", 1, len(page.words("mark.thin")))
     page.put("1h -x" + "😀" * 1_500)
@@ -197,7 +216,9 @@ def try_elsewhere(page):
     for text, rows in TEXTS["elsewhere"]:
         page.put(text)
         got = page.words("#elsewhere th, #elsewhere td")
-        page.same(f"{text} elsewhere", [rows, bool(rows)], [got, page.find("elsewhere").is_displayed()])
+        page.same(
+            f"{text} elsewhere", [rows, bool(rows)], [got, page.find("elsewhere").is_displayed()]
+        )
     page.put("1.5h\n1y")
     page.same("nothing elsewhere of several lines", False, page.find("elsewhere").is_displayed())
 
@@ -207,8 +228,16 @@ def try_lines(page):
     page.open("#text=1:30")
     for text, marks, expected in TEXTS["lines"]:
         page.put(text)
-        page.same(f"the lines {text!r}", [marks, expected], [page.words("mark"), page.words("#lines :is(th, td > *)")])
-        page.same(f"of {text!r} as a whole", [None] * 5, [page.text_of(name) for name in ("printed", "sentence", "iso", "rust", "suggestions")])
+        page.same(
+            f"the lines {text!r}",
+            [marks, expected],
+            [page.words("mark"), page.words("#lines :is(th, td > *)")],
+        )
+        page.same(
+            f"of {text!r} as a whole",
+            [None] * 5,
+            [page.text_of(name) for name in ("printed", "sentence", "iso", "rust", "suggestions")],
+        )
     page.put("30s\n 5 mins\n1h")
     page.click("#lines button")
     page.same("a line that is mended", "30s\n5 min\n1h", page.text())
@@ -217,7 +246,11 @@ def try_lines(page):
     page.same("200 lines", ["90s", "1min 30s"] * 200, page.words("#lines :is(th, td > *)"))
     page.put("90s\n" * 10_000 + "x")
     shown = ["x", line_of("x"), *["90s", "1min 30s"] * 199]
-    page.same("10,001 lines", [shown, None], [page.words("#lines :is(th, td > *)"), page.text_of("printed")])
+    page.same(
+        "10,001 lines",
+        [shown, None],
+        [page.words("#lines :is(th, td > *)"), page.text_of("printed")],
+    )
     told = "10,000 of 10,001 lines are read; 200 are shown, the refused ones first."
     page.same("how many of 10,001 lines are read", [told], page.words("#lines caption"))
     page.put("1h 30m\n")
@@ -230,7 +263,11 @@ def try_switching(page):
         page.choose(*options)
         page.put(text)
         name = page.answer_line("document.querySelector('#offered button').ariaLabel")
-        page.same(f"{words} for {text}", [words, meaning, f"{words}: {meaning}"], [*page.words("#offered button > *"), name])
+        page.same(
+            f"{words} for {text}",
+            [words, meaning, f"{words}: {meaning}"],
+            [*page.words("#offered button > *"), name],
+        )
         page.click("#offered button")
         page.same(f"pressed: {words} for {text}", [words, remain], [page.text(), page.chosen()])
     page.choose()
@@ -255,24 +292,52 @@ def try_examples(page):
         page.run("arguments[0].click()", button)
         page.same(f"the text of the example {button.text}", button.text, page.text())
         found.append((page.text_of("printed") is not None, len(page.words("#offered button")) > 0))
-    page.same("what is said of examples", {(True, False), (True, True), (False, True), (False, False)}, set(found))
+    page.same(
+        "what is said of examples",
+        {(True, False), (True, True), (False, True), (False, False)},
+        set(found),
+    )
     page.same("one row", 1, len({button.rect["y"] for button in examples}))
 
 
 def try_units(page):
     page.open()
-    units = [(name, unit.length) for unit in reference_parser.UNITS for name in f"{unit.names} {unit.chinese}".split()]
+    units = [
+        (name, unit.length)
+        for unit in reference_parser.UNITS
+        for name in f"{unit.names} {unit.chinese}".split()
+    ]
     pressed = [[name, f"1{name}", f"{length:,}"] for name, length in units]
     page.same("the units", pressed, page.answer_line("asked.pressedUnits()"))
     page.same("the option of the Chinese names", True, page.find("cn_unit").is_selected())
     page.run("document.querySelector('#units button').focus()")
-    keys = (Keys.ARROW_RIGHT, Keys.ARROW_LEFT, Keys.ARROW_UP, Keys.ARROW_DOWN, Keys.ARROW_RIGHT, Keys.HOME, Keys.END)
-    page.same("where the arrow keys lead to", ["year", "y", "纳秒", "y", "year", "y", "纳秒"], [page.key(key) for key in keys])
-    script = ("const pressed = new KeyboardEvent('keydown', { key: 'End', bubbles: true, cancelable: true });"
-              "document.querySelector('#units button').dispatchEvent(pressed); return pressed.defaultPrevented")
+    keys = (
+        Keys.ARROW_RIGHT,
+        Keys.ARROW_LEFT,
+        Keys.ARROW_UP,
+        Keys.ARROW_DOWN,
+        Keys.ARROW_RIGHT,
+        Keys.HOME,
+        Keys.END,
+    )
+    page.same(
+        "where the arrow keys lead to",
+        ["year", "y", "纳秒", "y", "year", "y", "纳秒"],
+        [page.key(key) for key in keys],
+    )
+    script = (
+        "const pressed = new KeyboardEvent('keydown', { key: 'End', bubbles: true, cancelable: true });"
+        "document.querySelector('#units button').dispatchEvent(pressed); return pressed.defaultPrevented"
+    )
     page.same("whether the key scrolls nothing", True, page.run(script))
     page.same("the stop of the tab key", ["纳秒"], page.words("#units [tabindex='0']"))
-    for text, becomes in (("1h 30", "1h 30min"), ("1h", "1h 1min"), ("1h ", "1h 1min"), ("1h, ", "1min"), ("1m*", "1m* 1min")):
+    for text, becomes in (
+        ("1h 30", "1h 30min"),
+        ("1h", "1h 1min"),
+        ("1h ", "1h 1min"),
+        ("1h, ", "1min"),
+        ("1m*", "1m* 1min"),
+    ):
         page.put(text)
         page.driver.find_element(By.XPATH, "//*[@id='units']//button[.='min']").click()
         page.same(f"min added to {text}", becomes, page.text())
@@ -288,12 +353,19 @@ def try_code(page):
         "c": "sizeof text - 1, DURATION_STR_OPTION_NO_CALC | DURATION_STR_OPTION_CN_UNIT, &answer);",
     }
     for name, end in taken.items():
-        page.same(f"the code in {name}", True, any(line.endswith(end) for line in page.text_of(name).splitlines()))
+        page.same(
+            f"the code in {name}",
+            True,
+            any(line.endswith(end) for line in page.text_of(name).splitlines()),
+        )
     page.same("no shell's line of two lines", None, page.text_of("shell"))
     page.choose("require_unit")
     page.put("1h 30m")
     taken = {
-        "rust": ('use duration_str::{format_duration, parse_with_units};', 'parse_with_units("1h 30m")?;'),
+        "rust": (
+            "use duration_str::{format_duration, parse_with_units};",
+            'parse_with_units("1h 30m")?;',
+        ),
         "python": ('duration_str.parse("1h 30m", require_unit=True)',),
         "javascript": ('parse("1h 30m", { requireUnit: true });',),
         "c": ("sizeof text - 1, DURATION_STR_OPTION_REQUIRE_UNIT, &answer);",),
@@ -301,45 +373,93 @@ def try_code(page):
     }
     for name, ends in taken.items():
         for end in ends:
-            page.same(f"{end} in {name}", True, any(line.endswith(end) for line in page.text_of(name).splitlines()))
+            page.same(
+                f"{end} in {name}",
+                True,
+                any(line.endswith(end) for line in page.text_of(name).splitlines()),
+            )
     page.choose("no_calc", "require_unit")
-    page.same("no call of Rust and no program has both options", [None, None], [page.text_of("rust"), page.text_of("shell")])
+    page.same(
+        "no call of Rust and no program has both options",
+        [None, None],
+        [page.text_of("rust"), page.text_of("shell")],
+    )
     page.choose("cn_unit", "require_unit")
-    page.same("the shell's line with both options", "duration --cn-unit --require-unit -- '1h 30m'", page.text_of("shell"))
+    page.same(
+        "the shell's line with both options",
+        "duration --cn-unit --require-unit -- '1h 30m'",
+        page.text_of("shell"),
+    )
     page.choose()
     for text in ("1h", "\t1m\n", "2 * 5 µs"):
         page.put(text)
         call = ast.parse(page.text_of("python")).body[1].value
-        page.same(f"Python's literal of {text!r}", [[text], []], [[each.value for each in call.args], call.keywords])
+        page.same(
+            f"Python's literal of {text!r}",
+            [[text], []],
+            [[each.value for each in call.args], call.keywords],
+        )
         literal = page.text_of("javascript").split("= parse(")[1].split(");\nconst text")[0]
         page.same(f"JavaScript's literal of {text!r}", text, page.run(f"return {literal}"))
-        page.same(f"Rust's options of {text!r}", True, ", Options::off())?;\n" in page.text_of("rust"))
+        page.same(
+            f"Rust's options of {text!r}", True, ", Options::off())?;\n" in page.text_of("rust")
+        )
         page.same(f"C's literal of {text!r}", text.encode(), literal_of_c(page.text_of("c")))
     page.put("2 * 1h")
     line = page.text_of("shell").replace("durstr", "cat")
-    page.same("the shell's line", "2 * 1h\n", subprocess.run(["sh", "-c", line], stdout=subprocess.PIPE, text=True).stdout)
+    page.same(
+        "the shell's line",
+        "2 * 1h\n",
+        subprocess.run(["sh", "-c", line], stdout=subprocess.PIPE, text=True).stdout,
+    )
     page.put("1m x")
-    page.same("no code of what is refused", [None, None, True], [page.text_of("rust"), page.text_of("how"), page.text_of("no-code") is not None])
+    page.same(
+        "no code of what is refused",
+        [None, None, True],
+        [page.text_of("rust"), page.text_of("how"), page.text_of("no-code") is not None],
+    )
 
 
 def try_printing(page):
     """A duration of 90,061.000000001 s, which is 1 day 1 hour 1 minute 1 second 1 nanosecond, in chosen ways."""
     rows = [
         ({}, "1d 1h 1min 1s 1ns", {"shell": "printf '%s\\n' '90061s 1ns' | durstr"}),
-        ({"style": "compact"}, "1d1h1min1s1ns",
-         {"rust": ".style(Style::Compact)", "python": 'style="compact"',
-          "shell": "duration --style compact -- '90061s 1ns'"}),
-        ({"style": "long", "parts": "2"}, "1 day 1 hour",
-         {"rust": ".style(Style::Long).parts(2)", "python": 'style="long", parts=2',
-          "c": "answer.nanos / 1000000000, answer.nanos % 1000000000,\n"
-               "    DURATION_STR_UNIT_YEAR, DURATION_STR_UNIT_NANOSECOND,\n    2, DURATION_STR_STYLE_LONG,"}),
-        ({"largest": "h", "smallest": "min"}, "25h 1min",
-         {"rust": ".largest(TimeUnit::Hour).smallest(TimeUnit::Minute)", "python": 'largest="h", smallest="min"',
-          "javascript": '{ largest: "h", smallest: "min" }',
-          "shell": "duration --largest h --smallest min -- '90061s 1ns'",
-          "c": "DURATION_STR_UNIT_HOUR, DURATION_STR_UNIT_MINUTE,\n"
-               f"    {len(reference_parser.UNITS)}, DURATION_STR_STYLE_SHORT,"}),
-        ({"smallest": "µs"}, "1d 1h 1min 1s", {"rust": "TimeUnit::MicroSecond", "javascript": 'smallest: "µs"'}),
+        (
+            {"style": "compact"},
+            "1d1h1min1s1ns",
+            {
+                "rust": ".style(Style::Compact)",
+                "python": 'style="compact"',
+                "shell": "duration --style compact -- '90061s 1ns'",
+            },
+        ),
+        (
+            {"style": "long", "parts": "2"},
+            "1 day 1 hour",
+            {
+                "rust": ".style(Style::Long).parts(2)",
+                "python": 'style="long", parts=2',
+                "c": "answer.nanos / 1000000000, answer.nanos % 1000000000,\n"
+                "    DURATION_STR_UNIT_YEAR, DURATION_STR_UNIT_NANOSECOND,\n    2, DURATION_STR_STYLE_LONG,",
+            },
+        ),
+        (
+            {"largest": "h", "smallest": "min"},
+            "25h 1min",
+            {
+                "rust": ".largest(TimeUnit::Hour).smallest(TimeUnit::Minute)",
+                "python": 'largest="h", smallest="min"',
+                "javascript": '{ largest: "h", smallest: "min" }',
+                "shell": "duration --largest h --smallest min -- '90061s 1ns'",
+                "c": "DURATION_STR_UNIT_HOUR, DURATION_STR_UNIT_MINUTE,\n"
+                f"    {len(reference_parser.UNITS)}, DURATION_STR_STYLE_SHORT,",
+            },
+        ),
+        (
+            {"smallest": "µs"},
+            "1d 1h 1min 1s",
+            {"rust": "TimeUnit::MicroSecond", "javascript": 'smallest: "µs"'},
+        ),
     ]
     for chosen, printed, code in rows:
         limits = "".join(f"&{name}={urllib.parse.quote(value)}" for name, value in chosen.items())
@@ -349,7 +469,9 @@ def try_printing(page):
             page.same(f"{part} in {name}", True, part in page.text_of(name))
         page.type("90061s 1ns")
         time.sleep(PAUSE)
-        page.same(f"the link of {chosen}", "#text=90061s%201ns" + limits, page.run("return location.hash"))
+        page.same(
+            f"the link of {chosen}", "#text=90061s%201ns" + limits, page.run("return location.hash")
+        )
     page.open("#text=1h&largest=s&smallest=d")
     page.same("limits that contradict each other", "3600s", page.text_of("printed"))
     page.find("largest").send_keys("days")
@@ -358,7 +480,11 @@ def try_printing(page):
     page.same("weeks as the smallest unit, and so as the largest", "0w", page.text_of("printed"))
     page.same("the most parts", "all", page.words("#parts option")[-1])
     page.open("#text=1h&style=wide")
-    page.same("what is told of a style that isn't", "Not understood in the link: style=wide", page.text_of("link-note"))
+    page.same(
+        "what is told of a style that isn't",
+        "Not understood in the link: style=wide",
+        page.text_of("link-note"),
+    )
 
 
 def literal_of_c(code):
@@ -375,20 +501,33 @@ def try_copying(page):
     permissions = ["clipboardReadWrite", "clipboardSanitizedWrite"]
     page.driver.execute_cdp_cmd("Browser.grantPermissions", {"permissions": permissions})
     page.open("#text=1h%2030m%201ms")
-    copied = {"printed": "1h 30min 1ms", "nanoseconds": "5400001000000", "milliseconds": "5400001",
-              "seconds": "5400.001", "iso": "PT1H30M0.001S", "python": page.text_of("python"),
-              "link-note": page.address + "#text=1h%2030m%201ms"}
+    copied = {
+        "printed": "1h 30min 1ms",
+        "nanoseconds": "5400001000000",
+        "milliseconds": "5400001",
+        "seconds": "5400.001",
+        "iso": "PT1H30M0.001S",
+        "python": page.text_of("python"),
+        "link-note": page.address + "#text=1h%2030m%201ms",
+    }
     page.same("copy buttons", 11, len(page.driver.find_elements(By.CSS_SELECTOR, "[data-copies]")))
     for name, expected in copied.items():
         page.click(f"[data-copies={name}]")
         time.sleep(0.1)
         got = page.driver.execute_async_script("navigator.clipboard.readText().then(arguments[0])")
-        page.same(f"copied: {name}", [expected, f"Copied: {expected.splitlines()[0]}"], [got, page.text_of("copied")])
+        page.same(
+            f"copied: {name}",
+            [expected, f"Copied: {expected.splitlines()[0]}"],
+            [got, page.text_of("copied")],
+        )
     page.run("Object.defineProperty(navigator, 'clipboard', { value: undefined })")
     for name, expected in copied.items():
         page.click(f"[data-copies={name}]")
-        page.same(f"selected: {name}", [expected, "Selected, not copied: press Ctrl+C, or ⌘C."],
-                  [page.run("return String(getSelection())"), page.text_of("copied")])
+        page.same(
+            f"selected: {name}",
+            [expected, "Selected, not copied: press Ctrl+C, or ⌘C."],
+            [page.run("return String(getSelection())"), page.text_of("copied")],
+        )
 
 
 def try_link(page):
@@ -397,29 +536,59 @@ def try_link(page):
     page.type("1分 30&no=5%#")
     time.sleep(PAUSE)
     link = page.run("return location.hash")
-    page.same("the link", "#text=" + urllib.parse.quote("1分 30&no=5%#", safe="") + "&no_calc&cn_unit", link)
+    page.same(
+        "the link",
+        "#text=" + urllib.parse.quote("1分 30&no=5%#", safe="") + "&no_calc&cn_unit",
+        link,
+    )
     page.open(link)
-    page.same("what the link gives", ["1分 30&no=5%#", ["no_calc", "cn_unit"]], [page.text(), page.chosen()])
-    for fragment, text in [("#text=1m+2", "1m+2"), ("#text=1m=2", "1m=2"), ("#text=%E0%A4%A", ""), ("#", "90m + 45s"), ("#other=1", "")]:
+    page.same(
+        "what the link gives",
+        ["1分 30&no=5%#", ["no_calc", "cn_unit"]],
+        [page.text(), page.chosen()],
+    )
+    for fragment, text in [
+        ("#text=1m+2", "1m+2"),
+        ("#text=1m=2", "1m=2"),
+        ("#text=%E0%A4%A", ""),
+        ("#", "90m + 45s"),
+        ("#other=1", ""),
+    ]:
         page.open(fragment)
         page.same(f"the text of {fragment}", text, page.text())
-    page.same("what is told of #other=1", "Not understood in the link: other=1", page.text_of("link-note"))
+    page.same(
+        "what is told of #other=1", "Not understood in the link: other=1", page.text_of("link-note")
+    )
     page.put("1m \ud800")
     time.sleep(PAUSE)
     said = "This text is not UTF-8, so the address can't hold it."
-    page.same("what is told of a lone surrogate", [said, None], [page.text_of("link-note"), page.text_of("share")])
+    page.same(
+        "what is told of a lone surrogate",
+        [said, None],
+        [page.text_of("link-note"), page.text_of("share")],
+    )
     page.put("1s " * 667)
     time.sleep(PAUSE)
-    page.same("what is told of 2,001 characters", "This text is too long for the address.", page.text_of("link-note"))
+    page.same(
+        "what is told of 2,001 characters",
+        "This text is too long for the address.",
+        page.text_of("link-note"),
+    )
     page.open("#text=1h&no_calc&style=long")
     page.run("location.hash = 'cn_unit'")
     time.sleep(PAUSE)
-    page.same("another link", ["", ["cn_unit"], "short"], [page.text(), page.chosen(), page.find("style").get_property("value")])
+    page.same(
+        "another link",
+        ["", ["cn_unit"], "short"],
+        [page.text(), page.chosen(), page.find("style").get_property("value")],
+    )
 
 
 def try_hostile(page):
     page.open()
-    count = "return ['img', 'svg', 'script', 'b'].map((name) => document.querySelectorAll(name).length)"
+    count = (
+        "return ['img', 'svg', 'script', 'b'].map((name) => document.querySelectorAll(name).length)"
+    )
     before = page.run(count)
     for text in TEXTS["hostile"]:
         page.put(text)
@@ -433,18 +602,29 @@ def try_hostile(page):
     for link in TEXTS["hostile links"]:
         page.open(link)
         page.same(f"the elements after {link}", before, page.run(count))
-        page.same(f"what {link} chooses to print", ["short", "y", "ns", str(len(reference_parser.UNITS))],
-                  page.answer_line("['style', 'largest', 'smallest', 'parts'].map((id) => document.getElementById(id).value)"))
+        page.same(
+            f"what {link} chooses to print",
+            ["short", "y", "ns", str(len(reference_parser.UNITS))],
+            page.answer_line(
+                "['style', 'largest', 'smallest', 'parts'].map((id) => document.getElementById(id).value)"
+            ),
+        )
         told = page.answer_line("document.getElementById('link-note').textContent")
-        page.same(f"{link} is not understood", True, told.startswith("Not understood in the link: "))
+        page.same(
+            f"{link} is not understood", True, told.startswith("Not understood in the link: ")
+        )
     page.same("what markup has set", None, page.run("return window.hacked ?? null"))
     for text, printed in LONG:
         took = page.put(text, pasted=True)
         page.same(f"{text[:9]}.., long", printed, page.text_of("printed"))
-        page.same(f"{text[:9]}.. is answered within 5 s and not in {took:.0f} ms", True, took < 5_000)
+        page.same(
+            f"{text[:9]}.. is answered within 5 s and not in {took:.0f} ms", True, took < 5_000
+        )
         shown = page.run("return document.body.innerText.length")
         page.same(f"what is shown of {text[:9]}.. is short and not {shown}", True, shown < 5_000)
-        page.same(f"whether {text[:9]}.. has a mark", printed is None, page.marked_part() is not None)
+        page.same(
+            f"whether {text[:9]}.. has a mark", printed is None, page.marked_part() is not None
+        )
 
 
 def try_keyboard(page):
@@ -474,12 +654,20 @@ def try_keyboard(page):
 def try_readers(page):
     """What screen readers are told: a name for each field, and one line after a pause."""
     page.open()
-    for field in page.driver.find_elements(By.CSS_SELECTOR, "input, select, textarea, pre, button:not(#units button)"):
+    for field in page.driver.find_elements(
+        By.CSS_SELECTOR, "input, select, textarea, pre, button:not(#units button)"
+    ):
         if field.is_displayed():
-            page.same(f"a name for {field.get_attribute('outerHTML')[:60]}", True, bool(field.accessible_name))
+            page.same(
+                f"a name for {field.get_attribute('outerHTML')[:60]}",
+                True,
+                bool(field.accessible_name),
+            )
     page.same("live regions", 3, len(page.words("[role=status], [role=alert], [aria-live]")))
-    page.run("const said = document.getElementById('announcement'); window.told = [];"
-             "new MutationObserver(() => told.push(said.textContent)).observe(said, { childList: true })")
+    page.run(
+        "const said = document.getElementById('announcement'); window.told = [];"
+        "new MutationObserver(() => told.push(said.textContent)).observe(said, { childList: true })"
+    )
     for text in ("1", "1h", "1h ", "1h 3", "1h 30", "1h 30m"):
         page.put(text)
     time.sleep(PAUSE)
@@ -524,9 +712,15 @@ def try_rules(page):
     page.put("1分")
     page.same("the language of a sentence", ["分"], page.words("#sentence code[lang=zh]"))
     page.same("one first heading", 1, len(page.driver.find_elements(By.TAG_NAME, "h1")))
-    version = subprocess.run([ROOT / "tools/version"], stdout=subprocess.PIPE, check=True, text=True).stdout.strip()
+    version = subprocess.run(
+        [ROOT / "tools/version"], stdout=subprocess.PIPE, check=True, text=True
+    ).stdout.strip()
     page.same("the library's version", version, page.text_of("version"))
-    page.same("an icon", True, page.run("return document.querySelector('link[rel=icon]').href.length > 100"))
+    page.same(
+        "an icon",
+        True,
+        page.run("return document.querySelector('link[rel=icon]').href.length > 100"),
+    )
 
 
 def try_place(page):
@@ -552,20 +746,36 @@ def try_looks(page):
     # 320 pixels are also what 640 leave at 200 %.
     for scheme in SCHEMES:
         for width in (320, 900):
-            for text in ("3m + 13s + 29ms", "1:30", "1h\n1h 30\n5 mins", "1m " + "9" * 200, "x" * 5_000):
+            for text in (
+                "3m + 13s + 29ms",
+                "1:30",
+                "1h\n1h 30\n5 mins",
+                "1m " + "9" * 200,
+                "x" * 5_000,
+            ):
                 emulate(page, scheme, width)
                 page.open("#cn_unit&text=" + text)
                 page.put(text)
                 what = f"{text[:9]} in {scheme} on {width} pixels"
-                page.same(f"width of {what}", width, page.run("return document.documentElement.scrollWidth"))
+                page.same(
+                    f"width of {what}",
+                    width,
+                    page.run("return document.documentElement.scrollWidth"),
+                )
                 page.same(f"pale parts of {what}", [], page.answer_line("asked.pale()"))
         papers[scheme] = page.run("return getComputedStyle(document.body).backgroundColor")
     page.same("two papers", 2, len(set(papers.values())))
     emulate(page, "dark", 900, forced=True)
     page.open("#text=1%3A30")
-    lined = "['mark', '.marked'].map((e) => getComputedStyle(document.querySelector(e)).outlineStyle)"
+    lined = (
+        "['mark', '.marked'].map((e) => getComputedStyle(document.querySelector(e)).outlineStyle)"
+    )
     page.same("a mark and a focus in forced colours", ["solid", "solid"], page.answer_line(lined))
-    page.same("the diagram is drawn", True, page.run("return document.querySelector('img').naturalWidth > 300"))
+    page.same(
+        "the diagram is drawn",
+        True,
+        page.run("return document.querySelector('img').naturalWidth > 300"),
+    )
 
 
 def shown_in_picture(page, scheme):
@@ -573,20 +783,31 @@ def shown_in_picture(page, scheme):
     emulate(page, scheme, PICTURE_WIDTH)
     page.open("#text=1%3A30")
     page.run("document.activeElement.blur()")
-    return page.run("return document.getElementById('answer').getBoundingClientRect().bottom") + PICTURE_MARGIN
+    return (
+        page.run("return document.getElementById('answer').getBoundingClientRect().bottom")
+        + PICTURE_MARGIN
+    )
 
 
 def said_in_picture(page):
     """The words in the pictures, and a digest of how they look: whether a picture is stale is seen by these."""
     selectors = ["header", "#examples", "#options", "#answer"]
-    words = page.answer_line(f"{json.dumps(selectors)}.map((each) => document.querySelector(each).innerText)")
+    words = page.answer_line(
+        f"{json.dumps(selectors)}.map((each) => document.querySelector(each).innerText)"
+    )
     style = hashlib.sha256((ROOT / "web/style.css").read_bytes()).hexdigest()
     return "\n".join([*words, f"style.css: {style}", ""])
 
 
 def take_pictures(page):
     for scheme in SCHEMES:
-        clip = {"x": 0, "y": 0, "width": PICTURE_WIDTH, "height": shown_in_picture(page, scheme), "scale": 2}
+        clip = {
+            "x": 0,
+            "y": 0,
+            "width": PICTURE_WIDTH,
+            "height": shown_in_picture(page, scheme),
+            "scale": 2,
+        }
         words = {"format": "webp", "quality": 50, "clip": clip}
         taken = page.driver.execute_cdp_cmd("Page.captureScreenshot", words)
         (PICTURES / f"page-{scheme}.webp").write_bytes(base64.b64decode(taken["data"]))
@@ -596,23 +817,41 @@ def take_pictures(page):
 def try_pictures(page):
     shown_in_picture(page, "light")
     taken = (PICTURES / "page.txt").read_text(encoding="utf-8")
-    page.same("what the pictures show; tests/page --pictures takes them anew", said_in_picture(page), taken)
+    page.same(
+        "what the pictures show; tests/page --pictures takes them anew",
+        said_in_picture(page),
+        taken,
+    )
 
 
 def try_outside(page):
     """Nothing was asked for outside so far, no rule was broken and nothing complained of; and the policy holds."""
-    messages = [json.loads(entry["message"])["message"] for entry in page.driver.get_log("performance")]
-    asked = [each["params"]["request"]["url"] for each in messages if each["method"] == "Network.requestWillBeSent"]
+    messages = [
+        json.loads(entry["message"])["message"] for entry in page.driver.get_log("performance")
+    ]
+    asked = [
+        each["params"]["request"]["url"]
+        for each in messages
+        if each["method"] == "Network.requestWillBeSent"
+    ]
     page.same("pages asked for", True, len(asked) > 20)
-    page.same("asked for outside", [], [url for url in asked if not url.startswith((page.address, "data:"))])
+    page.same(
+        "asked for outside",
+        [],
+        [url for url in asked if not url.startswith((page.address, "data:"))],
+    )
     page.same("in the console", [], page.driver.get_log("browser"))
     page.open()
     page.same("broken rules", [], page.run("return violations"))
     fetched = "const done = arguments[0]; fetch('https://127.0.0.1:9/').then(() => done('read'), () => done('refused'))"
     page.same("a request", "refused", page.driver.execute_async_script(fetched))
-    page.run("document.body.append(Object.assign(document.createElement('script'), { text: 'window.hacked = 1' }))")
+    page.run(
+        "document.body.append(Object.assign(document.createElement('script'), { text: 'window.hacked = 1' }))"
+    )
     page.same("another script", None, page.run("return window.hacked ?? null"))
-    page.same("broken rules after both", ["connect-src", "script-src-elem"], page.run("return violations"))
+    page.same(
+        "broken rules after both", ["connect-src", "script-src-elem"], page.run("return violations")
+    )
 
 
 def try_without(page):
@@ -621,7 +860,9 @@ def try_without(page):
     def same(what, works):
         page.open()
         time.sleep(PAUSE)
-        said = page.driver.find_element(By.TAG_NAME, "body").text.startswith("This page needs JavaScript")
+        said = page.driver.find_element(By.TAG_NAME, "body").text.startswith(
+            "This page needs JavaScript"
+        )
         page.same(what, [not works, works], [said, page.find("text").is_displayed()])
 
     disable = "Emulation.setScriptExecutionDisabled"
@@ -636,7 +877,9 @@ def try_without(page):
 def main(file, *words):
     page = Page(file)
     page.same(f"at most {LARGEST} bytes", True, pathlib.Path(file).stat().st_size <= LARGEST)
-    page.same("its licence", True, "Apache License" in pathlib.Path(file).read_text(encoding="utf-8"))
+    page.same(
+        "its licence", True, "Apache License" in pathlib.Path(file).read_text(encoding="utf-8")
+    )
     try:
         if words == ("--pictures",):
             take_pictures(page)

@@ -71,7 +71,10 @@ class Options(typing.NamedTuple):
         return [name for name, on in zip(self._fields, self) if on]
 
 
-CHOICES = [Options(*choice[::-1]) for choice in itertools.product((False, True), repeat=len(Options._fields))]
+CHOICES = [
+    Options(*choice[::-1])
+    for choice in itertools.product((False, True), repeat=len(Options._fields))
+]
 
 # Every choice of limits for a printed duration: the places in UNITS of the largest and the smallest unit, and how many
 # parts at most, up to one more than there are units.
@@ -97,6 +100,7 @@ class Answer(typing.NamedTuple):
 
 
 # ---- Characters, words and terminals
+
 
 def is_letter(character, options):
     return character in LETTERS or options.cn_unit and character in CHINESE
@@ -142,12 +146,18 @@ def terminal_of(token, options):
 
 # ---- Sentences
 
+
 def is_sentence(kinds, options):
     """Whether these kinds of terminals, in order, are a sentence, by the rules of the grammar."""
     match kinds:
         case ["number"] | ["number", "unit"]:
             return True
-        case ["number", "operator", *rest] | ["number", "unit", "operator", *rest] if not options.no_calc:
+        case ["number", "operator", *rest] | [
+            "number",
+            "unit",
+            "operator",
+            *rest,
+        ] if not options.no_calc:
             return is_sentence(rest, options)
         case ["number", "unit", *rest]:
             return is_sentence(rest, options)
@@ -164,7 +174,9 @@ def begins_sentence(kinds, options):
     A rule of the grammar asks for at most a number after what it has read, so if any sentence goes on after them, one
     does with a single terminal.
     """
-    return is_sentence(list(kinds), options) or any(is_sentence([*kinds, kind], options) for kind in KINDS)
+    return is_sentence(list(kinds), options) or any(
+        is_sentence([*kinds, kind], options) for kind in KINDS
+    )
 
 
 @functools.lru_cache(1 << 10)
@@ -198,12 +210,20 @@ def sentences(text, options):
     The rests of the text are gone through from the shortest on. For each stands what it can be split into: a sentence;
     what is left of one after a number; what is left of one after a number and a unit.
     """
-    whole, after_number, after_unit = [()] * len(text) + [[]], [()] * len(text) + [[()]], [()] * len(text) + [[()]]
+    whole, after_number, after_unit = (
+        [()] * len(text) + [[]],
+        [()] * len(text) + [[()]],
+        [()] * len(text) + [[()]],
+    )
     # `no_calc` tells sentences apart, but neither terminals nor tokens.
     places = terminals_at_each_place(text, options._replace(no_calc=False))
     for at in reversed(range(len(text))):
         if text[at] in BLANKS:
-            whole[at], after_number[at], after_unit[at] = whole[at + 1], after_number[at + 1], after_unit[at + 1]
+            whole[at], after_number[at], after_unit[at] = (
+                whole[at + 1],
+                after_number[at + 1],
+                after_unit[at + 1],
+            )
             continue
         numbers, units, signs = [], [], []
         for terminal, end in places[at]:
@@ -218,6 +238,7 @@ def sentences(text, options):
 
 
 # ---- Tokens and the place of a syntax fault
+
 
 @functools.lru_cache(1 << 10)
 def token_lists(text, options):
@@ -273,10 +294,16 @@ def syntax_fault(text, front, options):
         return None
     expected = {kind for kind in KINDS if begins_sentence((*front.kinds(), kind), options)}
     place, found = front.next or (len(text), "")
-    return Answer("syntax", place=place, expected=frozenset(expected | ({"end"} if ends else set())), found=found)
+    return Answer(
+        "syntax",
+        place=place,
+        expected=frozenset(expected | ({"end"} if ends else set())),
+        found=found,
+    )
 
 
 # ---- Values
+
 
 class Term(typing.NamedTuple):
     """A term: its number, the length of its unit, and the operator before it."""
@@ -341,7 +368,11 @@ def evaluation_fault(terms):
 def first_term_fault(front):
     """The fault of the first term, where that stands: with its unit, or before an operator, or before the end."""
     kinds = front.kinds()
-    if kinds[:2] in (("number", "unit"), ("number", "operator")) or kinds == ("number",) and front.next is None:
+    if (
+        kinds[:2] in (("number", "unit"), ("number", "operator"))
+        or kinds == ("number",)
+        and front.next is None
+    ):
         fault = terms_of(front.terminals)[0].fault()
         return Answer(fault, place=0) if fault else None
     return None
@@ -363,6 +394,7 @@ def standing_fault(front):
 
 
 # ---- What a text is read as, and what is told of it
+
 
 def answer_of(text, options):
     """What the text is read as under these options, or the refusal that comes first.
@@ -397,7 +429,9 @@ def computed_answer(text, options):
         return early or fault
     assert spelled[0] == front.terminals, text
     terms = terms_of(spelled[0])
-    return (None if options.no_calc else evaluation_fault(terms)) or Answer("read", value=value_of(terms))
+    return (None if options.no_calc else evaluation_fault(terms)) or Answer(
+        "read", value=value_of(terms)
+    )
 
 
 def prepare(text):
@@ -422,7 +456,14 @@ def quotients(nanos, lengths, chosen):
 def print_whole(nanos):
     """The breakdown with the greatest first count, then the greatest second one, and so on; counts of 0 are left out."""
     lengths = [unit.length for unit in UNITS]
-    return " ".join(f"{count}{unit.printed}" for count, unit in zip(quotients(nanos, lengths, lengths), UNITS) if count) or "0s"
+    return (
+        " ".join(
+            f"{count}{unit.printed}"
+            for count, unit in zip(quotients(nanos, lengths, lengths), UNITS)
+            if count
+        )
+        or "0s"
+    )
 
 
 @functools.lru_cache(1 << 16)
@@ -460,7 +501,11 @@ def print_within(nanos, largest, smallest, parts, style="short"):
     units = UNITS[largest : smallest + 1]
     counts = counts_within(nanos, tuple(unit.length for unit in units), parts)
     printed_parts = [print_part(count, unit, style) for count, unit in zip(counts, units) if count]
-    zero = UNITS[smallest] if UNITS[smallest].length > SECOND else next(unit for unit in UNITS if unit.length == SECOND)
+    zero = (
+        UNITS[smallest]
+        if UNITS[smallest].length > SECOND
+        else next(unit for unit in UNITS if unit.length == SECOND)
+    )
     return ("" if style == "compact" else " ").join(printed_parts) or print_part(0, zero, style)
 
 
@@ -536,7 +581,9 @@ FIRST_HELP = {
 
 def escape(character):
     """How a character is shown in a quote."""
-    return ESCAPES.get(character) or (f"\\u{{{ord(character):x}}}" if HIDDEN.match(character) else character)
+    return ESCAPES.get(character) or (
+        f"\\u{{{ord(character):x}}}" if HIDDEN.match(character) else character
+    )
 
 
 def quote(text):
@@ -567,7 +614,9 @@ def near_name(word):
     """The name to write for a word that people write for a unit, if it is one."""
     small = word.translate(FOLDED)
     found = [name for name, words in NEAR_WORDS.items() if small in words.split()]
-    return next(iter(found + [name for name, words in SMALL_WORDS.items() if word in words.split()]), None)
+    return next(
+        iter(found + [name for name, words in SMALL_WORDS.items() if word in words.split()]), None
+    )
 
 
 def help_at(text, place, piece, expected):
@@ -575,12 +624,19 @@ def help_at(text, place, piece, expected):
     if {"number", "end"} <= set(expected) and piece.translate(FOLDED) in {",", "&", "and"}:
         return 'one duration is read, without "," or "and"'
     rows = HELP if text[:place].strip(BLANKS) else HELP | FIRST_HELP
-    return next((told for pattern, told in rows.items() if re.compile(pattern).match(text, place)), None)
+    return next(
+        (told for pattern, told in rows.items() if re.compile(pattern).match(text, place)), None
+    )
 
 
 def expected_in_line(expected):
     """What could stand at the place: a unit or a number, and then operators and the end."""
-    kinds = [("unit", "a unit"), ("number", "a number"), ("operator", "'+', '*'"), ("end", "the end")]
+    kinds = [
+        ("unit", "a unit"),
+        ("number", "a number"),
+        ("operator", "'+', '*'"),
+        ("end", "the end"),
+    ]
     words = ", ".join(word for kind, word in kinds if kind in expected)
     return "expected " + re.sub(", the end", " or the end", words)
 
@@ -590,7 +646,9 @@ def report(text, answer):
     line = one_line(text, answer)
     if answer.cause != "syntax" or len(text) > 80 or any(escape(each) != each for each in text):
         return line
-    columns = (2 if unicodedata.east_asian_width(each) == "W" else 1 for each in text[: answer.place])
+    columns = (
+        2 if unicodedata.east_asian_width(each) == "W" else 1 for each in text[: answer.place]
+    )
     return f"{text}\n{' ' * sum(columns)}^\n{line}"
 
 
@@ -604,7 +662,11 @@ def one_line(text, answer):
         case "overflow" if "*" in text:
             return f"step of over 584 years in {quote(text)}"
         case "overflow":
-            seconds = " (a number without a unit is in seconds)" if text.strip(BLANKS + DIGITS) == "" else ""
+            seconds = (
+                " (a number without a unit is in seconds)"
+                if text.strip(BLANKS + DIGITS) == ""
+                else ""
+            )
             return f"duration of over 584 years in {quote(text)}{seconds}"
         case "number too large":
             return f"number of 2^64 or more in {quote(text)}"
@@ -612,7 +674,11 @@ def one_line(text, answer):
     column = f" at column {answer.place + 1}"
     if "unit" in answer.expected and piece and kind_in_line(piece[0]) == "letter":
         name = near_name(piece)
-        told = f'did you mean "{name}"?' if name else help_at(text, answer.place, piece, answer.expected) or ALL_UNITS
+        told = (
+            f'did you mean "{name}"?'
+            if name
+            else help_at(text, answer.place, piece, answer.expected) or ALL_UNITS
+        )
         return f"unknown unit {quote(piece)}{column} ({told})"
     told = help_at(text, answer.place, piece, answer.expected)
     found = f", found {quote(piece) if piece else 'the end'}"

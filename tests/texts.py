@@ -16,13 +16,65 @@ class Texts:
     """Generated texts: terms with operators and blanks, of which most are then spoilt at a place or two."""
 
     BLANKS = ("", "", "", " ", " ", "  ", "\t", "\r", " \r\t ", "\n")
-    STRAYS = ("-", "x", ".", ",", "μ", "µ", "é", "ß", "K", "分", "中", "P", "pt", '"', "\\", "\ufeff", "\u200e",
-              "𝟙", "١", "\u00a0", "\0", "_", "/", "(", ":", "\n", "\x0b", "'", "&", "and", "And", "½", "：", "“", "\u3000",
-              "\xad", "\U000e0041" * 50, "e3", "E-2", "e+1", "+.5", "-.5")
-    BROKEN = (b"\xff", b"\xc2", b"\xb5", b"\xe5\x88", b"\xc0\x80", b"\xed\xa0\x80", b"\xf4\x90\x80\x80", b"\xf0\x9f")
+    STRAYS = (
+        "-",
+        "x",
+        ".",
+        ",",
+        "μ",
+        "µ",
+        "é",
+        "ß",
+        "K",
+        "分",
+        "中",
+        "P",
+        "pt",
+        '"',
+        "\\",
+        "\ufeff",
+        "\u200e",
+        "𝟙",
+        "١",
+        "\u00a0",
+        "\0",
+        "_",
+        "/",
+        "(",
+        ":",
+        "\n",
+        "\x0b",
+        "'",
+        "&",
+        "and",
+        "And",
+        "½",
+        "：",
+        "“",
+        "\u3000",
+        "\xad",
+        "\U000e0041" * 50,
+        "e3",
+        "E-2",
+        "e+1",
+        "+.5",
+        "-.5",
+    )
+    BROKEN = (
+        b"\xff",
+        b"\xc2",
+        b"\xb5",
+        b"\xe5\x88",
+        b"\xc0\x80",
+        b"\xed\xa0\x80",
+        b"\xf4\x90\x80\x80",
+        b"\xf0\x9f",
+    )
     NAMES = [name for unit in UNITS for name in (unit.names + " " + unit.chinese).split()]
     SHORT = [name for name in NAMES if len(name) < 3]
-    NEAR = [name for names in (*NEAR_WORDS.values(), *SMALL_WORDS.values()) for name in names.split()]
+    NEAR = [
+        name for names in (*NEAR_WORDS.values(), *SMALL_WORDS.values()) for name in names.split()
+    ]
 
     def __init__(self, seed):
         self.random = random.Random(seed)
@@ -38,7 +90,9 @@ class Texts:
             return self.choice(("0", "1"))
         if draw < 0.84:
             return "0" * self.random.randint(1, 25) + str(self.random.randrange(100))
-        about = LIMIT // self.choice((1, 2, 3, 65_536)) // self.choice((1, self.choice(UNITS).length))
+        about = (
+            LIMIT // self.choice((1, 2, 3, 65_536)) // self.choice((1, self.choice(UNITS).length))
+        )
         return str(max(0, about + self.random.randint(-2, 2)))
 
     def unit(self):
@@ -49,14 +103,22 @@ class Texts:
         if draw > 0.98:
             name = name.replace("µ", "μ")
         if draw > 0.9:
-            name = "".join(self.choice((letter, letter.upper() if letter.isascii() else letter)) for letter in name)
+            name = "".join(
+                self.choice((letter, letter.upper() if letter.isascii() else letter))
+                for letter in name
+            )
         return name
 
     def pieces(self):
         signs = self.choice((("+",), ("*",), ("", "+"), ("",), ("", "+", "*")))
         pieces = []
         for _ in range(self.choice((1, 1, 2, 2, 2, 3, 3, 4))):
-            pieces += [self.number(), self.choice(self.BLANKS), self.unit(), self.choice(self.BLANKS)]
+            pieces += [
+                self.number(),
+                self.choice(self.BLANKS),
+                self.unit(),
+                self.choice(self.BLANKS),
+            ]
             pieces += [self.choice(signs), self.choice(self.BLANKS)]
         if self.random.random() < 0.9:
             pieces[-2] = ""
@@ -96,7 +158,9 @@ class Texts:
 
 def write_for_fuzzer(folder, texts):
     (folder / "seeds").mkdir(parents=True, exist_ok=True)
-    (folder / "texts").write_bytes(b"".join(len(text).to_bytes(2, "little") + text for text in texts))
+    (folder / "texts").write_bytes(
+        b"".join(len(text).to_bytes(2, "little") + text for text in texts)
+    )
     for number, text in enumerate(texts[:500]):
         (folder / "seeds" / str(number)).write_bytes(text)
     words = [*Texts.NAMES, *"+* ", str(LIMIT - 1), str(LIMIT)]

@@ -4,7 +4,10 @@ import re
 import typing
 
 CRATE = pathlib.Path(__file__).resolve().parent.parent / "crates/duration_str"
-ROW = re.compile(r'^row_of (\w+) = record \{ nanos = (\w+); printed = codes "(.*?)"; names = (.*?); chinese = (.*?) \}$', re.M)
+ROW = re.compile(
+    r'^row_of (\w+) = record \{ nanos = (\w+); printed = codes "(.*?)"; names = (.*?); chinese = (.*?) \}$',
+    re.M,
+)
 
 
 class Unit(typing.NamedTuple):
@@ -20,6 +23,8 @@ class Unit(typing.NamedTuple):
 
 def table():
     """The units, the longest first."""
-    for variant, length, printed, *words in ROW.findall((CRATE / "specs/Units.antt").read_text(encoding="utf-8")):
+    for variant, length, printed, *words in ROW.findall(
+        (CRATE / "specs/Units.antt").read_text(encoding="utf-8")
+    ):
         names, chinese = (re.findall('"(.*?)"', row) for row in words)
         yield Unit(variant, int(length), printed, names[-2], names, chinese)

@@ -24,7 +24,9 @@ def numbers(result):
     """The nanoseconds of timedelta64[ns], one after the other, with None where one is missing."""
     values = result if isinstance(result, numpy.ndarray) else result.to_numpy()
     assert values.dtype == numpy.dtype("timedelta64[ns]"), values.dtype
-    return [None if number == -(2**63) else number for number in values.ravel().view("int64").tolist()]
+    return [
+        None if number == -(2**63) else number for number in values.ravel().view("int64").tolist()
+    ]
 
 
 class Name(str):
@@ -49,16 +51,22 @@ class Reading(unittest.TestCase):
             wanted = [value if value is not None and value < 2**63 else None for _, value in rows]
             for values in [texts, numpy.array(texts, dtype=object), pandas.Series(texts)]:
                 with self.subTest(type=type(values), **options):
-                    self.assertEqual(numbers(to_timedelta(values, errors="coerce", **options)), wanted)
+                    self.assertEqual(
+                        numbers(to_timedelta(values, errors="coerce", **options)), wanted
+                    )
 
     def test_keeps_index_and_name(self):
         series = pandas.Series(["1s", None, "2m"], index=["a", "b", "b"], name="wait")
-        wanted = pandas.Series([SECOND, None, 2 * MINUTE], index=series.index, name="wait", dtype="timedelta64[ns]")
+        wanted = pandas.Series(
+            [SECOND, None, 2 * MINUTE], index=series.index, name="wait", dtype="timedelta64[ns]"
+        )
         pandas.testing.assert_series_equal(to_timedelta(series), wanted)
         for kind in ["string", "category"]:
             pandas.testing.assert_series_equal(to_timedelta(series.astype(kind)), wanted)
         index = pandas.Index(["1s", None, "2m"], name="wait")
-        pandas.testing.assert_index_equal(to_timedelta(index), pandas.TimedeltaIndex(wanted, name="wait"))
+        pandas.testing.assert_index_equal(
+            to_timedelta(index), pandas.TimedeltaIndex(wanted, name="wait")
+        )
         self.assertEqual(numbers(to_timedelta(series.array)), [SECOND, None, 2 * MINUTE])
         self.assertEqual(list(series), ["1s", None, "2m"])
 
@@ -70,8 +78,12 @@ class Reading(unittest.TestCase):
                     read = to_timedelta(values)
                     self.assertEqual((read.shape, numbers(read)), (shape, [SECOND] * values.size))
         table = numpy.array([["1s", "2s", "3s"], ["4s", "5s", "6s"]])
-        self.assertEqual(to_timedelta(table.T).tolist(), [[n * SECOND, (n + 3) * SECOND] for n in (1, 2, 3)])
-        self.assertEqual(numbers(to_timedelta(numpy.asfortranarray(table))), [n * SECOND for n in range(1, 7)])
+        self.assertEqual(
+            to_timedelta(table.T).tolist(), [[n * SECOND, (n + 3) * SECOND] for n in (1, 2, 3)]
+        )
+        self.assertEqual(
+            numbers(to_timedelta(numpy.asfortranarray(table))), [n * SECOND for n in range(1, 7)]
+        )
         self.assertEqual(numbers(to_timedelta(table[:, ::2])), [n * SECOND for n in (1, 3, 4, 6)])
         self.assertEqual(to_timedelta([]).shape, (0,))
 
@@ -81,7 +93,15 @@ class Reading(unittest.TestCase):
         self.assertEqual(numbers(read), [0, 2 * SECOND])
 
     def test_keeps_what_is_missing(self):
-        missing = [None, float("nan"), numpy.nan, numpy.float32("nan"), pandas.NA, pandas.NaT, decimal.Decimal("nan")]
+        missing = [
+            None,
+            float("nan"),
+            numpy.nan,
+            numpy.float32("nan"),
+            pandas.NA,
+            pandas.NaT,
+            decimal.Decimal("nan"),
+        ]
         missing += [numpy.timedelta64("NaT"), numpy.datetime64("NaT")]
         values = ["1s", *missing, *missing, *missing[::-1], "1m"]
         wanted = [SECOND, *[None] * 3 * len(missing), MINUTE]
@@ -104,7 +124,9 @@ class Reading(unittest.TestCase):
             "one = ['1s', float('nan'), None]\n"
             "print(*map(repr, map(duration_str.to_timedelta, one)), repr(duration_str.to_timedelta('x', errors='coerce')))\n"
         )
-        told = subprocess.run([sys.executable, "-c", program], capture_output=True, text=True, check=True)
+        told = subprocess.run(
+            [sys.executable, "-c", program], capture_output=True, text=True, check=True
+        )
         one = "numpy.timedelta64(1000000000,'ns') numpy.timedelta64('NaT','ns') None numpy.timedelta64('NaT','ns')"
         self.assertEqual(told.stdout, f"{[SECOND, *[-(2**63)] * 5]} False\n{one}\n")
 
@@ -113,7 +135,9 @@ class Reading(unittest.TestCase):
         self.assertEqual(numbers(to_timedelta([f"{most}ns"])), [most])
         for text in [f"{2**63}ns", f"{2**63 + 1}ns", "300y", f"{2**64 - 1}ns"]:
             with self.subTest(text=text):
-                self.assertEqual(numbers(to_timedelta(["1s", text], errors="coerce")), [SECOND, None])
+                self.assertEqual(
+                    numbers(to_timedelta(["1s", text], errors="coerce")), [SECOND, None]
+                )
                 line = r"^at index 1: duration of 2\^63 nanoseconds or more, which timedelta64 doesn't have$"
                 with self.assertRaisesRegex(DurationError, line) as told:
                     to_timedelta(["1s", text, "x"])
@@ -121,7 +145,9 @@ class Reading(unittest.TestCase):
                 self.assertEqual((told.exception.text, told.exception.place), (text, None))
 
     def test_raises_the_first_refusal(self):
-        with self.assertRaisesRegex(DurationError, '^at index 2: expected .* at column 5, found "-"$') as told:
+        with self.assertRaisesRegex(
+            DurationError, '^at index 2: expected .* at column 5, found "-"$'
+        ) as told:
             to_timedelta(["1s", None, "1m 3-5", "300y", "x"])
         self.assertEqual((told.exception.index, told.exception.found), (2, "-"))
         labelled = pandas.Series(["1s", "x"], index=[10, 20])
@@ -130,21 +156,42 @@ class Reading(unittest.TestCase):
         self.assertEqual(told.exception.index, 1)
 
     def test_keeps_timedeltas(self):
-        lengths = [datetime.timedelta(days=-1), pandas.Timedelta(5, "ns"), numpy.timedelta64(3, "D"), pandas.NaT]
+        lengths = [
+            datetime.timedelta(days=-1),
+            pandas.Timedelta(5, "ns"),
+            numpy.timedelta64(3, "D"),
+            pandas.NaT,
+        ]
         wanted = [SECOND, -86_400 * SECOND, 5, 3 * 86_400 * SECOND, None, 60 * SECOND]
         for errors in ["raise", "coerce"]:
-            for column in [["1s", *lengths, "1m"], pandas.Series(["1s", *lengths, "1m"], dtype=object)]:
+            for column in [
+                ["1s", *lengths, "1m"],
+                pandas.Series(["1s", *lengths, "1m"], dtype=object),
+            ]:
                 read = to_timedelta(column, errors=errors)
                 self.assertEqual(numbers(read), wanted)
                 again = to_timedelta(read, errors=errors)
                 self.assertEqual((type(again), numbers(again)), (type(read), wanted))
-            for unit, length in [("s", SECOND), ("ns", 1), ("W", 7 * 86_400 * SECOND), ("10ms", 10_000_000)]:
+            for unit, length in [
+                ("s", SECOND),
+                ("ns", 1),
+                ("W", 7 * 86_400 * SECOND),
+                ("10ms", 10_000_000),
+            ]:
                 values = numpy.array([[1, -2], ["NaT", 3]], dtype=f"timedelta64[{unit}]")
                 read = to_timedelta(values, errors=errors)
-                self.assertEqual((read.shape, numbers(read)), ((2, 2), [length, -2 * length, None, 3 * length]))
+                self.assertEqual(
+                    (read.shape, numbers(read)), ((2, 2), [length, -2 * length, None, 3 * length])
+                )
         self.assertEqual(numbers(to_timedelta([lengths[1]] * 2)), [5, 5])
-        for value in [datetime.timedelta.max, numpy.timedelta64(2**62, "s"), numpy.timedelta64(-(2**60), "W")]:
-            with self.assertRaisesRegex(OverflowError, "^at index 1: .* 2\\*\\*63 nanoseconds or more: "):
+        for value in [
+            datetime.timedelta.max,
+            numpy.timedelta64(2**62, "s"),
+            numpy.timedelta64(-(2**60), "W"),
+        ]:
+            with self.assertRaisesRegex(
+                OverflowError, "^at index 1: .* 2\\*\\*63 nanoseconds or more: "
+            ):
                 to_timedelta(["1s", value])
             self.assertEqual(numbers(to_timedelta(["1s", value], errors="coerce")), [SECOND, None])
         with self.assertRaisesRegex(TypeError, "unit from weeks to nanoseconds"):
@@ -152,16 +199,24 @@ class Reading(unittest.TestCase):
 
     def test_keeps_the_longest_timedeltas(self):
         microsecond = datetime.timedelta(microseconds=1)
-        for value in [(2**63 - 1) // 1000 * microsecond, -((2**63 - 1) // 1000) * microsecond, datetime.timedelta(106_750)]:
+        for value in [
+            (2**63 - 1) // 1000 * microsecond,
+            -((2**63 - 1) // 1000) * microsecond,
+            datetime.timedelta(106_750),
+        ]:
             self.assertEqual(numbers(to_timedelta([value])), [value // microsecond * 1000])
         for value in [(2**63 // 1000 + 1) * microsecond, -(2**63 // 1000 + 1) * microsecond]:
             self.assertEqual(numbers(to_timedelta([value], errors="coerce")), [None])
         seconds = (2**63 - 1) // SECOND
-        column = numpy.array([seconds, -seconds, seconds + 1, -seconds - 1, "NaT"], dtype="timedelta64[s]")
+        column = numpy.array(
+            [seconds, -seconds, seconds + 1, -seconds - 1, "NaT"], dtype="timedelta64[s]"
+        )
         wanted = [seconds * SECOND, -seconds * SECOND, None, None, None]
         self.assertEqual(numbers(to_timedelta(column, errors="coerce")), wanted)
         self.assertEqual(numbers(to_timedelta(pandas.Series(column[:2]))), wanted[:2])
-        with self.assertRaisesRegex(OverflowError, "^at index 2: .*timedelta64\\(9223372037,'s'\\)$"):
+        with self.assertRaisesRegex(
+            OverflowError, "^at index 2: .*timedelta64\\(9223372037,'s'\\)$"
+        ):
             to_timedelta(column)
 
     def test_returns_an_array_of_timedelta64_as_it_is(self):
@@ -186,7 +241,9 @@ class Reading(unittest.TestCase):
             with self.subTest(value=value):
                 with self.assertRaisesRegex(TypeError, "^at index 2: .* must be a str, not "):
                     to_timedelta(["x", None, value])
-                self.assertEqual(numbers(to_timedelta(["1s", value], errors="coerce")), [SECOND, None])
+                self.assertEqual(
+                    numbers(to_timedelta(["1s", value], errors="coerce")), [SECOND, None]
+                )
         for column in [numpy.array([b"1s"]), numpy.array([1]), pandas.Series([1.5]), {1}]:
             with self.assertRaisesRegex(TypeError, "^at index 0: "):
                 to_timedelta(column)
@@ -200,22 +257,39 @@ class Reading(unittest.TestCase):
 
     def test_takes_one_missing_value(self):
         self.assertIsNone(to_timedelta(None))
-        for value in [float("nan"), numpy.float32("nan"), pandas.NA, pandas.NaT, numpy.timedelta64("NaT"), decimal.Decimal("nan")]:
+        for value in [
+            float("nan"),
+            numpy.float32("nan"),
+            pandas.NA,
+            pandas.NaT,
+            numpy.timedelta64("NaT"),
+            decimal.Decimal("nan"),
+        ]:
             with self.subTest(value=value):
                 self.assertIs(to_timedelta(value), pandas.NaT)
-        texts = pandas.Series(["1s", None, pandas.NA, float("nan"), "2m"], index=list("abcde"), dtype=object)
+        texts = pandas.Series(
+            ["1s", None, pandas.NA, float("nan"), "2m"], index=list("abcde"), dtype=object
+        )
         pandas.testing.assert_series_equal(texts.map(to_timedelta), to_timedelta(texts))
 
     def test_takes_one_value(self):
-        rows = [("1m 5ns", MINUTE + 5), (datetime.timedelta(1), 86_400 * SECOND), (pandas.Timedelta(-5, "ns"), -5)]
+        rows = [
+            ("1m 5ns", MINUTE + 5),
+            (datetime.timedelta(1), 86_400 * SECOND),
+            (pandas.Timedelta(-5, "ns"), -5),
+        ]
         for value, nanos in [*rows, (numpy.timedelta64(3, "m"), 3 * MINUTE), (Name("1分"), MINUTE)]:
             with self.subTest(value=value):
                 read = to_timedelta(value, cn_unit=True)
                 self.assertEqual((type(read), read.value), (pandas.Timedelta, nanos))
-        with self.assertRaisesRegex(DurationError, r'^unknown unit "x" at column 2 \(write y, .* or ns\)$') as told:
+        with self.assertRaisesRegex(
+            DurationError, r'^unknown unit "x" at column 2 \(write y, .* or ns\)$'
+        ) as told:
             to_timedelta("1x")
         self.assertIsNone(told.exception.index)
-        self.assertTrue(numpy.isnat(to_timedelta(["1h", "90"], errors="coerce", require_unit=True)[1]))
+        self.assertTrue(
+            numpy.isnat(to_timedelta(["1h", "90"], errors="coerce", require_unit=True)[1])
+        )
         with self.assertRaisesRegex(DurationError, "^duration of .* timedelta64 doesn't have$"):
             to_timedelta("300y")
         with self.assertRaisesRegex(OverflowError, "nanoseconds or more: .*=999999\\)$"):
@@ -224,7 +298,10 @@ class Reading(unittest.TestCase):
             self.assertIs(to_timedelta(value, errors="coerce"), pandas.NaT)
 
     def test_reads_as_pandas_does_where_both_read(self):
-        texts = [f"{n % 50}d {n % 24}h {n % 60}m {n % 61}s {n}ms {n % 7}us {n % 3}ns" for n in range(20_000)]
+        texts = [
+            f"{n % 50}d {n % 24}h {n % 60}m {n % 61}s {n}ms {n % 7}us {n % 3}ns"
+            for n in range(20_000)
+        ]
         for column in [pandas.Series(texts), pandas.Series([*texts, None])]:
             pandas.testing.assert_series_equal(to_timedelta(column), pandas.to_timedelta(column))
 
@@ -243,11 +320,21 @@ class Printing(unittest.TestCase):
         series = pandas.Series(values, index=list("abcdef"), name="wait")
         wanted = pandas.Series(printed, index=series.index, name="wait", dtype=object)
         pandas.testing.assert_series_equal(format_many(series), wanted)
-        pandas.testing.assert_index_equal(format_many(pandas.Index(series)), pandas.Index(printed, name="wait"))
+        pandas.testing.assert_index_equal(
+            format_many(pandas.Index(series)), pandas.Index(printed, name="wait")
+        )
         pandas.testing.assert_series_equal(to_timedelta(format_many(series)), series)
 
     def test_prints_ints_and_timedeltas(self):
-        values = [2**63, 5, datetime.timedelta(1), pandas.Timedelta(1, "ns"), pandas.NaT, numpy.int64(7), float("nan")]
+        values = [
+            2**63,
+            5,
+            datetime.timedelta(1),
+            pandas.Timedelta(1, "ns"),
+            pandas.NaT,
+            numpy.int64(7),
+            float("nan"),
+        ]
         values += [numpy.timedelta64(3, "ns"), numpy.timedelta64(3, "D"), numpy.timedelta64("NaT")]
         printed = [format(2**63), "5ns", "1d", "1ns", None, "7ns", None, "3ns", "3d", None]
         self.assertEqual(format_many(values), printed)
@@ -266,15 +353,24 @@ class Printing(unittest.TestCase):
         self.assertEqual(format(numpy.timedelta64(5, "s")), "5s")
         with self.assertRaisesRegex(ValueError, "missing"):
             format(numpy.timedelta64("NaT"))
-        for value in [numpy.bool_(True), numpy.float64(1), numpy.timedelta64(1, "Y"), numpy.timedelta64(1)]:
+        for value in [
+            numpy.bool_(True),
+            numpy.float64(1),
+            numpy.timedelta64(1, "Y"),
+            numpy.timedelta64(1),
+        ]:
             with self.assertRaises(TypeError):
                 format(value)
 
     def test_prints_units_beyond_nanoseconds(self):
         for unit, length in [("W", 604_800), ("D", 86_400), ("h", 3_600), ("m", 60), ("s", 1)]:
             values = numpy.array([1, 2**33], dtype=f"timedelta64[{unit}]")
-            self.assertEqual(format_many(values).tolist(), [format(n * length * SECOND) for n in (1, 2**33)])
-        self.assertEqual(format_many(numpy.array([3], dtype="timedelta64[10ms]")).tolist(), ["30ms"])
+            self.assertEqual(
+                format_many(values).tolist(), [format(n * length * SECOND) for n in (1, 2**33)]
+            )
+        self.assertEqual(
+            format_many(numpy.array([3], dtype="timedelta64[10ms]")).tolist(), ["30ms"]
+        )
         for unit in ["Y", "M", "ps"]:
             with self.assertRaisesRegex(TypeError, "not of timedelta64"):
                 format_many(numpy.array([1], dtype=f"timedelta64[{unit}]"))

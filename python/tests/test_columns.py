@@ -28,7 +28,10 @@ class Columns(unittest.TestCase):
     def test_reads_the_vectors(self):
         for options, rows in value_columns():
             texts, values = zip(*rows)
-            wanted = (array("Q", [value or 0 for value in values]), array("Q", refused_positions(values)))
+            wanted = (
+                array("Q", [value or 0 for value in values]),
+                array("Q", refused_positions(values)),
+            )
             with self.subTest(**options):
                 self.assertEqual(parse_many(texts, errors="coerce", **options), wanted)
                 for code in "qQiI":
@@ -48,8 +51,13 @@ class Columns(unittest.TestCase):
                     with self.subTest(text=text, call=call, **options):
                         error = error_of(call, *arguments, **options)
                         line = f"at index 3: {alone}"
-                        self.assertEqual((str(error), error.report), (line, alone.report.replace(str(alone), line)))
-                        self.assertEqual({**vars(error), "index": None, "report": alone.report}, vars(alone))
+                        self.assertEqual(
+                            (str(error), error.report),
+                            (line, alone.report.replace(str(alone), line)),
+                        )
+                        self.assertEqual(
+                            {**vars(error), "index": None, "report": alone.report}, vars(alone)
+                        )
                         self.assertEqual(error.index, 3)
                         again = pickle.loads(pickle.dumps(error))
                         self.assertEqual((str(again), vars(again)), (str(error), vars(error)))
@@ -68,9 +76,13 @@ class Columns(unittest.TestCase):
                 for place in {0, length // 2, length - 1} if length else ():
                     spoilt = [*texts[:place], "1µx", *texts[place + 1 :]]
                     error = error_of(parse_many, spoilt)
-                    self.assertEqual((error.index, str(error).partition(":")[0]), (place, f"at index {place}"))
+                    self.assertEqual(
+                        (error.index, str(error).partition(":")[0]), (place, f"at index {place}")
+                    )
                     values[place], kept = 0, values[place]
-                    self.assertEqual(parse_many(spoilt, errors="coerce"), (values, array("Q", [place])))
+                    self.assertEqual(
+                        parse_many(spoilt, errors="coerce"), (values, array("Q", [place]))
+                    )
                     values[place] = kept
 
     def test_reads_ten_million(self):
@@ -79,15 +91,24 @@ class Columns(unittest.TestCase):
 
     def test_reads_a_long_text_among_short_ones(self):
         long = "1s " * 3_500_000
-        self.assertEqual(list(parse_many(["1s", long, "2s"])), [SECOND, 3_500_000 * SECOND, 2 * SECOND])
+        self.assertEqual(
+            list(parse_many(["1s", long, "2s"])), [SECOND, 3_500_000 * SECOND, 2 * SECOND]
+        )
         data, offsets = buffers_of([b"1s", long.encode(), b"2s"])
         for given in [data, bytearray(data)]:
-            self.assertEqual(list(parse_buffers(given, offsets)), [SECOND, 3_500_000 * SECOND, 2 * SECOND])
+            self.assertEqual(
+                list(parse_buffers(given, offsets)), [SECOND, 3_500_000 * SECOND, 2 * SECOND]
+            )
         error = error_of(parse_many, ["1s", f"{long}µ", "2s"])
         self.assertEqual((error.index, error.pos, error.found), (1, len(long), "µ"))
 
     def test_takes_any_sequence(self):
-        for texts in [("1s", "2s"), {"1s": 0, "2s": 0}, (text for text in ("1s", "2s")), map(str, ["1s", "2s"])]:
+        for texts in [
+            ("1s", "2s"),
+            {"1s": 0, "2s": 0},
+            (text for text in ("1s", "2s")),
+            map(str, ["1s", "2s"]),
+        ]:
             self.assertEqual(list(parse_many(texts)), [SECOND, 2 * SECOND])
         for text in ["12", b"12", bytearray(b"12")]:
             with self.assertRaisesRegex(TypeError, "not one (str|bytes|bytearray)$"):
@@ -120,7 +141,9 @@ class Columns(unittest.TestCase):
     def test_knows_two_ways_with_errors(self):
         for errors in ["ignore", "Raise", None, "", True]:
             for call in (parse_many, duration_str.to_timedelta):
-                with self.assertRaisesRegex(ValueError, "^errors must be 'raise' or 'coerce', not "):
+                with self.assertRaisesRegex(
+                    ValueError, "^errors must be 'raise' or 'coerce', not "
+                ):
                     call(["1s"], errors=errors)
         with self.assertRaises(TypeError):
             parse_many(["1s"], "coerce")
@@ -136,7 +159,11 @@ class Buffers(unittest.TestCase):
                 self.assertEqual(parse_buffers(given, offsets), wanted)
         whole = memoryview(offsets)
         # ctypes names the order of bytes.
-        counts = [whole.cast("B").cast("n"), whole.cast("B").cast("N"), (ctypes.c_int64 * 3)(*offsets)]
+        counts = [
+            whole.cast("B").cast("n"),
+            whole.cast("B").cast("N"),
+            (ctypes.c_int64 * 3)(*offsets),
+        ]
         for given in [whole, whole.toreadonly(), array("l", offsets), array("Q", offsets), *counts]:
             self.assertEqual(parse_buffers(data, given), wanted)
 
@@ -169,7 +196,9 @@ class Buffers(unittest.TestCase):
             sys.setswitchinterval(interval)
 
     def test_skips_bytes_outside(self):
-        self.assertEqual(list(parse_buffers(b"..1s2s..", array("i", [2, 4, 6]))), [SECOND, 2 * SECOND])
+        self.assertEqual(
+            list(parse_buffers(b"..1s2s..", array("i", [2, 4, 6]))), [SECOND, 2 * SECOND]
+        )
         for offsets in ([], [0], [5], [-1]):
             self.assertEqual(parse_buffers(b"1s", array("q", offsets)), array("Q"))
 
@@ -179,12 +208,16 @@ class Buffers(unittest.TestCase):
                 with self.subTest(code=code, offsets=offsets):
                     numbers = array(code, offsets)
                     for data in [b"1s2s", bytearray(b"1s2s")]:
-                        with self.assertRaisesRegex(ValueError, "^at index 1: the offsets .* lie beyond 4 bytes$") as told:
+                        with self.assertRaisesRegex(
+                            ValueError, "^at index 1: the offsets .* lie beyond 4 bytes$"
+                        ) as told:
                             parse_buffers(data, numbers)
                         self.assertNotIsInstance(told.exception, DurationError)
                         answer = parse_buffers(data, numbers, errors="coerce")
                         self.assertEqual(answer, (array("Q", [SECOND, 0]), array("Q", [1])))
-        with self.assertRaisesRegex(ValueError, f"^at index 0: the offsets 0 and {2**64 - 1} decrease"):
+        with self.assertRaisesRegex(
+            ValueError, f"^at index 0: the offsets 0 and {2**64 - 1} decrease"
+        ):
             parse_buffers(b"1s", array("Q", [0, 2**64 - 1]))
         for data in [b"1s2s", bytearray(b"1s2s")]:
             answer = parse_buffers(data, array("q", [3, 1, 2, 4, 4, 9, 2, 4]), errors="coerce")
@@ -199,10 +232,19 @@ class Buffers(unittest.TestCase):
             file.flush()
             with mmap.mmap(file.fileno(), 2**32, access=mmap.ACCESS_READ) as mapped:
                 offsets = array("Q", [2**32 - 6, 2**32 - 4])
-                self.assertEqual(parse_buffers(mapped, offsets, errors="coerce"), (array("Q", [SECOND]), array("Q")))
+                self.assertEqual(
+                    parse_buffers(mapped, offsets, errors="coerce"),
+                    (array("Q", [SECOND]), array("Q")),
+                )
                 narrow = array("i", [-6, -4])
-                self.assertEqual(parse_buffers(mapped, narrow, errors="coerce"), (array("Q", [0]), array("Q", [0])))
-                with self.assertRaisesRegex(ValueError, "^at index 0: the offsets -6 and -4 decrease or lie beyond .* bytes$"):
+                self.assertEqual(
+                    parse_buffers(mapped, narrow, errors="coerce"),
+                    (array("Q", [0]), array("Q", [0])),
+                )
+                with self.assertRaisesRegex(
+                    ValueError,
+                    "^at index 0: the offsets -6 and -4 decrease or lie beyond .* bytes$",
+                ):
                     parse_buffers(mapped, narrow)
 
     def test_refuses_what_is_no_text(self):
@@ -210,6 +252,10 @@ class Buffers(unittest.TestCase):
             error = error_of(parse_buffers, *buffers_of([b"1s", encoded]))
             self.assertEqual((error.index, error.cause, error.place), (1, Cause.NOT_TEXT, None))
             self.assertEqual(error.text.encode("utf-8", "surrogateescape"), encoded)
-            self.assertEqual((str(error), error.report), ("at index 1: not UTF-8", "at index 1: not UTF-8"))
+            self.assertEqual(
+                (str(error), error.report), ("at index 1: not UTF-8", "at index 1: not UTF-8")
+            )
         # Two texts that are cut within a character
-        self.assertEqual(list(parse_buffers("1µs".encode(), array("q", [0, 2, 4]), errors="coerce")[1]), [0, 1])
+        self.assertEqual(
+            list(parse_buffers("1µs".encode(), array("q", [0, 2, 4]), errors="coerce")[1]), [0, 1]
+        )

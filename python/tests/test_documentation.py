@@ -18,7 +18,9 @@ def load_tests(loader, tests, pattern):
     if importlib.util.find_spec("pandas"):
         described = importlib.metadata.metadata("duration-str").get_payload()
         for block in re.findall(r"^```pycon\n(.*?)^```$", described, re.M | re.S):
-            example = doctest.DocTestParser().get_doctest(block, dict(names), "README.md", None, None)
+            example = doctest.DocTestParser().get_doctest(
+                block, dict(names), "README.md", None, None
+            )
             tests.addTest(doctest.DocTestCase(example))
     return tests
 
@@ -28,7 +30,9 @@ class Documentation(unittest.TestCase):
         for name in duration_str.__all__:
             self.assertEqual(getattr(duration_str, name).__module__, "duration_str")
             # The docstring of the module tells of what has none, such as a name for a type.
-            self.assertTrue(getattr(duration_str, name).__doc__ or f"`{name}`" in duration_str.__doc__, name)
+            self.assertTrue(
+                getattr(duration_str, name).__doc__ or f"`{name}`" in duration_str.__doc__, name
+            )
 
     def test_leaves_the_builtin_function(self):
         names = {}
@@ -39,8 +43,12 @@ class Documentation(unittest.TestCase):
     def test_shows_the_units_and_the_options(self):
         self.assertIn("µs, µsec, µsecond", pydoc.render_doc(duration_str))
         for name in ["parse", "parse_ns", "parse_seconds"]:
-            options = ", ".join(f"{option}=False" for option in [*VECTORS["options"], "require_unit"])
-            self.assertEqual(f"(text, /, *, {options})", str(inspect.signature(getattr(duration_str, name))))
+            options = ", ".join(
+                f"{option}=False" for option in [*VECTORS["options"], "require_unit"]
+            )
+            self.assertEqual(
+                f"(text, /, *, {options})", str(inspect.signature(getattr(duration_str, name)))
+            )
 
     def test_fits_a_terminal(self):
         for told in [duration_str, *map(vars(duration_str).get, ["format", *duration_str.__all__])]:

@@ -26,7 +26,10 @@ class Errors(unittest.TestCase):
                 error = error_of(text, **dict.fromkeys(names, True))
                 self.assertIsInstance(error, ValueError)
                 pos = place and len(text.encode()[:place].decode())
-                self.assertEqual((error.cause.name, error.place, error.pos, error.found), (cause, place, pos, found))
+                self.assertEqual(
+                    (error.cause.name, error.place, error.pos, error.found),
+                    (cause, place, pos, found),
+                )
                 kinds = (Expected[name.upper()] for name in expected)
                 self.assertEqual(error.expected, functools.reduce(operator.or_, kinds, Expected(0)))
                 above = "" if spaces is None else f"{text}\n{' ' * spaces}^\n"
@@ -52,19 +55,23 @@ class Errors(unittest.TestCase):
                 with self.subTest(text=text, **options):
                     error = error_of(text, **options)
                     self.assertIs(error.cause, Cause.NOT_TEXT)
-                    self.assertEqual((error.text, error.place, error.pos, error.found), (text, None, None, None))
+                    self.assertEqual(
+                        (error.text, error.place, error.pos, error.found), (text, None, None, None)
+                    )
                     line = f"not UTF-8: a lone surrogate at index {place}"
                     self.assertEqual((str(error), error.report), (line, line))
 
     def test_tells_of_a_long_text_in_a_short_line(self):
-        line = 'expected a number, \'+\', \'*\' or the end at column 100003, found "x"'
+        line = "expected a number, '+', '*' or the end at column 100003, found \"x\""
         error = error_of(f"1s{' ' * 100_000}x")
         self.assertEqual((str(error), error.report), (line, line))
 
     def test_costs_little(self):
         """Of Python's functions a refusal calls one, the error's own."""
         called = []
-        sys.setprofile(lambda frame, event, _: called.append(frame.f_code.co_name) if event == "call" else None)
+        sys.setprofile(
+            lambda frame, event, _: called.append(frame.f_code.co_name) if event == "call" else None
+        )
         try:
             parse_ns("1m 3-5")
         except DurationError:
@@ -80,5 +87,7 @@ class Errors(unittest.TestCase):
             error.job = "backup"
             error.__notes__ = ["of the second job"]
             for other in [copy.copy(error), pickle.loads(pickle.dumps(error))]:
-                self.assertEqual((type(other), str(other), vars(other)), (JobError, str(error), vars(error)))
+                self.assertEqual(
+                    (type(other), str(other), vars(other)), (JobError, str(error), vars(error))
+                )
                 self.assertEqual(other.report, error.report)

@@ -36,7 +36,9 @@ def run(name, *words):
     with tempfile.TemporaryDirectory() as room:
         file = pathlib.Path(room, name)
         file.write_text(recipe(name), encoding="utf-8")
-        ended = subprocess.run([sys.executable, file, *words], capture_output=True, text=True, encoding="utf-8")
+        ended = subprocess.run(
+            [sys.executable, file, *words], capture_output=True, text=True, encoding="utf-8"
+        )
     return ended.returncode, ended.stdout, ended.stderr.rstrip("\n").rpartition("\n")[2]
 
 
@@ -61,7 +63,9 @@ class Lines(unittest.TestCase):
         parser.add_argument("--timeout", type=DurationType(cn_unit=True), default=HOUR)
         self.assertEqual(parser.parse_args([]).timeout, HOUR)
         self.assertEqual(parser.parse_args(["--timeout", "1分"]).timeout, MINUTE)
-        with self.assertRaisesRegex(argparse.ArgumentError, "argument --timeout: '1%x': expected a unit"):
+        with self.assertRaisesRegex(
+            argparse.ArgumentError, "argument --timeout: '1%x': expected a unit"
+        ):
             parser.parse_args(["--timeout", "1%x"])
         for option, text in [("no_calc", "1m+1"), ("lowercase", "1M"), ("require_unit", "90")]:
             self.assertRaises(argparse.ArgumentTypeError, DurationType(**{option: True}), text)
@@ -129,8 +133,15 @@ class Models(unittest.TestCase):
         adapter = self.pydantic.TypeAdapter(duration_str.DurationWithUnits)
         self.assertEqual(adapter.validate_python("1h 30m"), 1.5 * HOUR)
         self.assertEqual(adapter.dump_json(adapter.validate_python(MINUTE)), b'"1min"')
-        self.assertEqual(pickle.loads(pickle.dumps(duration_str.DurationWithUnits)), duration_str.DurationWithUnits)
-        for text, line in [("90", "expected a unit at column 3, found the end"), ("", "empty text"), ("9" * 99_999, "number of")]:
+        self.assertEqual(
+            pickle.loads(pickle.dumps(duration_str.DurationWithUnits)),
+            duration_str.DurationWithUnits,
+        )
+        for text, line in [
+            ("90", "expected a unit at column 3, found the end"),
+            ("", "empty text"),
+            ("9" * 99_999, "number of"),
+        ]:
             with self.assertRaisesRegex(self.pydantic.ValidationError, line):
                 adapter.validate_python(text)
 
@@ -145,7 +156,9 @@ class Models(unittest.TestCase):
     def test_has_the_schema_of_its_json(self):
         for mode in ["validation", "serialization"]:
             schema = self.model.model_json_schema(mode=mode)
-            self.assertEqual(schema["properties"], {"timeout": {"title": "Timeout", "type": "string"}})
+            self.assertEqual(
+                schema["properties"], {"timeout": {"title": "Timeout", "type": "string"}}
+            )
 
     def models_with(self, **words):
         """Models of one field that has these demands, assigned and in `Annotated`."""
@@ -170,7 +183,11 @@ class Models(unittest.TestCase):
                             if text in wanted:
                                 self.assertEqual(read().length, parse(text))
                             else:
-                                self.assertRaisesRegex(self.pydantic.ValidationError, " than .*(1 hour|seconds=3600)", read)
+                                self.assertRaisesRegex(
+                                    self.pydantic.ValidationError,
+                                    " than .*(1 hour|seconds=3600)",
+                                    read,
+                                )
 
     def test_writes_no_demand_that_json_schema_lacks(self):
         for demand in ["gt", "ge", "lt", "le"]:
@@ -178,7 +195,9 @@ class Models(unittest.TestCase):
                 for model in self.models_with(description="how long", **{demand: HOUR}):
                     schema = model.model_json_schema(mode=mode)["properties"]["length"]
                     schema.pop("default", None)
-                    self.assertEqual(schema, {"title": "Length", "type": "string", "description": "how long"})
+                    self.assertEqual(
+                        schema, {"title": "Length", "type": "string", "description": "how long"}
+                    )
 
     def test_shows_a_default_as_a_text(self):
         field = self.pydantic.Field
@@ -188,19 +207,30 @@ class Models(unittest.TestCase):
             (typing.Annotated[duration_str.Duration, field(gt=HOUR)], 120 * HOUR),
         ]:
             for config in [{}, {"ser_json_timedelta": "float"}]:
-                model = self.pydantic.create_model("Kept", __config__=config, length=(annotation, default))
+                model = self.pydantic.create_model(
+                    "Kept", __config__=config, length=(annotation, default)
+                )
                 for mode in ["validation", "serialization"]:
                     with self.subTest(annotation=annotation, mode=mode, **config):
                         schema = model.model_json_schema(mode=mode)
                         self.assertEqual(schema["properties"]["length"]["default"], "5d")
                 self.assertEqual(model(length="5d"), model())
-        model = self.pydantic.create_model("Kept", __config__={"ser_json_timedelta": "float"}, length=(duration_str.Duration, 0 * HOUR))
+        model = self.pydantic.create_model(
+            "Kept",
+            __config__={"ser_json_timedelta": "float"},
+            length=(duration_str.Duration, 0 * HOUR),
+        )
         self.assertEqual(model.model_json_schema()["properties"]["length"]["default"], "0s")
 
     def test_takes_a_default_as_a_text(self):
         for annotation, default in [
             (duration_str.Duration, self.pydantic.Field("30s", validate_default=True)),
-            (typing.Annotated[duration_str.Duration, self.pydantic.Field(validate_default=True, lt=HOUR)], "30s"),
+            (
+                typing.Annotated[
+                    duration_str.Duration, self.pydantic.Field(validate_default=True, lt=HOUR)
+                ],
+                "30s",
+            ),
         ]:
             model = self.pydantic.create_model("Kept", length=(annotation, default))
             self.assertEqual(model().length, MINUTE / 2)
@@ -209,7 +239,9 @@ class Models(unittest.TestCase):
                 schema = model.model_json_schema(mode=mode)["properties"]["length"]
                 self.assertEqual(schema, {"title": "Length", "type": "string", "default": "30s"})
         for value, config in [(-HOUR, {"ser_json_timedelta": "float"}), ("Pst", {})]:
-            model = self.pydantic.create_model("Kept", __config__=config, length=(duration_str.Duration, value))
+            model = self.pydantic.create_model(
+                "Kept", __config__=config, length=(duration_str.Duration, value)
+            )
             self.assertIn("default", model.model_json_schema()["properties"]["length"])
         unchecked = self.pydantic.create_model("Kept", length=(duration_str.Duration, "30s"))
         self.assertEqual(unchecked().model_dump_json(), '{"length":"30s"}')
@@ -226,10 +258,15 @@ class Models(unittest.TestCase):
         model = self.pydantic.create_model("Either", length=(duration_str.Duration | int, ...))
         with self.assertRaises(self.pydantic.ValidationError) as told:
             model(length="x")
-        self.assertEqual(told.exception.errors()[0]["loc"], ("length", "function-before[duration(), timedelta]"))
+        self.assertEqual(
+            told.exception.errors()[0]["loc"], ("length", "function-before[duration(), timedelta]")
+        )
 
     def test_refuses_what_is_no_text_as_pydantic_does(self):
-        for read in [lambda: self.model(timeout=5), lambda: self.model.model_validate_json('{"timeout": 5}')]:
+        for read in [
+            lambda: self.model(timeout=5),
+            lambda: self.model.model_validate_json('{"timeout": 5}'),
+        ]:
             with self.assertRaises(self.pydantic.ValidationError) as told:
                 read()
             self.assertEqual([error["type"] for error in told.exception.errors()], ["string_type"])
@@ -245,21 +282,32 @@ class Models(unittest.TestCase):
             with self.assertRaises(self.pydantic.ValidationError) as told:
                 read()
             (error,) = told.exception.errors()
-            self.assertEqual((error["type"], error["loc"], error["msg"]), ("duration", ("timeout",), LINE))
-            self.assertEqual(error["ctx"], {"cause": "SYNTAX", "place": 2, "pos": 2, "found": "mins"})
+            self.assertEqual(
+                (error["type"], error["loc"], error["msg"]), ("duration", ("timeout",), LINE)
+            )
+            self.assertEqual(
+                error["ctx"], {"cause": "SYNTAX", "place": 2, "pos": 2, "found": "mins"}
+            )
             self.assertEqual(told.exception.json().count("did you mean"), 1)
         with self.assertRaises(self.pydantic.ValidationError) as told:
             self.model(timeout="1µs …")
-        self.assertEqual(told.exception.errors()[0]["ctx"], {"cause": "SYNTAX", "place": 5, "pos": 4, "found": "…"})
+        self.assertEqual(
+            told.exception.errors()[0]["ctx"],
+            {"cause": "SYNTAX", "place": 5, "pos": 4, "found": "…"},
+        )
         with self.assertRaises(self.pydantic.ValidationError) as told:
             self.model(timeout="600y {cause}")
-        self.assertEqual(told.exception.errors()[0]["msg"], 'duration of over 584 years in "600y {cause}"')
+        self.assertEqual(
+            told.exception.errors()[0]["msg"], 'duration of over 584 years in "600y {cause}"'
+        )
 
     def test_runs_the_recipe(self):
         self.assertEqual(run("model.py"), (0, '{"timeout":"1h 30min"}\n', ""))
 
     def test_reads_before_other_validators(self):
-        adapter = self.pydantic.TypeAdapter(typing.Annotated[datetime.timedelta, self.pydantic.BeforeValidator(parse)])
+        adapter = self.pydantic.TypeAdapter(
+            typing.Annotated[datetime.timedelta, self.pydantic.BeforeValidator(parse)]
+        )
         self.assertEqual(adapter.validate_python("1m"), MINUTE)
         for value in [5, None, b"1m", "1x"]:
             with self.subTest(value=value), self.assertRaises(self.pydantic.ValidationError):
@@ -267,5 +315,7 @@ class Models(unittest.TestCase):
 
     def test_is_imported_by_who_uses_it(self):
         program = "import sys, duration_str; print(*{'pydantic', 'click', 'argparse', 'numpy'} & {*sys.modules})"
-        told = subprocess.run([sys.executable, "-c", program], capture_output=True, text=True, check=True)
+        told = subprocess.run(
+            [sys.executable, "-c", program], capture_output=True, text=True, check=True
+        )
         self.assertEqual(told.stdout, "\n")

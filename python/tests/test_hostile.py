@@ -18,7 +18,16 @@ import unittest
 from array import array
 
 import duration_str
-from duration_str import DurationError, DurationTypeError, format, format_many, parse, parse_buffers, parse_many, parse_ns
+from duration_str import (
+    DurationError,
+    DurationTypeError,
+    format,
+    format_many,
+    parse,
+    parse_buffers,
+    parse_many,
+    parse_ns,
+)
 
 SECOND = 10**9
 
@@ -75,11 +84,20 @@ def parse_any(data, offsets):
 class Hostile(unittest.TestCase):
     def test_reads_what_a_str_holds(self):
         self.assertEqual(parse_ns(Named("1s")), SECOND)
-        self.assertEqual(parse_many(["1s", Named("1m"), Named("1分")], cn_unit=True).tolist(), [SECOND, 60 * SECOND, 60 * SECOND])
-        for call, given, index in [(parse_ns, Named("1x"), None), (parse_many, ["1s", Named("1x")], 1)]:
+        self.assertEqual(
+            parse_many(["1s", Named("1m"), Named("1分")], cn_unit=True).tolist(),
+            [SECOND, 60 * SECOND, 60 * SECOND],
+        )
+        for call, given, index in [
+            (parse_ns, Named("1x"), None),
+            (parse_many, ["1s", Named("1x")], 1),
+        ]:
             with self.assertRaises(DurationError) as told:
                 call(given)
-            self.assertEqual((told.exception.index, told.exception.text, type(told.exception.text)), (index, "1x", str))
+            self.assertEqual(
+                (told.exception.index, told.exception.text, type(told.exception.text)),
+                (index, "1x", str),
+            )
 
     def test_asks_no_metaclass_what_a_str_is(self):
         wanted = (array("Q", [3 * SECOND, 0, 3 * SECOND]), array("Q", [1]))
@@ -89,17 +107,26 @@ class Hostile(unittest.TestCase):
 
     def test_wants_one_text_and_known_options(self):
         for call in (parse, parse_ns):
-            for arguments, words in [((), {}), (("1s", "2s"), {}), ((), {"text": "1s"}), (("1s",), {"no_calk": True})]:
+            for arguments, words in [
+                ((), {}),
+                (("1s", "2s"), {}),
+                ((), {"text": "1s"}),
+                (("1s",), {"no_calk": True}),
+            ]:
                 with self.assertRaises(TypeError):
                     call(*arguments, **words)
             never = type("Never", (), {"__bool__": lambda _: 1 // 0})()
             with self.assertRaises(ZeroDivisionError):
                 call("1s", no_calc=never)
-            with self.assertRaisesRegex(TypeError, rf"^{call.__name__}\(\) got an unexpected keyword argument 'strict'$"):
+            with self.assertRaisesRegex(
+                TypeError, rf"^{call.__name__}\(\) got an unexpected keyword argument 'strict'$"
+            ):
                 call("1s", strict=never)
             self.assertEqual(call("1m", **{"".join(("no_", "calc")): True}), call("1m"))
 
-        with self.assertRaisesRegex(TypeError, r"not float: timedelta\(seconds=...\) takes seconds$"):
+        with self.assertRaisesRegex(
+            TypeError, r"not float: timedelta\(seconds=...\) takes seconds$"
+        ):
             format(1.5)
 
     def test_prints_what_an_int_is(self):
@@ -120,7 +147,11 @@ class Hostile(unittest.TestCase):
                 raise error
 
             value = type("Failing", (), {"__index__": fail, "__bool__": fail})()
-            for call in [lambda: format(5, parts=value), lambda: format_many([5], parts=value), lambda: parse("1s", no_calc=value)]:
+            for call in [
+                lambda: format(5, parts=value),
+                lambda: format_many([5], parts=value),
+                lambda: parse("1s", no_calc=value),
+            ]:
                 self.assertRaises(error, call)
 
     def test_leaves_the_buffers_of_a_kept_error(self):
@@ -136,16 +167,34 @@ class Hostile(unittest.TestCase):
     def test_refuses_other_buffers(self):
         wide = memoryview(bytes(24)).cast("q")
         table, none = memoryview(bytes(16)).cast("q", [2, 1]), memoryview(bytes(8)).cast("q", [])
-        other = ctypes.c_int64.__ctype_be__ if sys.byteorder == "little" else ctypes.c_int64.__ctype_le__
-        codes = [array("d", [0, 2]), array("H", [0, 2]), b"\0\2", *(memoryview(bytes(16)).cast(code) for code in "d?P")]
+        other = (
+            ctypes.c_int64.__ctype_be__
+            if sys.byteorder == "little"
+            else ctypes.c_int64.__ctype_le__
+        )
+        codes = [
+            array("d", [0, 2]),
+            array("H", [0, 2]),
+            b"\0\2",
+            *(memoryview(bytes(16)).cast(code) for code in "d?P"),
+        ]
         codes.append((other * 2)(0, 2))
         rows = [(TypeError, data, wide) for data in ("1s", None, 5)]
         rows += [(TypeError, b"1s", offsets) for offsets in (table, none, *codes, [0, 2], None, 5)]
-        rows += [(BufferError, memoryview(b"1s2s")[::2], wide), (BufferError, b"1s", wide[::2]), (BufferError, b"1s", wide[::-1])]
+        rows += [
+            (BufferError, memoryview(b"1s2s")[::2], wide),
+            (BufferError, b"1s", wide[::2]),
+            (BufferError, b"1s", wide[::-1]),
+        ]
         for error, data, offsets in rows:
             with self.subTest(data=data, offsets=offsets), self.assertRaises(error):
                 parse_buffers(data, offsets)
-        self.assertEqual(parse_buffers(b"1s", memoryview(b"\0" + bytes(array("q", [0, 2])))[1:].cast("q")).tolist(), [SECOND])
+        self.assertEqual(
+            parse_buffers(
+                b"1s", memoryview(b"\0" + bytes(array("q", [0, 2])))[1:].cast("q")
+            ).tolist(),
+            [SECOND],
+        )
         self.assertEqual(parse_buffers(b"1s", memoryview(array("q", [0]))[1:]), array("Q"))
 
     def test_prints_what_changes_while_it_is_printed(self):
@@ -159,7 +208,9 @@ class Hostile(unittest.TestCase):
 
         values += [SECOND, Clearing(seconds=1), SECOND]
         texts = []
-        duration_str._native.format_list(values, duration_str._texts.nanos_of, texts, (0, 10, 11, 0))
+        duration_str._native.format_list(
+            values, duration_str._texts.nanos_of, texts, (0, 10, 11, 0)
+        )
         self.assertEqual((values, texts), ([], ["1s", "1s 1ns"]))
         with self.assertRaisesRegex(TypeError, "^at index 1: .* not Odd$"):
             format_many([SECOND, Odd(), SECOND])
@@ -176,7 +227,9 @@ class Hostile(unittest.TestCase):
             self.assertEqual(nanos.tolist(), [SECOND, 7, 0])
         for kept in ["1", 2**63, None]:
             with self.assertRaises((OverflowError, TypeError)):
-                duration_str._native.read_list([Odd()], array("Q", [0]), 0, True, 0, lambda value, index: kept)
+                duration_str._native.read_list(
+                    [Odd()], array("Q", [0]), 0, True, 0, lambda value, index: kept
+                )
 
     def test_reads_what_threads_overwrite(self):
         """For two seconds, in which the bytes are written to without the interpreter's lock."""
@@ -199,9 +252,13 @@ class Hostile(unittest.TestCase):
                 views = [under, memoryview(under).toreadonly(), mapped]
                 self.read_while(write, lambda place: parse_any(views[place % 3], offsets))
 
-    @unittest.skipUnless(sys.version_info >= (3, 12), "interpreters share a lock before CPython 3.12")
+    @unittest.skipUnless(
+        sys.version_info >= (3, 12), "interpreters share a lock before CPython 3.12"
+    )
     def test_serves_interpreters_with_locks_of_their_own(self):
-        interpreters = importlib.import_module("_interpreters" if sys.version_info >= (3, 13) else "_xxsubinterpreters")
+        interpreters = importlib.import_module(
+            "_interpreters" if sys.version_info >= (3, 13) else "_xxsubinterpreters"
+        )
         program = (
             "import duration_str\n"
             "for nanos in range(10_000):\n"
@@ -242,7 +299,9 @@ class Hostile(unittest.TestCase):
 
     def test_keeps_no_memory(self):
         # Of 2,000 texts the last needs more room for its copy.
-        column, offsets = bytearray(b"1s" * 2_000 + b" " * 70_000), array("i", [*range(0, 4_000, 2), 74_000])
+        column, offsets = bytearray(b"1s" * 2_000 + b" " * 70_000), array(
+            "i", [*range(0, 4_000, 2), 74_000]
+        )
 
         def all_calls(rounds):
             for _ in range(rounds):
@@ -260,7 +319,9 @@ class Hostile(unittest.TestCase):
                 parse_many(["1s", "x", None, "\ud800"] * 200, errors="coerce")
                 parse_buffers(column, offsets)
                 missing = [b"x" * 10_000, b"y" * 10_000]
-                duration_str._native.read_list(missing, array("Q", [0, 0]), 0, True, 0, lambda *_: -(2**63))
+                duration_str._native.read_list(
+                    missing, array("Q", [0, 0]), 0, True, 0, lambda *_: -(2**63)
+                )
                 for call in (lambda: parse_many(["1s", "x"]), lambda: format_many([*range(200), *[None] * 200, "x"]),
                              lambda: parse_buffers(b"1s2x", array("i", [0, 2, 4]))):  # fmt: skip
                     try:

@@ -16,23 +16,37 @@ class Printing(unittest.TestCase):
         for text, largest, smallest, parts, short, long in VECTORS["printed"]:
             secs, is_long, nanos = text.removesuffix(" ns").partition(" s ")
             value = int(secs) * SECOND + int(nanos) if is_long else parse_ns(text)
-            for style, printed in [("short", short), ("compact", short.replace(" ", "")), ("long", long)]:
+            for style, printed in [
+                ("short", short),
+                ("compact", short.replace(" ", "")),
+                ("long", long),
+            ]:
                 words = {"largest": largest, "smallest": smallest, "parts": parts, "style": style}
                 with self.subTest(text=text, **words):
                     if parts == 0 or UNITS.index(largest) > UNITS.index(smallest):
                         self.assertRaises(ValueError, format, value, **words)
                         continue
                     self.assertEqual(format(value, **words), printed)
-                    self.assertEqual(format_many([value, None, value], **words), [printed, None, printed])
+                    self.assertEqual(
+                        format_many([value, None, value], **words), [printed, None, printed]
+                    )
                     if value % 1000 == 0 and value < 2**64:
-                        self.assertEqual(format(datetime.timedelta(microseconds=value // 1000), **words), printed)
+                        self.assertEqual(
+                            format(datetime.timedelta(microseconds=value // 1000), **words), printed
+                        )
                     if (largest, smallest, parts, style) == ("y", "ns", 11, "short"):
                         self.assertEqual(format(value), printed)
         self.assertRaises(OverflowError, format, 2**64 * SECOND)
 
     def test_prints_a_timedelta(self):
-        for value in [datetime.timedelta(0), datetime.timedelta(hours=7, microseconds=1), datetime.timedelta.max]:
-            self.assertEqual(format(value), format(value // datetime.timedelta(microseconds=1) * 1000))
+        for value in [
+            datetime.timedelta(0),
+            datetime.timedelta(hours=7, microseconds=1),
+            datetime.timedelta.max,
+        ]:
+            self.assertEqual(
+                format(value), format(value // datetime.timedelta(microseconds=1) * 1000)
+            )
 
     def test_reads_back_what_it_prints(self):
         seed = random.Random(18)
@@ -51,31 +65,64 @@ class Printing(unittest.TestCase):
                 format(value)
 
     def test_takes_each_limit_alone(self):
-        rows = [({"parts": 2}, "3min 13s"), ({"smallest": "min"}, "3min"), ({"largest": "us"}, "193029000µs"), ({"parts": 10**30}, "3min 13s 29ms")]
+        rows = [
+            ({"parts": 2}, "3min 13s"),
+            ({"smallest": "min"}, "3min"),
+            ({"largest": "us"}, "193029000µs"),
+            ({"parts": 10**30}, "3min 13s 29ms"),
+        ]
         rows.append(({"parts": 2**32 + 1}, "3min 13s 29ms"))
         for words, printed in rows:
             self.assertEqual(format(193_029_000_000, **words), printed)
 
     def test_wants_known_limits(self):
         names = "one of y, q, mon, w, d, h, min, s, ms, µs or us, ns, not "
-        rows = [({"parts": parts}, ValueError, "^parts must be 1 or more$") for parts in (0, -1, -(10**30), -(10**5000))]
+        rows = [
+            ({"parts": parts}, ValueError, "^parts must be 1 or more$")
+            for parts in (0, -1, -(10**30), -(10**5000))
+        ]
         shorter = [("h", "d"), ("ns", "us"), ("q", "y")]
-        rows += [({"largest": one, "smallest": other}, ValueError, "shorter unit than smallest$") for one, other in shorter]
+        rows += [
+            ({"largest": one, "smallest": other}, ValueError, "shorter unit than smallest$")
+            for one, other in shorter
+        ]
         rows += [({"smallest": "d", "largest": "h"}, ValueError, "shorter unit than smallest$")]
-        rows += [({"style": style}, ValueError, f"^style must be one of short, compact, long, not {style!r}$") for style in ("Long", "")]
+        rows += [
+            (
+                {"style": style},
+                ValueError,
+                f"^style must be one of short, compact, long, not {style!r}$",
+            )
+            for style in ("Long", "")
+        ]
         rows += [({"style": style}, TypeError, "^style must be one of") for style in (None, 2)]
-        rows += [({"parts": value}, TypeError, "parts must be a whole number") for value in (1.0, 1.5, "2", None, True)]
+        rows += [
+            ({"parts": value}, TypeError, "parts must be a whole number")
+            for value in (1.0, 1.5, "2", None, True)
+        ]
         for unit in ["m", "days", "", "S", "μs", "y "]:
-            rows += [({"largest": unit}, ValueError, f"^largest must be {names}{unit!r}$"), ({"smallest": unit}, ValueError, names)]
-        rows += [({"largest": unit}, TypeError, f"^largest must be {names}") for unit in (None, 4, b"d")]
+            rows += [
+                ({"largest": unit}, ValueError, f"^largest must be {names}{unit!r}$"),
+                ({"smallest": unit}, ValueError, names),
+            ]
+        rows += [
+            ({"largest": unit}, TypeError, f"^largest must be {names}") for unit in (None, 4, b"d")
+        ]
         for limits, error, told in rows:
             for call in [lambda: format(5, **limits), lambda: format_many([], **limits)]:
                 with self.subTest(**limits):
                     self.assertRaisesRegex(error, told, call)
-        for call in [lambda: format(5, 2), lambda: format(), lambda: format(5, part=2), lambda: format(value=5)]:
+        for call in [
+            lambda: format(5, 2),
+            lambda: format(),
+            lambda: format(5, part=2),
+            lambda: format(value=5),
+        ]:
             self.assertRaises(TypeError, call)
 
     def test_wants_an_int_or_a_timedelta(self):
         for value in [None, "1s", 1.0, True, datetime.datetime(2000, 1, 1)]:
-            with self.subTest(value=value), self.assertRaisesRegex(TypeError, "must be an int .* not "):
+            with self.subTest(value=value), self.assertRaisesRegex(
+                TypeError, "must be an int .* not "
+            ):
                 format(value)

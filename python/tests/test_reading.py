@@ -25,7 +25,9 @@ class Reading(unittest.TestCase):
                     self.assertEqual(value_of(text, options), value)
 
     def test_rounds_down_to_microseconds(self):
-        self.assertEqual(parse("3m + 13s + 29ms"), datetime.timedelta(minutes=3, seconds=13, milliseconds=29))
+        self.assertEqual(
+            parse("3m + 13s + 29ms"), datetime.timedelta(minutes=3, seconds=13, milliseconds=29)
+        )
         self.assertEqual(str(parse("3m + 13s + 29ms")), "0:03:13.029000")
         self.assertEqual(parse("1999ns"), datetime.timedelta(microseconds=1))
         self.assertEqual(parse_ns("1999ns"), 1999)
@@ -49,7 +51,9 @@ class Reading(unittest.TestCase):
         self.assertEqual(DurationTypeError.__bases__, (TypeError, ValueError))
         for value in [None, 1, 1.5, b"1s", bytearray(b"1s"), ["1s"], datetime.timedelta(1)]:
             for call in (parse, parse_ns):
-                with self.subTest(value=value), self.assertRaisesRegex(DurationTypeError, "must be a str, not "):
+                with self.subTest(value=value), self.assertRaisesRegex(
+                    DurationTypeError, "must be a str, not "
+                ):
                     call(value)
 
     def test_reads_in_threads(self):

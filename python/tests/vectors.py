@@ -17,7 +17,9 @@ OPTIONS = [dict(zip(VECTORS["options"], choice)) for choice in CHOICES]
 def values_under(options):
     """The vectors' texts, with their values in nanoseconds, or None if they are refused under these options."""
     for group in VECTORS["values"]:
-        is_read = all(options[name] for name in group["on"]) and not any(options[name] for name in group["off"])
+        is_read = all(options[name] for name in group["on"]) and not any(
+            options[name] for name in group["off"]
+        )
         for secs, nanos, texts in group["rows"]:
             yield from ((text, secs * 10**9 + nanos if is_read else None) for text in texts)
 

@@ -73,8 +73,25 @@ from ._native import format as format
 from ._native import parse, parse_ns, parse_seconds
 from ._texts import Cause, DurationError, DurationTypeError, Expected, Style, Unit
 
-__all__ = ["Cause", "Duration", "DurationError", "DurationTypeError", "DurationWithUnits", "Expected", "Style", "Unit"]
-__all__ += ["format_many", "parse", "parse_buffers", "parse_many", "parse_ns", "parse_seconds", "to_timedelta"]
+__all__ = [
+    "Cause",
+    "Duration",
+    "DurationError",
+    "DurationTypeError",
+    "DurationWithUnits",
+    "Expected",
+    "Style",
+    "Unit",
+]
+__all__ += [
+    "format_many",
+    "parse",
+    "parse_buffers",
+    "parse_many",
+    "parse_ns",
+    "parse_seconds",
+    "to_timedelta",
+]
 __version__ = "0.19.0"
 
 # Errors, pickles and documentation name what is public by this module.

@@ -80,7 +80,9 @@ def _nanos_of_value(value: Any, index: int, raises: bool) -> int:
     if raises and is_kept:
         raise OverflowError(f"{where}timedelta64 doesn't have 2**63 nanoseconds or more: {value!r}")
     if raises:
-        raise DurationTypeError(f"{where}a duration's text must be a str, not {type(value).__name__}")
+        raise DurationTypeError(
+            f"{where}a duration's text must be a str, not {type(value).__name__}"
+        )
     return _NAT
 
 
@@ -89,7 +91,11 @@ def _nanos_of_lengths(values: Any, lengths: Any, raises: bool) -> Any:
     import numpy
 
     if lengths.dtype == numpy.dtype("timedelta64[ns]"):
-        return values.copy() if hasattr(values, "array") and values.dtype == lengths.dtype else _like(values, lengths)
+        return (
+            values.copy()
+            if hasattr(values, "array") and values.dtype == lengths.dtype
+            else _like(values, lengths)
+        )
     step, numbers = nanos_a_step(lengths.dtype), lengths.astype("int64").ravel()
     # NaT is its own absolute value.
     beyond = abs(numbers) > (2**63 - 1) // step
@@ -102,22 +108,51 @@ def _nanos_of_lengths(values: Any, lengths: Any, raises: bool) -> Any:
 
 @overload
 def to_timedelta(
-    values: None, *, errors: Errors = ...,
-    no_calc: bool = ..., lowercase: bool = ..., cn_unit: bool = ..., require_unit: bool = ...,
-) -> None: ...
+    values: None,
+    *,
+    errors: Errors = ...,
+    no_calc: bool = ...,
+    lowercase: bool = ...,
+    cn_unit: bool = ...,
+    require_unit: bool = ...,
+) -> None:
+    ...
+
+
 @overload
 def to_timedelta(
-    values: list[Any] | tuple[Any, ...] | NDArray[Any], *,
-    errors: Errors = ..., no_calc: bool = ..., lowercase: bool = ..., cn_unit: bool = ..., require_unit: bool = ...,
-) -> NDArray[numpy.timedelta64]: ...
+    values: list[Any] | tuple[Any, ...] | NDArray[Any],
+    *,
+    errors: Errors = ...,
+    no_calc: bool = ...,
+    lowercase: bool = ...,
+    cn_unit: bool = ...,
+    require_unit: bool = ...,
+) -> NDArray[numpy.timedelta64]:
+    ...
+
+
 @overload
 def to_timedelta(
-    values: Any, *, errors: Errors = ...,
-    no_calc: bool = ..., lowercase: bool = ..., cn_unit: bool = ..., require_unit: bool = ...,
-) -> Any: ...
+    values: Any,
+    *,
+    errors: Errors = ...,
+    no_calc: bool = ...,
+    lowercase: bool = ...,
+    cn_unit: bool = ...,
+    require_unit: bool = ...,
+) -> Any:
+    ...
+
+
 def to_timedelta(
-    values: Any, *, errors: Errors = "raise",
-    no_calc: bool = False, lowercase: bool = False, cn_unit: bool = False, require_unit: bool = False,
+    values: Any,
+    *,
+    errors: Errors = "raise",
+    no_calc: bool = False,
+    lowercase: bool = False,
+    cn_unit: bool = False,
+    require_unit: bool = False,
 ) -> Any:
     """Reads texts as timedelta64[ns], like `pandas.to_timedelta`. It needs
     NumPy, but not pandas. The options are those of `parse_ns`.
@@ -149,7 +184,9 @@ def to_timedelta(
     is_one = is_one or not hasattr(values, "__iter__")
     texts = [values] if is_one else _flat(values)
     nanos = zeros(len(texts))
-    _native.read_list(texts, nanos, options, raises, -1 if is_one else 0, partial(_nanos_of_value, raises=raises))
+    _native.read_list(
+        texts, nanos, options, raises, -1 if is_one else 0, partial(_nanos_of_value, raises=raises)
+    )
     result = numpy.asarray(nanos).view("timedelta64[ns]")
     if not is_one:
         return _like(values, result)
@@ -158,7 +195,12 @@ def to_timedelta(
 
 
 def format_many(
-    values: Any, *, parts: int = 11, largest: Unit = "y", smallest: Unit = "ns", style: Style = "short"
+    values: Any,
+    *,
+    parts: int = 11,
+    largest: Unit = "y",
+    smallest: Unit = "ns",
+    style: Style = "short",
 ) -> Any:
     """Prints a column of durations, each as `format` does. A duration is an
     int of nanoseconds or a timedelta. The options are those of `format`.
@@ -179,7 +221,9 @@ def format_many(
     given = _durations(values) if hasattr(values, "__array__") else list(values)
     texts: list[str | None] = []
     try:
-        _native.format_list(given, lambda value: None if _is_missing(value) else nanos_of(value), texts, limits)
+        _native.format_list(
+            given, lambda value: None if _is_missing(value) else nanos_of(value), texts, limits
+        )
     except (OverflowError, TypeError, ValueError) as error:
         raise type(error)(f"at index {len(texts)}: {error}") from None
     if not hasattr(values, "__array__"):

@@ -18,7 +18,9 @@ def values_of(texts: Any) -> list[Any]:
     if isinstance(texts, (str, bytes, bytearray)):
         raise TypeError(f"the texts must be a sequence of str, not one {type(texts).__name__}")
     if getattr(texts, "ndim", 1) != 1:
-        raise TypeError(f"the texts must be one column, not {texts.ndim} dimensions of {type(texts).__name__}")
+        raise TypeError(
+            f"the texts must be one column, not {texts.ndim} dimensions of {type(texts).__name__}"
+        )
     return list(texts.tolist() if hasattr(texts, "tolist") else texts)
 
 
@@ -36,17 +38,38 @@ def raises_errors(errors: str) -> bool:
 
 @overload
 def parse_many(
-    texts: Iterable[str], *, errors: Literal["raise"] = ...,
-    no_calc: bool = ..., lowercase: bool = ..., cn_unit: bool = ..., require_unit: bool = ...,
-) -> array[int]: ...
+    texts: Iterable[str],
+    *,
+    errors: Literal["raise"] = ...,
+    no_calc: bool = ...,
+    lowercase: bool = ...,
+    cn_unit: bool = ...,
+    require_unit: bool = ...,
+) -> array[int]:
+    ...
+
+
 @overload
 def parse_many(
-    texts: Iterable[object], *, errors: Literal["coerce"],
-    no_calc: bool = ..., lowercase: bool = ..., cn_unit: bool = ..., require_unit: bool = ...,
-) -> tuple[array[int], array[int]]: ...
+    texts: Iterable[object],
+    *,
+    errors: Literal["coerce"],
+    no_calc: bool = ...,
+    lowercase: bool = ...,
+    cn_unit: bool = ...,
+    require_unit: bool = ...,
+) -> tuple[array[int], array[int]]:
+    ...
+
+
 def parse_many(
-    texts: Any, *, errors: Errors = "raise",
-    no_calc: bool = False, lowercase: bool = False, cn_unit: bool = False, require_unit: bool = False,
+    texts: Any,
+    *,
+    errors: Errors = "raise",
+    no_calc: bool = False,
+    lowercase: bool = False,
+    cn_unit: bool = False,
+    require_unit: bool = False,
 ) -> array[int] | tuple[array[int], array[int]]:
     """Reads texts, any iterable of str, and returns their values in
     nanoseconds as an `array('Q')`. The options are those of `parse_ns`.
@@ -65,23 +88,49 @@ def parse_many(
     """
     raises, given = raises_errors(errors), values_of(texts)
     nanos = zeros(len(given))
-    refused = _native.read_list(given, nanos, option_bits(no_calc, lowercase, cn_unit, require_unit), raises, 0, None)
+    refused = _native.read_list(
+        given, nanos, option_bits(no_calc, lowercase, cn_unit, require_unit), raises, 0, None
+    )
     return nanos if raises else (nanos, array("Q", refused))
 
 
 @overload
 def parse_buffers(
-    data: Any, offsets: Any, *, errors: Literal["raise"] = ...,
-    no_calc: bool = ..., lowercase: bool = ..., cn_unit: bool = ..., require_unit: bool = ...,
-) -> array[int]: ...
+    data: Any,
+    offsets: Any,
+    *,
+    errors: Literal["raise"] = ...,
+    no_calc: bool = ...,
+    lowercase: bool = ...,
+    cn_unit: bool = ...,
+    require_unit: bool = ...,
+) -> array[int]:
+    ...
+
+
 @overload
 def parse_buffers(
-    data: Any, offsets: Any, *, errors: Literal["coerce"],
-    no_calc: bool = ..., lowercase: bool = ..., cn_unit: bool = ..., require_unit: bool = ...,
-) -> tuple[array[int], array[int]]: ...
+    data: Any,
+    offsets: Any,
+    *,
+    errors: Literal["coerce"],
+    no_calc: bool = ...,
+    lowercase: bool = ...,
+    cn_unit: bool = ...,
+    require_unit: bool = ...,
+) -> tuple[array[int], array[int]]:
+    ...
+
+
 def parse_buffers(
-    data: Any, offsets: Any, *, errors: Errors = "raise",
-    no_calc: bool = False, lowercase: bool = False, cn_unit: bool = False, require_unit: bool = False,
+    data: Any,
+    offsets: Any,
+    *,
+    errors: Errors = "raise",
+    no_calc: bool = False,
+    lowercase: bool = False,
+    cn_unit: bool = False,
+    require_unit: bool = False,
 ) -> array[int] | tuple[array[int], array[int]]:
     """Reads texts like `parse_many`, but from a buffer with UTF-8. Text `k`
     is `data[offsets[k] : offsets[k + 1]]`, so there is one offset more than
@@ -104,5 +153,7 @@ def parse_buffers(
     raises = raises_errors(errors)
     with memoryview(offsets) as row:
         nanos = zeros(max(0, len(row) - 1))
-        refused = _native.read_buffers(data, row, nanos, option_bits(no_calc, lowercase, cn_unit, require_unit), raises)
+        refused = _native.read_buffers(
+            data, row, nanos, option_bits(no_calc, lowercase, cn_unit, require_unit), raises
+        )
     return nanos if raises else (nanos, array("Q", refused))

@@ -34,7 +34,12 @@ def _read(value: Any, require_unit: bool) -> Any:
     try:
         return parse(value, require_unit=require_unit)
     except DurationError as error:
-        told = {"cause": error.cause.name, "place": error.place, "pos": error.pos, "found": error.found}
+        told = {
+            "cause": error.cause.name,
+            "place": error.place,
+            "pos": error.pos,
+            "found": error.found,
+        }
         # pydantic puts the context's values in place of `{NAME}` in the message, and so a text that has one gets no context.
         context = None if any(f"{{{name}}}" in str(error) for name in told) else told
         raise core.PydanticCustomError("duration", str(error), context) from None
@@ -52,7 +57,9 @@ class _Shown(dict[str, Any]):
         if key == "default" and (isinstance(value, float) or str(value).startswith("P")):
             # A negative one has no text.
             with suppress(ValueError):
-                value = format(import_module("pydantic").TypeAdapter(datetime.timedelta).validate_python(value))
+                value = format(
+                    import_module("pydantic").TypeAdapter(datetime.timedelta).validate_python(value)
+                )
         super().__setitem__(key, value)
 
 
@@ -70,16 +77,24 @@ class _Texts:
 
     def __get_pydantic_core_schema__(self, source: Any, handler: Any) -> Any:
         schema: Any = import_module("pydantic_core.core_schema")
-        write = schema.plain_serializer_function_ser_schema(_print, return_schema=schema.str_schema(), when_used="json")
-        return schema.no_info_before_validator_function(self._read, handler(datetime.timedelta), serialization=write)
+        write = schema.plain_serializer_function_ser_schema(
+            _print, return_schema=schema.str_schema(), when_used="json"
+        )
+        return schema.no_info_before_validator_function(
+            self._read, handler(datetime.timedelta), serialization=write
+        )
 
     def __get_pydantic_json_schema__(self, schema: Any, handler: Any) -> Any:
         # pydantic writes demands that JSON Schema doesn't have of a string.
         told = handler({"type": "str"})
-        return _Shown((key, value) for key, value in told.items() if key not in ("gt", "ge", "lt", "le"))
+        return _Shown(
+            (key, value) for key, value in told.items() if key not in ("gt", "ge", "lt", "le")
+        )
 
 
-_Duration, _DurationWithUnits = _Texts("Duration", duration), _Texts("DurationWithUnits", duration_with_units)
+_Duration, _DurationWithUnits = _Texts("Duration", duration), _Texts(
+    "DurationWithUnits", duration_with_units
+)
 Duration = Annotated[datetime.timedelta, _Duration]
 """A timedelta in a model of pydantic 2. A text is read, and a timedelta is kept. The JSON has the printed text. `gt`, `ge`,
 `lt` and `le` of a `Field` are timedeltas."""

@@ -14,23 +14,60 @@ class NumpyDuration(Protocol):
     def astype(self, dtype: str, /) -> Any: ...
 
 def parse_ns(
-    text: str, /, *, no_calc: bool = False, lowercase: bool = False, cn_unit: bool = False, require_unit: bool = False
+    text: str,
+    /,
+    *,
+    no_calc: bool = False,
+    lowercase: bool = False,
+    cn_unit: bool = False,
+    require_unit: bool = False,
 ) -> int: ...
 def parse(
-    text: str, /, *, no_calc: bool = False, lowercase: bool = False, cn_unit: bool = False, require_unit: bool = False
+    text: str,
+    /,
+    *,
+    no_calc: bool = False,
+    lowercase: bool = False,
+    cn_unit: bool = False,
+    require_unit: bool = False,
 ) -> timedelta: ...
 def parse_seconds(
-    text: str, /, *, no_calc: bool = False, lowercase: bool = False, cn_unit: bool = False, require_unit: bool = False
+    text: str,
+    /,
+    *,
+    no_calc: bool = False,
+    lowercase: bool = False,
+    cn_unit: bool = False,
+    require_unit: bool = False,
 ) -> float: ...
 def format(
-    value: int | timedelta | NumpyDuration, /, *,
-    parts: int = 11, largest: Unit = "y", smallest: Unit = "ns", style: Style = "short",
+    value: int | timedelta | NumpyDuration,
+    /,
+    *,
+    parts: int = 11,
+    largest: Unit = "y",
+    smallest: Unit = "ns",
+    style: Style = "short",
 ) -> str: ...
-def limits(*, parts: int, largest: Unit, smallest: Unit, style: Style) -> tuple[int, int, int, int]: ...
+def limits(
+    *, parts: int, largest: Unit, smallest: Unit, style: Style
+) -> tuple[int, int, int, int]: ...
 def format_list(
-    values: list[Any], function: Callable[[Any], int | None], texts: list[str | None], limits: tuple[int, int, int, int], /
+    values: list[Any],
+    function: Callable[[Any], int | None],
+    texts: list[str | None],
+    limits: tuple[int, int, int, int],
+    /,
 ) -> None: ...
 def read_list(
-    texts: list[Any], nanos: array[int], options: int, raises: bool, first: int, function: Callable[[Any, int], int] | None, /
+    texts: list[Any],
+    nanos: array[int],
+    options: int,
+    raises: bool,
+    first: int,
+    function: Callable[[Any, int], int] | None,
+    /,
 ) -> list[int]: ...
-def read_buffers(data: Any, offsets: memoryview, nanos: array[int], options: int, raises: bool, /) -> list[int]: ...
+def read_buffers(
+    data: Any, offsets: memoryview, nanos: array[int], options: int, raises: bool, /
+) -> list[int]: ...

@@ -97,7 +97,12 @@ class DurationError(ValueError):
         line = line if index is None else f"at index {index}: {line}"
         super().__init__(line)
         self.report = above + feed + line
-        self.text, self.cause, self.place, self.expected = text, _CAUSES[cause], place, _EXPECTED[expected]
+        self.text, self.cause, self.place, self.expected = (
+            text,
+            _CAUSES[cause],
+            place,
+            _EXPECTED[expected],
+        )
         self.found, self.index = found, index
         self.pos = place if place is None or text.isascii() else len(text.encode()[:place].decode())
 
@@ -107,7 +112,9 @@ class DurationError(ValueError):
 
 def option_bits(no_calc: bool, lowercase: bool, cn_unit: bool, require_unit: bool) -> int:
     """The options as the library takes them."""
-    return sum(bool(is_on) << bit for bit, is_on in enumerate((no_calc, lowercase, cn_unit, require_unit)))
+    return sum(
+        bool(is_on) << bit for bit, is_on in enumerate((no_calc, lowercase, cn_unit, require_unit))
+    )
 
 
 def nanos_a_step(dtype: Any) -> int:
@@ -115,7 +122,9 @@ def nanos_a_step(dtype: Any) -> int:
     numpy: Any = import_module("numpy")
     unit, count = numpy.datetime_data(dtype)
     if unit not in _NANOS:
-        raise TypeError(f"a duration must be of a unit from weeks to nanoseconds, not of timedelta64[{unit}]")
+        raise TypeError(
+            f"a duration must be of a unit from weeks to nanoseconds, not of timedelta64[{unit}]"
+        )
     return int(count) * _NANOS[unit]
 
 
@@ -135,4 +144,6 @@ def nanos_of(value: Any) -> int:
     if numpy and isinstance(value, numpy.integer):
         return int(value)
     help = ": timedelta(seconds=...) takes seconds" if isinstance(value, float) else ""
-    raise TypeError(f"a duration must be an int of nanoseconds or a timedelta, not {type(value).__name__}{help}")
+    raise TypeError(
+        f"a duration must be an int of nanoseconds or a timedelta, not {type(value).__name__}{help}"
+    )

@@ -13,9 +13,19 @@ class DurationType:
     """Reads a timedelta from a text, under these options. For a refused text, argparse shows the text and the error's line."""
 
     def __init__(
-        self, *, no_calc: bool = False, lowercase: bool = False, cn_unit: bool = False, require_unit: bool = False
+        self,
+        *,
+        no_calc: bool = False,
+        lowercase: bool = False,
+        cn_unit: bool = False,
+        require_unit: bool = False,
     ) -> None:
-        self._options = {"no_calc": no_calc, "lowercase": lowercase, "cn_unit": cn_unit, "require_unit": require_unit}
+        self._options = {
+            "no_calc": no_calc,
+            "lowercase": lowercase,
+            "cn_unit": cn_unit,
+            "require_unit": require_unit,
+        }
 
     def __repr__(self) -> str:
         return "DURATION"

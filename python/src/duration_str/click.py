@@ -21,14 +21,26 @@ class DurationParamType(click.ParamType):
     name = "duration"
 
     def __init__(
-        self, *, no_calc: bool = False, lowercase: bool = False, cn_unit: bool = False, require_unit: bool = False
+        self,
+        *,
+        no_calc: bool = False,
+        lowercase: bool = False,
+        cn_unit: bool = False,
+        require_unit: bool = False,
     ) -> None:
-        self._options = {"no_calc": no_calc, "lowercase": lowercase, "cn_unit": cn_unit, "require_unit": require_unit}
+        self._options = {
+            "no_calc": no_calc,
+            "lowercase": lowercase,
+            "cn_unit": cn_unit,
+            "require_unit": require_unit,
+        }
 
     def __repr__(self) -> str:
         return "DURATION"
 
-    def convert(self, value: Any, param: click.Parameter | None, ctx: click.Context | None) -> datetime.timedelta:
+    def convert(
+        self, value: Any, param: click.Parameter | None, ctx: click.Context | None
+    ) -> datetime.timedelta:
         if isinstance(value, datetime.timedelta):
             return value
         try:
