@@ -28,7 +28,11 @@ runs() {
 # quietly WORDS..: runs the words, and says something only where they fail
 quietly() {
     local said
-    said=$(runs "$*" "$@") || { echo "$said"; status=1; return 1; }
+    said=$(runs "$*" "$@") || {
+        echo "$said"
+        status=1
+        return 1
+    }
 }
 
 # same WHAT WANTED GOT: whether both texts are the same; the difference is shown where they are not. $rows has how many were tried
