@@ -1,5 +1,6 @@
-/* Calls what the header declares, and tells each answer that is not the one expected. It compiles as C and as C++, so that
- * the header and the library are seen to agree on each struct and each number. */
+/* Calls what the header declares, and tells each answer that is not the one expected. It compiles
+ * as C and as C++, so that the header and the library are seen to agree on each struct and each
+ * number. */
 #include <stdio.h>
 #include <string.h>
 
@@ -7,101 +8,125 @@
 
 static int wrong = 0;
 
-static void expect(bool holds, const char *what)
-{
+static void expect(bool holds, const char *what) {
     if (!holds) {
         printf("not as expected: %s\n", what);
         wrong = 1;
     }
 }
 
-/* What is told of a text, by each call that takes options. Each byte of the answer is set before, so that one that is not
- * written shows. */
-static struct duration_str_answer read_with(const char *text, uint32_t options)
-{
+/* What is told of a text, by each call that takes options. Each byte of the answer is set before,
+ * so that one that is not written shows. */
+static struct duration_str_answer read_with(const char *text, uint32_t options) {
     struct duration_str_answer answer, of_line, of_report;
     char line[DURATION_STR_ONE_LINE_BUFFER_SIZE], report[DURATION_STR_REPORT_BUFFER_SIZE];
     const size_t length = strlen(text);
     memset(&answer, 0xff, sizeof answer);
     bool read = duration_str_parse_with(text, length, options, &answer);
-    expect(read == (answer.cause == DURATION_STR_CAUSE_READ), "a text is read exactly if there is no cause");
-    expect((duration_str_one_line(text, length, options, &of_line, line) == 0) == read, "a line of what is refused");
-    expect((duration_str_report(text, length, options, &of_report, report) == 0) == read, "a report of what is refused");
-    expect(of_line.cause == answer.cause && of_report.cause == answer.cause, "the same answer by three calls");
-    expect(of_line.place == answer.place && of_report.place == answer.place, "the same place by three calls");
+    expect(read == (answer.cause == DURATION_STR_CAUSE_READ),
+        "a text is read exactly if there is no cause");
+    expect((duration_str_one_line(text, length, options, &of_line, line) == 0) == read,
+        "a line of what is refused");
+    expect((duration_str_report(text, length, options, &of_report, report) == 0) == read,
+        "a report of what is refused");
+    expect(of_line.cause == answer.cause && of_report.cause == answer.cause,
+        "the same answer by three calls");
+    expect(of_line.place == answer.place && of_report.place == answer.place,
+        "the same place by three calls");
     return answer;
 }
 
-/* A syntax fault at this byte, where these kinds could stand, and at which a piece of so many bytes stands. */
-static bool is_syntax(struct duration_str_answer answer, size_t place, uint32_t expected, size_t found_length)
-{
-    return answer.cause == DURATION_STR_CAUSE_SYNTAX && answer.has_place == 1 && answer.place == place &&
-           answer.expected == expected && answer.found_length == found_length && answer.nanos == 0 &&
-           answer.first_operator == 0 && answer.later_operator == 0;
+/* A syntax fault at this byte, where these kinds could stand, and at which a piece of so many bytes
+ * stands. */
+static bool is_syntax(
+    struct duration_str_answer answer, size_t place, uint32_t expected, size_t found_length) {
+    return answer.cause == DURATION_STR_CAUSE_SYNTAX && answer.has_place == 1 &&
+           answer.place == place && answer.expected == expected &&
+           answer.found_length == found_length && answer.nanos == 0 && answer.first_operator == 0 &&
+           answer.later_operator == 0;
 }
 
 /* Any bytes are refused for these options, and nothing else is told of them. */
-static bool is_unknown(uint32_t options)
-{
+static bool is_unknown(uint32_t options) {
     struct duration_str_answer answer = read_with("1m", options), not_text;
     char line[DURATION_STR_ONE_LINE_BUFFER_SIZE], report[DURATION_STR_REPORT_BUFFER_SIZE];
     bool is_said = duration_str_one_line("1\xff", 2, options, &not_text, line) == 14 &&
                    duration_str_report("1m", 2, options, &answer, report) == 14 &&
                    strcmp(line, "unknown option") == 0 && strcmp(report, line) == 0;
-    return is_said && not_text.cause == answer.cause && answer.cause == DURATION_STR_CAUSE_UNKNOWN_OPTION &&
-           answer.nanos == 0 && answer.place == 0 && answer.found_length == 0 && answer.expected == 0 &&
+    return is_said && not_text.cause == answer.cause &&
+           answer.cause == DURATION_STR_CAUSE_UNKNOWN_OPTION && answer.nanos == 0 &&
+           answer.place == 0 && answer.found_length == 0 && answer.expected == 0 &&
            answer.has_place == 0 && answer.first_operator == 0 && answer.later_operator == 0;
 }
 
-static void check_options(void)
-{
+static void check_options(void) {
     const char *minute = "1\xe5\x88\x86";
-    const uint32_t unit = DURATION_STR_EXPECTED_UNIT, unit_or_end = unit | DURATION_STR_EXPECTED_END;
+    const uint32_t unit = DURATION_STR_EXPECTED_UNIT,
+                   unit_or_end = unit | DURATION_STR_EXPECTED_END;
     const uint32_t after_number = unit_or_end | DURATION_STR_EXPECTED_OPERATOR;
-    const uint32_t options = DURATION_STR_OPTION_NO_CALC | DURATION_STR_OPTION_LOWERCASE | DURATION_STR_OPTION_CN_UNIT |
-                             DURATION_STR_OPTION_REQUIRE_UNIT;
-    expect(is_unknown(16) && is_unknown(1u << 31) && is_unknown(~options) && is_unknown(~0u), "an unknown option");
+    const uint32_t options = DURATION_STR_OPTION_NO_CALC | DURATION_STR_OPTION_LOWERCASE |
+                             DURATION_STR_OPTION_CN_UNIT | DURATION_STR_OPTION_REQUIRE_UNIT;
+    expect(is_unknown(16) && is_unknown(1u << 31) && is_unknown(~options) && is_unknown(~0u),
+        "an unknown option");
     expect(read_with("1m", options).nanos == 60000000000u, "all options");
     struct duration_str_answer read = read_with(minute, DURATION_STR_OPTION_CN_UNIT);
-    expect(read.nanos == 60000000000u && read.has_place == 0 && read.place == 0 && read.expected == 0, "a Chinese unit");
-    expect(is_syntax(read_with(minute, DURATION_STR_OPTION_LOWERCASE), 1, after_number, 3), "a Chinese unit, unasked for");
-    expect(is_syntax(read_with("1M", DURATION_STR_OPTION_LOWERCASE), 1, after_number, 1), "a capital under lowercase");
-    expect(read_with("1M", DURATION_STR_OPTION_NO_CALC).nanos == 60000000000u, "a capital without lowercase");
-    expect(is_syntax(read_with("1+2", DURATION_STR_OPTION_NO_CALC), 1, unit_or_end, 1), "an operator");
-    expect(read_with("1+2", DURATION_STR_OPTION_LOWERCASE).nanos == 3000000000u, "an operator without no_calc");
-    expect(is_syntax(read_with("1h 30", DURATION_STR_OPTION_REQUIRE_UNIT), 5, unit, 0), "a unit that is missing");
-    expect(read_with("1h 30m", DURATION_STR_OPTION_REQUIRE_UNIT).nanos == 5400000000000u, "no unit that is missing");
+    expect(
+        read.nanos == 60000000000u && read.has_place == 0 && read.place == 0 && read.expected == 0,
+        "a Chinese unit");
+    expect(is_syntax(read_with(minute, DURATION_STR_OPTION_LOWERCASE), 1, after_number, 3),
+        "a Chinese unit, unasked for");
+    expect(is_syntax(read_with("1M", DURATION_STR_OPTION_LOWERCASE), 1, after_number, 1),
+        "a capital under lowercase");
+    expect(read_with("1M", DURATION_STR_OPTION_NO_CALC).nanos == 60000000000u,
+        "a capital without lowercase");
+    expect(
+        is_syntax(read_with("1+2", DURATION_STR_OPTION_NO_CALC), 1, unit_or_end, 1), "an operator");
+    expect(read_with("1+2", DURATION_STR_OPTION_LOWERCASE).nanos == 3000000000u,
+        "an operator without no_calc");
+    expect(is_syntax(read_with("1h 30", DURATION_STR_OPTION_REQUIRE_UNIT), 5, unit, 0),
+        "a unit that is missing");
+    expect(read_with("1h 30m", DURATION_STR_OPTION_REQUIRE_UNIT).nanos == 5400000000000u,
+        "no unit that is missing");
 }
 
-static void check_refusals(void)
-{
-    expect(is_syntax(read_with("1m+", 0), 3, DURATION_STR_EXPECTED_NUMBER, 0), "the end after an operator");
+static void check_refusals(void) {
+    expect(is_syntax(read_with("1m+", 0), 3, DURATION_STR_EXPECTED_NUMBER, 0),
+        "the end after an operator");
     struct duration_str_answer first = read_with("10000000000000000y+60", 0);
-    expect(first.cause == DURATION_STR_CAUSE_OVERFLOW && first.has_place == 1 && first.place == 0, "a first term too large");
+    expect(first.cause == DURATION_STR_CAUSE_OVERFLOW && first.has_place == 1 && first.place == 0,
+        "a first term too large");
     struct duration_str_answer all = read_with("580y*2", 0);
-    expect(all.cause == DURATION_STR_CAUSE_OVERFLOW && all.has_place == 0 && all.expected == 0, "a value too large");
+    expect(all.cause == DURATION_STR_CAUSE_OVERFLOW && all.has_place == 0 && all.expected == 0,
+        "a value too large");
     struct duration_str_answer mixed = read_with("1m 2s*3", 0);
-    expect(mixed.cause == DURATION_STR_CAUSE_MIXED && mixed.first_operator == '+' && mixed.later_operator == '*', "operators");
+    expect(mixed.cause == DURATION_STR_CAUSE_MIXED && mixed.first_operator == '+' &&
+               mixed.later_operator == '*',
+        "operators");
     expect(read_with("", 0).cause == DURATION_STR_CAUSE_EMPTY, "the empty text");
-    expect(read_with("1s 99999999999999999999", 0).cause == DURATION_STR_CAUSE_NUMBER_TOO_LARGE, "a number");
+    expect(read_with("1s 99999999999999999999", 0).cause == DURATION_STR_CAUSE_NUMBER_TOO_LARGE,
+        "a number");
     expect(read_with("1\xff", 0).cause == DURATION_STR_CAUSE_NOT_TEXT, "bytes that are no UTF-8");
-    expect(strcmp(duration_str_cause_name(DURATION_STR_CAUSE_NOT_TEXT), "NOT_TEXT") == 0, "the name of a cause");
-    expect(strcmp(duration_str_cause_name(DURATION_STR_CAUSE_UNKNOWN_OPTION), "UNKNOWN_OPTION") == 0, "the last name");
+    expect(strcmp(duration_str_cause_name(DURATION_STR_CAUSE_NOT_TEXT), "NOT_TEXT") == 0,
+        "the name of a cause");
+    expect(
+        strcmp(duration_str_cause_name(DURATION_STR_CAUSE_UNKNOWN_OPTION), "UNKNOWN_OPTION") == 0,
+        "the last name");
     expect(strcmp(duration_str_cause_name(9), "") == 0, "no name");
 }
 
 /* What is written is this text of so many bytes and a zero, and what follows is as before. */
-static bool is_written(const char *buffer, size_t length, const char *wanted)
-{
-    return length == strlen(wanted) && memcmp(buffer, wanted, length + 1) == 0 && buffer[length + 1] == '#';
+static bool is_written(const char *buffer, size_t length, const char *wanted) {
+    return length == strlen(wanted) && memcmp(buffer, wanted, length + 1) == 0 &&
+           buffer[length + 1] == '#';
 }
 
-static void check_plain_calls(void)
-{
+static void check_plain_calls(void) {
     char printed[DURATION_STR_FORMAT_BUFFER_SIZE];
     memset(printed, '#', sizeof printed);
-    expect(is_written(printed, duration_str_format(193029000000, printed), "3min 13s 29ms"), "a duration");
-    expect(duration_str_format(60000000000, printed) == 4 && strcmp(printed, "1min") == 0, "a short text over a long one");
+    expect(is_written(printed, duration_str_format(193029000000, printed), "3min 13s 29ms"),
+        "a duration");
+    expect(duration_str_format(60000000000, printed) == 4 && strcmp(printed, "1min") == 0,
+        "a short text over a long one");
     expect(strcmp(printed + 5, "13s 29ms") == 0, "what is left of it");
     const char *text = "3ms-2ms";
     uint64_t nanos = 7;
@@ -110,8 +135,7 @@ static void check_plain_calls(void)
 }
 
 /* What a null text of length 0 is read as, in each call that takes a text. */
-static void check_null_texts(void)
-{
+static void check_null_texts(void) {
     uint64_t nanos = 7;
     struct duration_str_answer answer;
     expect(!duration_str_parse(NULL, 0, &nanos) && nanos == 7, "a null text");
@@ -120,55 +144,70 @@ static void check_null_texts(void)
 }
 
 /* Prints within limits over a buffer of marks. */
-static bool is_printed(uint64_t secs, uint32_t nanos, const uint32_t *limits, uint32_t style, const char *wanted)
-{
+static bool is_printed(
+    uint64_t secs, uint32_t nanos, const uint32_t *limits, uint32_t style, const char *wanted) {
     char printed[DURATION_STR_STYLED_BUFFER_SIZE];
     memset(printed, '#', sizeof printed);
-    return is_written(printed, duration_str_format_styled(secs, nanos, limits[0], limits[1], limits[2], style, printed), wanted);
+    return is_written(printed,
+        duration_str_format_styled(secs, nanos, limits[0], limits[1], limits[2], style, printed),
+        wanted);
 }
 
-static void check_styles(void)
-{
-    const uint32_t year = DURATION_STR_UNIT_YEAR, day = DURATION_STR_UNIT_DAY, second = DURATION_STR_UNIT_SECOND;
+static void check_styles(void) {
+    const uint32_t year = DURATION_STR_UNIT_YEAR, day = DURATION_STR_UNIT_DAY,
+                   second = DURATION_STR_UNIT_SECOND;
     const uint32_t nanosecond = DURATION_STR_UNIT_NANOSECOND, after = nanosecond + 1;
-    const uint32_t two[] = {year, nanosecond, 2}, all[] = {year, nanosecond, 256}, seconds[] = {second, second, 9};
-    const uint32_t days[] = {year, day, 2}, no_largest[] = {after, nanosecond, 2}, no_smallest[] = {year, after, 2};
+    const uint32_t two[] = {year, nanosecond, 2}, all[] = {year, nanosecond, 256},
+                   seconds[] = {second, second, 9};
+    const uint32_t days[] = {year, day, 2}, no_largest[] = {after, nanosecond, 2},
+                   no_smallest[] = {year, after, 2};
     expect(is_printed(5401, 0, two, DURATION_STR_STYLE_LONG, "1 hour 30 minutes"), "a long style");
     expect(is_printed(5401, 0, all, DURATION_STR_STYLE_COMPACT, "1h30min1s"), "a compact style");
-    expect(is_printed(193, 29000000, all, DURATION_STR_STYLE_SHORT, "3min 13s 29ms"), "more parts than units");
-    expect(is_printed(4295057357, 5, seconds, DURATION_STR_STYLE_SHORT, "4295057357s"), "seconds of 33 bits");
+    expect(is_printed(193, 29000000, all, DURATION_STR_STYLE_SHORT, "3min 13s 29ms"),
+        "more parts than units");
+    expect(is_printed(4295057357, 5, seconds, DURATION_STR_STYLE_SHORT, "4295057357s"),
+        "seconds of 33 bits");
     expect(is_printed(193, 29000000, days, DURATION_STR_STYLE_SHORT, "0d"), "no days");
     expect(is_printed(193, 29000000, no_largest, DURATION_STR_STYLE_SHORT, ""), "no largest unit");
-    expect(is_printed(193, 29000000, no_smallest, DURATION_STR_STYLE_SHORT, ""), "no smallest unit");
-    expect(is_printed(193, 1000000000, two, DURATION_STR_STYLE_SHORT, ""), "nanoseconds that are a second");
+    expect(
+        is_printed(193, 29000000, no_smallest, DURATION_STR_STYLE_SHORT, ""), "no smallest unit");
+    expect(is_printed(193, 1000000000, two, DURATION_STR_STYLE_SHORT, ""),
+        "nanoseconds that are a second");
     expect(is_printed(5401, 0, two, 3, "") && is_printed(5401, 0, two, 256, ""), "styles above 2");
     const uint32_t wrapped[] = {256 + year, nanosecond, 2}, other[] = {year, 256 + nanosecond, 2};
-    expect(is_printed(5401, 0, wrapped, DURATION_STR_STYLE_SHORT, "") && is_printed(5401, 0, other, 0, ""), "units above 255");
+    expect(is_printed(5401, 0, wrapped, DURATION_STR_STYLE_SHORT, "") &&
+               is_printed(5401, 0, other, 0, ""),
+        "units above 255");
 }
 
-static void check_one_line(void)
-{
+static void check_one_line(void) {
     const char *text = "3h 2 mins";
     char line[DURATION_STR_ONE_LINE_BUFFER_SIZE];
     struct duration_str_answer answer;
     memset(line, '#', sizeof line);
     expect(is_written(line, duration_str_one_line(text, 9, 0, &answer, line),
-                      "unknown unit \"mins\" at column 6 (did you mean \"min\"?)"), "one line");
-    expect(answer.cause == DURATION_STR_CAUSE_SYNTAX && answer.place == 5, "the answer beside the line");
+               "unknown unit \"mins\" at column 6 (did you mean \"min\"?)"),
+        "one line");
+    expect(answer.cause == DURATION_STR_CAUSE_SYNTAX && answer.place == 5,
+        "the answer beside the line");
     char report[DURATION_STR_REPORT_BUFFER_SIZE];
     memset(report, '#', sizeof report);
     memset(&answer, '#', sizeof answer);
     expect(is_written(report, duration_str_report(text, 9, 0, &answer, report),
-                      "3h 2 mins\n     ^\nunknown unit \"mins\" at column 6 (did you mean \"min\"?)"), "a report");
-    expect(answer.cause == DURATION_STR_CAUSE_SYNTAX && answer.place == 5, "the answer beside the report");
-    expect(duration_str_one_line(text, 2, 0, &answer, line) == 0 && line[0] == 0, "no line of a text that is read");
+               "3h 2 mins\n     ^\nunknown unit \"mins\" at column 6 (did you mean \"min\"?)"),
+        "a report");
+    expect(answer.cause == DURATION_STR_CAUSE_SYNTAX && answer.place == 5,
+        "the answer beside the report");
+    expect(duration_str_one_line(text, 2, 0, &answer, line) == 0 && line[0] == 0,
+        "no line of a text that is read");
     expect(answer.nanos == 10800000000000 && line[1] == 'n', "the answer that is read");
-    expect(duration_str_one_line("1\xff", 2, 0, &answer, line) == 9 && strcmp(line, "not UTF-8") == 0, "what is no UTF-8");
+    expect(
+        duration_str_one_line("1\xff", 2, 0, &answer, line) == 9 && strcmp(line, "not UTF-8") == 0,
+        "what is no UTF-8");
     expect(answer.cause == DURATION_STR_CAUSE_NOT_TEXT, "its answer");
 }
 
-int main(void)
-{
+int main(void) {
     expect(duration_str_version() == DURATION_STR_VERSION_NUMBER, "the version of the library");
     check_options();
     check_refusals();

@@ -1,12 +1,11 @@
-/* duration EXPRESSION: the expression's nanoseconds, what they print as, and the moment so long after
- * 2000-01-01T00:00:00Z in seconds since 1970; or what is wrong with it, below a caret. */
+/* duration EXPRESSION: the expression's nanoseconds, what they print as, and the moment so long
+ * after 2000-01-01T00:00:00Z in seconds since 1970; or what is wrong with it, below a caret. */
 #include <stdio.h>
 #include <string.h>
 
 #include "duration_str.h"
 
-int main(int count, char **words)
-{
+int main(int count, char **words) {
     if (count != 2) {
         fprintf(stderr, "usage: %s EXPRESSION\n", words[0]);
         return 2;

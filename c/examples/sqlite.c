@@ -1,13 +1,13 @@
-/* Durations in SQLite's SQL: `parse_duration(text)` is an INTEGER of nanoseconds, and a refused text an error with the
- * library's line; `format_duration(nanos)` is the printed text. `.load ./sqlite` loads it in sqlite3. */
+/* Durations in SQLite's SQL: `parse_duration(text)` is an INTEGER of nanoseconds, and a refused
+ * text an error with the library's line; `format_duration(nanos)` is the printed text. `.load
+ * ./sqlite` loads it in sqlite3. */
 #include <sqlite3ext.h>
 
 #include "duration_str.h"
 
 SQLITE_EXTENSION_INIT1
 
-static void parse(sqlite3_context *context, int count, sqlite3_value **values)
-{
+static void parse(sqlite3_context *context, int count, sqlite3_value **values) {
     (void)count;
     struct duration_str_answer answer;
     char line[DURATION_STR_ONE_LINE_BUFFER_SIZE];
@@ -22,8 +22,7 @@ static void parse(sqlite3_context *context, int count, sqlite3_value **values)
         sqlite3_result_int64(context, (sqlite3_int64)answer.nanos);
 }
 
-static void format(sqlite3_context *context, int count, sqlite3_value **values)
-{
+static void format(sqlite3_context *context, int count, sqlite3_value **values) {
     (void)count;
     char text[DURATION_STR_FORMAT_BUFFER_SIZE];
     const sqlite3_int64 nanos = sqlite3_value_int64(values[0]);
@@ -32,14 +31,17 @@ static void format(sqlite3_context *context, int count, sqlite3_value **values)
     if (sqlite3_value_type(values[0]) != SQLITE_INTEGER || nanos < 0)
         sqlite3_result_error(context, "a duration is an INTEGER of nanoseconds from 0 on", -1);
     else
-        sqlite3_result_text(context, text, (int)duration_str_format((uint64_t)nanos, text), SQLITE_TRANSIENT);
+        sqlite3_result_text(
+            context, text, (int)duration_str_format((uint64_t)nanos, text), SQLITE_TRANSIENT);
 }
 
-int sqlite3_sqlite_init(sqlite3 *database, char **error, const sqlite3_api_routines *api)
-{
+int sqlite3_sqlite_init(sqlite3 *database, char **error, const sqlite3_api_routines *api) {
     SQLITE_EXTENSION_INIT2(api);
     const int flags = SQLITE_UTF8 | SQLITE_DETERMINISTIC | SQLITE_INNOCUOUS;
-    const int code = sqlite3_create_function(database, "parse_duration", 1, flags, NULL, parse, NULL, NULL);
+    const int code =
+        sqlite3_create_function(database, "parse_duration", 1, flags, NULL, parse, NULL, NULL);
     *error = NULL;
-    return code ? code : sqlite3_create_function(database, "format_duration", 1, flags, NULL, format, NULL, NULL);
+    return code ? code
+                : sqlite3_create_function(
+                      database, "format_duration", 1, flags, NULL, format, NULL, NULL);
 }

@@ -1,8 +1,10 @@
-/* What must hold of every answer of the library, tried on any bytes: libFuzzer's target with WITH_LIBFUZZER, and otherwise a
- * program that is given a file of texts, as tests/texts.py makes it.
+/* What must hold of every answer of the library, tried on any bytes: libFuzzer's target with
+ * WITH_LIBFUZZER, and otherwise a program that is given a file of texts, as tests/texts.py makes
+ * it.
  *
- * Each text is at the end of a page that can't be written, before a page that can't be read, and each buffer at the end
- * of a page, before one that can't be written. What the answers have to be is not said here: tests/compare does that. */
+ * Each text is at the end of a page that can't be written, before a page that can't be read, and
+ * each buffer at the end of a page, before one that can't be written. What the answers have to be
+ * is not said here: tests/compare does that. */
 #define _GNU_SOURCE
 #include <stdio.h>
 #include <stdlib.h>
@@ -24,11 +26,13 @@
 static const uint8_t *tried;
 static size_t tried_length;
 
-static void fail(const char *what, int line)
-{
-    fprintf(stderr, "target.c:%d: does not hold: %s\ntext of %zu bytes: '", line, what, tried_length);
+static void fail(const char *what, int line) {
+    fprintf(
+        stderr, "target.c:%d: does not hold: %s\ntext of %zu bytes: '", line, what, tried_length);
     for (size_t at = 0; at < tried_length; at++)
-        fprintf(stderr, tried[at] >= ' ' && tried[at] < 0x7f && tried[at] != '\\' ? "%c" : "\\x%02x", tried[at]);
+        fprintf(stderr,
+            tried[at] >= ' ' && tried[at] < 0x7f && tried[at] != '\\' ? "%c" : "\\x%02x",
+            tried[at]);
     fprintf(stderr, "'\n");
     abort();
 }
@@ -43,17 +47,16 @@ struct region {
     uint8_t *end;
 };
 
-static uint8_t *mapped(int file, int protection)
-{
+static uint8_t *mapped(int file, int protection) {
     int flags = file < 0 ? MAP_PRIVATE | MAP_ANONYMOUS : MAP_SHARED;
     uint8_t *start = mmap(NULL, PAGE + ROOM + PAGE, PROT_NONE, MAP_PRIVATE | MAP_ANONYMOUS, -1, 0);
-    HOLDS(start != MAP_FAILED && mmap(start + PAGE, ROOM, protection, flags | MAP_FIXED, file, 0) != MAP_FAILED);
+    HOLDS(start != MAP_FAILED &&
+          mmap(start + PAGE, ROOM, protection, flags | MAP_FIXED, file, 0) != MAP_FAILED);
     return start + PAGE + ROOM;
 }
 
 /* Memory for texts: it can be read alone at `end`. */
-static struct region text_region(void)
-{
+static struct region text_region(void) {
     int file = memfd_create("text", 0);
     HOLDS(file >= 0 && ftruncate(file, ROOM) == 0);
     return (struct region){mapped(file, PROT_READ | PROT_WRITE), mapped(file, PROT_READ)};
@@ -62,8 +65,7 @@ static struct region text_region(void)
 static struct region texts, prints;
 static uint8_t *answers_end, *number_end, *output_end;
 
-static void prepare(void)
-{
+static void prepare(void) {
     texts = text_region();
     prints = text_region();
     answers_end = mapped(-1, PROT_READ | PROT_WRITE);
@@ -77,21 +79,19 @@ struct text {
 };
 
 /* The bytes at the end of a region. */
-static struct text text_at(struct region region, const uint8_t *bytes, size_t length)
-{
+static struct text text_at(struct region region, const uint8_t *bytes, size_t length) {
     memcpy(region.written_end - length, bytes, length);
     return (struct text){region.end - length, length};
 }
 
-/* So many bytes at the end of an output region, all of them and some before them set to the canary. */
-static uint8_t *buffer_at(uint8_t *end, size_t room)
-{
+/* So many bytes at the end of an output region, all of them and some before them set to the canary.
+ */
+static uint8_t *buffer_at(uint8_t *end, size_t room) {
     memset(end - room - CANARIES, CANARY, room + CANARIES);
     return end - room;
 }
 
-static bool is_untouched(const uint8_t *from, const uint8_t *to)
-{
+static bool is_untouched(const uint8_t *from, const uint8_t *to) {
     while (from < to && *from == CANARY)
         from++;
     return from == to;
@@ -99,8 +99,7 @@ static bool is_untouched(const uint8_t *from, const uint8_t *to)
 
 /* ---- The calls */
 
-static struct duration_str_answer read_with(struct text text, uint32_t options)
-{
+static struct duration_str_answer read_with(struct text text, uint32_t options) {
     struct duration_str_answer told, *answer = (void *)buffer_at(answers_end, sizeof told);
     bool read = duration_str_parse_with((const char *)text.bytes, text.length, options, answer);
     HOLDS(is_untouched(answers_end - sizeof told - CANARIES, answers_end - sizeof told));
@@ -109,18 +108,17 @@ static struct duration_str_answer read_with(struct text text, uint32_t options)
     return told;
 }
 
-static bool are_equal(struct duration_str_answer one, struct duration_str_answer two)
-{
-    return one.nanos == two.nanos && one.place == two.place && one.found_length == two.found_length &&
-           one.cause == two.cause && one.expected == two.expected && one.has_place == two.has_place &&
+static bool are_equal(struct duration_str_answer one, struct duration_str_answer two) {
+    return one.nanos == two.nanos && one.place == two.place &&
+           one.found_length == two.found_length && one.cause == two.cause &&
+           one.expected == two.expected && one.has_place == two.has_place &&
            one.first_operator == two.first_operator && one.later_operator == two.later_operator;
 }
 
 /* ---- What must hold of an answer */
 
 /* What is read prints in few bytes, and reads back under all choices. */
-static void check_printed(uint64_t nanos)
-{
+static void check_printed(uint64_t nanos) {
     uint8_t *buffer = buffer_at(output_end, 64);
     size_t length = duration_str_format(nanos, (char *)buffer);
     HOLDS(length > 0 && length < 64 && buffer[length] == 0);
@@ -132,25 +130,27 @@ static void check_printed(uint64_t nanos)
     }
 }
 
-/* A report and a zero stand in its buffer, which it fits, beside the same answer; it is empty where the text is read. */
-static void check_report(struct text text, uint32_t options, struct duration_str_answer wanted)
-{
+/* A report and a zero stand in its buffer, which it fits, beside the same answer; it is empty where
+ * the text is read. */
+static void check_report(struct text text, uint32_t options, struct duration_str_answer wanted) {
     struct duration_str_answer answer;
     uint8_t *buffer = buffer_at(output_end, DURATION_STR_REPORT_BUFFER_SIZE);
-    size_t length = duration_str_report((const char *)text.bytes, text.length, options, &answer, (char *)buffer);
-    HOLDS(are_equal(answer, wanted) && (length == 0) == (answer.cause == DURATION_STR_CAUSE_READ) && buffer[length] == 0);
+    size_t length = duration_str_report(
+        (const char *)text.bytes, text.length, options, &answer, (char *)buffer);
+    HOLDS(are_equal(answer, wanted) && (length == 0) == (answer.cause == DURATION_STR_CAUSE_READ) &&
+          buffer[length] == 0);
     HOLDS(is_untouched(buffer - CANARIES, buffer) && is_untouched(buffer + length + 1, output_end));
 }
 
 /* ---- All together */
 
 /* The plain call agrees with the full one. */
-static void check_plain(struct text text, struct duration_str_answer answer)
-{
+static void check_plain(struct text text, struct duration_str_answer answer) {
     uint64_t before = 0x0123456789abcdef, *nanos = (void *)buffer_at(number_end, sizeof *nanos);
     memcpy(nanos, &before, sizeof before);
     bool read = duration_str_parse((const char *)text.bytes, text.length, nanos);
-    HOLDS(read == (answer.cause == DURATION_STR_CAUSE_READ) && *nanos == (read ? answer.nanos : before));
+    HOLDS(read == (answer.cause == DURATION_STR_CAUSE_READ) &&
+          *nanos == (read ? answer.nanos : before));
     HOLDS(is_untouched((uint8_t *)nanos - CANARIES, (uint8_t *)nanos));
 }
 
@@ -158,24 +158,25 @@ static void check_plain(struct text text, struct duration_str_answer answer)
 /* What libFuzzer counts as new, since the library is built without its counters. */
 __attribute__((section("__libfuzzer_extra_counters"))) static uint8_t counters[1 << 12];
 
-static void count(struct duration_str_answer answer)
-{
-    uint32_t place = answer.place < 15 ? answer.place : 15, found = answer.found_length < 7 ? answer.found_length : 7;
-    counters[((((answer.cause & 7) << 4 | (answer.expected & 15)) << 4 | place) << 3 | found) & (sizeof counters - 1)]++;
+static void count(struct duration_str_answer answer) {
+    uint32_t place = answer.place < 15 ? answer.place : 15,
+             found = answer.found_length < 7 ? answer.found_length : 7;
+    counters[((((answer.cause & 7) << 4 | (answer.expected & 15)) << 4 | place) << 3 | found) &
+             (sizeof counters - 1)]++;
 }
 #else
 #define count(answer) ((void)0)
 #endif
 
-static void check(struct text text)
-{
+static void check(struct text text) {
     const struct duration_str_answer unknown = {.cause = DURATION_STR_CAUSE_UNKNOWN_OPTION};
     struct duration_str_answer answers[CHOICES];
     for (uint32_t options = 0; options < CHOICES; options++) {
         struct duration_str_answer answer = answers[options] = read_with(text, options);
         count(answer);
         HOLDS(are_equal(unknown, read_with(text, options | CHOICES << options)));
-        if (answer.cause == DURATION_STR_CAUSE_READ && (options == 0 || answer.nanos != answers[0].nanos))
+        if (answer.cause == DURATION_STR_CAUSE_READ &&
+            (options == 0 || answer.nanos != answers[0].nanos))
             check_printed(answer.nanos);
         if (options > 0 && are_equal(answer, answers[0]))
             continue;
@@ -184,8 +185,7 @@ static void check(struct text text)
     check_plain(text, answers[0]);
 }
 
-int LLVMFuzzerTestOneInput(const uint8_t *data, size_t size)
-{
+int LLVMFuzzerTestOneInput(const uint8_t *data, size_t size) {
     static bool is_prepared = false;
     if (!is_prepared)
         prepare();
@@ -200,8 +200,7 @@ int LLVMFuzzerTestOneInput(const uint8_t *data, size_t size)
 
 #ifndef WITH_LIBFUZZER
 /* Before each text of the file stand two bytes of its length, the lower one first. */
-int main(int count, char **words)
-{
+int main(int count, char **words) {
     static uint8_t text[UINT16_MAX];
     FILE *file = count == 2 ? fopen(words[1], "rb") : NULL;
     HOLDS(file != NULL);

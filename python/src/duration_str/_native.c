@@ -1,5 +1,5 @@
-/* The calls of duration_str.h for Python, by the limited API: one module serves CPython from 3.11 on. Interpreters without a
- * lock have no such API; they take one while the module is loaded. */
+/* The calls of duration_str.h for Python, by the limited API: one module serves CPython from 3.11
+ * on. Interpreters without a lock have no such API; they take one while the module is loaded. */
 #ifndef Py_GIL_DISABLED
 #define Py_LIMITED_API 0x030b0000
 #endif
@@ -10,13 +10,32 @@
 
 #define SECOND 1000000000u
 
-/* What the module keeps of Python: the names of the options, in the order of their bits; of what limits printing; of a
- * timedelta's parts; and what it makes and calls. */
-enum kept { NO_CALC, LOWERCASE, CN_UNIT, REQUIRE_UNIT, OPTIONS, LARGEST = OPTIONS, SMALLEST, PARTS, STYLE,
-            DAYS, SECONDS, MICROSECONDS, ERROR, TYPE_ERROR, NANOS_OF, TIMEDELTA, A_MICROSECOND, A_SECOND, KEPT };
+/* What the module keeps of Python: the names of the options, in the order of their bits; of what
+ * limits printing; of a timedelta's parts; and what it makes and calls. */
+enum kept {
+    NO_CALC,
+    LOWERCASE,
+    CN_UNIT,
+    REQUIRE_UNIT,
+    OPTIONS,
+    LARGEST = OPTIONS,
+    SMALLEST,
+    PARTS,
+    STYLE,
+    DAYS,
+    SECONDS,
+    MICROSECONDS,
+    ERROR,
+    TYPE_ERROR,
+    NANOS_OF,
+    TIMEDELTA,
+    A_MICROSECOND,
+    A_SECOND,
+    KEPT
+};
 /* Those before ERROR, in their order */
-static const char *const kept_names[] = {"no_calc", "lowercase", "cn_unit", "require_unit", "largest", "smallest",
-                                         "parts", "style", "days", "seconds", "microseconds"};
+static const char *const kept_names[] = {"no_calc", "lowercase", "cn_unit", "require_unit",
+    "largest", "smallest", "parts", "style", "days", "seconds", "microseconds"};
 
 /* timedelta64's NaT, and the days that it can have whatever else is added. */
 #define MISSING ((uint64_t)INT64_MIN)
@@ -37,14 +56,14 @@ static PyObject *size_or_none(bool is_there, size_t size) {
     return is_there ? PyLong_FromSize_t(size) : Py_NewRef(Py_None);
 }
 
-/* Raises the package's error of a text, with this report, references that it takes. Index -1 is none. */
-static void raise_error(struct state *state, PyObject *report, PyObject *text, const struct duration_str_answer *answer,
-                        const char *bytes, Py_ssize_t index) {
+/* Raises the package's error of a text, with this report, references that it takes. Index -1 is
+ * none. */
+static void raise_error(struct state *state, PyObject *report, PyObject *text,
+    const struct duration_str_answer *answer, const char *bytes, Py_ssize_t index) {
     const char *found = answer->found_length ? bytes + answer->place : NULL;
-    PyObject *error = PyObject_CallFunction(state->kept[ERROR], "NNINIz#N", report, text, answer->cause,
-                                            size_or_none(answer->has_place, answer->place), answer->expected, found,
-                                            (Py_ssize_t)answer->found_length,
-                                            size_or_none(index >= 0, (size_t)index));
+    PyObject *error = PyObject_CallFunction(state->kept[ERROR], "NNINIz#N", report, text,
+        answer->cause, size_or_none(answer->has_place, answer->place), answer->expected, found,
+        (Py_ssize_t)answer->found_length, size_or_none(index >= 0, (size_t)index));
     if (error)
         PyErr_SetObject(state->kept[ERROR], error);
     Py_XDECREF(error);
@@ -56,7 +75,8 @@ static void raise_type_error(struct state *state, PyObject *value, Py_ssize_t in
     if (name && index < 0)
         PyErr_Format(state->kept[TYPE_ERROR], "a duration's text must be a str, not %U", name);
     else if (name)
-        PyErr_Format(state->kept[TYPE_ERROR], "at index %zd: a duration's text must be a str, not %U", index, name);
+        PyErr_Format(state->kept[TYPE_ERROR],
+            "at index %zd: a duration's text must be a str, not %U", index, name);
     Py_XDECREF(name);
 }
 
@@ -75,16 +95,19 @@ static void raise_surrogate(struct state *state, PyObject *text, Py_ssize_t inde
     Py_XDECREF(traceback);
 }
 
-/* The report of a text that the library refuses, and its answer; null, and no error, if the text is read. */
+/* The report of a text that the library refuses, and its answer; null, and no error, if the text is
+ * read. */
 static PyObject *report_of(struct text text, uint32_t options, struct duration_str_answer *answer) {
     char report[DURATION_STR_REPORT_BUFFER_SIZE];
     const size_t length = duration_str_report(text.bytes, text.length, options, answer, report);
     return length ? PyUnicode_FromStringAndSize(report, (Py_ssize_t)length) : NULL;
 }
 
-/* Reads the text of a str, whatever a subclass says of itself. Returns 1 if it is read, 0 if it is refused, and -1 with an
- * error: for other faults than the text's, and where it is to be raised, for these. */
-static int read_str(struct state *state, PyObject *given, uint32_t options, uint64_t *nanos, bool raises, Py_ssize_t index) {
+/* Reads the text of a str, whatever a subclass says of itself. Returns 1 if it is read, 0 if it is
+ * refused, and -1 with an error: for other faults than the text's, and where it is to be raised,
+ * for these. */
+static int read_str(struct state *state, PyObject *given, uint32_t options, uint64_t *nanos,
+    bool raises, Py_ssize_t index) {
     Py_ssize_t length;
     struct duration_str_answer answer;
     struct text text = {.bytes = PyUnicode_AsUTF8AndSize(given, &length)};
@@ -111,7 +134,8 @@ static int read_str(struct state *state, PyObject *given, uint32_t options, uint
 }
 
 /* The place of a keyword of a call among some names that are kept, or -1 with an error. */
-static int place_of(struct state *state, const char *call, PyObject *keyword, int first, int count) {
+static int place_of(
+    struct state *state, const char *call, PyObject *keyword, int first, int count) {
     /* Almost always it is the same str. */
     for (int place = 0; place < count; place++)
         if (keyword == state->kept[first + place])
@@ -126,13 +150,15 @@ static int place_of(struct state *state, const char *call, PyObject *keyword, in
 /* Whether a call has one positional argument; raises if not. */
 static bool has_one(const char *call, Py_ssize_t count) {
     if (count != 1)
-        PyErr_Format(PyExc_TypeError, "%s() takes exactly one positional argument (%zd given)", call, count);
+        PyErr_Format(
+            PyExc_TypeError, "%s() takes exactly one positional argument (%zd given)", call, count);
     return count == 1;
 }
 
-/* Reads the text of a call, whose arguments METH_FASTCALL | METH_KEYWORDS gives. Returns -1 with an error if it is refused. */
-static int read_call(struct state *state, const char *call, PyObject *const *arguments, Py_ssize_t count, PyObject *keywords,
-                     uint64_t *nanos) {
+/* Reads the text of a call, whose arguments METH_FASTCALL | METH_KEYWORDS gives. Returns -1 with an
+ * error if it is refused. */
+static int read_call(struct state *state, const char *call, PyObject *const *arguments,
+    Py_ssize_t count, PyObject *keywords, uint64_t *nanos) {
     uint32_t options = 0;
     if (!has_one(call, count))
         return -1;
@@ -153,14 +179,16 @@ static int read_call(struct state *state, const char *call, PyObject *const *arg
     return -1;
 }
 
-static PyObject *parse_ns(PyObject *self, PyObject *const *arguments, Py_ssize_t count, PyObject *keywords) {
+static PyObject *parse_ns(
+    PyObject *self, PyObject *const *arguments, Py_ssize_t count, PyObject *keywords) {
     uint64_t nanos;
     if (read_call(PyModule_GetState(self), "parse_ns", arguments, count, keywords, &nanos))
         return NULL;
     return PyLong_FromUnsignedLongLong(nanos);
 }
 
-static PyObject *parse(PyObject *self, PyObject *const *arguments, Py_ssize_t count, PyObject *keywords) {
+static PyObject *parse(
+    PyObject *self, PyObject *const *arguments, Py_ssize_t count, PyObject *keywords) {
     struct state *state = PyModule_GetState(self);
     uint64_t nanos;
     if (read_call(state, "parse", arguments, count, keywords, &nanos))
@@ -172,7 +200,8 @@ static PyObject *parse(PyObject *self, PyObject *const *arguments, Py_ssize_t co
     return value;
 }
 
-static PyObject *parse_seconds(PyObject *self, PyObject *const *arguments, Py_ssize_t count, PyObject *keywords) {
+static PyObject *parse_seconds(
+    PyObject *self, PyObject *const *arguments, Py_ssize_t count, PyObject *keywords) {
     struct state *state = PyModule_GetState(self);
     uint64_t nanos;
     if (read_call(state, "parse_seconds", arguments, count, keywords, &nanos))
@@ -191,21 +220,23 @@ struct limits {
 };
 
 /* All units, as many parts as there are units, and the short style */
-static const struct limits no_limits = {
-    {DURATION_STR_UNIT_YEAR, DURATION_STR_UNIT_NANOSECOND}, DURATION_STR_UNIT_NANOSECOND + 1, DURATION_STR_STYLE_SHORT};
+static const struct limits no_limits = {{DURATION_STR_UNIT_YEAR, DURATION_STR_UNIT_NANOSECOND},
+    DURATION_STR_UNIT_NANOSECOND + 1, DURATION_STR_STYLE_SHORT};
 
 /* The names of the units as they are printed, in Latin-1, and of the styles */
 /* Made by tests/repository --write. */
-static const char *const unit_names[] = {"y", "q", "mon", "w", "d", "h", "min", "s", "ms", "\xb5s", "ns"};
+static const char *const unit_names[] = {
+    "y", "q", "mon", "w", "d", "h", "min", "s", "ms", "\xb5s", "ns"};
 static const char *const style_names[] = {"short", "compact", "long"};
 
 /* The place of a name among some. Returns -1 with an error. */
-static int place_among(PyObject *name, const char *const *names, int count, const char *keyword, const char *told) {
+static int place_among(
+    PyObject *name, const char *const *names, int count, const char *keyword, const char *told) {
     for (int place = 0; PyUnicode_Check(name) && place < count; place++)
         if (!PyUnicode_CompareWithASCIIString(name, names[place]))
             return place;
     PyErr_Format(PyUnicode_Check(name) ? PyExc_ValueError : PyExc_TypeError,
-                 "%s must be one of %s, not %R", keyword, told, name);
+        "%s must be one of %s, not %R", keyword, told, name);
     return -1;
 }
 
@@ -235,14 +266,16 @@ static int take_parts(PyObject *value, uint32_t *parts) {
 }
 
 /* Takes the value of a keyword. Returns -1 with an error. */
-static int take_limit(struct state *state, PyObject *keyword, PyObject *value, struct limits *limits) {
+static int take_limit(
+    struct state *state, PyObject *keyword, PyObject *value, struct limits *limits) {
     const int limit = place_of(state, "format", keyword, LARGEST, STYLE + 1 - LARGEST);
     if (limit < 0)
         return -1;
     if (LARGEST + limit == PARTS)
         return take_parts(value, &limits->parts);
     if (LARGEST + limit == STYLE) {
-        const int style = place_among(value, style_names, DURATION_STR_STYLE_LONG + 1, "style", "short, compact, long");
+        const int style = place_among(
+            value, style_names, DURATION_STR_STYLE_LONG + 1, "style", "short, compact, long");
         limits->style = (uint32_t)style;
         return style < 0 ? -1 : 0;
     }
@@ -252,7 +285,8 @@ static int take_limit(struct state *state, PyObject *keyword, PyObject *value, s
 }
 
 /* Takes the limits that a call has by keywords. Returns -1 with an error. */
-static int take_limits(struct state *state, PyObject *const *values, PyObject *keywords, struct limits *limits) {
+static int take_limits(
+    struct state *state, PyObject *const *values, PyObject *keywords, struct limits *limits) {
     const Py_ssize_t words = keywords ? PyTuple_Size(keywords) : 0;
     *limits = no_limits;
     for (Py_ssize_t at = 0; at < words; at++)
@@ -270,8 +304,8 @@ static PyObject *text_of(uint64_t secs, uint32_t nanos, const struct limits *lim
     const bool is_whole = !memcmp(limits, &no_limits, sizeof *limits);
     const size_t length = is_whole && secs < UINT64_MAX / SECOND
                               ? duration_str_format(secs * SECOND + nanos, buffer)
-                              : duration_str_format_styled(secs, nanos, limits->units[0], limits->units[1],
-                                                           limits->parts, limits->style, buffer);
+                              : duration_str_format_styled(secs, nanos, limits->units[0],
+                                    limits->units[1], limits->parts, limits->style, buffer);
     return PyUnicode_FromStringAndSize(buffer, (Py_ssize_t)length);
 }
 
@@ -280,7 +314,8 @@ static PyObject *text_of_int(struct state *state, PyObject *nanos, const struct 
     const long long few = PyLong_AsLongLongAndOverflow(nanos, &overflow);
     /* Python prints no int of more than some thousand digits. */
     if (overflow < 0)
-        return PyErr_Format(PyExc_ValueError, "a negative duration has no text: below -2**63 nanoseconds");
+        return PyErr_Format(
+            PyExc_ValueError, "a negative duration has no text: below -2**63 nanoseconds");
     if (!overflow && few < 0)
         return PyErr_Format(PyExc_ValueError, "a negative duration has no text: %R", nanos);
     if (!overflow)
@@ -296,7 +331,8 @@ static PyObject *text_of_int(struct state *state, PyObject *nanos, const struct 
     return text_of(secs, rest, limits);
 }
 
-/* The days, seconds and microseconds of an exact timedelta. Returns -1 with an error if there is no memory. */
+/* The days, seconds and microseconds of an exact timedelta. Returns -1 with an error if there is no
+ * memory. */
 static int parts_of(struct state *state, PyObject *value, long *parts) {
     for (int part = 0; part < 3; part++) {
         PyObject *number = PyObject_GetAttr(value, state->kept[DAYS + part]);
@@ -306,29 +342,35 @@ static int parts_of(struct state *state, PyObject *value, long *parts) {
     return PyErr_Occurred() ? -1 : 0;
 }
 
-static PyObject *text_of_timedelta(struct state *state, PyObject *value, const struct limits *limits) {
+static PyObject *text_of_timedelta(
+    struct state *state, PyObject *value, const struct limits *limits) {
     long parts[3];
     if (parts_of(state, value, parts))
         return NULL;
     if (parts[0] < 0)
         return PyErr_Format(PyExc_ValueError, "a negative duration has no text: %R", value);
-    return text_of((uint64_t)parts[0] * 86400 + (uint64_t)parts[1], (uint32_t)parts[2] * 1000, limits);
+    return text_of(
+        (uint64_t)parts[0] * 86400 + (uint64_t)parts[1], (uint32_t)parts[2] * 1000, limits);
 }
 
-/* The text of a duration, or None where the function, which takes what is neither int nor timedelta, says that it is
- * missing. */
-static PyObject *text_of_value(struct state *state, PyObject *value, PyObject *function, const struct limits *limits) {
+/* The text of a duration, or None where the function, which takes what is neither int nor
+ * timedelta, says that it is missing. */
+static PyObject *text_of_value(
+    struct state *state, PyObject *value, PyObject *function, const struct limits *limits) {
     if (PyLong_CheckExact(value))
         return text_of_int(state, value, limits);
     if (Py_IS_TYPE(value, (PyTypeObject *)state->kept[TIMEDELTA]))
         return text_of_timedelta(state, value, limits);
     PyObject *nanos = PyObject_CallFunctionObjArgs(function, value, NULL);
-    PyObject *text = !nanos ? NULL : Py_IsNone(nanos) ? Py_NewRef(nanos) : text_of_int(state, nanos, limits);
+    PyObject *text = !nanos             ? NULL
+                     : Py_IsNone(nanos) ? Py_NewRef(nanos)
+                                        : text_of_int(state, nanos, limits);
     Py_XDECREF(nanos);
     return text;
 }
 
-static PyObject *format(PyObject *self, PyObject *const *arguments, Py_ssize_t count, PyObject *keywords) {
+static PyObject *format(
+    PyObject *self, PyObject *const *arguments, Py_ssize_t count, PyObject *keywords) {
     struct state *state = PyModule_GetState(self);
     struct limits limits;
     if (!has_one("format", count))
@@ -339,20 +381,22 @@ static PyObject *format(PyObject *self, PyObject *const *arguments, Py_ssize_t c
 }
 
 /* limits(*, parts, largest, smallest, style): the limits as format_list takes them */
-static PyObject *limits(PyObject *self, PyObject *const *arguments, Py_ssize_t count, PyObject *keywords) {
+static PyObject *limits(
+    PyObject *self, PyObject *const *arguments, Py_ssize_t count, PyObject *keywords) {
     struct limits limits;
     if (take_limits(PyModule_GetState(self), arguments + count, keywords, &limits))
         return NULL;
     return Py_BuildValue("(IIII)", limits.units[0], limits.units[1], limits.parts, limits.style);
 }
 
-/* format_list(values, function, texts, limits): appends to `texts` the text of each value, so that its length tells where
- * an error stands. The function is called with what is neither int nor timedelta. */
+/* format_list(values, function, texts, limits): appends to `texts` the text of each value, so that
+ * its length tells where an error stands. The function is called with what is neither int nor
+ * timedelta. */
 static PyObject *format_list(PyObject *self, PyObject *arguments) {
     PyObject *values, *function, *texts;
     struct limits limits;
-    if (!PyArg_ParseTuple(arguments, "O!OO!(IIII)", &PyList_Type, &values, &function, &PyList_Type, &texts,
-                          &limits.units[0], &limits.units[1], &limits.parts, &limits.style))
+    if (!PyArg_ParseTuple(arguments, "O!OO!(IIII)", &PyList_Type, &values, &function, &PyList_Type,
+            &texts, &limits.units[0], &limits.units[1], &limits.parts, &limits.style))
         return NULL;
     for (Py_ssize_t at = 0; at < PyList_Size(values); at++) {
         PyObject *value = Py_NewRef(PyList_GetItem(values, at));
@@ -381,7 +425,7 @@ struct list {
     Py_ssize_t room;
     uint32_t options;
     int raises;
-    Py_ssize_t first; /* the index of the first value; that of a value by itself is -1 */
+    Py_ssize_t first;   /* the index of the first value; that of a value by itself is -1 */
     PyObject *function; /* for timedelta64 what keeps other values than texts, or else null */
 };
 
@@ -391,11 +435,13 @@ static Py_ssize_t length_of(const struct list *list) {
     return length < list->room ? length : list->room;
 }
 
-/* Keeps a value that is no str for timedelta64. `*missing` is one that the function keeps as NaT, which is not asked again.
- * Returns -1 with an error. */
-static int keep(struct state *state, const struct list *list, Py_ssize_t at, PyObject *value, PyObject **missing) {
+/* Keeps a value that is no str for timedelta64. `*missing` is one that the function keeps as NaT,
+ * which is not asked again. Returns -1 with an error. */
+static int keep(struct state *state, const struct list *list, Py_ssize_t at, PyObject *value,
+    PyObject **missing) {
     long parts[3];
-    const bool is_nan = PyFloat_CheckExact(value) && PyFloat_AsDouble(value) != PyFloat_AsDouble(value);
+    const bool is_nan =
+        PyFloat_CheckExact(value) && PyFloat_AsDouble(value) != PyFloat_AsDouble(value);
     if (Py_IsNone(value) || value == *missing || is_nan) {
         list->nanos[at] = MISSING;
         return 0;
@@ -424,12 +470,14 @@ static int keep(struct state *state, const struct list *list, Py_ssize_t at, PyO
 /* Raises that timedelta64 doesn't have a text's value. */
 static void raise_beyond(struct state *state, PyObject *given, Py_ssize_t index) {
     const struct duration_str_answer answer = {.cause = DURATION_STR_CAUSE_OVERFLOW};
-    PyObject *line = PyUnicode_FromString("duration of 2^63 nanoseconds or more, which timedelta64 doesn't have");
+    PyObject *line = PyUnicode_FromString(
+        "duration of 2^63 nanoseconds or more, which timedelta64 doesn't have");
     raise_error(state, line, PyUnicode_FromObject(given), &answer, NULL, index);
 }
 
 /* Reads a text of the list, as read_str does. */
-static int read_text(struct state *state, const struct list *list, Py_ssize_t at, PyObject *text, bool raises) {
+static int read_text(
+    struct state *state, const struct list *list, Py_ssize_t at, PyObject *text, bool raises) {
     int is_read = read_str(state, text, list->options, list->nanos + at, raises, list->first + at);
     if (is_read == 1 && list->function && list->nanos[at] > INT64_MAX)
         is_read = raises ? (raise_beyond(state, text, list->first + at), -1) : 0;
@@ -439,7 +487,8 @@ static int read_text(struct state *state, const struct list *list, Py_ssize_t at
 }
 
 /* Reads a value, and adds its position to the list if it is refused. Returns -1 with an error. */
-static int read_value(struct state *state, const struct list *list, Py_ssize_t at, PyObject *refused, PyObject **missing) {
+static int read_value(struct state *state, const struct list *list, Py_ssize_t at,
+    PyObject *refused, PyObject **missing) {
     PyObject *value = Py_NewRef(PyList_GetItem(list->values, at));
     const bool is_text = PyUnicode_CheckExact(value) || PyUnicode_Check(value);
     int is_read = is_text ? read_text(state, list, at, value, false) : 0;
@@ -453,21 +502,23 @@ static int read_value(struct state *state, const struct list *list, Py_ssize_t a
 
 /* Raises of the first text that is refused. */
 static int raise_first(struct state *state, const struct list *list, PyObject *refused) {
-    const Py_ssize_t at = PyList_Size(refused) ? PyLong_AsSsize_t(PyList_GetItem(refused, 0)) : length_of(list);
+    const Py_ssize_t at =
+        PyList_Size(refused) ? PyLong_AsSsize_t(PyList_GetItem(refused, 0)) : length_of(list);
     PyObject *text = at < length_of(list) ? PyList_GetItem(list->values, at) : NULL;
     return text && PyUnicode_Check(text) && read_text(state, list, at, text, true) < 0 ? -1 : 0;
 }
 
-/* read_list(texts, nanos, options, raises, first, function): puts the values of a list's texts into a buffer of zeros, and
- * returns a list of the positions of what is refused, or is no str by its type. If it raises, it raises of the first value
- * that is no str, or if there is none of the first text that is refused. The first text has the index `first`. Where a
- * function is given and not None, the values are those of timedelta64, what is refused is NaT, and the function has the
- * value of what is no str. */
+/* read_list(texts, nanos, options, raises, first, function): puts the values of a list's texts into
+ * a buffer of zeros, and returns a list of the positions of what is refused, or is no str by its
+ * type. If it raises, it raises of the first value that is no str, or if there is none of the first
+ * text that is refused. The first text has the index `first`. Where a function is given and not
+ * None, the values are those of timedelta64, what is refused is NaT, and the function has the value
+ * of what is no str. */
 static PyObject *read_list(PyObject *self, PyObject *arguments) {
     struct list list;
     Py_buffer nanos;
-    if (!PyArg_ParseTuple(arguments, "O!w*IpnO", &PyList_Type, &list.values, &nanos, &list.options, &list.raises,
-                          &list.first, &list.function))
+    if (!PyArg_ParseTuple(arguments, "O!w*IpnO", &PyList_Type, &list.values, &nanos, &list.options,
+            &list.raises, &list.first, &list.function))
         return NULL;
     struct state *state = PyModule_GetState(self);
     PyObject *refused = PyList_New(0), *missing = NULL;
@@ -485,8 +536,9 @@ static PyObject *read_list(PyObject *self, PyObject *arguments) {
     return refused;
 }
 
-/* Copies one offset more than there are texts. A negative one becomes a very large one, which lies beyond all bytes. Returns
- * whether they are signed, or -1 with an error if the buffer has something else. */
+/* Copies one offset more than there are texts. A negative one becomes a very large one, which lies
+ * beyond all bytes. Returns whether they are signed, or -1 with an error if the buffer has
+ * something else. */
 static int copy_offsets(PyObject *given, size_t *offsets, Py_ssize_t texts) {
     Py_buffer row;
     if (PyObject_GetBuffer(given, &row, PyBUF_ND | PyBUF_FORMAT))
@@ -497,11 +549,13 @@ static int copy_offsets(PyObject *given, size_t *offsets, Py_ssize_t texts) {
     if (row.ndim != 1 || (row.itemsize != 4 && row.itemsize != 8))
         are_signed = -1;
     if (are_signed < 0)
-        PyErr_Format(PyExc_TypeError, "offsets must be a row of integers of 4 or 8 bytes, not '%s'", format);
+        PyErr_Format(
+            PyExc_TypeError, "offsets must be a row of integers of 4 or 8 bytes, not '%s'", format);
     for (Py_ssize_t at = 0; are_signed >= 0 && at <= texts && at < row.len / row.itemsize; at++) {
         uint32_t narrow = 0;
         uint64_t wide = 0;
-        memcpy(row.itemsize == 4 ? (void *)&narrow : (void *)&wide, (char *)row.buf + at * row.itemsize, (size_t)row.itemsize);
+        memcpy(row.itemsize == 4 ? (void *)&narrow : (void *)&wide,
+            (char *)row.buf + at * row.itemsize, (size_t)row.itemsize);
         if (row.itemsize == 4)
             wide = are_signed ? (uint64_t)(int64_t)(int32_t)narrow : narrow;
         offsets[at] = wide > SIZE_MAX ? SIZE_MAX : (size_t)wide;
@@ -515,16 +569,18 @@ static bool is_within(const size_t *offsets, Py_ssize_t length) {
     return offsets[0] <= offsets[1] && offsets[1] <= (size_t)length;
 }
 
-static void raise_between(struct state *state, const Py_buffer *data, const size_t *offsets, int are_signed,
-                          uint32_t options, Py_ssize_t index) {
+static void raise_between(struct state *state, const Py_buffer *data, const size_t *offsets,
+    int are_signed, uint32_t options, Py_ssize_t index) {
     const size_t start = offsets[0], end = offsets[1];
     if (!is_within(offsets, data->len)) {
-        const char *format = are_signed ? "at index %zd: the offsets %zd and %zd decrease or lie beyond %zd bytes"
-                                        : "at index %zd: the offsets %zu and %zu decrease or lie beyond %zd bytes";
+        const char *format =
+            are_signed ? "at index %zd: the offsets %zd and %zd decrease or lie beyond %zd bytes"
+                       : "at index %zd: the offsets %zu and %zu decrease or lie beyond %zd bytes";
         PyErr_Format(PyExc_ValueError, format, index, start, end, data->len);
         return;
     }
-    PyObject *copy = PyBytes_FromStringAndSize((const char *)data->buf + start, (Py_ssize_t)(end - start));
+    PyObject *copy =
+        PyBytes_FromStringAndSize((const char *)data->buf + start, (Py_ssize_t)(end - start));
     if (!copy)
         return;
     struct duration_str_answer answer;
@@ -533,17 +589,19 @@ static void raise_between(struct state *state, const Py_buffer *data, const size
     if (answer.cause == DURATION_STR_CAUSE_READ) {
         PyErr_Format(PyExc_RuntimeError, "at index %zd: the text changed while it was read", index);
     } else {
-        PyObject *given = PyUnicode_DecodeUTF8(text.bytes, (Py_ssize_t)text.length, "surrogateescape");
+        PyObject *given =
+            PyUnicode_DecodeUTF8(text.bytes, (Py_ssize_t)text.length, "surrogateescape");
         raise_error(state, report, given, &answer, text.bytes, index);
     }
     Py_DECREF(copy);
 }
 
-/* Reads the texts between the offsets, and marks those that are read. The bytes of an exact `bytes`, which nobody may
- * change, are read in place, while other threads run, and others from copies: whoever writes to them meanwhile, also
- * without the interpreter's lock, changes nothing that is being read. Returns -1 with an error if there is no memory. */
-static int read_column(const Py_buffer *data, const size_t *offsets, size_t texts, uint32_t options, uint64_t *nanos,
-                       char *are_read) {
+/* Reads the texts between the offsets, and marks those that are read. The bytes of an exact
+ * `bytes`, which nobody may change, are read in place, while other threads run, and others from
+ * copies: whoever writes to them meanwhile, also without the interpreter's lock, changes nothing
+ * that is being read. Returns -1 with an error if there is no memory. */
+static int read_column(const Py_buffer *data, const size_t *offsets, size_t texts, uint32_t options,
+    uint64_t *nanos, char *are_read) {
     struct duration_str_answer answer;
     PyThreadState *thread = PyBytes_CheckExact(data->obj) ? PyEval_SaveThread() : NULL;
     size_t room = 256;
@@ -571,7 +629,8 @@ static int read_column(const Py_buffer *data, const size_t *offsets, size_t text
     return thread || copy ? 0 : (PyErr_NoMemory(), -1);
 }
 
-/* read_buffers(data, offsets, nanos, options, raises): as read_list, of the texts between the offsets into the data. */
+/* read_buffers(data, offsets, nanos, options, raises): as read_list, of the texts between the
+ * offsets into the data. */
 static PyObject *read_buffers(PyObject *self, PyObject *arguments) {
     PyObject *given, *refused = NULL;
     Py_buffer data, nanos;
@@ -582,14 +641,16 @@ static PyObject *read_buffers(PyObject *self, PyObject *arguments) {
     const size_t texts = (size_t)nanos.len / 8;
     size_t *offsets = PyMem_Calloc(texts + 1, sizeof *offsets);
     char *are_read = PyMem_Calloc(texts + 1, 1);
-    const int are_signed = offsets && are_read ? copy_offsets(given, offsets, (Py_ssize_t)texts) : (PyErr_NoMemory(), -1);
+    const int are_signed = offsets && are_read ? copy_offsets(given, offsets, (Py_ssize_t)texts)
+                                               : (PyErr_NoMemory(), -1);
     if (are_signed >= 0 && !read_column(&data, offsets, texts, options, nanos.buf, are_read))
         refused = PyList_New(0);
     for (size_t at = 0; refused && at < texts; at++) {
         if (are_read[at])
             continue;
         if (raises)
-            raise_between(PyModule_GetState(self), &data, offsets + at, are_signed, options, (Py_ssize_t)at);
+            raise_between(
+                PyModule_GetState(self), &data, offsets + at, are_signed, options, (Py_ssize_t)at);
         if (raises || add_position(refused, (Py_ssize_t)at))
             Py_CLEAR(refused);
     }
@@ -600,41 +661,47 @@ static PyObject *read_buffers(PyObject *self, PyObject *arguments) {
     return refused;
 }
 
-#define OPTIONS_DOC "($module, text, /, *, no_calc=False, lowercase=False, cn_unit=False, require_unit=False)\n--\n\n"
-PyDoc_STRVAR(parse_ns_doc, "parse_ns" OPTIONS_DOC "Returns the value of a text in nanoseconds.\n\n"
-"The options are off by default:\n\n"
-"  no_calc       `+` and `*` are not read; terms are added one by one\n"
-"  lowercase     units are compared as written; without this option ASCII\n"
-"                capitals are read as small letters\n"
-"  cn_unit       the Chinese names of the units are read too\n"
-"  require_unit  a number without a unit is refused\n\n"
-"Raises DurationError if the text is refused, and DurationTypeError if it is\n"
-"not a str.");
-PyDoc_STRVAR(parse_doc, "parse" OPTIONS_DOC
-"Returns the value of a text as a timedelta, rounded down to microseconds.\n\n"
-"`parse_ns` is exact; it has the same options and errors.");
-PyDoc_STRVAR(parse_seconds_doc, "parse_seconds" OPTIONS_DOC
-"Returns the value of a text in seconds, rounded to the nearest float.\n\n"
-"`parse_ns` is exact; it has the same options and errors.");
-PyDoc_STRVAR(format_doc, "format($module, value, /, *, parts=11, largest='y', smallest='ns', style='short')\n--\n\n"
-"Prints a duration: an int of nanoseconds, or a timedelta, also NumPy's.\n\n"
-"  parts     at most so many parts\n"
-"  largest   the largest unit: `y`, `q`, `mon`, `w`, `d`, `h`, `min`, `s`,\n"
-"            `ms`, `\xc2\xb5s` or `us`, or `ns`\n"
-"  smallest  the smallest unit\n"
-"  style     `short` (`1h 30min`), `compact` (`1h30min`) or `long`\n"
-"            (`1 hour 30 minutes`)\n\n"
-"The rest is left out, so the text never shows more than the duration. If all\n"
-"counts are 0, it is `0` and the smallest unit, or `0s`.\n\n"
-"Raises ValueError if the duration is negative, if `parts` is 0, or if the\n"
-"largest unit is shorter than the smallest; OverflowError if the duration is\n"
-"2**64 seconds or more; TypeError if it is neither an int nor a timedelta.\n\n"
-">>> duration_str.format(193_029_000_000, parts=2)\n"
-"'3min 13s'\n"
-">>> duration_str.format(193_029_000_000, style='long')\n"
-"'3 minutes 13 seconds 29 milliseconds'");
+#define OPTIONS_DOC                                                                                \
+    "($module, text, /, *, no_calc=False, lowercase=False, cn_unit=False, "                        \
+    "require_unit=False)\n--\n\n"
+PyDoc_STRVAR(parse_ns_doc,
+    "parse_ns" OPTIONS_DOC "Returns the value of a text in nanoseconds.\n\n"
+    "The options are off by default:\n\n"
+    "  no_calc       `+` and `*` are not read; terms are added one by one\n"
+    "  lowercase     units are compared as written; without this option ASCII\n"
+    "                capitals are read as small letters\n"
+    "  cn_unit       the Chinese names of the units are read too\n"
+    "  require_unit  a number without a unit is refused\n\n"
+    "Raises DurationError if the text is refused, and DurationTypeError if it is\n"
+    "not a str.");
+PyDoc_STRVAR(parse_doc,
+    "parse" OPTIONS_DOC
+    "Returns the value of a text as a timedelta, rounded down to microseconds.\n\n"
+    "`parse_ns` is exact; it has the same options and errors.");
+PyDoc_STRVAR(parse_seconds_doc,
+    "parse_seconds" OPTIONS_DOC
+    "Returns the value of a text in seconds, rounded to the nearest float.\n\n"
+    "`parse_ns` is exact; it has the same options and errors.");
+PyDoc_STRVAR(format_doc,
+    "format($module, value, /, *, parts=11, largest='y', smallest='ns', style='short')\n--\n\n"
+    "Prints a duration: an int of nanoseconds, or a timedelta, also NumPy's.\n\n"
+    "  parts     at most so many parts\n"
+    "  largest   the largest unit: `y`, `q`, `mon`, `w`, `d`, `h`, `min`, `s`,\n"
+    "            `ms`, `\xc2\xb5s` or `us`, or `ns`\n"
+    "  smallest  the smallest unit\n"
+    "  style     `short` (`1h 30min`), `compact` (`1h30min`) or `long`\n"
+    "            (`1 hour 30 minutes`)\n\n"
+    "The rest is left out, so the text never shows more than the duration. If all\n"
+    "counts are 0, it is `0` and the smallest unit, or `0s`.\n\n"
+    "Raises ValueError if the duration is negative, if `parts` is 0, or if the\n"
+    "largest unit is shorter than the smallest; OverflowError if the duration is\n"
+    "2**64 seconds or more; TypeError if it is neither an int nor a timedelta.\n\n"
+    ">>> duration_str.format(193_029_000_000, parts=2)\n"
+    "'3min 13s'\n"
+    ">>> duration_str.format(193_029_000_000, style='long')\n"
+    "'3 minutes 13 seconds 29 milliseconds'");
 
-#define FAST(call) (PyCFunction)(void (*)(void))call, METH_FASTCALL | METH_KEYWORDS
+#define FAST(call) (PyCFunction)(void (*)(void)) call, METH_FASTCALL | METH_KEYWORDS
 static PyMethodDef methods[] = {
     {"parse_ns", FAST(parse_ns), parse_ns_doc},
     {"parse", FAST(parse), parse_doc},
@@ -678,10 +745,10 @@ static void end(void *module) {
         Py_CLEAR(state->kept[at]);
 }
 
-/* ISO C turns a function's address into a number, and no function into an object. From CPython 3.12 on a slot says that
- * interpreters with a lock of their own may have the module: its number and its value are those of
- * Py_mod_multiple_interpreters and Py_MOD_PER_INTERPRETER_GIL_SUPPORTED, which earlier headers lack. Earlier interpreters
- * refuse slots that they don't know. */
+/* ISO C turns a function's address into a number, and no function into an object. From CPython 3.12
+ * on a slot says that interpreters with a lock of their own may have the module: its number and its
+ * value are those of Py_mod_multiple_interpreters and Py_MOD_PER_INTERPRETER_GIL_SUPPORTED, which
+ * earlier headers lack. Earlier interpreters refuse slots that they don't know. */
 static PyModuleDef_Slot slots[] = {{Py_mod_exec, (void *)(uintptr_t)begin}, {0, NULL}, {0, NULL}};
 static struct PyModuleDef definition = {
     PyModuleDef_HEAD_INIT, "_native", NULL, sizeof(struct state), methods, slots, NULL, NULL, end};
