@@ -1,22 +1,27 @@
-# make                 builds the program, the library for C and, where its crates are, the command, and says where they lie
+# make                 builds the program, the library for C and, where its crates are, the command,
+#                      and says where they lie
 # make program         the program alone
 # make library         the library alone: an archive and a shared library, or a WebAssembly module
-# make duration        the command duration, where Debian's packages of the crates that it uses are there
-# make setup           installs what the tests need, on Debian, as root or where sudo asks for no password; with all=yes
-#                      also the many packages that few of them need
+# make duration        the command duration, where Debian's packages of the crates that it uses are
+#                      there
+# make setup           installs what the tests need, on Debian, as root or where sudo asks for no
+#                      password; with all=yes also the many packages that few of them need
 # make prove           proves everything, by the Rattle toolchain's command rt
-# make check           proves everything, where there is rt, and tests what is built, in half an hour to an hour
+# make check           proves everything, where there is rt, and tests what is built, in half an
+#                      hour to an hour
 # make quick           proves what has changed and runs the tests that take seconds
-# make install         puts these, the header, the manual pages and completions below prefix=/usr/local, or into bindir=,
-#                      libdir=, includedir=, mandir=, docdir= and datarootdir=, all below DESTDIR= if that is set
+# make install         puts these, the header, the manual pages and completions below
+#                      prefix=/usr/local, or into bindir=, libdir=, includedir=, mandir=, docdir=
+#                      and datarootdir=, all below DESTDIR= if that is set
 # make uninstall       removes them again, given the same variables
 # make release         fills dist/, or dist=FOLDER, with packages for machines without a toolchain
 # make page            writes out/duration_str.html, a page to try texts on
 # make clean           removes what was built and proved here, except dist/
 #
-# cargo builds all of this, from Rust 1.85 on, of the proved sources without their contracts, and without a network; for
-# another machine with target=TARGET, by rustc's name, as aarch64-unknown-linux-gnu; with static=yes the program needs no
-# shared library. Where there is rt and no cargo, it builds the program.
+# cargo builds all of this, from Rust 1.85 on, of the proved sources without their contracts, and
+# without a network; for another machine with target=TARGET, by rustc's name, as
+# aarch64-unknown-linux-gnu; with static=yes the program needs no shared library. Where there is rt
+# and no cargo, it builds the program.
 SHELL := bash
 .SHELLFLAGS := -euo pipefail -c
 .ONESHELL:
@@ -47,8 +52,8 @@ cargo = tools/cargo-for $(call quoted,$(target)) $(1) --quiet --profile $(profil
 static =
 comma := ,
 
-# Where nothing can be written, or is to be installed without cargo, as often under sudo, what is there serves if it is current:
-# $(call serves,FILE,FOLDERS)
+# Where nothing can be written, or is to be installed without cargo, as often under sudo, what is
+# there serves if it is current: $(call serves,FILE,FOLDERS)
 installing =
 serves = { { [ ! -w . ] $(if $(installing),|| ! type -P cargo >/dev/null); } && [ -e $(1) ] && \
     [ -z "$$(find Cargo.toml $(2) rust/core -newer $(1) -print -quit)" ]; }
@@ -79,8 +84,9 @@ library:
 	fi
 	echo $(built)
 
-# It depends on crates of others. cargo hashes the absolute path of what lies outside of a workspace, and so gives other
-# bytes in each folder: so out/command is a workspace around both, of copies, since the gate refuses links.
+# It depends on crates of others. cargo hashes the absolute path of what lies outside of a
+# workspace, and so gives other bytes in each folder: so out/command is a workspace around both, of
+# copies, since the gate refuses links.
 command = out/cargo/$(host)/release/duration
 crates = clap clap_complete clap_derive serde_json
 commanded = shell/Cargo.toml shell/src rust/Cargo.toml rust/macros rust/src
@@ -132,8 +138,9 @@ installed = $(addprefix $(bindir)/,durstr duration) $(addprefix $(mandir)/man1/,
     $(addprefix $(libdir)/,libduration_str.a $(shared) pkgconfig/duration_str.pc $(cmake_files)) \
     $(patsubst %,$(mandir)/man3/%.3,duration_str $(calls)) $(addprefix $(docdir)/,LICENSE NOTICE)
 
-# put FROM TO: installs the file as TO; put_program: the same of a program; put_text TO: of its input, since without /proc there
-# is no /dev/stdin. $$said has what `install` says, as the folders that it makes, which $(folders) keeps for uninstalling.
+# put FROM TO: installs the file as TO; put_program: the same of a program; put_text TO: of its
+# input, since without /proc there is no /dev/stdin. $$said has what `install` says, as the folders
+# that it makes, which $(folders) keeps for uninstalling.
 put = said=$$(mktemp) && trap 'rm -f "$$said"*' EXIT; \
     put() { LC_ALL=C $(INSTALL_DATA) -v -D "$$1" "$$DESTDIR$$2" >>"$$said"; }; \
     put_text() { cat >"$$said.text" && put "$$said.text" "$$1"; }; \
@@ -146,18 +153,20 @@ page = sed -e 's/^@CALLS@$$/.Nm $(subst $(space), $(comma)\n.Nm ,$(calls))/' \
     -e '/^@SYNOPSIS@$$/{e $(call description,-v synopsis=1)' -e 'd}' -e '/^@HEADER@$$/{e $(call description)' -e 'd}' \
     -e '/^@UNITS@$$/{e $(call description) | sed -n "/^Units: /,/^A year has/p"' -e 'd}' -e 's/@VERSION@/$(version)/' $(1)
 
-# From a folder of what is installed up to the prefix, so that all of it can be moved; the prefix where the folder is not
-# below it: $(call up,FOLDER,FROM), where FROM stands for the folder
+# From a folder of what is installed up to the prefix, so that all of it can be moved; the prefix
+# where the folder is not below it: $(call up,FOLDER,FROM), where FROM stands for the folder
 space := $() $()
 up = $(if $(filter $(prefix)/%,$(1)),$(2)$(subst $(space),,$(patsubst %,/..,$(subst /, ,$(1:$(prefix)/%=%)))),$(prefix))
 
-# The template in that file, for what is installed there; VARIABLE stands for the prefix: $(call filled,FILE,VARIABLE,PREFIX)
+# The template in that file, for what is installed there; VARIABLE stands for the prefix:
+# $(call filled,FILE,VARIABLE,PREFIX)
 filled = sed 's|@PREFIX@|$(3)|; s|@VERSION@|$(version)|; s|@LIBDIR@|$(call below,$(libdir),$(2))|; \
     s|@INCLUDEDIR@|$(call below,$(includedir),$(2))|' c/$(1).in
 below = $(patsubst $(prefix)/%,$${$(2)}/%,$(1))
 cmake_up = $(call up,$(libdir)/cmake/duration_str,$${CMAKE_CURRENT_LIST_DIR})
 
-# Some characters pkg-config takes for something else, and others it quotes, so that compilers misread them.
+# Some characters pkg-config takes for something else, and others it quotes, so that compilers
+# misread them.
 installable:
 	@export LC_ALL=C
 	for folder in $(foreach name,prefix bindir libdir includedir datarootdir mandir docdir,$(call quoted,$($(name)))); do

@@ -1,6 +1,8 @@
-"""Times from Python: what is timed, a tab, and the nanoseconds a text or value. Texts are `1h 30m`, or where it is said ones
-as `3m 13s 29ms`; of them a column has a million, or fewer where each takes a call. Of each it is the least of the rounds,
-which take turns, and the time of the processor, since a call is longer than what a busy machine gives a program at once."""
+"""Times from Python: what is timed, a tab, and the nanoseconds a text or value. Texts are `1h 30m`,
+or where it is said ones as `3m 13s 29ms`; of them a column has a million, or fewer where each takes
+a call. Of each it is the least of the rounds, which take turns, and the time of the processor,
+since a call is longer than what a busy machine gives a program at once.
+"""
 
 import random
 import time

@@ -1,5 +1,6 @@
-// Times of the package for JavaScript over the lines of the standard input: a line for each call with what it is, a tab, and
-// the nanoseconds a call, the least of many rounds, which are short, so that some run undisturbed.
+// Times of the package for JavaScript over the lines of the standard input: a line for each call
+// with what it is, a tab, and the nanoseconds a call, the least of many rounds, which are short, so
+// that some run undisturbed.
 import { readFileSync } from "node:fs";
 
 import { DurationError, formatNs, parseNs, parse } from "../js/dist/duration-str.js";

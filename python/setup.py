@@ -1,6 +1,6 @@
-"""Builds the extension module over the library for C: the archive that DURATION_STR_LIB names, or else the one that cargo
-builds of the proved sources without their contracts. Each build is made anew, in a temporary folder, and nothing is written
-beside the sources but copies of the licences.
+"""Builds the extension module over the library for C: the archive that DURATION_STR_LIB names, or
+else the one that cargo builds of the proved sources without their contracts. Each build is made
+anew, in a temporary folder, and nothing is written beside the sources but copies of the licences.
 """
 
 import atexit
@@ -51,7 +51,9 @@ def copy_crates(folder):
 
 
 def by_cargo(room):
-    """The archive that cargo builds in this folder, of a copy, since cargo writes beside the sources."""
+    """The archive that cargo builds in this folder, of a copy, since cargo writes beside the
+    sources.
+    """
     demand(
         shutil.which("cargo"),
         "Rust 1.85 or later, with cargo on the path; or name the library in DURATION_STR_LIB",

@@ -1,5 +1,7 @@
-"""Runs the command `duration` over random options, arguments and lines, and compares what it says and its status with a
-model made of shell/README.md and `duration --help` alone: duration_model.py PROGRAM [SECONDS [SEED]]"""
+"""Runs the command `duration` over random options, arguments and lines, and compares what it says
+and its status with a model made of shell/README.md and `duration --help` alone: duration_model.py
+PROGRAM [SECONDS [SEED]]
+"""
 import collections
 import fractions
 import json
@@ -42,7 +44,9 @@ quoted = json.JSONEncoder(ensure_ascii=False).encode
 
 
 def rounded(number, way):
-    """The whole number next below, next above, or the nearest, of two that are as near the upper one."""
+    """The whole number next below, next above, or the nearest, of two that are as near the upper
+    one.
+    """
     return {"up": -(-number // 1), "nearest": (number + fractions.Fraction(1, 2)) // 1}.get(
         way, number // 1
     )
@@ -74,7 +78,9 @@ def printed(nanos, options):
 
 
 def read_number(text, options):
-    """The nanoseconds of a bare number; what is cut off after 18 decimals also makes it larger under `--round up`."""
+    """The nanoseconds of a bare number; what is cut off after 18 decimals also makes it larger
+    under `--round up`.
+    """
     way = options["round"] if options.get("round") == "up" else "down"
     decimals = rounded(fractions.Fraction(text) * 10**18, way)
     nanos = rounded(fractions.Fraction(decimals * LENGTHS[options["from"]], 10**18), way)
@@ -278,7 +284,9 @@ class Commands(Texts):
 
 
 def run(words, options, data, cuts):
-    """What the program says to bytes that come in pieces, whose lines it must answer before the next one comes."""
+    """What the program says to bytes that come in pieces, whose lines it must answer before the
+    next one comes.
+    """
     process = subprocess.Popen(
         words, 0, stdin=subprocess.PIPE, stdout=subprocess.PIPE, stderr=subprocess.PIPE
     )

@@ -12,7 +12,10 @@ function put(text) {
     all("#text")[0].dispatchEvent(new Event("input", { bubbles: true }));
 }
 
-/** Puts the text into the input, also as pasting does, and gives the milliseconds until it is answered and drawn. */
+/**
+ * Puts the text into the input, also as pasting does, and gives the milliseconds until it is
+ * answered and drawn.
+ */
 function timeAnswer(text, pasted, done) {
     const start = performance.now();
     all("#text")[0].select();

@@ -1,4 +1,5 @@
-"""page.py FILE [--pictures]: tries the page in this file in Chromium, or takes its pictures; called by tests/page.
+"""page.py FILE [--pictures]: tries the page in this file in Chromium, or takes its pictures; called
+by tests/page.
 
 page-texts.json has texts and what is shown of them, worked out by hand from docs/GRAMMAR.md:
 "values", printed and in nanoseconds, milliseconds, seconds and ISO 8601; the rows of their "terms";
@@ -31,7 +32,8 @@ from selenium.webdriver.common.keys import Keys
 ROOT = pathlib.Path(__file__).resolve().parent.parent
 TEXTS = json.loads((ROOT / "tests/page-texts.json").read_text(encoding="utf-8"))
 SCHEMES = ("light", "dark")
-# A little longer than the page waits after the last key before it tells the answer and writes the link
+# A little longer than the page waits after the last key before it tells the answer and writes the
+# link
 PAUSE = 0.8
 # How many bytes the page may have
 LARGEST = 105_000
@@ -135,7 +137,9 @@ class Page:
         return next(iter(self.words("mark")), None)
 
     def key(self, *keys):
-        """Presses the keys in the element that has the focus, and returns the name of the one that has it then."""
+        """Presses the keys in the element that has the focus, and returns the name of the one that
+        has it then.
+        """
         self.driver.switch_to.active_element.send_keys(*keys)
         return self.run(
             "const e = document.activeElement; return e.id || e.textContent || e.className"
@@ -421,7 +425,9 @@ def try_code(page):
 
 
 def try_printing(page):
-    """A duration of 90,061.000000001 s, which is 1 day 1 hour 1 minute 1 second 1 nanosecond, in chosen ways."""
+    """A duration of 90,061.000000001 s, which is 1 day 1 hour 1 minute 1 second 1 nanosecond, in
+    chosen ways.
+    """
     rows = [
         ({}, "1d 1h 1min 1s 1ns", {"shell": "printf '%s\\n' '90061s 1ns' | durstr"}),
         (
@@ -825,7 +831,9 @@ def try_pictures(page):
 
 
 def try_outside(page):
-    """Nothing was asked for outside so far, no rule was broken and nothing complained of; and the policy holds."""
+    """Nothing was asked for outside so far, no rule was broken and nothing complained of; and the
+    policy holds.
+    """
     messages = [
         json.loads(entry["message"])["message"] for entry in page.driver.get_log("performance")
     ]
@@ -855,7 +863,9 @@ def try_outside(page):
 
 
 def try_without(page):
-    """Without scripts or WebAssembly the page says so first, and shows nothing else but its title and its end."""
+    """Without scripts or WebAssembly the page says so first, and shows nothing else but its title
+    and its end.
+    """
 
     def same(what, works):
         page.open()

@@ -1,10 +1,10 @@
 """What a text means, as docs/GRAMMAR.md says it, computed the naive way.
 
-This is the parser against which `compare` holds the program, the library and the packages. It was written from the
-documents, not from the Rattle code, and works in another manner: it tries all the ways to split a text into terminals,
-and keeps those that are sentences; it tries which terminals go on after a beginning; and its numbers are whole numbers
-without bound. Where the documents say that there is only one of something, it looks for all of them and fails where it
-finds another.
+This is the parser against which `compare` holds the program, the library and the packages. It was
+written from the documents, not from the Rattle code, and works in another manner: it tries all the
+ways to split a text into terminals, and keeps those that are sentences; it tries which terminals go
+on after a beginning; and its numbers are whole numbers without bound. Where the documents say that
+there is only one of something, it looks for all of them and fails where it finds another.
 """
 import functools
 import itertools
@@ -18,7 +18,9 @@ LIMIT = 2**64
 
 
 class Unit(typing.NamedTuple):
-    """A unit: its length in nanoseconds, its printed name, its names, and those that `cn_unit` adds."""
+    """A unit: its length in nanoseconds, its printed name, its names, and those that `cn_unit`
+    adds.
+    """
 
     length: int
     printed: str
@@ -41,7 +43,8 @@ UNITS = (
     Unit(1, "ns", "ns nsec nanosecond nanoseconds", "纳秒"),
 )
 
-# The line of a syntax fault where a unit could stand, and the most bytes that a printed duration has.
+# The line of a syntax fault where a unit could stand, and the most bytes that a printed duration
+# has.
 UNIT_LINE = 'expected ["y", "q", "mon", "w", "d", "h", "m", "s", "ms", "µs", "us", "ns"]'
 LONGEST_PRINTED = 60
 
@@ -76,8 +79,8 @@ CHOICES = [
     for choice in itertools.product((False, True), repeat=len(Options._fields))
 ]
 
-# Every choice of limits for a printed duration: the places in UNITS of the largest and the smallest unit, and how many
-# parts at most, up to one more than there are units.
+# Every choice of limits for a printed duration: the places in UNITS of the largest and the smallest
+# unit, and how many parts at most, up to one more than there are units.
 LIMITS = list(itertools.product(range(len(UNITS)), range(len(UNITS)), range(len(UNITS) + 2)))
 
 
@@ -121,7 +124,9 @@ def unit_of(word, options):
 
 @functools.lru_cache(1 << 16)
 def sort_of(token, options):
-    """What a token is made of: digits, letters, one operator, one other character; None for anything else."""
+    """What a token is made of: digits, letters, one operator, one other character; None for
+    anything else.
+    """
     if token and all(character in DIGITS for character in token):
         return "digits"
     if token and all(is_letter(character, options) for character in token):
@@ -171,8 +176,8 @@ KINDS = ("number", "unit", "operator")
 def begins_sentence(kinds, options):
     """Whether some sentence has these kinds of terminals in front.
 
-    A rule of the grammar asks for at most a number after what it has read, so if any sentence goes on after them, one
-    does with a single terminal.
+    A rule of the grammar asks for at most a number after what it has read, so if any sentence goes
+    on after them, one does with a single terminal.
     """
     return is_sentence(list(kinds), options) or any(
         is_sentence([*kinds, kind], options) for kind in KINDS
@@ -205,10 +210,12 @@ def list_of(pairs):
 
 
 def sentences(text, options):
-    """All sentences that spell the text: each way to split it into blanks and terminals that the grammar allows.
+    """All sentences that spell the text: each way to split it into blanks and terminals that the
+    grammar allows.
 
-    The rests of the text are gone through from the shortest on. For each stands what it can be split into: a sentence;
-    what is left of one after a number; what is left of one after a number and a unit.
+    The rests of the text are gone through from the shortest on. For each stands what it can be
+    split into: a sentence; what is left of one after a number; what is left of one after a number
+    and a unit.
     """
     whole, after_number, after_unit = (
         [()] * len(text) + [[]],
@@ -242,9 +249,11 @@ def sentences(text, options):
 
 @functools.lru_cache(1 << 10)
 def token_lists(text, options):
-    """All ways to cut the text into blanks and tokens, where no two tokens of digits or of letters touch each other.
+    """All ways to cut the text into blanks and tokens, where no two tokens of digits or of letters
+    touch each other.
 
-    A token is given with the place of its first character. The rests of the text are gone through from the shortest on.
+    A token is given with the place of its first character. The rests of the text are gone through
+    from the shortest on.
     """
     lists = [()] * len(text) + [[()]]
     for at in reversed(range(len(text))):
@@ -266,7 +275,9 @@ def token_lists(text, options):
 
 
 class Front(typing.NamedTuple):
-    """The longest list of first tokens that begins a sentence, and the token that comes next, if there is one."""
+    """The longest list of first tokens that begins a sentence, and the token that comes next, if
+    there is one.
+    """
 
     terminals: tuple
     next: typing.Optional[tuple]
@@ -337,7 +348,9 @@ def terms_of(terminals):
 
 
 def product(values):
-    """A product of later terms in seconds, from left to right, each step rounded down to nanoseconds."""
+    """A product of later terms in seconds, from left to right, each step rounded down to
+    nanoseconds.
+    """
     result = SECOND
     for value in values:
         result = result * value // SECOND
@@ -366,7 +379,9 @@ def evaluation_fault(terms):
 
 
 def first_term_fault(front):
-    """The fault of the first term, where that stands: with its unit, or before an operator, or before the end."""
+    """The fault of the first term, where that stands: with its unit, or before an operator, or
+    before the end.
+    """
     kinds = front.kinds()
     if (
         kinds[:2] in (("number", "unit"), ("number", "operator"))
@@ -379,7 +394,9 @@ def first_term_fault(front):
 
 
 def standing_fault(front):
-    """Under `no_calc`: the first fault of the terms that stand: with their unit, or, the last one, before the end."""
+    """Under `no_calc`: the first fault of the terms that stand: with their unit, or, the last one,
+    before the end.
+    """
     kinds = front.kinds()
     terms = terms_of(front.terminals)
     if kinds[-1:] == ("number",) and front.next is not None:
@@ -399,8 +416,8 @@ def standing_fault(front):
 def answer_of(text, options):
     """What the text is read as under these options, or the refusal that comes first.
 
-    Folding does nothing where no capital is, and the Chinese names have Chinese letters alone, so that the answer for a
-    text is computed once for all the choices that it can't tell apart.
+    Folding does nothing where no capital is, and the Chinese names have Chinese letters alone, so
+    that the answer for a text is computed once for all the choices that it can't tell apart.
     """
     folds = options.lowercase and text != text.translate(FOLDED)
     knows = options.cn_unit and any(character in CHINESE for character in text)
@@ -408,7 +425,9 @@ def answer_of(text, options):
 
 
 def with_units(text, answer):
-    """The answer where each number must have its unit: a text that is read is refused where the first one is missing."""
+    """The answer where each number must have its unit: a text that is read is refused where the
+    first one is missing.
+    """
     missing = re.search(rf"[0-9][{BLANKS}]*([+*]|\Z)", text)
     if answer.cause != "read" or not missing:
         return answer
@@ -435,7 +454,9 @@ def computed_answer(text, options):
 
 
 def prepare(text):
-    """Computes the answers for bytes under all choices, which are kept for a while: together that takes less time."""
+    """Computes the answers for bytes under all choices, which are kept for a while: together that
+    takes less time.
+    """
     try:
         text = text.decode()
     except UnicodeDecodeError:
@@ -445,7 +466,9 @@ def prepare(text):
 
 
 def quotients(nanos, lengths, chosen):
-    """A count for each of these lengths: of the chosen ones how often each goes into what is left, of others 0."""
+    """A count for each of these lengths: of the chosen ones how often each goes into what is left,
+    of others 0.
+    """
     counts = []
     for length in lengths:
         count, nanos = divmod(nanos, length) if length in chosen else (0, nanos)
@@ -454,7 +477,9 @@ def quotients(nanos, lengths, chosen):
 
 
 def print_whole(nanos):
-    """The breakdown with the greatest first count, then the greatest second one, and so on; counts of 0 are left out."""
+    """The breakdown with the greatest first count, then the greatest second one, and so on; counts
+    of 0 are left out.
+    """
     lengths = [unit.length for unit in UNITS]
     return (
         " ".join(
@@ -468,14 +493,17 @@ def print_whole(nanos):
 
 @functools.lru_cache(1 << 16)
 def counts_within(nanos, lengths, parts):
-    """The lexicographically greatest counts for these lengths, of which at most so many are not 0 and which together
-    are at most the duration: the greatest for any choice of so many lengths."""
+    """The lexicographically greatest counts for these lengths, of which at most so many are not 0
+    and which together are at most the duration: the greatest for any choice of so many lengths.
+    """
     chosen = itertools.combinations(lengths, min(parts, len(lengths)))
     return max(quotients(nanos, lengths, each) for each in chosen)
 
 
 def search_small_worlds():
-    """Fails where `counts_within` is not the greatest of all lists of counts, among units few and short enough."""
+    """Fails where `counts_within` is not the greatest of all lists of counts, among units few and
+    short enough.
+    """
     for lengths in ((7, 3, 1), (5, 4, 2), (6, 4), (3,), ()):
         for nanos, parts in itertools.product(range(24), range(len(lengths) + 2)):
             lists = itertools.product(*(range(nanos // length + 1) for length in lengths))
@@ -489,15 +517,17 @@ def search_small_worlds():
 
 
 def print_part(count, unit, style):
-    """A count with its unit's printed name; in the long style with a space and the last of its names, or for one the last
-    but one."""
+    """A count with its unit's printed name; in the long style with a space and the last of its
+    names, or for one the last but one.
+    """
     one, many = unit.names.split()[-2:]
     return f"{count} {one if count == 1 else many}" if style == "long" else f"{count}{unit.printed}"
 
 
 def print_within(nanos, largest, smallest, parts, style="short"):
-    """What a duration prints as in the units from one place in UNITS to another, in at most so many parts and in one of
-    the styles short, compact and long."""
+    """What a duration prints as in the units from one place in UNITS to another, in at most so many
+    parts and in one of the styles short, compact and long.
+    """
     units = UNITS[largest : smallest + 1]
     counts = counts_within(nanos, tuple(unit.length for unit in units), parts)
     printed_parts = [print_part(count, unit, style) for count, unit in zip(counts, units) if count]
@@ -535,8 +565,8 @@ def message(text, answer):
 
 # ---- A fault in one line
 
-# What people write for a unit, and the name to write: in capitals too, but for the first row. The last row is for those
-# without the micro sign: some write the Greek mu in its place.
+# What people write for a unit, and the name to write: in capitals too, but for the first row. The
+# last row is for those without the micro sign: some write the Greek mu in its place.
 SMALL_WORDS = {"mon": "mo mos"}
 NEAR_WORDS = {
     "y": "yr yrs",
@@ -559,7 +589,8 @@ HIDDEN = re.compile(
     "[\0-\x1f\x7f-\xa0\xad\u034f\u061c\u115f\u1160\u1680\u17b4\u17b5\u180b-\u180f\u2000-\u200f\u2028-\u202f\u205f-\u206f"
     "\u2800\u3000\u3164\ufe00-\ufe0f\ufeff\uffa0\ufff0-\ufffb\U0001bca0-\U0001bca3\U0001d173-\U0001d17a\U000e0000-\U000e0fff]"
 )
-# No letters, though beyond ASCII: signs of Latin 1 but the micro sign, punctuation, arrows, mathematical signs and the like.
+# No letters, though beyond ASCII: signs of Latin 1 but the micro sign, punctuation, arrows,
+# mathematical signs and the like.
 SIGNS = re.compile("[\xa1-\xb4\xb6-\xbf\xd7\xf7\u2010-\u2bff\u3001-\u303f\uff00-\uff20]")
 ESCAPES = {'"': '\\"', "\\": "\\\\", "\t": "\\t", "\n": "\\n", "\r": "\\r"}
 
@@ -595,7 +626,9 @@ def quote(text):
 
 
 def kind_in_line(character):
-    """Digits and letters stand together in a piece; a letter is one of ASCII, or beyond it what is neither hidden nor a sign."""
+    """Digits and letters stand together in a piece; a letter is one of ASCII, or beyond it what is
+    neither hidden nor a sign.
+    """
     if character.isascii():
         return "letter" if character.isalpha() else "digit" if character in DIGITS else None
     return None if HIDDEN.match(character) or SIGNS.match(character) else "letter"
@@ -620,7 +653,9 @@ def near_name(word):
 
 
 def help_at(text, place, piece, expected):
-    """The words of help: for what people put between durations, or for a notation that the grammar doesn't have."""
+    """The words of help: for what people put between durations, or for a notation that the grammar
+    doesn't have.
+    """
     if {"number", "end"} <= set(expected) and piece.translate(FOLDED) in {",", "&", "and"}:
         return 'one duration is read, without "," or "and"'
     rows = HELP if text[:place].strip(BLANKS) else HELP | FIRST_HELP
@@ -642,7 +677,9 @@ def expected_in_line(expected):
 
 
 def report(text, answer):
-    """What is told of a refused text in a terminal: below the text and a caret, where a quote would show all of it."""
+    """What is told of a refused text in a terminal: below the text and a caret, where a quote would
+    show all of it.
+    """
     line = one_line(text, answer)
     if answer.cause != "syntax" or len(text) > 80 or any(escape(each) != each for each in text):
         return line
@@ -686,8 +723,9 @@ def one_line(text, answer):
 
 
 def output_of(line, options, told=message):
-    """What the program writes for a line of bytes, without the line feed at its end, and whether the line is accepted.
-    Of a refusal it writes what is told."""
+    """What the program writes for a line of bytes, without the line feed at its end, and whether
+    the line is accepted. Of a refusal it writes what is told.
+    """
     try:
         text = line.decode()
     except UnicodeDecodeError:

@@ -1,7 +1,8 @@
-# shellcheck shell=bash disable=SC2034 # the scripts read what is set here
-# What the checks in shell share. `. tests/steps.sh NAME` sets $room, a temporary folder that goes when the script ends, and
-# $status, with which the script exits: 1 once a step has failed. NAME stands before each line. A script goes on after a step
-# that failed, unless what follows needs it; then it says `runs .. || exit`.
+# shellcheck shell=bash disable=SC2034 # the scripts read what is set here What the checks in shell
+# share. `. tests/steps.sh NAME` sets $room, a temporary folder that goes when the script ends, and
+# $status, with which the script exits: 1 once a step has failed. NAME stands before each line. A
+# script goes on after a step that failed, unless what follows needs it; then it says
+# `runs .. || exit`.
 steps=$1
 status=0
 rows=0
@@ -12,7 +13,8 @@ trap clears EXIT
 # What cargo builds for tests alone is built once.
 export CARGO_INCREMENTAL=0 CARGO_PROFILE_DEV_DEBUG=0
 
-# runs WHAT WORDS..: runs the words as a step; the end of what they say, which $log has whole, is shown where they fail
+# runs WHAT WORDS..: runs the words as a step; the end of what they say, which $log has whole, is
+# shown where they fail
 runs() {
     local started=$SECONDS
     if "${@:2}" >"$log" 2>&1 </dev/null; then
@@ -35,7 +37,8 @@ quietly() {
     }
 }
 
-# same WHAT WANTED GOT: whether both texts are the same; the difference is shown where they are not. $rows has how many were tried
+# same WHAT WANTED GOT: whether both texts are the same; the difference is shown where they are not.
+# $rows has how many were tried
 same() {
     rows=$((rows + 1))
     [ "$2" = "$3" ] && return
@@ -50,7 +53,8 @@ skips() {
     return 1
 }
 
-# has WHAT TOOL..: whether the commands are there; WHAT is skipped where one is missing, as by the next two
+# has WHAT TOOL..: whether the commands are there; WHAT is skipped where one is missing, as by the
+# next two
 has() {
     local tool
     for tool in "${@:2}"; do
@@ -58,19 +62,22 @@ has() {
     done
 }
 
-# finds WHAT COMMAND WORDS..: whether `COMMAND --missing WORDS..` names nothing, as tools/cargo-debian does
+# finds WHAT COMMAND WORDS..: whether `COMMAND --missing WORDS..` names nothing, as
+# tools/cargo-debian does
 finds() {
     local missing
     ! missing=$("$2" --missing "${@:3}") || skips "$1" "missing: $missing (make setup all=yes)"
 }
 
-# can WHAT NEED WORDS..: whether the words succeed; NEED is what is missing where they fail, and how to get it
+# can WHAT NEED WORDS..: whether the words succeed; NEED is what is missing where they fail, and how
+# to get it
 can() { "${@:3}" >/dev/null 2>&1 || skips "$1" "missing: $2"; }
 
 # copies FOLDER: copies the files into the folder as they are here, but for what is built
 copies() { mkdir "$1" && tar -c --exclude={.git,dist,out,target,__pycache__} . | tar -x -C "$1"; }
 
-# path_without NAME..: the path, on which a folder of links to all else stands for each folder that has one of these commands
+# path_without NAME..: the path, on which a folder of links to all else stands for each folder that
+# has one of these commands
 path_without() {
     local folder made path=
     while read -r -d : folder; do
@@ -88,7 +95,8 @@ path_without() {
 calls() { sed '/^static /d' "$1" | grep -o '\<duration_str_[a-z_]*(' | tr -d '(' | sort -u; }
 exports() { nm -D --defined-only "$1" | awk '{print $3}' | sort; }
 
-# writeless FOLDER WORDS..: runs the words, which can write nothing in the folder, also where root runs them
+# writeless FOLDER WORDS..: runs the words, which can write nothing in the folder, also where root
+# runs them
 writeless() {
     local words=("${@:2}") ended
     [ "$(id -u)" != 0 ] || words=(setpriv --bounding-set=-dac_override --inh-caps=-dac_override "${words[@]}")

@@ -1,8 +1,9 @@
 #!/usr/bin/env python3
 """The texts and durations with which compare and the fuzzer try the library, generated from a seed.
 
-texts.py FOLDER COUNT [SEED]  writes for the fuzzer so many texts into FOLDER/texts, each after its length in two bytes;
-                              a file in FOLDER/seeds for each of the first 500; and libFuzzer's FOLDER/dictionary
+texts.py FOLDER COUNT [SEED]  writes for the fuzzer so many texts into FOLDER/texts, each after its
+                              length in two bytes; a file in FOLDER/seeds for each of the first 500;
+                              and libFuzzer's FOLDER/dictionary
 """
 import pathlib
 import random
@@ -13,7 +14,9 @@ from reference_parser import LIMIT, NEAR_WORDS, SECOND, SMALL_WORDS, UNITS  # no
 
 
 class Texts:
-    """Generated texts: terms with operators and blanks, of which most are then spoilt at a place or two."""
+    """Generated texts: terms with operators and blanks, of which most are then spoilt at a place or
+    two.
+    """
 
     BLANKS = ("", "", "", " ", " ", "  ", "\t", "\r", " \r\t ", "\n")
     STRAYS = (

@@ -11,7 +11,9 @@ ROW = re.compile(
 
 
 class Unit(typing.NamedTuple):
-    """A unit: its variant, its length in nanoseconds, its printed and its long name, its names, and those of `cn_unit`."""
+    """A unit: its variant, its length in nanoseconds, its printed and its long name, its names, and
+    those of `cn_unit`.
+    """
 
     variant: str
     length: int

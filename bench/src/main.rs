@@ -1,11 +1,13 @@
-//! Times of this library and of humantime, and single calls of humantime for a program that counts instructions.
-//! `calls.rs` has those of this library. The Rust crate is measured.
+//! Times of this library and of humantime, and single calls of humantime for a program that counts
+//! instructions. `calls.rs` has those of this library. The Rust crate is measured.
 //!
 //! - `bench expressions`: the 1,000 expressions of `texts.rs`, a line each.
-//! - `bench times`: nanoseconds a call over them, a line with WHAT, OURS and THEIRS for reading and for printing. In all
-//!   these lines a tab stands between the words.
-//! - `bench styles`: nanoseconds to print in styles and limits: a line with WHAT, those below a day and those of all values.
-//! - `bench peer human_format` or `to_string`: what `bench/peers` asks, of the texts of the standard input.
+//! - `bench times`: nanoseconds a call over them, a line with WHAT, OURS and THEIRS for reading and
+//!   for printing. In all these lines a tab stands between the words.
+//! - `bench styles`: nanoseconds to print in styles and limits: a line with WHAT, those below a day
+//!   and those of all values.
+//! - `bench peer human_format` or `to_string`: what `bench/peers` asks, of the texts of the
+//!   standard input.
 //! - `bench calls WORDS COUNT`: humantime's calls, by the words of `calls.rs` after SIDE.
 mod ours;
 mod texts;
@@ -59,8 +61,8 @@ impl Library for Humantime {
     }
 }
 
-/// Nanoseconds a call: of each side the least of many rounds, which take turns, since the machine's speed may change, and
-/// are short, so that some run undisturbed.
+/// Nanoseconds a call: of each side the least of many rounds, which take turns, since the machine's
+/// speed may change, and are short, so that some run undisturbed.
 fn nanos_a_call<const SIDES: usize>(calls: usize, sides: [&dyn Fn(); SIDES]) -> [f64; SIDES] {
     const ROUNDS: usize = 2_500;
     let mut least = [f64::INFINITY; SIDES];
@@ -90,7 +92,8 @@ fn all<T: Copy, R>(of: &[T], call: impl Fn(T) -> R) {
     });
 }
 
-/// A line for reading and for each way to print: what it is, and the nanoseconds a call of each side.
+/// A line for reading and for each way to print: what it is, and the nanoseconds a call of each
+/// side.
 fn times() {
     let (texts, lengths) = expressions();
     let sides: [(&str, &dyn Fn(), &dyn Fn()); 3] = [
@@ -112,7 +115,8 @@ fn times() {
     }
 }
 
-/// A line for each limit and style: what it is, and the nanoseconds a call below a day and of the expressions' values.
+/// A line for each limit and style: what it is, and the nanoseconds a call below a day and of the
+/// expressions' values.
 fn styles() {
     let (_, lengths) = expressions();
     let short: Vec<Duration> = lengths

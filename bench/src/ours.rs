@@ -176,7 +176,8 @@ impl Library for Archive {
 
     fn refusing(text: &str, buffer: &mut [u8; ROOM]) -> usize {
         let (mut answer, buffer) = (Answer::default(), buffer.as_mut_ptr());
-        // SAFETY: the pointer and length are a slice's, `answer` is laid out as the header's, and the buffer is as long as there.
+        // SAFETY: the pointer and length are a slice's, `answer` is laid out as the header's, and
+        // the buffer is as long as there.
         let length =
             unsafe { duration_str_one_line(text.as_ptr(), text.len(), 0, &mut answer, buffer) };
         assert!(length > 0, "read: {text}");
@@ -191,7 +192,8 @@ impl Library for Archive {
     }
 }
 
-/// Prints the expressions' values, or what is made of them, so many times; apart, so that other calls stay as compiled.
+/// Prints the expressions' values, or what is made of them, so many times; apart, so that other
+/// calls stay as compiled.
 #[inline(never)]
 fn print_all<L: Library>(count: u64, of: fn(Duration) -> Duration) {
     let lengths: Vec<Duration> = expressions()

@@ -3,7 +3,8 @@ use std::time::Duration;
 
 pub const EXPRESSION: &str = "3m 13s 29ms";
 
-/// The units with the names that both libraries read, the longest first, and up to which count each is taken.
+/// The units with the names that both libraries read, the longest first, and up to which count each
+/// is taken.
 const UNITS: [(&str, u64); 10] = [
     ("y year years", 24),
     ("month months", 11),
@@ -17,7 +18,8 @@ const UNITS: [(&str, u64); 10] = [
     ("ns nsec", 999),
 ];
 
-/// A thousand expressions of one to five terms, the same in every run: those of a linear congruential generator.
+/// A thousand expressions of one to five terms, the same in every run: those of a linear
+/// congruential generator.
 pub fn expressions() -> Vec<String> {
     let mut state: u64 = 19;
     let mut below = move |bound: u64| {
@@ -79,7 +81,8 @@ pub fn refusal(name: &str) -> String {
     text.to_string()
 }
 
-/// Calls so many times. The function is inlined, so that one more call takes the same around it in every program.
+/// Calls so many times. The function is inlined, so that one more call takes the same around it in
+/// every program.
 #[inline(always)]
 pub fn repeat(count: u64, mut call: impl FnMut()) {
     for _ in 0..count {

@@ -16,8 +16,8 @@ unsafe extern "C" {
     safe fn abort() -> !;
 }
 
-// The division of 128 bits that rustc adds names this symbol of `std`, and nobody calls it. A hidden one is not exported,
-// and a weak one gives way where a program has that of `std`.
+// The division of 128 bits that rustc adds names this symbol of `std`, and nobody calls it. A
+// hidden one is not exported, and a weak one gives way where a program has that of `std`.
 #[cfg(target_os = "linux")]
 core::arch::global_asm!(
     ".pushsection .rodata",

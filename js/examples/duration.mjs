@@ -1,5 +1,5 @@
-// node duration.mjs EXPRESSION: the expression's nanoseconds, what they print as, and the moment so long after
-// 2000-01-01T00:00:00Z in seconds since 1970; or what is wrong with it.
+// node duration.mjs EXPRESSION: the expression's nanoseconds, what they print as, and the moment so
+// long after 2000-01-01T00:00:00Z in seconds since 1970; or what is wrong with it.
 import { DurationError, formatNs, parseNs } from "duration-str";
 
 const START = 946_684_800n * 1_000_000_000n;

@@ -1,7 +1,10 @@
 // A job that runs every so often, until a deadline; both come from a configuration.
 import { DurationError, parse } from "duration-str";
 
-/** Runs the job every `every` until `until` has passed. A refused text is an error that names its setting. */
+/**
+ * Runs the job every `every` until `until` has passed. A refused text is an error that names its
+ * setting.
+ */
 export function schedule({ every, until }, job, now = new Date()) {
     const period = setting("every", () => parse(every));
     const end = setting("until", () => new Date(now.getTime() + parse(until)));

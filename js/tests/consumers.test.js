@@ -1,4 +1,5 @@
-// The package as others take it: by `require`, bundled, and in a service worker. A tool that is missing is skipped.
+// The package as others take it: by `require`, bundled, and in a service worker. A tool that is
+// missing is skipped.
 import assert from "node:assert/strict";
 import { execFileSync, spawn, spawnSync } from "node:child_process";
 import { createServer } from "node:http";
@@ -171,7 +172,10 @@ for (const format of ["esm", "cjs"]) {
     });
 }
 
-/** What is posted from a page in Chromium that is served with these files and headers, of which the first is the page. */
+/**
+ * What is posted from a page in Chromium that is served with these files and headers, of which the
+ * first is the page.
+ */
 async function pageMessage(files, headers = {}) {
     let browser;
     const server = createServer();

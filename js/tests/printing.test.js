@@ -59,7 +59,8 @@ test("counts the parts", () => {
         [1n, { smallest: "µs" }, { seconds: 0 }],
         [1n, { largest: "w", smallest: "d" }, { days: 0 }],
         [2n ** 64n - 1n, undefined, { days: 213_503, hours: 23, minutes: 34, seconds: 33, milliseconds: 709, microseconds: 551, nanoseconds: 615 }],
-        // 400 days are a year of 365, a month of 30 and 5 more, and of months and weeks alone 13 of 30, a week and 3 more.
+        // 400 days are a year of 365, a month of 30 and 5 more, and of months and weeks alone 13 of
+        // 30, a week and 3 more.
         [400n * DAY, { largest: "y" }, { years: 1, months: 1, days: 5 }],
         [400n * DAY, { largest: "mon" }, { months: 13, weeks: 1, days: 3 }],
         [400n * DAY, { largest: "mon", parts: 2 }, { months: 13, weeks: 1 }],

@@ -1,4 +1,5 @@
-// The types of the package, by the compiler alone: what has to be wrong stands below a line that expects an error.
+// The types of the package, by the compiler alone: what has to be wrong stands below a line that
+// expects an error.
 import {
     DurationError, type Expected, type Fault, formatNs, format, type Options, parseNs, parse, type Parts, parts,
     type Refusal, tryParseNs, tryParse, version,

@@ -1,9 +1,12 @@
-// What texts are read as, why they are refused, and what durations print as: the vectors by which all packages are tested.
+// What texts are read as, why they are refused, and what durations print as: the vectors by which
+// all packages are tested.
 import { readFileSync } from "node:fs";
 
 export const VECTORS = JSON.parse(readFileSync(new URL("../../rust/vectors.json", import.meta.url), "utf8"));
 
-/** The options of which those with these names are on; they are named as in C and on command lines. */
+/**
+ * The options of which those with these names are on; they are named as in C and on command lines.
+ */
 export function optionsOf(names) {
     const camel = (name) => name.replace(/_(.)/, (_, letter) => letter.toUpperCase());
     return Object.fromEntries(VECTORS.options.map((name) => [camel(name), names.includes(name)]));

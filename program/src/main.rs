@@ -1,5 +1,5 @@
-//! Reads durations from standard input, one on each line, and prints them. The words of the command line choose the
-//! options: `no_calc`, `lowercase`, `cn_unit`.
+//! Reads durations from standard input, one on each line, and prints them. The words of the command
+//! line choose the options: `no_calc`, `lowercase`, `cn_unit`.
 #![forbid(unsafe_code)]
 
 use duration_str_core::Options;

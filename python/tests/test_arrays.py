@@ -1,4 +1,6 @@
-"""What columns of NumPy and pandas are read as, and what they print. Without NumPy that it is missed."""
+"""What columns of NumPy and pandas are read as, and what they print. Without NumPy that it is
+missed.
+"""
 
 import datetime
 import decimal

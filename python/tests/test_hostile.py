@@ -1,5 +1,6 @@
-"""Calls with wrong types, subclasses that say other things of themselves than they are, buffers of the wrong kind or order,
-and values that change while they are read: each gets an error, or the answer for what is there.
+"""Calls with wrong types, subclasses that say other things of themselves than they are, buffers of
+the wrong kind or order, and values that change while they are read: each gets an error, or the
+answer for what is there.
 """
 
 import concurrent.futures

@@ -1,4 +1,6 @@
-"""A caller, which mypy checks by what the package says of its types: what it refuses is marked, and has to be refused."""
+"""A caller, which mypy checks by what the package says of its types: what it refuses is marked, and
+has to be refused.
+"""
 
 import datetime
 from array import array

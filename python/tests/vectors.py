@@ -1,4 +1,6 @@
-"""What texts are read as, why they are refused, and what durations print as: the vectors that both packages are tested by."""
+"""What texts are read as, why they are refused, and what durations print as: the vectors that both
+packages are tested by.
+"""
 
 import itertools
 import json
@@ -15,7 +17,9 @@ OPTIONS = [dict(zip(VECTORS["options"], choice)) for choice in CHOICES]
 
 
 def values_under(options):
-    """The vectors' texts, with their values in nanoseconds, or None if they are refused under these options."""
+    """The vectors' texts, with their values in nanoseconds, or None if they are refused under these
+    options.
+    """
     for group in VECTORS["values"]:
         is_read = all(options[name] for name in group["on"]) and not any(
             options[name] for name in group["off"]

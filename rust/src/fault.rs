@@ -202,7 +202,8 @@ impl fmt::Debug for Fault<'_> {
 
 impl core::error::Error for Fault<'_> {}
 
-/// The error of [`parse_duration`](crate::parse_duration) and of `str::parse`: a [`Fault`] that owns its text.
+/// The error of [`parse_duration`](crate::parse_duration) and of `str::parse`: a [`Fault`] that
+/// owns its text.
 ///
 /// It displays as one line, like a [`Fault`].
 ///

@@ -75,7 +75,8 @@ use core::time::Duration;
 use serde::de::{self, Deserialize, Deserializer, Unexpected, Visitor};
 use serde::ser::{self, Serialize, Serializer};
 
-/// The types of the fields that this module and [`human_or_seconds`](crate::human_or_seconds) write and read.
+/// The types of the fields that this module and [`human_or_seconds`](crate::human_or_seconds) write
+/// and read.
 ///
 /// A map needs no `with`:
 ///
@@ -186,7 +187,8 @@ impl<T: Length, const HOW: u8> Visitor<'_> for Text<T, HOW> {
         } else {
             parse_with(text, ADDITIONS)
         };
-        // Before the line stands what it is about, since the format adds its own line and column to it.
+        // Before the line stands what it is about, since the format adds its own line and column to
+        // it.
         read.map(T::of_std)
             .map_err(|fault| E::custom(format_args!("invalid duration: {fault}")))
     }

@@ -86,7 +86,8 @@ fn with_sign(is_negative: bool, secs: i64, nanos: i64) -> FormattedDuration {
     FormattedDuration::with_sign(is_negative, magnitude)
 }
 
-/// What keeps traits to the types that have them, so that a later version can give them another method.
+/// What keeps traits to the types that have them, so that a later version can give them another
+/// method.
 pub trait Sealed {}
 
 impl Sealed for core::time::Duration {}

@@ -26,15 +26,17 @@ pub fn parse_with(input: &str, options: Options) -> Result<Duration, Fault<'_>> 
     }
 }
 
-/// The options under which the calls of `duration-str` 0.19.0 read: those that the features turn on.
+/// The options under which the calls of `duration-str` 0.19.0 read: those that the features turn
+/// on.
 pub(crate) const FEATURES: Options = Options {
     no_calc: cfg!(feature = "no_calc"),
     lowercase: cfg!(feature = "lowercase"),
     cn_unit: cfg!(feature = "cn_unit"),
 };
 
-/// Those under which all other calls read that take none. The feature that adds names counts; those that take something
-/// away may be asked for by any crate of a program, and would break what the others read.
+/// Those under which all other calls read that take none. The feature that adds names counts; those
+/// that take something away may be asked for by any crate of a program, and would break what the
+/// others read.
 pub(crate) const ADDITIONS: Options = Options {
     cn_unit: FEATURES.cn_unit,
     ..Options::off()

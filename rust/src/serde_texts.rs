@@ -6,8 +6,8 @@ use core::marker::PhantomData;
 use core::time::Duration;
 use serde::de::{Deserializer, Error, Unexpected, Visitor};
 
-/// Types that are read from a duration's text: the durations of `std`, `chrono` and `time`, and each of them as an
-/// `Option`.
+/// Types that are read from a duration's text: the durations of `std`, `chrono` and `time`, and
+/// each of them as an `Option`.
 pub trait DeserializeDuration<'de>: Sealed + Sized {
     /// Reads a value of the type. [`deserialize_duration`] says what is read.
     ///
@@ -120,7 +120,8 @@ where
     T::deserialize_duration(deserializer)
 }
 
-/// Implements the traits for a type and its `Option`, and makes the function that reads the `Option` alone.
+/// Implements the traits for a type and its `Option`, and makes the function that reads the
+/// `Option` alone.
 macro_rules! deserializes {
     ($length:ty, $of_std:path, $to_std:expr, $option_name:ident) => {
         impl Length for $length {

@@ -1,5 +1,5 @@
-//! Does over the crate what the program durstr does, for tests/compare. The status is 0 if all lines are read, and 1 if
-//! some are refused.
+//! Does over the crate what the program durstr does, for tests/compare. The status is 0 if all
+//! lines are read, and 1 if some are refused.
 #![forbid(unsafe_code)]
 
 use duration_str::{Options, format_duration, parse_with};

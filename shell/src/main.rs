@@ -1,4 +1,5 @@
-//! `duration`: reads durations from its arguments or from lines, and prints them for people or as numbers.
+//! `duration`: reads durations from its arguments or from lines, and prints them for people or as
+//! numbers.
 #![no_main]
 mod options;
 mod reading;
@@ -15,7 +16,8 @@ use std::os::unix::ffi::OsStrExt;
 /// The most bytes of a line.
 const LONGEST: usize = 1 << 20;
 
-/// C's `main`: Rust's opens /dev/null for a closed stream, and ignores the signal of a pipe that nobody reads.
+/// C's `main`: Rust's opens /dev/null for a closed stream, and ignores the signal of a pipe that
+/// nobody reads.
 #[unsafe(no_mangle)]
 extern "C" fn main(count: c_int, words: *const *const c_char) -> c_int {
     // SAFETY: C calls it with so many words, each with a zero at its end.
@@ -133,7 +135,8 @@ impl Run<'_> {
         Ok(())
     }
 
-    /// Reads a line with its end, or the beginning of one that is too long. False at the end of the input.
+    /// Reads a line with its end, or the beginning of one that is too long. False at the end of the
+    /// input.
     fn next(&self, input: &mut BufReader<File>, line: &mut Vec<u8>) -> io::Result<bool> {
         line.clear();
         let read = input.take(LONGEST as u64 + 1).read_until(self.end, line);
@@ -165,7 +168,8 @@ impl Run<'_> {
         }
     }
 
-    /// Writes the object of a text that is read. Its nanoseconds are a text, since other programs drop digits of a number.
+    /// Writes the object of a text that is read. Its nanoseconds are a text, since other programs
+    /// drop digits of a number.
     fn object(&mut self, text: &str, nanos: u64) -> io::Result<()> {
         self.output.write_all(b"{\"text\":")?;
         serde_json::to_writer(&mut self.output, text)?;
@@ -186,7 +190,8 @@ impl Run<'_> {
         self.put(&rest.map(str::as_bytes))
     }
 
-    /// The text of a line, all of it or a field without blanks and quotation marks, and what is before and after it.
+    /// The text of a line, all of it or a field without blanks and quotation marks, and what is
+    /// before and after it.
     fn parts<'a>(&self, line: &'a [u8]) -> Option<[&'a [u8]; 3]> {
         let Some(number) = self.choices.field else {
             return Some([b"", line, b""]);

@@ -10,7 +10,8 @@ use std::ffi::{OsStr, OsString};
 use std::os::unix::ffi::OsStrExt;
 use std::time::Duration;
 
-/// What says how to print for people. clap doesn't miss an option that is required and can't stand beside these.
+/// What says how to print for people. clap doesn't miss an option that is required and can't stand
+/// beside these.
 const SHAPES: [&str; 4] = ["style", "parts", "largest", "smallest"];
 
 /// Read durations such as 1h 30m, and print them for people or as numbers
@@ -168,7 +169,8 @@ pub fn with_words() -> Command {
         .fold(Choices::command(), of_unit)
 }
 
-/// What no word has, before one that begins as a number below zero, so that clap takes it for no option.
+/// What no word has, before one that begins as a number below zero, so that clap takes it for no
+/// option.
 pub const ESCAPE: &[u8] = b"\0";
 
 fn escape(word: OsString) -> OsString {

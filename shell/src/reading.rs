@@ -3,7 +3,8 @@ use crate::options::{Choices, Round};
 use duration_str::{Fault, Options, TimeUnit, parse_with, parse_with_units};
 use serde_json::json;
 
-/// Why a text is refused. For a syntax fault there are its place, what stands there, and the text with a caret.
+/// Why a text is refused. For a syntax fault there are its place, what stands there, and the text
+/// with a caret.
 #[derive(Default)]
 pub struct Refusal {
     pub message: String,
@@ -74,8 +75,9 @@ pub fn read<'a>(bytes: &'a [u8], choices: &Choices) -> Result<(&'a str, u64), Re
     Ok((text, duration.as_nanos() as u64))
 }
 
-/// A text without blanks that is a bare number of this unit, such as `12.5`, `.5` or `1.2e-05`, and its nanoseconds. Of the
-/// decimals that it has without an exponent the first 18 count, and what they make is rounded down; or both up.
+/// A text without blanks that is a bare number of this unit, such as `12.5`, `.5` or `1.2e-05`, and
+/// its nanoseconds. Of the decimals that it has without an exponent the first 18 count, and what
+/// they make is rounded down; or both up.
 fn bare_number(text: &str, unit: TimeUnit, round: Round) -> Option<(&str, u128)> {
     let number = text.trim_matches([' ', '\t', '\r', '\n']);
     let (digits, exponent) = number.split_once(['e', 'E']).unwrap_or((number, "0"));
@@ -88,7 +90,8 @@ fn bare_number(text: &str, unit: TimeUnit, round: Round) -> Option<(&str, u128)>
         .parse::<isize>()
         .ok()
         .filter(|_| is_number && digits.ends_with(|last| last != '.'))?;
-    // So many zeros on both sides that the point can move by the exponent, or beyond all digits that count.
+    // So many zeros on both sides that the point can move by the exponent, or beyond all digits
+    // that count.
     let exponent = exponent.clamp(-(digits.len() as isize) - 99, digits.len() as isize + 99);
     let zeros = "0".repeat(1 + exponent.unsigned_abs());
     let all = [&zeros, whole, decimals, &zeros].concat();

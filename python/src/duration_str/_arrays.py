@@ -48,7 +48,9 @@ def _flat(values: Any) -> list[Any]:
 
 
 def _lengths(values: Any) -> Any:
-    """The array of timedelta64 that the values are, with NaT where one is masked, or None if they are something else."""
+    """The array of timedelta64 that the values are, with NaT where one is masked, or None if they
+    are something else.
+    """
     import numpy
 
     if getattr(getattr(values, "dtype", None), "kind", None) != "m":
@@ -236,7 +238,9 @@ def format_many(
 
 
 def _durations(values: Any) -> list[Any]:
-    """The values of an array, one after the other; of timedelta64 ints of nanoseconds, with None where one is missing."""
+    """The values of an array, one after the other; of timedelta64 ints of nanoseconds, with None
+    where one is missing.
+    """
     lengths = _lengths(values)
     if lengths is None:
         return _flat(values)

@@ -14,7 +14,9 @@ Errors = Literal["raise", "coerce"]
 
 
 def values_of(texts: Any) -> list[Any]:
-    """The values of a sequence, as a list of their own. Raises TypeError of a single text and of a table."""
+    """The values of a sequence, as a list of their own. Raises TypeError of a single text and of a
+    table.
+    """
     if isinstance(texts, (str, bytes, bytearray)):
         raise TypeError(f"the texts must be a sequence of str, not one {type(texts).__name__}")
     if getattr(texts, "ndim", 1) != 1:

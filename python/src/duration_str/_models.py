@@ -13,8 +13,9 @@ from ._texts import DurationError
 
 
 def duration(value: Any) -> Any:
-    """The value of a text, or a timedelta as it is. Raises pydantic's own errors. Where a field may have other types, too,
-    pydantic's errors name this function."""
+    """The value of a text, or a timedelta as it is. Raises pydantic's own errors. Where a field may
+    have other types, too, pydantic's errors name this function.
+    """
     return _read(value, False)
 
 
@@ -40,7 +41,8 @@ def _read(value: Any, require_unit: bool) -> Any:
             "pos": error.pos,
             "found": error.found,
         }
-        # pydantic puts the context's values in place of `{NAME}` in the message, and so a text that has one gets no context.
+        # pydantic puts the context's values in place of `{NAME}` in the message, and so a text that
+        # has one gets no context.
         context = None if any(f"{{{name}}}" in str(error) for name in told) else told
         raise core.PydanticCustomError("duration", str(error), context) from None
 
@@ -51,7 +53,9 @@ def _print(value: Any) -> str:
 
 
 class _Shown(dict[str, Any]):
-    """A JSON schema, to which pydantic adds a field's default last: a timedelta in ISO 8601, or as a number of seconds."""
+    """A JSON schema, to which pydantic adds a field's default last: a timedelta in ISO 8601, or as
+    a number of seconds.
+    """
 
     def __setitem__(self, key: str, value: Any) -> None:
         if key == "default" and (isinstance(value, float) or str(value).startswith("P")):

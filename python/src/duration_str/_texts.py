@@ -1,4 +1,6 @@
-"""Why a text is refused, as an error that points at its place; and what durations are in nanoseconds."""
+"""Why a text is refused, as an error that points at its place; and what durations are in
+nanoseconds.
+"""
 
 from __future__ import annotations
 

@@ -145,7 +145,8 @@ fn reads_durations_of_time() {
     reads_settings(|secs| time::Duration::seconds(secs as i64));
 }
 
-/// A struct within another: serde keeps its values, and hands them over by other calls than a format does.
+/// A struct within another: serde keeps its values, and hands them over by other calls than a
+/// format does.
 #[derive(Debug, Deserialize, PartialEq)]
 struct Job {
     name: String,

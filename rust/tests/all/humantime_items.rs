@@ -1,5 +1,5 @@
-//! Every item of humantime 2.1 for durations and each of their traits, but for the variants of its error. The example of a
-//! service compiles this over humantime too.
+//! Every item of humantime 2.1 for durations and each of their traits, but for the variants of its
+//! error. The example of a service compiles this over humantime too.
 use crate::humantime::{
     Duration, DurationError, FormattedDuration, format_duration, parse_duration,
 };

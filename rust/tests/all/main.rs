@@ -43,8 +43,8 @@ const FEATURES: Options = Options {
     cn_unit: cfg!(feature = "cn_unit"),
 };
 
-/// What texts are read as, why they are refused, and what durations print as: `vectors.json`, which the tests of all packages
-/// read.
+/// What texts are read as, why they are refused, and what durations print as: `vectors.json`, which
+/// the tests of all packages read.
 #[derive(Deserialize)]
 struct Vectors {
     /// The names of the options.
@@ -55,7 +55,8 @@ struct Vectors {
     refused: Vec<Refused>,
 }
 
-/// Texts of one value, in seconds and nanoseconds, which are read if these options are on and those are off.
+/// Texts of one value, in seconds and nanoseconds, which are read if these options are on and those
+/// are off.
 #[derive(Deserialize)]
 struct Group {
     on: Vec<String>,
@@ -63,8 +64,8 @@ struct Group {
     rows: Vec<(u64, u32, Vec<String>)>,
 }
 
-/// A text, its options, its cause, the byte of its place, what was found and could stand there, the line, and the spaces
-/// before the caret, where the report has one.
+/// A text, its options, its cause, the byte of its place, what was found and could stand there, the
+/// line, and the spaces before the caret, where the report has one.
 #[derive(Deserialize)]
 struct Refused(
     String,
@@ -77,8 +78,8 @@ struct Refused(
     Option<usize>,
 );
 
-/// A duration's text, or its seconds and nanoseconds as `1 s 1 ns`; its largest and its smallest unit, how many parts at
-/// most; and the printed text, in the short and in the long style.
+/// A duration's text, or its seconds and nanoseconds as `1 s 1 ns`; its largest and its smallest
+/// unit, how many parts at most; and the printed text, in the short and in the long style.
 #[derive(Deserialize)]
 struct Printed(String, String, String, usize, String, String);
 

@@ -1,5 +1,5 @@
-//! duration EXPRESSION: the expression's nanoseconds, what they print as, and the moment so long after
-//! 2000-01-01T00:00:00Z in seconds since 1970; or what is wrong with it.
+//! duration EXPRESSION: the expression's nanoseconds, what they print as, and the moment so long
+//! after 2000-01-01T00:00:00Z in seconds since 1970; or what is wrong with it.
 use chrono::{TimeZone, Utc};
 use duration_str::{Fault, HumanFormat, Options, moment_after, parse_with};
 use std::process::ExitCode;

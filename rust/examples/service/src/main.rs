@@ -1,5 +1,6 @@
-//! A program that was written for humantime 2 and humantime-serde 1; `before.rs` has its import of then. To change it over,
-//! these dependencies in Cargo.toml became `duration-str`, and the import the first one here.
+//! A program that was written for humantime 2 and humantime-serde 1; `before.rs` has its import of
+//! then. To change it over, these dependencies in Cargo.toml became `duration-str`, and the import
+//! the first one here.
 use duration_str::{humantime, humantime_serde};
 use std::error::Error;
 

@@ -64,7 +64,8 @@ mod humantime_items;
 mod tests {
     use super::{Arguments, Parser};
 
-    /// Timeouts, and the seconds that each is after the change-over and before it; 0 is for one that is refused.
+    /// Timeouts, and the seconds that each is after the change-over and before it; 0 is for one
+    /// that is refused.
     const TIMEOUTS: [(&str, [u64; 2]); 10] = [
         ("1h 30m", [5_400, 5_400]),
         ("2weeks 3days", [1_468_800, 1_468_800]),
