@@ -191,7 +191,9 @@ impl<'a> Fault<'a> {
     /// ```
     #[must_use]
     pub fn new(text: &'a str, cause: Cause) -> Option<Fault<'a>> {
-        let is_placed = cause.place().is_none_or(|place| text.is_char_boundary(place));
+        let is_placed = cause
+            .place()
+            .is_none_or(|place| text.is_char_boundary(place));
         is_placed.then_some(Fault { text, cause })
     }
 }
