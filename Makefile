@@ -10,6 +10,7 @@
 # make check           proves everything, where there is rt, and tests what is built, in half an
 #                      hour to an hour
 # make quick           proves what has changed and runs the tests that take seconds
+# make format          lays out all files that no tool here makes, by the usual tool of each language
 # make install         puts these, the header, the manual pages and completions below
 #                      prefix=/usr/local, or into bindir=, libdir=, includedir=, mandir=, docdir=
 #                      and datarootdir=, all below DESTDIR= if that is set
@@ -26,7 +27,7 @@ SHELL := bash
 .SHELLFLAGS := -euo pipefail -c
 .ONESHELL:
 .NOTPARALLEL:
-.PHONY: all program library duration setup prove check quick install uninstall release page clean help installable
+.PHONY: all program library duration setup prove check quick format install uninstall release page clean help installable
 unexport MAKEFLAGS CDPATH
 MAKEFLAGS += --no-builtin-rules --no-print-directory
 
@@ -243,6 +244,9 @@ check:
 
 quick:
 	@tests/check --quick
+
+format:
+	@tools/format
 
 release:
 	@tools/release $(call quoted,$(dist))
