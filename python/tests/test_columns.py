@@ -2,6 +2,7 @@
 
 import ctypes
 import mmap
+import os
 import pickle
 import sys
 import tempfile
@@ -85,6 +86,7 @@ class Columns(unittest.TestCase):
                     )
                     values[place] = kept
 
+    @unittest.skipIf(os.environ.get("DURATION_STR_SLOW") == "no", "it is slow")
     def test_reads_ten_million(self):
         nanos = parse_many(["1ns", "2 µs"] * 5_000_000)
         self.assertEqual((len(nanos), sum(nanos)), (10**7, 2_001 * 5_000_000))
@@ -231,11 +233,12 @@ class Buffers(unittest.TestCase):
             file.write(b"1s")
             file.flush()
             with mmap.mmap(file.fileno(), 2**32, access=mmap.ACCESS_READ) as mapped:
-                offsets = array("Q", [2**32 - 6, 2**32 - 4])
-                self.assertEqual(
-                    parse_buffers(mapped, offsets, errors="coerce"),
-                    (array("Q", [SECOND]), array("Q")),
-                )
+                for code in "IQ":
+                    offsets = array(code, [2**32 - 6, 2**32 - 4])
+                    self.assertEqual(
+                        parse_buffers(mapped, offsets, errors="coerce"),
+                        (array("Q", [SECOND]), array("Q")),
+                    )
                 narrow = array("i", [-6, -4])
                 self.assertEqual(
                     parse_buffers(mapped, narrow, errors="coerce"),
