@@ -11,6 +11,7 @@
 #                      hour to an hour
 # make quick           proves what has changed and runs the tests that take seconds
 # make format          lays out all files that no tool here makes, by the usual tool of each language
+# make coverage        names the lines by hand that no test runs, in some minutes
 # make install         puts these, the header, the manual pages and completions below
 #                      prefix=/usr/local, or into bindir=, libdir=, includedir=, mandir=, docdir=
 #                      and datarootdir=, all below DESTDIR= if that is set
@@ -27,7 +28,7 @@ SHELL := bash
 .SHELLFLAGS := -euo pipefail -c
 .ONESHELL:
 .NOTPARALLEL:
-.PHONY: all program library duration setup prove check quick format install uninstall release page clean help installable
+.PHONY: all program library duration setup prove check quick format coverage install uninstall release page clean help installable
 unexport MAKEFLAGS CDPATH
 MAKEFLAGS += --no-builtin-rules --no-print-directory
 
@@ -247,6 +248,9 @@ quick:
 
 format:
 	@tools/format
+
+coverage:
+	@tools/coverage
 
 release:
 	@tools/release $(call quoted,$(dist))
