@@ -58,7 +58,8 @@ skips() {
 has() {
     local tool
     for tool in "${@:2}"; do
-        command -v "$tool" >/dev/null || skips "$1" "$tool is missing (make setup all=yes)" || return
+        command -v "$tool" >/dev/null || skips "$1" "$tool is missing (make setup all=yes)" ||
+            return
     done
 }
 
@@ -99,7 +100,8 @@ exports() { nm -D --defined-only "$1" | awk '{print $3}' | sort; }
 # runs them
 writeless() {
     local words=("${@:2}") ended
-    [ "$(id -u)" != 0 ] || words=(setpriv --bounding-set=-dac_override --inh-caps=-dac_override "${words[@]}")
+    [ "$(id -u)" != 0 ] ||
+        words=(setpriv --bounding-set=-dac_override --inh-caps=-dac_override "${words[@]}")
     chmod -R a-w "$1"
     "${words[@]}"
     ended=$?
