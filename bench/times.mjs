@@ -26,7 +26,11 @@ const calls = [
     ["`parse`", (text) => parse(text), texts],
     ["`parse` of `duration-str/plain`", (text) => parsePlain(text), texts],
     ["`formatNs`, over their values", formatNs, values],
-    ["`parseNs` refuses `1m 3-5`, and makes the `DurationError`", refuse, Array(100).fill("1m 3-5")],
+    [
+        "`parseNs` refuses `1m 3-5`, and makes the `DurationError`",
+        refuse,
+        Array(100).fill("1m 3-5"),
+    ],
 ];
 
 function nanosecondsACall(call, inputs) {

@@ -3,7 +3,15 @@
 import assert from "node:assert/strict";
 import { execFileSync, spawn, spawnSync } from "node:child_process";
 import { createServer } from "node:http";
-import { existsSync, mkdirSync, mkdtempSync, readFileSync, rmSync, symlinkSync, writeFileSync } from "node:fs";
+import {
+    existsSync,
+    mkdirSync,
+    mkdtempSync,
+    readFileSync,
+    rmSync,
+    symlinkSync,
+    writeFileSync,
+} from "node:fs";
 import { createRequire } from "node:module";
 import { tmpdir } from "node:os";
 import { join } from "node:path";
@@ -23,11 +31,18 @@ before(() => {
     mkdirSync(join(room, "node_modules"));
     symlinkSync(PACKAGE, join(room, "node_modules/duration-str"));
     writeFileSync(join(room, "module.mjs"), `${MODULE}\nconsole.log(said);`);
-    writeFileSync(join(room, "required.cjs"), `const { parseNs } = require("duration-str");\n${USE}\nconsole.log(said);`);
+    writeFileSync(
+        join(room, "required.cjs"),
+        `const { parseNs } = require("duration-str");\n${USE}\nconsole.log(said);`,
+    );
 });
 after(() => rmSync(room, { recursive: true, maxRetries: 20, retryDelay: 100 }));
 
-const runs = (...words) => execFileSync(words[0], words.slice(1), { cwd: room, encoding: "utf8" }).trim();
+const runs = (...words) => execFileSync(
+    words[0],
+    words.slice(1),
+    { cwd: room, encoding: "utf8" },
+).trim();
 
 function skipWithout(tool) {
     try {
@@ -47,7 +62,9 @@ test("is packed with its licence, types and module", () => {
     const { exports, files } = JSON.parse(readFileSync(join(PACKAGE, "package.json"), "utf8"));
     const named = [exports["."], exports["./plain"]].flatMap(Object.values).flatMap(Object.values);
     assert.deepEqual(files, ["dist", "index.d.ts", "plain.d.ts", "LICENSE", "NOTICE"]);
-    for (const file of [...named, "LICENSE", "NOTICE"]) assert.ok(readFileSync(join(PACKAGE, file)).length > 0, file);
+    for (const file of [...named, "LICENSE", "NOTICE"]) {
+        assert.ok(readFileSync(join(PACKAGE, file)).length > 0, file);
+    }
 });
 
 test("is one package for import and require", () => {
@@ -93,7 +110,8 @@ not UTF-8: a lone surrogate at index 3 3`);
 });
 
 test("works where what is built in is frozen", () => {
-    const frozen = `for (const one of [Object, Array, String, Number, BigInt, Error, Function, RegExp]) {
+    const frozen =
+        `for (const one of [Object, Array, String, Number, BigInt, Error, Function, RegExp]) {
         Object.freeze(one); Object.freeze(one.prototype);
     }`;
     assert.equal(nodeOutput(["--disable-proto=throw"], frozen, `${TRY} console.log(all.tryParseNs("x").fault.code, all.formatNs(1n));`),
@@ -101,24 +119,51 @@ test("works where what is built in is frozen", () => {
 });
 
 test("is imported and required, under some conditions without WebAssembly", () => {
-    for (const words of [[], ...["workerd", "edge-light", "react-native"].map((name) => ["--jitless", `--conditions=${name}`])]) {
-        for (const file of ["module.mjs", "required.cjs"]) assert.equal(runs("node", ...words, file), SAID, words.join(" "));
+    for (const words of [
+        [],
+        ...["workerd", "edge-light", "react-native"].map(
+            (name) => ["--jitless", `--conditions=${name}`],
+        ),
+    ]) {
+        for (const file of ["module.mjs", "required.cjs"]) {
+            assert.equal(runs("node", ...words, file), SAID, words.join(" "));
+        }
     }
 });
 
 test("has types for a CommonJS module", skipWithout("tsc"), () => {
-    writeFileSync(join(room, "typed.cts"), 'import { parse } from "duration-str/plain";\nexport const value: number = parse("1h");');
-    for (const [module, resolution] of [["node16", "node16"], ["nodenext", "nodenext"], ["commonjs", "node"]]) {
-        runs("tsc", "--strict", "--noEmit", "--target", "es2022", "--module", module, "--moduleResolution", resolution, "typed.cts");
+    writeFileSync(
+        join(room, "typed.cts"),
+        'import { parse } from "duration-str/plain";\nexport const value: number = parse("1h");',
+    );
+    for (const [module, resolution] of [
+        ["node16", "node16"], ["nodenext", "nodenext"], ["commonjs", "node"],
+    ]) {
+        runs(
+            "tsc",
+            "--strict",
+            "--noEmit",
+            "--target",
+            "es2022",
+            "--module",
+            module,
+            "--moduleResolution",
+            resolution,
+            "typed.cts",
+        );
     }
 });
 
 // What is read by plain JavaScript, and printed whole, tests/compare compares.
 test("prints in plain JavaScript as in WebAssembly", async () => {
-    const [compiled, plain] = await Promise.all([import("duration-str"), import("duration-str/plain")]);
+    const [compiled, plain] = await Promise.all(
+        [import("duration-str"), import("duration-str/plain")],
+    );
     for (let bits = 0n; bits <= 64n; bits++) {
         for (const value of [(1n << bits) - 1n, (0xfedcba9876543210n >> (64n - bits))]) {
-            for (const options of [undefined, { style: "compact" }, { style: "long", largest: "d", parts: 2 }]) {
+            for (const options of [
+                undefined, { style: "compact" }, { style: "long", largest: "d", parts: 2 },
+            ]) {
                 assert.equal(plain.formatNs(value, options), compiled.formatNs(value, options));
             }
         }
@@ -131,12 +176,18 @@ test("prints in plain JavaScript as in WebAssembly", async () => {
 
 const DURATION = join(PACKAGE, "examples/duration.mjs");
 test("the example reads, prints and moves a moment", () => {
-    assert.equal(runs("node", DURATION, "3m + 13s + 29ms"), "193029000000 3min 13s 29ms 946684993.029000000");
+    assert.equal(
+        runs("node", DURATION, "3m + 13s + 29ms"),
+        "193029000000 3min 13s 29ms 946684993.029000000",
+    );
 });
 
 test("the example says what is wrong", () => {
     const ran = spawnSync(process.execPath, [DURATION, "3ms-2ms"], { encoding: "utf8" });
-    assert.deepEqual([ran.status, ran.stdout], [1, `expected a number, '+', '*' or the end at column 4, found "-"\n`]);
+    assert.deepEqual(
+        [ran.status, ran.stdout],
+        [1, `expected a number, '+', '*' or the end at column 4, found "-"\n`],
+    );
 });
 
 test("a schedule has a period and an end, and names a setting that is refused", () => {
@@ -144,31 +195,61 @@ test("a schedule has a period and an end, and names a setting that is refused", 
     const { timer, period, end } = schedule({ every: "1m 30s", until: "90d" }, () => {}, now);
     clearInterval(timer);
     assert.deepEqual([period, end.toISOString()], [90_000, "2026-05-01T12:00:00.000Z"]);
-    assert.throws(() => schedule({ every: "soon", until: "1d" }, () => {}), /^Error: every: expected a number at column 1, found "soon"$/);
-    for (const every of ["0s", "30d"]) assert.throws(() => schedule({ every, until: "90d" }, () => {}), RangeError);
+    assert.throws(
+        () => schedule({ every: "soon", until: "1d" }, () => {}),
+        /^Error: every: expected a number at column 1, found "soon"$/,
+    );
+    for (const every of ["0s", "30d"]) {
+        assert.throws(() => schedule({ every, until: "90d" }, () => {}), RangeError);
+    }
 });
 
 const BABEL = "/usr/share/nodejs/@babel/standalone/babel.js";
 test("works as Babel compiles it for older browsers", existsSync(BABEL) ? {} : { skip: "Babel is missing (make setup all=yes)" }, () => {
     const { transform } = createRequire(import.meta.url)(BABEL);
     const source = readFileSync(join(PACKAGE, "dist/duration-str.js"), "utf8");
-    const { code } = transform(source, { presets: [["env", { targets: "> 0.25%, not dead", modules: "commonjs" }]] });
+    const { code } = transform(
+        source,
+        { presets: [["env", { targets: "> 0.25%, not dead", modules: "commonjs" }]] },
+    );
     writeFileSync(join(room, "compiled.cjs"), code);
-    assert.equal(runs("node", "-p", "require('./compiled.cjs').parseNs('1h 30m')"), "5400000000000n");
+    assert.equal(
+        runs("node", "-p", "require('./compiled.cjs').parseNs('1h 30m')"),
+        "5400000000000n",
+    );
 });
 
 for (const format of ["esm", "cjs", "iife"]) {
     test(`is bundled by esbuild as ${format} for ES2020`, skipWithout("esbuild"), () => {
         const output = `bundle.${format === "esm" ? "mjs" : "cjs"}`;
-        runs("esbuild", "module.mjs", "--bundle", "--log-level=error", "--target=es2020", `--format=${format}`, `--outfile=${output}`);
+        runs(
+            "esbuild",
+            "module.mjs",
+            "--bundle",
+            "--log-level=error",
+            "--target=es2020",
+            `--format=${format}`,
+            `--outfile=${output}`,
+        );
         assert.equal(runs("node", output), SAID);
     });
 }
 
 for (const format of ["esm", "cjs"]) {
     test(`is bundled by rollup as ${format}`, skipWithout("rollup"), () => {
-        runs("rollup", join(PACKAGE, "dist/duration-str.js"), "--silent", `--format=${format}`, "--file=rolled.cjs");
-        if (format === "cjs") assert.equal(runs("node", "-p", "require('./rolled.cjs').parseNs('1h 30m')"), "5400000000000n");
+        runs(
+            "rollup",
+            join(PACKAGE, "dist/duration-str.js"),
+            "--silent",
+            `--format=${format}`,
+            "--file=rolled.cjs",
+        );
+        if (format === "cjs") {
+            assert.equal(
+                runs("node", "-p", "require('./rolled.cjs').parseNs('1h 30m')"),
+                "5400000000000n",
+            );
+        }
     });
 }
 
@@ -193,8 +274,17 @@ async function pageMessage(files, headers = {}) {
             resolve(body);
         });
         server.listen(0, "127.0.0.1", () => {
-            const words = ["--headless", "--no-sandbox", "--disable-gpu", `--user-data-dir=${join(room, "profile")}`];
-            browser = spawn("chromium", [...words, `http://127.0.0.1:${server.address().port}/`], { stdio: "ignore" });
+            const words = [
+                "--headless",
+                "--no-sandbox",
+                "--disable-gpu",
+                `--user-data-dir=${join(room, "profile")}`,
+            ];
+            browser = spawn(
+                "chromium",
+                [...words, `http://127.0.0.1:${server.address().port}/`],
+                { stdio: "ignore" },
+            );
             browser.on("error", reject);
         });
         setTimeout(() => reject(new Error("the page says nothing for a minute")), 60_000).unref();
@@ -224,7 +314,10 @@ self.onmessage = (event) => event.source.postMessage(said);`);
         navigator.serviceWorker.register("worker.js").then(() => navigator.serviceWorker.ready)
             .then((registration) => registration.active.postMessage("?"));
     </script>`;
-    assert.equal(await pageMessage({ "page.html": page, "worker.js": worker }), `${SAID} 1 hr, 30 min PT1H30M PT0S`);
+    assert.equal(
+        await pageMessage({ "page.html": page, "worker.js": worker }),
+        `${SAID} 1 hr, 30 min PT1H30M PT0S`,
+    );
 });
 
 test("lets a page start whose policy refuses it, and says what to allow", skipWithout("chromium"), async () => {
@@ -233,8 +326,17 @@ const said = () => { try { return all.parseNs("1h"); } catch (error) { return \`
 fetch("/said", { method: "POST", body: \`started \${said()}\` });`);
     const files = { "page.html": '<script src="script.js"></script>', "script.js": script };
     const said = await pageMessage(files, { "content-security-policy": "script-src 'self'" });
-    assert.match(said, /^started CompileError: duration-str cannot use WebAssembly here .* allow 'wasm-unsafe-eval' /);
-    assert.equal(await pageMessage(files, { "content-security-policy": "script-src 'self' 'wasm-unsafe-eval'" }), "started 3600000000000");
+    assert.match(
+        said,
+        /^started CompileError: duration-str cannot use WebAssembly here .* allow 'wasm-unsafe-eval' /,
+    );
+    assert.equal(
+        await pageMessage(
+            files,
+            { "content-security-policy": "script-src 'self' 'wasm-unsafe-eval'" },
+        ),
+        "started 3600000000000",
+    );
     const plain = bundle(`import { parseNs } from "duration-str/plain";
 fetch("/said", { method: "POST", body: parseNs("1h") });`);
     const policy = { "content-security-policy": "script-src 'self'" };

@@ -23,8 +23,16 @@ test("tells all of a refusal", () => {
         const options = optionsOf(names);
         const error = errorOf(text, options);
         const index = byte === null ? null : Buffer.from(text).subarray(0, byte).toString().length;
-        assert.deepEqual([error.code, error.byte, error.index, error.found], [code, byte, index, found], text);
-        assert.deepEqual(error.expected, { ...NOTHING, ...Object.fromEntries(kinds.map((kind) => [kind, true])) }, text);
+        assert.deepEqual(
+            [error.code, error.byte, error.index, error.found],
+            [code, byte, index, found],
+            text,
+        );
+        assert.deepEqual(
+            error.expected,
+            { ...NOTHING, ...Object.fromEntries(kinds.map((kind) => [kind, true])) },
+            text,
+        );
         const { fault } = tryParseNs(text, options);
         assert.deepEqual([error.message, fault.message, String(fault)], [line, line, line]);
         const report = spaces === null ? line : `${text}\n${" ".repeat(spaces)}^\n${line}`;
@@ -37,8 +45,13 @@ test("lets nothing unsafe into the message, and keeps it short", () => {
     const unsafe = /[\0-\x1f\x7f-\x9f\u200b-\u200f\u2028-\u202e\u2060-\u2069\ufeff]/;
     for (let code = 0; code < 0x3000; code++) {
         for (const before of ["", "1", "1h ", "1h x"]) {
-            const { ok, fault } = tryParseNs(`${before}${String.fromCharCode(code)}${"\u9f98".repeat(50)}`);
-            assert.ok(!ok && !unsafe.test(fault.message) && Buffer.byteLength(fault.message) <= 294, fault.message);
+            const { ok, fault } = tryParseNs(
+                `${before}${String.fromCharCode(code)}${"\u9f98".repeat(50)}`,
+            );
+            assert.ok(
+                !ok && !unsafe.test(fault.message) && Buffer.byteLength(fault.message) <= 294,
+                fault.message,
+            );
             assert.ok(!unsafe.test(fault.report.replace(/^(.*)\n *\^\n/, "$1")), fault.report);
         }
     }
@@ -67,18 +80,37 @@ test("refuses lone surrogates, wherever they stand", () => {
 test("does no harm with what is handed in", () => {
     const fails = () => { throw new SyntaxError("mine"); };
     const hostile = [
-        Symbol("1s"), new Proxy({}, { get: fails, getPrototypeOf: fails }), new Proxy(() => "1s", {}), new Map(), new Date(0), /1s/, NaN, 10n ** 1000n,
+        Symbol("1s"), new Proxy({}, { get: fails, getPrototypeOf: fails }), new Proxy(
+            () => "1s",
+            {},
+        ), new Map(), new Date(0), /1s/, NaN, 10n ** 1000n,
         { toString: fails, valueOf: fails }, new String("1s"),
     ];
     for (const value of hostile) {
         for (const call of [parseNs, tryParseNs, tryParse]) {
-            assert.throws(() => call(value), { name: "TypeError", message: /^a duration's text must be a string, not / });
+            assert.throws(
+                () => call(value),
+                { name: "TypeError", message: /^a duration's text must be a string, not / },
+            );
             assert.throws(() => call("1s", value), (error) => error instanceof Error);
         }
     }
-    for (const value of [Object.create(null), { [Symbol.toPrimitive]: fails }]) assert.throws(() => parseNs(value), TypeError);
-    assert.throws(() => parseNs("1s", Object.defineProperty({}, "noCalc", { enumerable: true, get: fails })), { message: "mine" });
-    for (const text of ["\0", "1\0h", "\ufeff1h", `${"9".repeat(1_000_000)}h`, "1h".repeat(3) + "\u202e", "__proto__", "constructor"]) {
+    for (const value of [Object.create(null), { [Symbol.toPrimitive]: fails }]) {
+        assert.throws(() => parseNs(value), TypeError);
+    }
+    assert.throws(
+        () => parseNs("1s", Object.defineProperty({}, "noCalc", { enumerable: true, get: fails })),
+        { message: "mine" },
+    );
+    for (const text of [
+        "\0",
+        "1\0h",
+        "\ufeff1h",
+        `${"9".repeat(1_000_000)}h`,
+        "1h".repeat(3) + "\u202e",
+        "__proto__",
+        "constructor",
+    ]) {
         assert.equal(tryParseNs(text).ok, false, text.slice(0, 20));
         assert.throws(() => parseNs(text), DurationError);
     }
@@ -98,10 +130,16 @@ test("is an Error of its own name", () => {
 test("is made of a fault alone, and shown with its message once", () => {
     assert.equal(new DurationError(tryParseNs("600y").fault).code, "OVERFLOW");
     for (const fault of [undefined, null, {}, "1x"]) {
-        assert.throws(() => new DurationError(fault), { name: "TypeError", message: /^a DurationError is made of a fault/ });
+        assert.throws(
+            () => new DurationError(fault),
+            { name: "TypeError", message: /^a DurationError is made of a fault/ },
+        );
     }
     const shown = inspect(errorOf("1x 2-"));
-    assert.deepEqual([shown.split("text: '1x 2-'").length, shown.split("unknown unit").length], [2, 2]);
+    assert.deepEqual(
+        [shown.split("text: '1x 2-'").length, shown.split("unknown unit").length],
+        [2, 2],
+    );
 });
 
 test("survives a structured clone and JSON, with all that is wrong", () => {
@@ -109,8 +147,14 @@ test("survives a structured clone and JSON, with all that is wrong", () => {
     const { fault } = tryParseNs("1m 3-5");
     const { message, ...cause } = fault;
     const clone = structuredClone(error);
-    assert.deepEqual([clone.message, clone.cause, structuredClone(fault)], [message, cause, { message, ...cause }]);
-    assert.deepEqual(JSON.parse(JSON.stringify(error)), { name: "DurationError", message, ...cause });
+    assert.deepEqual(
+        [clone.message, clone.cause, structuredClone(fault)],
+        [message, cause, { message, ...cause }],
+    );
+    assert.deepEqual(
+        JSON.parse(JSON.stringify(error)),
+        { name: "DurationError", message, ...cause },
+    );
     assert.deepEqual(JSON.parse(JSON.stringify(fault)), { message, ...cause });
 });
 
@@ -119,7 +163,10 @@ test("is told without an error by tryParse", () => {
     for (const text of ["", "1m 3-5", "600y", "\ud800"]) {
         const { ok, fault } = tryParseNs(text);
         const { code, index, byte, found, expected, message, report } = errorOf(text);
-        assert.deepEqual([ok, { ...fault }, fault.report], [false, { code, text, index, byte, found, expected, message }, report]);
+        assert.deepEqual(
+            [ok, { ...fault }, fault.report],
+            [false, { code, text, index, byte, found, expected, message }, report],
+        );
         assert.deepEqual(tryParse(text), { ok, fault });
     }
     assert.deepEqual(tryParse("1h 1500us"), { ok: true, value: 3_600_001.5 });
@@ -130,7 +177,10 @@ test("tells what is wrong in 10 MB", () => {
     const blanks = " ".repeat(10_000_000);
     const error = errorOf(`1µs${blanks}😀x`);
     assert.deepEqual([error.index, error.byte, error.found], [10_000_003, 10_000_004, "😀"]);
-    assert.equal(error.message, `expected a number, '+', '*' or the end at column 10000004, found "😀x"`);
+    assert.equal(
+        error.message,
+        `expected a number, '+', '*' or the end at column 10000004, found "😀x"`,
+    );
     assert.equal(error.report, error.message);
     assert.equal(parseNs("1s"), 1_000_000_000n);
 });

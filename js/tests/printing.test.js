@@ -11,18 +11,27 @@ const DAY = 86_400_000_000_000n;
 test("prints the vectors, and refuses limits that contradict each other", () => {
     for (const [text, largest, smallest, parts, short, long] of VECTORS.printed) {
         if (!tryParseNs(text).ok) continue;
-        for (const [style, printed] of [["short", short], ["compact", short.replaceAll(" ", "")], ["long", long]]) {
+        for (const [style, printed] of [
+            ["short", short], ["compact", short.replaceAll(" ", "")], ["long", long],
+        ]) {
             const print = () => formatNs(parseNs(text), { largest, smallest, parts, style });
-            if (parts === 0 || NAMES.indexOf(largest) > NAMES.indexOf(smallest)) assert.throws(print, RangeError);
+            if (parts === 0 || NAMES.indexOf(largest) > NAMES.indexOf(smallest)) {
+                assert.throws(print, RangeError);
+            }
             else assert.equal(print(), printed);
         }
-        if (largest === "y" && smallest === "ns" && parts === 11) assert.equal(formatNs(parseNs(text)), short);
+        if (largest === "y" && smallest === "ns" && parts === 11) {
+            assert.equal(formatNs(parseNs(text)), short);
+        }
     }
     assert.equal(formatNs(1999n, { smallest: "us" }), "1µs");
     assert.equal(format(193_029, { parts: 2 }), "3min 13s");
     assert.equal(format(90_000, { style: "long" }), "1 minute 30 seconds");
     for (const parts of [2 ** 32, Infinity]) {
-        assert.equal(formatNs(90_061_000_000_001n, { parts, largest: undefined }), "1d 1h 1min 1s 1ns");
+        assert.equal(
+            formatNs(90_061_000_000_001n, { parts, largest: undefined }),
+            "1d 1h 1min 1s 1ns",
+        );
     }
     assert.equal(format(90_061_001, { parts: Infinity }), "1d 1h 1min 1s 1ms");
 });
@@ -31,14 +40,32 @@ test("refuses limits that there are not", () => {
     const names = NAMES.join(", ");
     const style = "the option style must be one of short, compact, long, not";
     const rows = [
-        [{ largest: "days" }, new RangeError(`the option largest must be one of ${names}, not days`)],
-        [{ smallest: "\u03bcs" }, new RangeError(`the option smallest must be one of ${names}, not \u03bcs`)],
+        [
+            { largest: "days" },
+            new RangeError(`the option largest must be one of ${names}, not days`),
+        ],
+        [
+            { smallest: "\u03bcs" },
+            new RangeError(`the option smallest must be one of ${names}, not \u03bcs`),
+        ],
         [{ smallest: 5 }, new TypeError("the option smallest must be a string, not number")],
         [{ parts: 0 }, new RangeError("the option parts must be a whole number from 1 on, not 0")],
-        [{ parts: 1.5 }, new RangeError("the option parts must be a whole number from 1 on, not 1.5")],
-        [{ parts: NaN }, new RangeError("the option parts must be a whole number from 1 on, not NaN")],
-        [{ parts: -Infinity }, new RangeError("the option parts must be a whole number from 1 on, not -Infinity")],
-        [{ largest: "h", smallest: "d" }, new RangeError("the largest unit, h, is shorter than the smallest, d")],
+        [
+            { parts: 1.5 },
+            new RangeError("the option parts must be a whole number from 1 on, not 1.5"),
+        ],
+        [
+            { parts: NaN },
+            new RangeError("the option parts must be a whole number from 1 on, not NaN"),
+        ],
+        [
+            { parts: -Infinity },
+            new RangeError("the option parts must be a whole number from 1 on, not -Infinity"),
+        ],
+        [
+            { largest: "h", smallest: "d" },
+            new RangeError("the largest unit, h, is shorter than the smallest, d"),
+        ],
         [{ style: "wide" }, new RangeError(`${style} wide`)],
         [{ style: 1 }, new TypeError("the option style must be a string, not number")],
         [{ parts: "2" }, new TypeError("the option parts must be a number, not string")],
@@ -58,7 +85,19 @@ test("counts the parts", () => {
         [0n, undefined, { seconds: 0 }],
         [1n, { smallest: "µs" }, { seconds: 0 }],
         [1n, { largest: "w", smallest: "d" }, { days: 0 }],
-        [2n ** 64n - 1n, undefined, { days: 213_503, hours: 23, minutes: 34, seconds: 33, milliseconds: 709, microseconds: 551, nanoseconds: 615 }],
+        [
+            2n ** 64n - 1n,
+            undefined,
+            {
+                days: 213_503,
+                hours: 23,
+                minutes: 34,
+                seconds: 33,
+                milliseconds: 709,
+                microseconds: 551,
+                nanoseconds: 615,
+            },
+        ],
         // 400 days are a year of 365, a month of 30 and 5 more, and of months and weeks alone 13 of
         // 30, a week and 3 more.
         [400n * DAY, { largest: "y" }, { years: 1, months: 1, days: 5 }],
@@ -68,18 +107,34 @@ test("counts the parts", () => {
         [2n ** 53n - 1n, { largest: "ns" }, { nanoseconds: Number.MAX_SAFE_INTEGER }],
     ];
     for (const [value, limits, counted] of rows) assert.deepEqual(parts(value, limits), counted);
-    assert.throws(() => parts(2n ** 53n, { largest: "ns" }), { name: "RangeError", message: /^no number holds 9007199254740992 / });
-    for (const limits of [{ largest: "q" }, { largest: "y", smallest: "q" }, { smallest: "w" }, { parts: 0 }]) {
+    assert.throws(
+        () => parts(2n ** 53n, { largest: "ns" }),
+        { name: "RangeError", message: /^no number holds 9007199254740992 / },
+    );
+    for (const limits of [
+        { largest: "q" }, { largest: "y", smallest: "q" }, { smallest: "w" }, { parts: 0 },
+    ]) {
         assert.throws(() => parts(1n, limits), RangeError);
     }
     for (const value of [-1n, 2n ** 64n]) assert.throws(() => parts(value), RangeError);
-    for (const words of [["1"], [undefined], [1n, null], [1n, { style: "long" }], [1n, { unit: "d" }]]) {
+    for (const words of [
+        ["1"], [undefined], [1n, null], [1n, { style: "long" }], [1n, { unit: "d" }],
+    ]) {
         assert.throws(() => parts(...words), TypeError);
     }
 });
 
 test("prints milliseconds", () => {
-    for (const [value, printed] of [[0, "0s"], [-0, "0s"], [1, "1ms"], [193_029, "3min 13s 29ms"], [1.005, "1ms 5µs"], [0.0000004, "0s"], [0.0000006, "1ns"], [2.9999999, "3ms"]]) {
+    for (const [value, printed] of [
+        [0, "0s"],
+        [-0, "0s"],
+        [1, "1ms"],
+        [193_029, "3min 13s 29ms"],
+        [1.005, "1ms 5µs"],
+        [0.0000004, "0s"],
+        [0.0000006, "1ns"],
+        [2.9999999, "3ms"],
+    ]) {
         assert.equal(format(value), printed);
     }
     assert.equal(format(parse("1m 30s")), "1min 30s");
@@ -113,18 +168,32 @@ test("refuses what is negative, not finite or too large", () => {
         [formatNs, [2n ** 64n, 10n ** 1000n], /^a duration is at most 584 years, 2\^64 - 1 ns$/],
         [format, [-1, -0.5], /^a duration is not negative: -(1|0\.5)$/],
         [format, [NaN, Infinity, -Infinity], /^milliseconds must be finite, not (NaN|-?Infinity)$/],
-        [format, [18_446_744_073_710, 2 ** 53, 1e300], /^a duration is at most 584 years, 18446744073709\.55 ms$/],
+        [
+            format,
+            [18_446_744_073_710, 2 ** 53, 1e300],
+            /^a duration is at most 584 years, 18446744073709\.55 ms$/,
+        ],
     ];
     for (const [call, values, message] of rows) {
-        for (const value of values) assert.throws(() => call(value), { name: "RangeError", message });
+        for (const value of values) {
+            assert.throws(() => call(value), { name: "RangeError", message });
+        }
     }
 });
 
 test("does not take one unit for the other", () => {
-    for (const value of [undefined, null, "1", "1s", true, [1], {}, new Date(0), new Number(1), Symbol("1")]) {
+    for (const value of [
+        undefined, null, "1", "1s", true, [1], {}, new Date(0), new Number(1), Symbol("1"),
+    ]) {
         assert.throws(() => formatNs(value), TypeError);
         assert.throws(() => format(value), TypeError);
     }
-    assert.throws(() => formatNs(90_000), { name: "TypeError", message: /; format takes milliseconds$/ });
-    assert.throws(() => format(90_000n), { name: "TypeError", message: /; formatNs takes nanoseconds$/ });
+    assert.throws(
+        () => formatNs(90_000),
+        { name: "TypeError", message: /; format takes milliseconds$/ },
+    );
+    assert.throws(
+        () => format(90_000n),
+        { name: "TypeError", message: /; formatNs takes nanoseconds$/ },
+    );
 });

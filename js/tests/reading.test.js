@@ -10,8 +10,14 @@ const LARGEST = 2n ** 64n - 1n;
 // First, while the memory is small
 test("makes room at each size, for texts and faults", () => {
     for (let count = 1; count < 1_000_000; count = Math.ceil(count * 1.2)) {
-        assert.equal(tryParseNs("分".repeat(2 * count), { cnUnit: true }).fault.found.length, 2 * count);
-        assert.equal(parseNs("1分".repeat(count), { cnUnit: true }), BigInt(count) * 60_000_000_000n);
+        assert.equal(
+            tryParseNs("分".repeat(2 * count), { cnUnit: true }).fault.found.length,
+            2 * count,
+        );
+        assert.equal(
+            parseNs("1分".repeat(count), { cnUnit: true }),
+            BigInt(count) * 60_000_000_000n,
+        );
         assert.equal(tryParseNs(`${"1分".repeat(count)}-`, { cnUnit: true }).fault.index, 2 * count);
     }
 });
@@ -22,7 +28,9 @@ test("reads the vectors, and refuses them under the other options", () => {
             for (const [secs, nanos, texts] of group.rows) {
                 const value = BigInt(secs) * 1_000_000_000n + BigInt(nanos);
                 for (const text of texts) {
-                    if (holds(group, names)) assert.equal(parseNs(text, optionsOf(names)), value, text);
+                    if (holds(group, names)) {
+                        assert.equal(parseNs(text, optionsOf(names)), value, text);
+                    }
                     else assert.throws(() => parseNs(text, optionsOf(names)), DurationError, text);
                 }
             }
@@ -42,8 +50,17 @@ test("takes a plain object's own options, of any realm", () => {
     for (const options of [other, Object.assign(Object.create(null), { cnUnit: true })]) {
         assert.equal(parseNs("1分", options), 60_000_000_000n);
     }
-    for (const options of [Object.create({ cnUnit: true }), Object.create(Object.create(null)), new (class { cnUnit = true; })(), [], () => {}]) {
-        assert.throws(() => parseNs("1分", options), { name: "TypeError", message: /^the options must be a plain object, not / });
+    for (const options of [
+        Object.create({ cnUnit: true }),
+        Object.create(Object.create(null)),
+        new (class { cnUnit = true; })(),
+        [],
+        () => {},
+    ]) {
+        assert.throws(
+            () => parseNs("1分", options),
+            { name: "TypeError", message: /^the options must be a plain object, not / },
+        );
     }
 });
 
@@ -68,12 +85,17 @@ test("refuses what is no option", () => {
         [{ cnUnit: null }, "the option cnUnit must be a boolean, not null"],
         [null, "the options must be a plain object, not null: write (text) => parse(text)"],
         [[], "the options must be a plain object, not array: write (text) => parse(text)"],
-        [new Map(), "the options must be a plain object, not one that inherits: write (text) => parse(text)"],
+        [
+            new Map(),
+            "the options must be a plain object, not one that inherits: write (text) => parse(text)",
+        ],
         [0, "the options must be a plain object, not number: write (text) => parse(text)"],
         ["noCalc", "the options must be a plain object, not string: write (text) => parse(text)"],
     ];
     for (const [options, message] of rows) {
-        for (const call of [parseNs, parse]) assert.throws(() => call("1s", options), new TypeError(message));
+        for (const call of [parseNs, parse]) {
+            assert.throws(() => call("1s", options), new TypeError(message));
+        }
     }
 });
 

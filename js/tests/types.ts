@@ -8,7 +8,11 @@ import {
 const options: Options = { noCalc: true, lowercase: false, cnUnit: undefined, requireUnit: true };
 const nanoseconds: bigint = parseNs("2h 37m", options);
 const milliseconds: number = parse("1m 30s", {});
-const texts: string[] = [formatNs(nanoseconds), format(milliseconds), formatNs(1n, { parts: 2, largest: "d", smallest: "us", style: "long" })];
+const texts: string[] = [
+    formatNs(nanoseconds),
+    format(milliseconds),
+    formatNs(1n, { parts: 2, largest: "d", smallest: "us", style: "long" }),
+];
 const counted: Parts = parts(nanoseconds, { largest: "y" });
 const hours: number = counted.hours ?? 0;
 
@@ -24,7 +28,9 @@ try {
     const places: (number | null)[] = [error.index, error.byte];
     const expected: Expected = error.expected;
     const any: boolean = expected.number || expected.unit || expected.operator || expected.end;
-    const told: (string | null)[] = [error.found, error.report, error.text, error.message, cause.text];
+    const told: (string | null)[] = [
+        error.found, error.report, error.text, error.message, cause.text,
+    ];
     // @ts-expect-error: without a place it is null
     const index: number = error.index;
     // @ts-expect-error: there is no such code

@@ -2,7 +2,9 @@
 // all packages are tested.
 import { readFileSync } from "node:fs";
 
-export const VECTORS = JSON.parse(readFileSync(new URL("../../rust/vectors.json", import.meta.url), "utf8"));
+export const VECTORS = JSON.parse(
+    readFileSync(new URL("../../rust/vectors.json", import.meta.url), "utf8"),
+);
 
 /**
  * The options of which those with these names are on; they are named as in C and on command lines.
@@ -13,7 +15,10 @@ export function optionsOf(names) {
 }
 
 /** All choices of the options, each as the names of those that are on. */
-export const CHOICES = VECTORS.options.reduce((lists, name) => lists.flatMap((names) => [names, [...names, name]]), [[]]);
+export const CHOICES = VECTORS.options.reduce(
+    (lists, name) => lists.flatMap((names) => [names, [...names, name]]),
+    [[]],
+);
 
 /** Whether the vectors of this group hold under the options with these names. */
 export function holds({ on, off }, names) {
