@@ -35,7 +35,9 @@ function pressedUnits() {
 
 /** Where the answer stands, for each beginning of the texts. */
 function places(texts) {
-    const beginnings = texts.flatMap((text) => Array.from({ length: text.length + 1 }, (_, end) => text.slice(0, end)));
+    const beginnings = texts.flatMap(
+        (text) => Array.from({ length: text.length + 1 }, (_, end) => text.slice(0, end)),
+    );
     return beginnings.map((text) => {
         put(text);
         return all("#answer")[0].getBoundingClientRect().top + scrollY;
@@ -62,8 +64,12 @@ function pale() {
         const [dark, bright] = [light(one), light(other)].sort((a, b) => a - b);
         return (bright + 0.05) / (dark + 0.05);
     };
-    const hasText = (element) => [...element.childNodes].some((node) => node.nodeType === 3 && node.data.trim() !== "");
-    const texts = seen("body *").filter((element) => hasText(element) && !element.closest("#mirror"))
+    const hasText = (element) => [...element.childNodes].some(
+        (node) => node.nodeType === 3 && node.data.trim() !== "",
+    );
+    const texts = seen("body *").filter(
+        (element) => hasText(element) && !element.closest("#mirror"),
+    )
         .filter((element) => ratio(getComputedStyle(element).color, behind(element)) < 4.5);
     const edges = seen("button, .marked").filter((element) => {
         return ratio(getComputedStyle(element).borderTopColor, behind(element.parentElement)) < 3;
@@ -74,25 +80,37 @@ function pale() {
 /** What breaks a rule of accessibility, by the rule. */
 function brokenRules() {
     const ids = all("[id]").map((element) => element.id);
-    const named = (attribute) => all(`[${attribute}]`).flatMap((element) => element.getAttribute(attribute).split(" "));
+    const named = (attribute) => all(`[${attribute}]`).flatMap(
+        (element) => element.getAttribute(attribute).split(" "),
+    );
     const levels = seen("h1, h2, h3").map((element) => Number(element.tagName[1]));
     const scrolls = ({ scrollWidth, clientWidth }) => scrollWidth > clientWidth + 1;
-    const isScrolled = (element) => scrolls(element) && /auto|scroll/.test(getComputedStyle(element).overflowX);
+    const isScrolled = (element) => scrolls(element) && /auto|scroll/.test(
+        getComputedStyle(element).overflowX,
+    );
     const isSmall = ({ offsetHeight, offsetWidth }) => offsetHeight < 24 || offsetWidth < 24;
     return {
         "names used twice": ids.filter((id, place) => ids.indexOf(id) !== place),
         "names that are nobody's": ["aria-labelledby", "aria-describedby", "for"].flatMap(named)
             .filter((id) => !ids.includes(id)),
         "groups without a name": excerpts(seen("section, [role=group], [role=region], [role=toolbar]")
-            .filter((element) => !element.hasAttribute("aria-label") && !element.hasAttribute("aria-labelledby"))),
+            .filter(
+                (element) => !element.hasAttribute("aria-label") && !element.hasAttribute(
+                    "aria-labelledby",
+                ),
+            )),
         "what has the focus and no role": excerpts(seen("[tabindex]:not(button, [role])")),
         "buttons that send": excerpts(all("button:not([type=button])")),
         "images without words": excerpts(all("img:not([alt])")),
-        "headings that skip a level": levels.filter((level, place) => level > (levels[place - 1] ?? 0) + 1),
+        "headings that skip a level": levels.filter(
+            (level, place) => level > (levels[place - 1] ?? 0) + 1,
+        ),
         "a list with other parts": excerpts(all("dl > :not(div), dl > div > :not(dt, dd)")),
         "small targets": excerpts(seen("button").filter(isSmall)),
         "places to scroll that no key reaches": excerpts(seen("body *").filter(isScrolled)
-            .filter((element) => element.tabIndex < 0 && !element.querySelector("textarea, button"))),
+            .filter(
+                (element) => element.tabIndex < 0 && !element.querySelector("textarea, button"),
+            )),
         "parts outside of a landmark": excerpts(all("body > :not(header, main, footer, script)")),
     };
 }
