@@ -10,7 +10,8 @@
 # make check           proves everything, where there is rt, and tests what is built, in half an
 #                      hour to an hour
 # make quick           proves what has changed and runs the tests that take seconds
-# make format          lays out all files that no tool here makes, by the usual tool of each language
+# make format          lays out all files that no tool here makes, by the usual tool of each
+#                      language
 # make coverage        names the lines by hand that no test runs, in some minutes
 # make install         puts these, the header, the manual pages and completions below
 #                      prefix=/usr/local, or into bindir=, libdir=, includedir=, mandir=, docdir=
@@ -28,7 +29,8 @@ SHELL := bash
 .SHELLFLAGS := -euo pipefail -c
 .ONESHELL:
 .NOTPARALLEL:
-.PHONY: all program library duration setup prove check quick format coverage install uninstall release page clean help installable
+.PHONY: all program library duration setup prove check quick format coverage install uninstall \
+    release page clean help installable
 unexport MAKEFLAGS CDPATH
 MAKEFLAGS += --no-builtin-rules --no-print-directory
 
@@ -47,10 +49,12 @@ help:
 
 # ./durstr takes the profile `quick`; what is installed and released, the other.
 profile = release
-host := $(or $(shell rustc -vV 2>/dev/null | sed -n 's/^host: //p'),$(notdir $(firstword $(wildcard out/cargo/$(shell uname -m)-*))))
+host := $(or $(shell rustc -vV 2>/dev/null | sed -n 's/^host: //p'),\
+    $(notdir $(firstword $(wildcard out/cargo/$(shell uname -m)-*))))
 target = $(host)
 built = out/cargo/$(target)/$(profile)
-cargo = tools/cargo-for $(call quoted,$(target)) $(1) --quiet --profile $(profile) --target-dir out/cargo
+cargo = tools/cargo-for $(call quoted,$(target)) $(1) --quiet --profile $(profile) \
+    --target-dir out/cargo
 static =
 comma := ,
 
@@ -66,10 +70,12 @@ program:
 	    :
 	elif type -P cargo >/dev/null; then
 	    [ -x "$$program" ] || echo 'durstr: cargo builds it, in seconds' >&2
-	    $(call cargo,std$(comma)panic_abort rustc) -p durstr --bin durstr -- $(if $(static),-C target-feature=+crt-static)
+	    $(call cargo,std$(comma)panic_abort rustc) -p durstr --bin durstr -- \
+	        $(if $(static),-C target-feature=+crt-static)
 	elif type -P rt >/dev/null && [ $(origin target) = file ]; then
 	    program=crates/durstr/out/durstr
-	    [ -x $$program ] || echo 'durstr: there is no cargo, so rt proves and builds it, which takes minutes' >&2
+	    [ -x $$program ] ||
+	        echo 'durstr: there is no cargo, so rt proves and builds it, which takes minutes' >&2
 	    said=$$(cd crates/durstr && rt run </dev/null 2>&1) || { tail <<<"$$said" >&2; exit 1; }
 	else
 	    echo 'durstr: needs cargo, with Rust 1.85 or later, or else the Rattle toolchain (see README.md)' >&2
@@ -81,8 +87,10 @@ program:
 library:
 	@archive="$(built)/libduration_str.a"
 	if ! $(call serves,"$$archive",c); then
-	    $(call cargo,core rustc) -p duration-str-c -- $(if $(filter wasm%,$(target)),,--emit obj=$(built)/duration_str.o)
-	    [ ! -e $(built)/duration_str.o ] || { rm -f $$archive && ar rcs $$archive $(built)/duration_str.o; }
+	    object="$(built)/duration_str.o"
+	    $(call cargo,core rustc) -p duration-str-c -- \
+	        $(if $(filter wasm%,$(target)),,--emit "obj=$$object")
+	    [ ! -e "$$object" ] || { rm -f "$$archive" && ar rcs "$$archive" "$$object"; }
 	fi
 	echo $(built)
 
@@ -101,12 +109,17 @@ duration:
 	    echo "duration: missing: $$missing (see shell/README.md)" >&2
 	    exit 1
 	}
-	[ -x $(command) ] || echo 'duration: cargo builds it and the crates that it uses, in a minute or more' >&2
+	[ -x $(command) ] ||
+	    echo 'duration: cargo builds it and the crates that it uses, in a minute or more' >&2
 	mkdir -p out/command
 	rm -rf out/command/{rust,shell}
 	cp -a --parents rust/{Cargo.toml,core,macros,src} shell/{Cargo.toml,src} out/command
-	{ printf '[workspace]\nmembers = ["shell"]\nexclude = ["rust"]\n'; sed -n '/^\[profile/,$$p' shell/Cargo.toml; } >out/command/Cargo.toml
-	tools/cargo-debian rustc --quiet --release --manifest-path out/command/shell/Cargo.toml --target $(host) --target-dir out/cargo \
+	{
+	    printf '[workspace]\nmembers = ["shell"]\nexclude = ["rust"]\n'
+	    sed -n '/^\[profile/,$$p' shell/Cargo.toml
+	} >out/command/Cargo.toml
+	tools/cargo-debian rustc --quiet --release --manifest-path out/command/shell/Cargo.toml \
+	    --target $(host) --target-dir out/cargo \
 	    -- $(if $(static),-C target-feature=+crt-static)
 	echo $(command)
 
@@ -130,7 +143,8 @@ INSTALL_DATA = $(INSTALL) -m 644
 export DESTDIR
 
 open := (
-calls = $(shell sed '/^static /d' $(header) | grep -o '\<duration_str_[a-z_]*$(open)' | tr -d '$(open)' | sort -u)
+calls = $(shell sed '/^static /d' $(header) | grep -o '\<duration_str_[a-z_]*$(open)' | \
+    tr -d '$(open)' | sort -u)
 shared = libduration_str.so $(soname)
 cmake_files = $(addprefix cmake/duration_str/duration_str-config,.cmake -version.cmake)
 completions = $(addprefix $(datarootdir)/,bash-completion/completions/duration zsh/site-functions/_duration \
@@ -167,17 +181,22 @@ filled = sed 's|@PREFIX@|$(3)|; s|@VERSION@|$(version)|; s|@LIBDIR@|$(call below
 below = $(patsubst $(prefix)/%,$${$(2)}/%,$(1))
 cmake_up = $(call up,$(libdir)/cmake/duration_str,$${CMAKE_CURRENT_LIST_DIR})
 
+variables = prefix bindir libdir includedir datarootdir mandir docdir
 # Some characters pkg-config takes for something else, and others it quotes, so that compilers
 # misread them.
 installable:
 	@export LC_ALL=C
-	for folder in $(foreach name,prefix bindir libdir includedir datarootdir mandir docdir,$(call quoted,$($(name)))); do
+	for folder in $(foreach name,$(variables),$(call quoted,$($(name)))); do
 	    [[ $$folder =~ ^/[A-Za-z0-9/._+,@=~-]*$$ ]] && continue
-	    echo "install: $$folder can't be told to pkg-config: a folder has to begin with / and may have ASCII letters," \
-	        'digits and . _ + , @ = ~ -' >&2
+	    echo "install: $$folder can't be told to pkg-config: a folder has to begin with / and may" \
+	        'have ASCII letters, digits and . _ + , @ = ~ -' >&2
 	    exit 1
 	done
-	case "$(target)" in wasm*) echo 'install: WebAssembly modules are not installed' >&2; exit 1 ;; esac
+	case "$(target)" in wasm*)
+	    echo 'install: WebAssembly modules are not installed' >&2
+	    exit 1
+	    ;;
+	esac
 
 install: installing = yes
 install: installable
@@ -191,7 +210,8 @@ install: installable
 	put "$$libraries/libduration_str.a" $(libdir)/libduration_str.a
 	put "$$libraries/libduration_str.so" $(libdir)/$(soname)
 	ln -sf $(soname) "$$DESTDIR$(libdir)/libduration_str.so"
-	$(call filled,duration_str.pc,prefix,$(call up,$(libdir)/pkgconfig,$${pcfiledir})) | put_text $(libdir)/pkgconfig/duration_str.pc
+	$(call filled,duration_str.pc,prefix,$(call up,$(libdir)/pkgconfig,$${pcfiledir})) |
+	    put_text $(libdir)/pkgconfig/duration_str.pc
 	$(foreach file,$(cmake_files),$(call filled,$(notdir $(file)),duration_str_prefix,$(cmake_up)) | \
 	    put_text $(libdir)/$(file);)
 	$(call page,c/duration_str.3.in) | put_text $(mandir)/man3/duration_str.3
@@ -211,21 +231,26 @@ install: installable
 	        case $$file in *.fish) shell=fish ;; */_*) shell=zsh ;; *) shell=bash ;; esac
 	        "$$command" --completions $$shell | put_text "$$file"
 	    done
-	    help2man --no-info --name 'read durations such as 1h 30m, and print them' "$$command" | put_text $(mandir)/man1/duration.1
+	    help2man --no-info --name 'read durations such as 1h 30m, and print them' "$$command" |
+	        put_text $(mandir)/man1/duration.1
 	fi
 	[ -z "$$DESTDIR" ] || exit 0
 	case :$$PATH: in *:$(bindir):*) where= ;; *) where=', which is not on the PATH' ;; esac
 	echo "install: $$programs: in $(bindir)$$where"
-	echo 'install: the library for C: in $(libdir), with its header in $(includedir) and manual pages in $(mandir)'
+	echo 'install: the library for C: in $(libdir), with its header in $(includedir)' \
+	    'and manual pages in $(mandir)'
 	echo 'install: programs find the shared library once ldconfig knows $(libdir)'
-	sed -n "s/^[^:]*: creating directory '\(.*\)'$$/\1/p" "$$said" | xargs -r realpath -m --relative-to=$(prefix) >>$(folders)
+	sed -n "s/^[^:]*: creating directory '\(.*\)'$$/\1/p" "$$said" |
+	    xargs -r realpath -m --relative-to=$(prefix) >>$(folders)
 
 # Folders that were there before stay, and those with files of others.
 uninstall: installable
 	@made=$$(cat "$$DESTDIR$(folders)" 2>/dev/null || true)
 	for file in $(installed) $(folders); do rm -fv "$$DESTDIR$$file"; done
-	rm -fv "$$DESTDIR$(libdir)"/libduration_str.so.[0-9]* "$$DESTDIR$(mandir)"/man3/duration_str_*.3 # those of older versions too
-	for folder in $(docdir) $(libdir)/cmake/duration_str $$(for folder in $$made; do realpath -m "$(prefix)/$$folder"; done | sort -ru); do
+	# Those of older versions too
+	rm -fv "$$DESTDIR$(libdir)"/libduration_str.so.[0-9]* "$$DESTDIR$(mandir)"/man3/duration_str_*.3
+	made=$$(for folder in $$made; do realpath -m "$(prefix)/$$folder"; done | sort -ru)
+	for folder in $(docdir) $(libdir)/cmake/duration_str $$made; do
 	    [ ! -d "$$DESTDIR$$folder" ] || rmdir --ignore-fail-on-non-empty "$$DESTDIR$$folder"
 	done
 
@@ -233,7 +258,10 @@ uninstall: installable
 
 dist = dist
 prove:
-	@type -P rt >/dev/null || { echo 'prove: needs the Rattle toolchain: its command rt is not on the path' >&2; exit 1; }
+	@type -P rt >/dev/null || {
+	    echo 'prove: needs the Rattle toolchain: its command rt is not on the path' >&2
+	    exit 1
+	}
 	rt ci
 
 all =
@@ -256,4 +284,5 @@ release:
 	@tools/release $(call quoted,$(dist))
 
 clean:
-	rm -rf out crates/*/out tests/fuzz/out target */target js/dist python/build python/src/{*.egg-info,duration_str/*.so}
+	rm -rf out crates/*/out tests/fuzz/out target */target js/dist
+	rm -rf python/build python/src/{*.egg-info,duration_str/*.so}
