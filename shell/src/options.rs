@@ -16,7 +16,13 @@ const SHAPES: [&str; 4] = ["style", "parts", "largest", "smallest"];
 
 /// Read durations such as 1h 30m, and print them for people or as numbers
 #[derive(Parser)]
-#[command(name = "duration", version, after_help = AFTER_HELP, args_override_self = true, max_term_width = 80)]
+#[command(
+    name = "duration",
+    version,
+    after_help = AFTER_HELP,
+    args_override_self = true,
+    max_term_width = 80
+)]
 pub struct Choices {
     /// Durations, each an argument of its own; if there are none, the lines of standard input
     #[arg(value_name = "TEXT")]
@@ -29,17 +35,20 @@ pub struct Choices {
         value_parser = value_parser!(u8).range(..=9))]
     decimals: Option<u8>,
     /// Round further decimals down, up, or to the nearest
-    #[arg(long, value_name = "WAY", requires = "to", conflicts_with_all = SHAPES, default_value = "down")]
+    #[arg(long, value_name = "WAY", default_value = "down", requires = "to",
+        conflicts_with_all = SHAPES)]
     pub round: Round,
     /// Read a bare number, such as 12.5 or 1e-05, in this unit; other texts need their units
     #[arg(long, value_name = "UNIT", value_parser = unit)]
     pub from: Option<TimeUnit>,
     /// Print 1h 30min (short), 1h30min (compact) or 1 hour 30 minutes (long)
     #[arg(long, default_value_t, value_parser =
-        PossibleValuesParser::new(["short", "compact", "long"]).try_map(|word| word.parse::<Style>()))]
+        PossibleValuesParser::new(["short", "compact", "long"])
+            .try_map(|word| word.parse::<Style>()))]
     style: Style,
     /// Print at most so many parts, and leave out the rest
-    #[arg(long, value_name = "N", default_value = "11", value_parser = value_parser!(u8).range(1..))]
+    #[arg(long, value_name = "N", default_value = "11",
+        value_parser = value_parser!(u8).range(1..))]
     parts: u8,
     /// Use no unit longer than this one
     #[arg(long, value_name = "UNIT", default_value = "y", value_parser = unit)]
@@ -51,12 +60,11 @@ pub struct Choices {
     #[arg(long, value_name = "N", value_parser = value_parser!(u16).range(1..))]
     pub field: Option<u16>,
     /// Divide fields at this ASCII character [default: runs of blanks]
-    #[arg(short, long, value_name = "CHAR", requires = "field", value_parser = |text: &str|
-        <[u8; 1]>::try_from(text.as_bytes()).map_or(Err("not one ASCII character"), |[byte]| Ok(byte)))]
+    #[arg(short, long, value_name = "CHAR", requires = "field", value_parser = one_byte)]
     pub delimiter: Option<u8>,
     /// Print the first line, or the first N lines, unchanged
-    #[arg(long, value_name = "N", num_args = ..=1, require_equals = true, default_missing_value = "1",
-        conflicts_with = "texts")]
+    #[arg(long, value_name = "N", num_args = ..=1, require_equals = true,
+        default_missing_value = "1", conflicts_with = "texts")]
     pub header: Option<u64>,
     /// Print a JSON object for each text, also for a refused one
     #[arg(long, conflicts_with_all = ["field", "delimiter", "header"])]
@@ -144,6 +152,14 @@ pub fn in_unit(nanos: u64, unit: TimeUnit, decimals: Option<u8>, round: Round) -
         number.truncate(number.trim_end_matches('0').trim_end_matches('.').len());
     }
     number
+}
+
+/// The byte of which a text is. A character beyond ASCII has two or more.
+fn one_byte(text: &str) -> Result<u8, &'static str> {
+    match text.as_bytes() {
+        [byte] => Ok(*byte),
+        _ => Err("not one ASCII character"),
+    }
 }
 
 /// The unit that a word names. Another is refused with the help that a text gets.
