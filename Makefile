@@ -9,7 +9,7 @@
 # make prove           proves everything, by the Rattle toolchain's command rt
 # make check           proves everything, where there is rt, and tests what is built, in half an
 #                      hour to an hour
-# make quick           proves what has changed and runs the tests that take seconds
+# make quick           runs the tests that take seconds and the checks of what has changed
 # make format          lays out all files that no tool here makes, by the usual tool of each
 #                      language
 # make coverage        names the lines by hand that no test runs, in some minutes
