@@ -51,7 +51,9 @@ interface Counted<Name extends Unit> {
 
 /** How much of a duration is printed, and how. By default it is all, from `y` to `ns`. */
 export interface Limits extends Counted<Unit> {
-    /** `short`, the default, is `1h 30min`; `compact` is `1h30min`; `long` is `1 hour 30 minutes`. */
+    /**
+     * `short`, the default, is `1h 30min`; `compact` is `1h30min`; `long` is `1 hour 30 minutes`.
+     */
     style?: "short" | "compact" | "long" | undefined;
 }
 

@@ -114,7 +114,8 @@ def read(data, options):
 
 
 def field_in(line, options):
-    """Where the field begins and ends, but for what is around its text; None where it is missing."""
+    """Where the field begins and ends, but for what is around its text; None where it is
+    missing."""
     pattern = "(?<![^{0}])[^{0}]*" if "delimiter" in options else "[^{0}]+"
     fields = re.finditer(pattern.format(re.escape(options.get("delimiter", BLANKS))).encode(), line)
     field = dict(enumerate(fields, 1)).get(options["field"])

@@ -24,7 +24,10 @@ function timeAnswer(text, pasted, done) {
     requestAnimationFrame(() => requestAnimationFrame(() => done(performance.now() - start)));
 }
 
-/** Each name of a unit, and the text and its nanoseconds after its button is pressed for the empty text. */
+/**
+ * Each name of a unit, and the text and its nanoseconds after its button is pressed for the empty
+ * text.
+ */
 function pressedUnits() {
     return all("#units button").map((button) => {
         all("#text")[0].value = "";

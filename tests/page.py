@@ -103,7 +103,8 @@ class Page:
         return element.get_property("textContent") if element.is_displayed() else None
 
     def put(self, text, pasted=False):
-        """Puts the text into the input, and gives the milliseconds until it is answered and drawn."""
+        """Puts the text into the input, and gives the milliseconds until it is answered and
+        drawn."""
         script = "asked.timeAnswer(JSON.parse(arguments[0]), arguments[1], arguments[2])"
         return self.driver.execute_async_script(script, json.dumps(text), pasted)
 
@@ -288,7 +289,8 @@ def try_switching(page):
 
 
 def try_examples(page):
-    """Each is in one row, puts its text, and some are read and some refused with something to try."""
+    """Each is in one row, puts its text, and some are read and some refused with something to
+    try."""
     page.open()
     examples = page.driver.find_elements(By.CSS_SELECTOR, "#examples button")
     found = []
@@ -796,7 +798,8 @@ def shown_in_picture(page, scheme):
 
 
 def said_in_picture(page):
-    """The words in the pictures, and a digest of how they look: whether a picture is stale is seen by these."""
+    """The words in the pictures, and a digest of how they look: whether a picture is stale is seen
+    by these."""
     selectors = ["header", "#examples", "#options", "#answer"]
     words = page.answer_line(
         f"{json.dumps(selectors)}.map((each) => document.querySelector(each).innerText)"

@@ -299,7 +299,8 @@ def front_of(text, options):
 
 
 def syntax_fault(text, front, options):
-    """The fault that is after the front; None where the front is all of the text, and a sentence."""
+    """The fault that is after the front; None where the front is all of the text, and a
+    sentence."""
     ends = is_sentence(list(front.kinds()), options)
     if front.next is None and ends:
         return None

@@ -1,5 +1,6 @@
-// Durations for Go, over the library for C: a field of a configuration, as `{"timeout": "1h 30m"}`. `go run duration.go TEXT`
-// reads a text as one, and prints it, by itself and in JSON. pkg-config finds the library that `make install` has installed.
+// Durations for Go, over the library for C: a field of a configuration, such as
+// `{"timeout": "1h 30m"}`. `go run duration.go TEXT` reads a text as one, and prints it, by itself
+// and in JSON. pkg-config finds the library that `make install` has installed.
 package main
 
 // #cgo pkg-config: duration_str

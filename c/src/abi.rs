@@ -1,4 +1,5 @@
-//! The functions of `duration_str.h`: each makes slices of C's pointers and calls the proved function of its name.
+//! The functions of `duration_str.h`: each makes slices of C's pointers and calls the proved
+//! function of its name.
 #![deny(clippy::no_mangle_with_rust_abi)]
 use crate::{answer::Answer, limits, message};
 use core::{mem::MaybeUninit, mem::offset_of, mem::zeroed, slice::from_raw_parts};

@@ -8,8 +8,8 @@ use alloc::string::String;
 use chrono::{NaiveDate, NaiveDateTime, Utc};
 use duration_str_core::{Cause, Options};
 
-/// The moment that comes after this one by the value of a text. Both are in the same time zone, such
-/// as UTC.
+/// The moment that comes after this one by the value of a text. Both are in the same time zone,
+/// such as UTC.
 ///
 /// The text is read first, and its fault comes first. If chrono has no such moment, the cause is
 /// [`Cause::OutOfRange`].
@@ -38,7 +38,8 @@ pub fn moment_after(
         .ok_or(Fault::of(input, Cause::OutOfRange, options))
 }
 
-/// The moment that comes before this one by the value of a text. It is otherwise like [`moment_after`].
+/// The moment that comes before this one by the value of a text. It is otherwise like
+/// [`moment_after`].
 ///
 /// # Errors
 ///

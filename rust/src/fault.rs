@@ -121,8 +121,8 @@ impl<'a> Fault<'a> {
         self.fault.write_one_line(buffer)
     }
 
-    /// For a terminal: the text, below it a caret at the place of a syntax fault, and below that the
-    /// line.
+    /// For a terminal: the text, below it a caret at the place of a syntax fault, and below that
+    /// the line.
     ///
     /// It is the line alone if the fault is no syntax fault, if the text has more than 80
     /// characters, or if the line would escape something in it.
@@ -152,7 +152,8 @@ impl<'a> Fault<'a> {
     /// ```
     /// use duration_str::{DError, Options, parse_with};
     ///
-    /// assert_eq!(parse_with("600y", Options::off()).unwrap_err().to_derror(), DError::OverflowError);
+    /// let fault = parse_with("600y", Options::off()).unwrap_err();
+    /// assert_eq!(fault.to_derror(), DError::OverflowError);
     /// ```
     #[must_use]
     pub fn to_derror(&self) -> DError {

@@ -24,9 +24,9 @@ use duration_str_core::{Format, STYLED_BUFFER_SIZE, Style, TimeUnit, write_withi
 ///
 /// # What is printed
 ///
-/// The text has the greatest possible count of the largest unit, then the greatest count of the next
-/// unit in what is left, and so on down to the smallest unit, until there are so many parts. Counts
-/// of 0 are left out. What is left at the end is left out too.
+/// The text has the greatest possible count of the largest unit, then the greatest count of the
+/// next unit in what is left, and so on down to the smallest unit, until there are so many parts.
+/// Counts of 0 are left out. What is left at the end is left out too.
 ///
 /// If all counts are 0, the text is `0` and the smallest unit's name, or `0s` if that unit is
 /// shorter than a second. The text is also this if there are no parts, or if the largest unit is
@@ -34,8 +34,8 @@ use duration_str_core::{Format, STYLED_BUFFER_SIZE, Style, TimeUnit, write_withi
 ///
 /// Width and fill pad the text. A precision is ignored.
 ///
-/// A negative duration has a minus before its text, unless that is a zero. No call reads back a text
-/// with a minus, or one of 2^64 nanoseconds or more, some 584 years.
+/// A negative duration has a minus before its text, unless that is a zero. No call reads back a
+/// text with a minus, or one of 2^64 nanoseconds or more, some 584 years.
 #[derive(Clone, Copy, Debug, PartialEq, Eq, Hash)]
 pub struct FormattedDuration {
     is_negative: bool,
@@ -192,7 +192,8 @@ impl fmt::Display for FormattedDuration {
     }
 }
 
-/// Writes the parts of a text, and around them the fill that makes so many characters as are asked for.
+/// Writes the parts of a text, and around them the fill that makes so many characters as are asked
+/// for.
 #[inline]
 pub(crate) fn pad(f: &mut fmt::Formatter<'_>, parts: &[&str]) -> fmt::Result {
     let count: usize = parts.iter().map(|part| part.chars().count()).sum();

@@ -31,7 +31,8 @@
 //!     pauses: Vec<Duration>,
 //! }
 //!
-//! let settings: Settings = serde_json::from_str(r#"{ "timeout": "90s", "pauses": ["1s", "5s"] }"#)?;
+//! let json = r#"{ "timeout": "90s", "pauses": ["1s", "5s"] }"#;
+//! let settings: Settings = serde_json::from_str(json)?;
 //! assert_eq!((settings.timeout, settings.keep_alive), (Duration::from_secs(90), None));
 //! let text = serde_json::to_string(&settings)?;
 //! assert_eq!(text, r#"{"timeout":"1min 30s","keep_alive":null,"pauses":["1s","5s"]}"#);
@@ -47,7 +48,8 @@
 //!
 //! fn with_units<'de, D: Deserializer<'de>>(deserializer: D) -> Result<Duration, D::Error> {
 //!     let text = String::deserialize(deserializer)?;
-//!     parse_with_units(&text).map_err(|error| D::Error::custom(format_args!("invalid duration: {error}")))
+//!     parse_with_units(&text)
+//!         .map_err(|error| D::Error::custom(format_args!("invalid duration: {error}")))
 //! }
 //!
 //! #[derive(Deserialize)]

@@ -5,7 +5,8 @@ use core::time::Duration;
 /// serde. So it can be the type of an option in clap, without a `value_parser`.
 ///
 /// [`parse_duration`](crate::parse_duration) reads it, and
-/// [`format_duration`](crate::format_duration) prints it. You choose units, parts and style as there.
+/// [`format_duration`](crate::format_duration) prints it. You choose units, parts and style as
+/// there.
 ///
 /// ```
 /// use duration_str::{HumanDuration, Style};

@@ -17,8 +17,8 @@ use duration_str_core::{FORMAT_BUFFER_SIZE, write_human};
 /// No call reads back the text of a duration of 2^64 nanoseconds or more, some 584 years.
 ///
 /// A duration of `chrono` or `time` may be negative. Then it prints as a minus and the text of its
-/// magnitude, which no call reads back, since texts have no minus. If that text is a zero, as it can
-/// be in larger units, it has no minus:
+/// magnitude, which no call reads back, since texts have no minus. If that text is a zero, as it
+/// can be in larger units, it has no minus:
 ///
 #[cfg_attr(feature = "chrono", doc = "```")]
 #[cfg_attr(not(feature = "chrono"), doc = "```ignore")]

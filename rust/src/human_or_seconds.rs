@@ -1,5 +1,5 @@
-//! For `#[serde(with = "duration_str::human_or_seconds")]`: like [`human`], but numbers are read too,
-//! as seconds.
+//! For `#[serde(with = "duration_str::human_or_seconds")]`: like [`human`], but numbers are read
+//! too, as seconds.
 //!
 //! So `timeout = 30` in TOML, `"timeout": 30` in JSON and `timeout: 30` in YAML are 30 seconds. The
 //! number must be whole, and not negative; for anything shorter, write a text such as `"1500ms"`.
@@ -48,7 +48,8 @@ pub use human::serialize;
 /// assert_eq!(minute, Duration::from_secs(60));
 /// let fraction: Result<Duration, _> = human_or_seconds::deserialize(json!(1.5));
 /// let expected = "a duration such as '1min 30s', or whole seconds of at most 584 years";
-/// assert_eq!(fraction.unwrap_err().to_string(), format!("invalid type: floating point `1.5`, expected {expected}"));
+/// let line = format!("invalid type: floating point `1.5`, expected {expected}");
+/// assert_eq!(fraction.unwrap_err().to_string(), line);
 /// # Ok::<(), serde_json::Error>(())
 /// ```
 pub fn deserialize<'de, T: HumanText, D: Deserializer<'de>>(

@@ -2,8 +2,8 @@
 //! `use duration_str::humantime;`.
 //!
 //! A text that both humantime and this module read is the same duration in both. So a month has
-//! 30.44 days here, whatever it is called, and a year 365.25. In the rest of this crate they have 30
-//! and 365. What humantime printed and a program stored is read as it was meant.
+//! 30.44 days here, whatever it is called, and a year 365.25. In the rest of this crate they have
+//! 30 and 365. What humantime printed and a program stored is read as it was meant.
 //!
 //! This module prints days and shorter units, with `us` for microseconds, so that humantime reads
 //! it.
@@ -228,7 +228,8 @@ impl Duration {
     /// use duration_str::humantime::Duration;
     ///
     /// const TIMEOUT: Duration = Duration::new(std::time::Duration::from_secs(90));
-    /// assert_eq!((TIMEOUT.to_string().as_str(), *Duration::default()), ("1min 30s", std::time::Duration::ZERO));
+    /// assert_eq!(TIMEOUT.to_string(), "1min 30s");
+    /// assert_eq!(*Duration::default(), std::time::Duration::ZERO);
     /// ```
     #[must_use]
     pub const fn new(duration: StdDuration) -> Duration {

@@ -5,8 +5,8 @@
 //! unit is refused, a month has 30.44 days and a year 365.25, and days are the longest unit that is
 //! printed.
 //!
-//! There is no `Serde`: a field of the type [`HumanDuration`](crate::HumanDuration) needs no `with`,
-//! but is read as in the rest of this crate.
+//! There is no `Serde`: a field of the type [`HumanDuration`](crate::HumanDuration) needs no
+//! `with`, but is read as in the rest of this crate.
 //!
 //! Needs the feature `serde`.
 //!
@@ -31,7 +31,8 @@ use crate::human::{HumanText, STRICT};
 use serde::de::Deserializer;
 use serde::ser::Serializer;
 
-/// Prints durations as text, as [`humantime::format_duration`](crate::humantime::format_duration) prints.
+/// Prints durations as text, as [`humantime::format_duration`](crate::humantime::format_duration)
+/// prints.
 ///
 /// # Errors
 ///

@@ -19,8 +19,8 @@
 //! - Use [`parse_with_units`] to refuse `90` and `1h 30`, which the other calls read as seconds.
 //! - Use [`parse_with`] to set options, or if nothing may be allocated: its [`Fault`] borrows the
 //!   text.
-//! - [`parse`], [`parse_std`] (which is the same) and the calls for `chrono` and `time` are those of
-//!   `duration-str` 0.19.0. Their error is a `String` of up to three lines. The features of the
+//! - [`parse`], [`parse_std`] (which is the same) and the calls for `chrono` and `time` are those
+//!   of `duration-str` 0.19.0. Their error is a `String` of up to three lines. The features of the
 //!   whole program decide what they read.
 #![cfg_attr(
     feature = "macros",
@@ -86,7 +86,8 @@
 //! let uptime = format_duration(std::time::Duration::from_secs(1_000_000));
 //! assert_eq!(uptime.to_string(), "1w 4d 13h 46min 40s");
 //! assert_eq!(uptime.parts(2).to_string(), "1w 4d");
-//! assert_eq!(uptime.largest(TimeUnit::Day).parts(2).style(Style::Long).to_string(), "11 days 13 hours");
+//! let long = uptime.largest(TimeUnit::Day).parts(2).style(Style::Long);
+//! assert_eq!(long.to_string(), "11 days 13 hours");
 //! ```
 //!
 //! For durations of `chrono` and `time`, [`HumanFormat::formatted`] does the same. [`write_within`]
@@ -193,7 +194,8 @@ mod parser;
 mod serde_texts;
 mod with_units;
 
-// The list of this crate's functions would begin with these, so the documentation has them in their module alone.
+// The list of this crate's functions would begin with these, so the documentation has them in their
+// module alone.
 #[cfg(feature = "chrono")]
 #[doc(hidden)]
 pub use dates::{

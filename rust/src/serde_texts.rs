@@ -80,15 +80,16 @@ impl<'de, T: Length> Visitor<'de> for Optional<T> {
     }
 }
 
-/// Reads a duration, which must be a text, or an optional duration, for which null and the empty text
-/// are `None`. With `#[serde(default)]` a missing field is `None` too.
+/// Reads a duration, which must be a text, or an optional duration, for which null and the empty
+/// text are `None`. With `#[serde(default)]` a missing field is `None` too.
 ///
 /// Needs the feature `serde`.
 ///
-/// As in `duration-str` 0.19.0, two rules differ. A required duration must be what the format itself
-/// calls a text. For an optional one the format is asked for a text. So YAML's `90` is refused as a
-/// required duration, and read as an optional one. Formats that don't tell the types of their
-/// values, such as bincode, can't have a required one. [`human`](crate::human) has one rule for both.
+/// As in `duration-str` 0.19.0, two rules differ. A required duration must be what the format
+/// itself calls a text. For an optional one the format is asked for a text. So YAML's `90` is
+/// refused as a required duration, and read as an optional one. Formats that don't tell the types
+/// of their values, such as bincode, can't have a required one. [`human`](crate::human) has one
+/// rule for both.
 ///
 /// # Errors
 ///

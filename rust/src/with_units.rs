@@ -7,8 +7,9 @@ use duration_str_core::{self as proved, Options};
 /// Reads a text as [`parse_duration`](crate::parse_duration) does, but refuses a number without a
 /// unit.
 ///
-/// The other calls read `90` and `1h 30` as seconds, which may not be what was meant. In clap, write
-/// `value_parser = duration_str::parse_with_units`. For serde, the module `human` has an example.
+/// The other calls read `90` and `1h 30` as seconds, which may not be what was meant. In clap,
+/// write `value_parser = duration_str::parse_with_units`. For serde, the module `human` has an
+/// example.
 ///
 /// # Errors
 ///

@@ -195,7 +195,8 @@ fn takes_bare_numbers_as_a_unit() {
             (1, "".into(), errors)
         );
     }
-    // 2^64 nanoseconds, a number of 2^64, 2^119 seconds, which are 0 in 128 bits, and one of which a quote has 40 digits
+    // 2^64 nanoseconds, a number of 2^64, 2^119 seconds, which are 0 in 128 bits, and one of which
+    // a quote has 40 digits
     const WRAPPING: &str = "664613997892457936451903530140172288";
     for text in [
         "18446744073.709551616",

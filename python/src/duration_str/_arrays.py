@@ -31,7 +31,8 @@ def _is_missing(value: Any) -> bool:
 
 
 def _flat(values: Any) -> list[Any]:
-    """The values of a sequence, or of an array one after the other, with None where one is masked."""
+    """The values of a sequence, or of an array one after the other, with None where one is
+    masked."""
     import numpy
 
     pandas = sys.modules.get("pandas")
@@ -70,7 +71,8 @@ def _like(values: Any, result: Any) -> Any:
 
 
 def _nanos_of_value(value: Any, index: int, raises: bool) -> int:
-    """The timedelta64[ns] of a value that is not a text: NaT if it is missing, or refused without an error."""
+    """The timedelta64[ns] of a value that is not a text: NaT if it is missing, or refused without
+    an error."""
     import numpy
 
     if _is_missing(value):

@@ -100,7 +100,7 @@ _Duration, _DurationWithUnits = _Texts("Duration", duration), _Texts(
     "DurationWithUnits", duration_with_units
 )
 Duration = Annotated[datetime.timedelta, _Duration]
-"""A timedelta in a model of pydantic 2. A text is read, and a timedelta is kept. The JSON has the printed text. `gt`, `ge`,
-`lt` and `le` of a `Field` are timedeltas."""
+"""A timedelta in a model of pydantic 2. A text is read, and a timedelta is kept. The JSON has the
+printed text. `gt`, `ge`, `lt` and `le` of a `Field` are timedeltas."""
 DurationWithUnits = Annotated[datetime.timedelta, _DurationWithUnits]
 """The same, but a number without a unit is refused, as in `90` and `1h 30`."""

@@ -32,7 +32,8 @@ class Cause(enum.IntEnum):
     NUMBER_TOO_LARGE = 3
     """A number is 2**64 or more."""
     OVERFLOW = 4
-    """A term, a step or the value is 2**64 nanoseconds or more. In `to_timedelta` the value is 2**63 or more."""
+    """A term, a step or the value is 2**64 nanoseconds or more. In `to_timedelta` the value is
+    2**63 or more."""
     MIXED = 5
     """`+` and `*` are mixed."""
     NOT_TEXT = 7
@@ -80,16 +81,19 @@ class DurationError(ValueError):
     place: int | None
     """Where the fault is, in bytes of UTF-8 from 0, or None if it has no place."""
     pos: int | None
-    """The same in characters: `text[pos:]` begins with `found`. The column in the line counts from 1."""
+    """The same in characters: `text[pos:]` begins with `found`. The column in the line counts from
+    1."""
     expected: Expected
     """What could stand at the place of a syntax fault. For other faults no flag is set."""
     found: str | None
-    """The token at the place of a syntax fault. It is None at the end of the text, and for other faults."""
+    """The token at the place of a syntax fault. It is None at the end of the text, and for other
+    faults."""
     index: int | None
     """The position of the text in the column that was read, or None if it was read by itself."""
     report: str
-    """For a terminal: the text, a caret below the place, and the line. It is the line alone if the fault is no syntax fault,
-    if the text has more than 80 characters, or if the line would escape something in it."""
+    """For a terminal: the text, a caret below the place, and the line. It is the line alone if the
+    fault is no syntax fault, if the text has more than 80 characters, or if the line would escape
+    something in it."""
 
     def __init__(
         self, report: str, text: str, cause: int, place: int | None = None, expected: int = 0,
@@ -120,7 +124,8 @@ def option_bits(no_calc: bool, lowercase: bool, cn_unit: bool, require_unit: boo
 
 
 def nanos_a_step(dtype: Any) -> int:
-    """The nanoseconds of one step of a timedelta64's type. Raises TypeError if the unit has no fixed length."""
+    """The nanoseconds of one step of a timedelta64's type. Raises TypeError if the unit has no
+    fixed length."""
     numpy: Any = import_module("numpy")
     unit, count = numpy.datetime_data(dtype)
     if unit not in _NANOS:
@@ -131,7 +136,8 @@ def nanos_a_step(dtype: Any) -> int:
 
 
 def nanos_of(value: Any) -> int:
-    """The nanoseconds of a timedelta or an int, also of pandas or NumPy. Raises TypeError if it is neither."""
+    """The nanoseconds of a timedelta or an int, also of pandas or NumPy. Raises TypeError if it is
+    neither."""
     numpy: Any = sys.modules.get("numpy")
     if isinstance(value, datetime.timedelta):
         nanos = ((value.days * 86_400 + value.seconds) * 10**6 + value.microseconds) * 1000

@@ -10,7 +10,8 @@ from ._texts import DurationError
 
 
 class DurationType:
-    """Reads a timedelta from a text, under these options. For a refused text, argparse shows the text and the error's line."""
+    """Reads a timedelta from a text, under these options. For a refused text, argparse shows the
+    text and the error's line."""
 
     def __init__(
         self,

@@ -15,8 +15,8 @@ from ._texts import DurationError
 
 
 class DurationParamType(click.ParamType):
-    """Reads a timedelta from a text, under these options. For a refused text, Click shows the text and the error's line. A
-    default may also be a timedelta."""
+    """Reads a timedelta from a text, under these options. For a refused text, Click shows the text
+    and the error's line. A default may also be a timedelta."""
 
     name = "duration"
 

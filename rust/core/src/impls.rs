@@ -105,7 +105,8 @@ impl FromStr for Style {
 /// ```
 /// use duration_str::{Style, UnknownStyle};
 ///
-/// for (name, style) in [("short", Style::default()), ("compact", Style::Compact), ("long", Style::Long)] {
+/// let styles = [Style::default(), Style::Compact, Style::Long];
+/// for (name, style) in ["short", "compact", "long"].into_iter().zip(styles) {
 ///     assert_eq!((name.parse(), format!("{style:>8}")), (Ok(style), format!("{name:>8}")));
 /// }
 /// assert_eq!("Long".parse::<Style>(), Err(UnknownStyle));
@@ -179,8 +180,8 @@ impl fmt::Display for UnknownUnit {
 impl Error for UnknownUnit {}
 
 impl<'a> Fault<'a> {
-    /// Makes the fault of a text that is refused for a cause. Returns `None` if the cause's place is
-    /// neither at a character of the text nor at its end.
+    /// Makes the fault of a text that is refused for a cause. Returns `None` if the cause's place
+    /// is neither at a character of the text nor at its end.
     ///
     /// ```
     /// use duration_str_core::{Cause, Fault};
@@ -214,7 +215,8 @@ impl fmt::Debug for Tokens<'_> {
 /// The last line of a message, as [`Cause::line`] says it.
 ///
 /// ```
-/// assert_eq!(format!("{:>16}", duration_str::Cause::Overflow { place: None }), "  overflow error");
+/// let cause = duration_str::Cause::Overflow { place: None };
+/// assert_eq!(format!("{cause:>16}"), "  overflow error");
 /// ```
 impl fmt::Display for Cause {
     fn fmt(&self, f: &mut fmt::Formatter<'_>) -> fmt::Result {

@@ -5,8 +5,8 @@ use duration_str_core::{Options, parse_with, parse_with_units};
 use proc_macro::{Delimiter, Span, TokenStream, TokenTree};
 
 /// Reads a duration when the program is compiled: a constant of type
-/// [`Duration`](core::time::Duration). If the text is refused, the compiler reports the fault in one
-/// line.
+/// [`Duration`](core::time::Duration). If the text is refused, the compiler reports the fault in
+/// one line.
 ///
 /// The text is a literal without escapes. All options are off, whatever features are on, unless you
 /// name them after the text: `no_calc`, `lowercase`, `cn_unit`, and `require_unit`, with which each
@@ -94,7 +94,8 @@ fn text(written: &str) -> Option<&str> {
     (is_raw || !text.contains('\\')).then_some(text)
 }
 
-/// The options that are named after the literal, each after a comma, and whether units are required.
+/// The options that are named after the literal, each after a comma, and whether units are
+/// required.
 fn options(mut tokens: impl Iterator<Item = TokenTree>) -> Result<(Options, bool), Refusal> {
     let (mut options, mut require_unit) = (Options::off(), false);
     while let Some(comma) = tokens.next() {

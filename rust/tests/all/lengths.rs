@@ -139,7 +139,10 @@ const NAMES: [(&str, Option<u64>); 7] = [
 proptest! {
     #[test]
     fn counts_years_and_months_in_seconds(
-        terms in proptest::collection::vec((prop_oneof![0..9_000u64, any::<u64>()], 0..NAMES.len(), 0..4usize), 1..5),
+        terms in proptest::collection::vec(
+            (prop_oneof![0..9_000u64, any::<u64>()], 0..NAMES.len(), 0..4usize),
+            1..5,
+        ),
         end in proptest::sample::select(&["", "", "", " ", "x", "+"][..]),
     ) {
         let (mut text, mut seconds) = (String::new(), String::new());
@@ -152,13 +155,17 @@ proptest! {
                 None => format!("{join}{number}{name}"),
             };
         }
-        let (read, wanted) = (parse_duration(&(text.clone() + end)), parse_duration(&(seconds + end)));
+        let read = parse_duration(&(text.clone() + end));
+        let wanted = parse_duration(&(seconds + end));
         match (read, wanted) {
             (Ok(read), Ok(wanted)) => prop_assert_eq!(read, wanted),
             (Err(read), Err(wanted)) if wanted.place().is_none_or(|place| place == 0) => {
                 prop_assert_eq!(read.cause(), wanted.cause(), "{}", text);
             }
-            (Err(read), Err(wanted)) => prop_assert_eq!(read.as_fault().expected(), wanted.as_fault().expected(), "{}", text),
+            (Err(read), Err(wanted)) => {
+                let (read, wanted) = (read.as_fault().expected(), wanted.as_fault().expected());
+                prop_assert_eq!(read, wanted, "{}", text);
+            }
             (read, wanted) => prop_assert!(false, "{}: {:?}, {:?}", text, read, wanted),
         }
     }

@@ -172,7 +172,10 @@ proptest! {
 
     #[test]
     #[cfg(feature = "time")]
-    fn prints_the_sign_of_time(secs in prop_oneof![0..2i64, 0..i64::MAX], nanos in 1..1_000_000_000i32) {
+    fn prints_the_sign_of_time(
+        secs in prop_oneof![0..2i64, 0..i64::MAX],
+        nanos in 1..1_000_000_000i32,
+    ) {
         let text = Duration::new(secs as u64, nanos as u32).human_format();
         prop_assert_eq!(time::Duration::new(secs, nanos).human_format(), &text[..]);
         prop_assert_eq!(time::Duration::new(-secs, -nanos).human_format(), format!("-{text}"));
