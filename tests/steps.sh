@@ -1,8 +1,9 @@
-# shellcheck shell=bash disable=SC2034 # the scripts read what is set here What the checks in shell
-# share. `. tests/steps.sh NAME` sets $room, a temporary folder that goes when the script ends, and
-# $status, with which the script exits: 1 once a step has failed. NAME stands before each line. A
-# script goes on after a step that failed, unless what follows needs it; then it says
-# `runs .. || exit`.
+# shellcheck shell=bash disable=SC2034 # the scripts read what is set here
+#
+# What the checks in shell share. `. tests/steps.sh NAME` sets $room, a temporary folder that goes
+# when the script ends, and $status, with which the script exits: 1 once a step has failed. NAME
+# stands before each line. A script goes on after a step that failed, unless what follows needs it;
+# then it says `runs .. || exit`.
 steps=$1
 status=0
 rows=0
