@@ -114,8 +114,12 @@ static int read_str(struct state *state, PyObject *given, uint32_t options, uint
     if (!text.bytes) {
         if (!PyErr_ExceptionMatches(PyExc_UnicodeEncodeError))
             return -1;
-        raises ? raise_surrogate(state, given, index) : PyErr_Clear();
-        return raises ? -1 : 0;
+        if (!raises) {
+            PyErr_Clear();
+            return 0;
+        }
+        raise_surrogate(state, given, index);
+        return -1;
     }
     text.length = (size_t)length;
     /* The call that knows its options is the faster one, but doesn't tell why it refuses. */
@@ -252,15 +256,19 @@ static int unit_of(PyObject *name, const char *keyword) {
 /* Takes a count of parts. Returns -1 with an error. */
 static int take_parts(PyObject *value, uint32_t *parts) {
     int overflow;
-    if (PyBool_Check(value) || !PyIndex_Check(value))
-        return (PyErr_Format(PyExc_TypeError, "parts must be a whole number, not %R", value), -1);
+    if (PyBool_Check(value) || !PyIndex_Check(value)) {
+        PyErr_Format(PyExc_TypeError, "parts must be a whole number, not %R", value);
+        return -1;
+    }
     PyObject *number = PyNumber_Index(value);
     const long long count = number ? PyLong_AsLongLongAndOverflow(number, &overflow) : -1;
     Py_XDECREF(number);
     if (!number)
         return -1;
-    if (overflow < 0 || (!overflow && count < 1))
-        return (PyErr_SetString(PyExc_ValueError, "parts must be 1 or more"), -1);
+    if (overflow < 0 || (!overflow && count < 1)) {
+        PyErr_SetString(PyExc_ValueError, "parts must be 1 or more");
+        return -1;
+    }
     *parts = overflow || count > no_limits.parts ? no_limits.parts : (uint32_t)count;
     return 0;
 }
@@ -479,8 +487,11 @@ static void raise_beyond(struct state *state, PyObject *given, Py_ssize_t index)
 static int read_text(
     struct state *state, const struct list *list, Py_ssize_t at, PyObject *text, bool raises) {
     int is_read = read_str(state, text, list->options, list->nanos + at, raises, list->first + at);
-    if (is_read == 1 && list->function && list->nanos[at] > INT64_MAX)
-        is_read = raises ? (raise_beyond(state, text, list->first + at), -1) : 0;
+    if (is_read == 1 && list->function && list->nanos[at] > INT64_MAX) {
+        is_read = raises ? -1 : 0;
+        if (raises)
+            raise_beyond(state, text, list->first + at);
+    }
     if (!is_read)
         list->nanos[at] = list->function ? MISSING : 0;
     return is_read;
@@ -494,8 +505,10 @@ static int read_value(struct state *state, const struct list *list, Py_ssize_t a
     int is_read = is_text ? read_text(state, list, at, value, false) : 0;
     if (!is_text && list->function)
         is_read = keep(state, list, at, value, missing) ? -1 : 1;
-    else if (!is_text && list->raises)
-        is_read = (raise_type_error(state, value, list->first + at), -1);
+    else if (!is_text && list->raises) {
+        raise_type_error(state, value, list->first + at);
+        is_read = -1;
+    }
     Py_DECREF(value);
     return is_read ? (is_read < 0 ? -1 : 0) : add_position(refused, at);
 }
@@ -626,7 +639,10 @@ static int read_column(const Py_buffer *data, const size_t *offsets, size_t text
     PyMem_Free(copy);
     if (thread)
         PyEval_RestoreThread(thread);
-    return thread || copy ? 0 : (PyErr_NoMemory(), -1);
+    if (thread || copy)
+        return 0;
+    PyErr_NoMemory();
+    return -1;
 }
 
 /* read_buffers(data, offsets, nanos, options, raises): as read_list, of the texts between the
@@ -641,8 +657,11 @@ static PyObject *read_buffers(PyObject *self, PyObject *arguments) {
     const size_t texts = (size_t)nanos.len / 8;
     size_t *offsets = PyMem_Calloc(texts + 1, sizeof *offsets);
     char *are_read = PyMem_Calloc(texts + 1, 1);
-    const int are_signed = offsets && are_read ? copy_offsets(given, offsets, (Py_ssize_t)texts)
-                                               : (PyErr_NoMemory(), -1);
+    int are_signed = -1;
+    if (offsets && are_read)
+        are_signed = copy_offsets(given, offsets, (Py_ssize_t)texts);
+    else
+        PyErr_NoMemory();
     if (are_signed >= 0 && !read_column(&data, offsets, texts, options, nanos.buf, are_read))
         refused = PyList_New(0);
     for (size_t at = 0; refused && at < texts; at++) {
