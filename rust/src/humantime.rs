@@ -105,7 +105,8 @@ const fn seconds(unit: TimeUnit) -> Option<u64> {
 }
 
 /// Reads a text by the proved reader, which gets years and months in seconds. A syntax fault is
-/// that of the text as it was written, since its place is there.
+/// that of the text as it was written, since its place is there. All other causes have the place 0
+/// or none.
 #[cold]
 #[inline(never)]
 fn read_other(text: &str) -> Result<StdDuration, Fault<'_>> {
