@@ -88,7 +88,7 @@ test("humantime", unless(hasHumantime, "librust-humantime-dev"), () => {
     const compile = (...others) => execFileSync("rustc", [...words, ...others]);
     compile("--crate-type", "rlib", "--crate-name", "humantime", HUMANTIME);
     compile("--extern", `humantime=${join(room, "libhumantime.rlib")}`, join(room, "main.rs"));
-    same("humantime", answersOf(join(room, "main")));
+    same("humantime 2.1", answersOf(join(room, "main")));
 });
 
 const MS = "/usr/share/nodejs/ms";

@@ -113,7 +113,8 @@ function systemd(text) {
     return sum;
 }
 
-export const READERS = { "Go": go, "humantime": humantime, "ms": ms, "systemd": systemd };
+/** humantime 2.4 also reads decimals and more names. */
+export const READERS = { "Go": go, "humantime 2.1": humantime, "ms": ms, "systemd": systemd };
 
 /** A value that another program reads, which may be longer than the library's, or negative. */
 function inWords(nanos) {
