@@ -1,5 +1,6 @@
 //! A refused text, with the options under which it was read.
-use crate::error::DError;
+use crate::derror::DError;
+use crate::error::DurationError;
 use alloc::string::{String, ToString};
 use core::fmt;
 use duration_str_core::{self as proved, Cause, Expected, Options};
@@ -179,11 +180,7 @@ impl<'a> Fault<'a> {
     #[inline(never)]
     #[must_use]
     pub fn into_owned(self) -> DurationError {
-        DurationError {
-            text: self.text().to_string(),
-            cause: self.cause(),
-            options: self.options,
-        }
+        DurationError::new(self.text(), self.cause(), self.options)
     }
 }
 
@@ -202,103 +199,3 @@ impl fmt::Debug for Fault<'_> {
 }
 
 impl core::error::Error for Fault<'_> {}
-
-/// The error of [`parse_duration`](crate::parse_duration) and of `str::parse`: a [`Fault`] that
-/// owns its text.
-///
-/// It displays as one line, like a [`Fault`].
-///
-/// ```
-/// use duration_str::parse_duration;
-///
-/// let error = parse_duration("1m 3-5").unwrap_err();
-/// assert_eq!(error.to_string(), r#"expected a unit, '+', '*' or the end at column 5, found "-""#);
-/// assert_eq!(error.report(), format!("1m 3-5\n    ^\n{error}"));
-/// assert_eq!(format!("{error:?}"), format!("DurationError({error})"));
-/// ```
-#[derive(Clone, PartialEq, Eq, Hash)]
-pub struct DurationError {
-    text: String,
-    cause: Cause,
-    options: Options,
-}
-
-impl DurationError {
-    /// The fault, which borrows the text.
-    ///
-    /// ```
-    /// use duration_str::{Options, parse_with};
-    ///
-    /// let fault = parse_with("1x", Options::off()).unwrap_err();
-    /// assert_eq!(fault.into_owned().as_fault(), fault);
-    /// ```
-    #[must_use]
-    pub fn as_fault(&self) -> Fault<'_> {
-        Fault::of(&self.text, self.cause, self.options)
-    }
-
-    /// The whole text that was read.
-    ///
-    /// ```
-    /// assert_eq!("1x".parse::<duration_str::HumanDuration>().unwrap_err().text(), "1x");
-    /// ```
-    #[must_use]
-    pub fn text(&self) -> &str {
-        &self.text
-    }
-
-    /// Why the text is refused.
-    ///
-    /// ```
-    /// use duration_str::{Cause, HumanDuration};
-    ///
-    /// assert_eq!("".parse::<HumanDuration>().unwrap_err().cause(), Cause::Empty);
-    /// ```
-    #[must_use]
-    pub const fn cause(&self) -> Cause {
-        self.cause
-    }
-
-    /// The byte at which the fault is, as in [`Fault::place`].
-    ///
-    /// ```
-    /// assert_eq!("1x".parse::<duration_str::HumanDuration>().unwrap_err().place(), Some(1));
-    /// ```
-    #[must_use]
-    pub const fn place(&self) -> Option<usize> {
-        self.cause.place()
-    }
-
-    /// The text, a caret and the line, as in [`Fault::report`].
-    ///
-    /// ```
-    /// let error = "600y".parse::<duration_str::HumanDuration>().unwrap_err();
-    /// assert_eq!(error.report(), error.to_string());
-    /// ```
-    #[must_use]
-    pub fn report(&self) -> String {
-        self.as_fault().report()
-    }
-}
-
-/// One line, as of a [`Fault`].
-impl fmt::Display for DurationError {
-    fn fmt(&self, f: &mut fmt::Formatter<'_>) -> fmt::Result {
-        self.as_fault().fmt(f)
-    }
-}
-
-/// The same line, since `main` and `unwrap` print it.
-impl fmt::Debug for DurationError {
-    fn fmt(&self, f: &mut fmt::Formatter<'_>) -> fmt::Result {
-        write!(f, "DurationError({self})")
-    }
-}
-
-impl core::error::Error for DurationError {}
-
-impl From<Fault<'_>> for DurationError {
-    fn from(fault: Fault<'_>) -> DurationError {
-        fault.into_owned()
-    }
-}

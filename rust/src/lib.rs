@@ -177,6 +177,7 @@ extern crate alloc;
 
 #[cfg(feature = "chrono")]
 pub mod dates;
+mod derror;
 mod error;
 mod fault;
 mod formatted;
@@ -202,6 +203,7 @@ pub use dates::{
     after_naive_date, after_naive_date_time, before_naive_date, before_naive_date_time,
     moment_after, moment_before,
 };
+pub use derror::{DError, DResult};
 #[doc(inline)]
 pub use duration_str_core::{
     Cause, CondUnit, Expected, FORMAT_BUFFER_SIZE, Format, Options, STYLED_BUFFER_SIZE, Style,
@@ -212,8 +214,8 @@ pub use duration_str_core::{
 pub use duration_str_core::{MAX_LONG_LEN, MAX_PRINTED_LEN, UNITS};
 #[cfg(feature = "macros")]
 pub use duration_str_macros::duration;
-pub use error::{DError, DResult};
-pub use fault::{DurationError, Fault};
+pub use error::DurationError;
+pub use fault::Fault;
 pub use formatted::{FormattedDuration, format_duration};
 pub use human_duration::HumanDuration;
 pub use human_format::HumanFormat;

@@ -1,5 +1,6 @@
 //! Reading.
-use crate::fault::{DurationError, Fault};
+use crate::error::DurationError;
+use crate::fault::Fault;
 use alloc::string::String;
 use core::time::Duration;
 use duration_str_core::{self as proved, Options};

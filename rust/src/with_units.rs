@@ -1,5 +1,6 @@
 //! Reading, where each number must have its unit.
-use crate::fault::{DurationError, Fault};
+use crate::error::DurationError;
+use crate::fault::Fault;
 use crate::parser::ADDITIONS;
 use core::time::Duration;
 use duration_str_core::{self as proved, Options};
