@@ -103,14 +103,15 @@ class DurationError(ValueError):
         line = line if index is None else f"at index {index}: {line}"
         super().__init__(line)
         self.report = above + feed + line
-        self.text, self.cause, self.place, self.expected = (
-            text,
-            _CAUSES[cause],
-            place,
-            _EXPECTED[expected],
-        )
-        self.found, self.index = found, index
-        self.pos = place if place is None or text.isascii() else len(text.encode()[:place].decode())
+        self.text = text
+        self.cause = _CAUSES[cause]
+        self.place = place
+        self.expected = _EXPECTED[expected]
+        self.found = found
+        self.index = index
+        self.pos = place
+        if place is not None and not text.isascii():
+            self.pos = len(text.encode()[:place].decode())
 
     def __reduce__(self) -> tuple[type[DurationError], tuple[object, ...], dict[str, object]]:
         return type(self), (str(self), self.text, self.cause), self.__dict__
