@@ -19,7 +19,7 @@ use core::fmt;
 /// ```
 #[derive(Clone, Debug, PartialEq, Eq, Hash)]
 pub enum DError {
-    /// Any fault except an overflow, by the last line of its message.
+    /// Any fault except an overflow, with the last line of its message.
     ParseError(String),
     /// A term, a step or the value is 2^64 nanoseconds or more.
     OverflowError,

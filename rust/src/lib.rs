@@ -150,8 +150,8 @@
 //! # What is proved
 //!
 //! Reading and printing are proved: they are the source of a proved library, without its contracts.
-//! Three `unsafe` blocks are proved with it: there a printed duration, a message and a line are
-//! known to be UTF-8.
+//! Three `unsafe` blocks skip the test that a printed duration, a message and a line are UTF-8,
+//! since that is proved.
 //!
 //! # From humantime and `duration-str` 0.19.0
 //!

@@ -240,8 +240,8 @@ def format_many(
 
 
 def _durations(values: Any) -> list[Any]:
-    """The values of an array, one after the other; of timedelta64 ints of nanoseconds, with None
-    where one is missing.
+    """Returns the values of an array in a list. Those of timedelta64 become ints of nanoseconds, or
+    None if one is missing.
     """
     lengths = _lengths(values)
     if lengths is None:
