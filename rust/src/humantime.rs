@@ -64,7 +64,7 @@ pub fn parse_duration(text: &str) -> Result<StdDuration, DurationError> {
     read(text).map_err(Fault::into_owned)
 }
 
-/// Reads a text: at once if it is a sum without operators that is known to mean here what it means
+/// Reads a text. A sum without operators is read at once if it is known to mean here what it means
 /// elsewhere in this crate.
 #[inline]
 pub(crate) fn read(text: &str) -> Result<StdDuration, Fault<'_>> {
@@ -74,7 +74,7 @@ pub(crate) fn read(text: &str) -> Result<StdDuration, Fault<'_>> {
     }
 }
 
-/// A shorter sum has no month or year, or none of them.
+/// A sum that is shorter than this has no month and no year, except for counts of 0.
 const MONTH: StdDuration = StdDuration::from_nanos(TimeUnit::Month.nanos());
 
 /// Whether a text that is read ends with a unit. No other one can be missing where no operators are

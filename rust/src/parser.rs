@@ -35,15 +35,15 @@ pub(crate) const FEATURES: Options = Options {
     cn_unit: cfg!(feature = "cn_unit"),
 };
 
-/// Those under which all other calls read that take none. The feature that adds names counts; those
-/// that take something away may be asked for by any crate of a program, and would break what the
-/// others read.
+/// The options under which all other calls read, unless they are given some. Only the feature that
+/// adds names affects them. Any crate of a program can turn on the features that take something
+/// away, and would then break what the other crates read.
 pub(crate) const ADDITIONS: Options = Options {
     cn_unit: FEATURES.cn_unit,
     ..Options::off()
 };
 
-/// Those of the module `humantime`.
+/// The options of the module `humantime`.
 pub(crate) const CASE_SENSITIVE: Options = ADDITIONS.with_lowercase();
 
 /// Reads a text, as [`parse`] does.

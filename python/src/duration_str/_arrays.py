@@ -209,10 +209,10 @@ def format_many(
     """Prints a column of durations, each as `format` does. A duration is an
     int of nanoseconds or a timedelta. The options are those of `format`.
 
-    A list or any other iterable gives a list of str. A Series, an Index or a
-    NumPy array gives one of objects, with the same shape, index and name.
-    These may also have timedelta64, in units from weeks to nanoseconds.
-    Missing values, such as None, NaN and NaT, become None.
+    For a list or any other iterable it returns a list of str. For a Series, an
+    Index or a NumPy array it returns one of objects, with the same shape,
+    index and name. These may also have timedelta64, in units from weeks to
+    nanoseconds. Missing values, such as None, NaN and NaT, become None.
 
     Raises what `format` raises, with the position in its message.
 
