@@ -108,7 +108,7 @@ impl FormattedDuration {
 }
 
 /// The calls that choose how a duration is printed. `FormattedDuration` and [`HumanDuration`] have
-/// them; on the latter they return the former.
+/// them, and each returns a `FormattedDuration`.
 macro_rules! chooses {
     ($($(#[$doc:meta])* $name:ident: $Value:ty,)+) => {
         impl FormattedDuration {$(
