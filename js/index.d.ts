@@ -1,7 +1,7 @@
 /**
  * Reads durations as people write them, such as `3m + 13s + 29ms`, and prints them, such as
- * `3min 13s 29ms`. An error says what is wrong, and where. The library that reads and prints is
- * proved.
+ * `3min 13s 29ms`. An error says what is wrong, and a syntax error also where. The library that
+ * reads and prints is proved.
  *
  * A text is one term or several. A term is a number and a unit. Terms are joined by `+` or by `*`;
  * terms that follow one another are added. A product multiplies its terms in seconds. A number
@@ -134,8 +134,8 @@ export type Refusal = SyntaxFault | SizeFault | TextFault | OtherFault;
 
 interface Told {
     /**
-     * One line that says what is wrong, where, and often what to write. It is safe in a terminal
-     * and a log.
+     * One line that says what is wrong, for `SYNTAX` also where, and often what to write. It is
+     * safe in a terminal and a log.
      */
     readonly message: string;
     /**

@@ -7,9 +7,10 @@ use duration_str_core::{self as proved, Cause, Expected, Options};
 
 /// Why and where a text is refused.
 ///
-/// It displays as one line, for terminals and logs. The line says what is wrong, and at which
-/// column, counted in characters from 1. It quotes at most 40 characters of the text, and escapes
-/// those that are not safe within one line. [`Fault::report`] also has the text and a caret.
+/// It displays as one line, for terminals and logs. The line says what is wrong, and for a syntax
+/// fault at which column, counted in characters from 1. It quotes at most 40 characters of the
+/// text, and escapes those that are not safe within one line. [`Fault::report`] also has the text
+/// and a caret.
 ///
 /// ```
 /// use duration_str::{Cause, Options, parse_with};

@@ -1,6 +1,6 @@
 """Reads durations as people write them, such as `3m + 13s + 29ms`, and
-prints them, such as `3min 13s 29ms`. An error says what is wrong, and where.
-The library that reads and prints is proved.
+prints them, such as `3min 13s 29ms`. An error says what is wrong, and a
+syntax error also where. The library that reads and prints is proved.
 
 >>> import duration_str
 >>> duration_str.parse("3m + 13s + 29ms")

@@ -60,8 +60,8 @@ _EXPECTED = [Expected(bits) for bits in range(16)]
 
 class DurationError(ValueError):
     """A text is refused. As a string, the error is one line for people: it
-    says what is wrong, where, and often what to write. For a text of a column
-    the line begins with the text's index.
+    says what is wrong, in a syntax error also where, and often what to write.
+    For a text of a column the line begins with the text's index.
 
     >>> try:
     ...     duration_str.parse("3h 2 mins")
