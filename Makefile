@@ -125,7 +125,7 @@ duration:
 
 page:
 	@type -P python3 >/dev/null || { echo 'page: needs Python 3' >&2; exit 1; }
-	tools/page
+	web/build
 
 # ---- Installing, by the conventions of GNU
 

@@ -1,4 +1,4 @@
-// What a text means to other programs. tests/elsewhere.test.mjs compares this with the programs.
+// What a text means to other programs. tests/elsewhere.test.js compares this with the programs.
 // Each reader returns nanoseconds, which may be negative, or null if the program refuses the text.
 import { formatNs } from "../js/dist/duration-str.js";
 

@@ -1,4 +1,4 @@
-// What tests/page.py asks of the page, in which it is run before the page's own script.
+// What page.py asks of the page, in which it is run before the page's own script.
 window.violations = [];
 addEventListener("securitypolicyviolation", (event) => violations.push(event.violatedDirective));
 

@@ -1,12 +1,12 @@
 """page.py FILE [--pictures]: tries the page in this file in Chromium, or takes its pictures; called
-by tests/page.
+by check.
 
-page-texts.json has texts and what is shown of them, worked out by hand from docs/GRAMMAR.md:
+texts.json has texts and what is shown of them, worked out by hand from docs/GRAMMAR.md:
 "values", printed and in nanoseconds, milliseconds, seconds and ISO 8601; the rows of their "terms";
 "notes" on them; the mark and the sentence of "faults", if that is not the library's line; what
 texts mean "elsewhere"; the answers to "lines"; and what is offered where an option is "switched".
 "meant" has the values in seconds that people mean by texts: several where people use a text with
-several meanings, null where nothing may be offered; page.test.mjs tries these without a browser.
+several meanings, null where nothing may be offered; advice.test.js tries these without a browser.
 "typed" texts are typed character by character; "hostile" ones must be shown, and do nothing else,
 and "hostile links" must choose nothing. page.js runs in the page.
 """
@@ -22,15 +22,17 @@ import tempfile
 import time
 import urllib.parse
 
+HERE = pathlib.Path(__file__).resolve().parent
+ROOT = HERE.parent.parent
 sys.dont_write_bytecode = True
-import reference_parser
-from selenium import webdriver
-from selenium.webdriver.chrome.service import Service
-from selenium.webdriver.common.by import By
-from selenium.webdriver.common.keys import Keys
+sys.path.append(str(ROOT / "tests"))
+import reference_parser  # noqa: E402
+from selenium import webdriver  # noqa: E402
+from selenium.webdriver.chrome.service import Service  # noqa: E402
+from selenium.webdriver.common.by import By  # noqa: E402
+from selenium.webdriver.common.keys import Keys  # noqa: E402
 
-ROOT = pathlib.Path(__file__).resolve().parent.parent
-TEXTS = json.loads((ROOT / "tests/page-texts.json").read_text(encoding="utf-8"))
+TEXTS = json.loads((HERE / "texts.json").read_text(encoding="utf-8"))
 SCHEMES = ("light", "dark")
 # A little longer than the page waits after the last key before it tells the answer and writes the
 # link
@@ -74,7 +76,7 @@ class Page:
         options.set_capability("goog:loggingPrefs", {"browser": "ALL", "performance": "ALL"})
         self.driver = webdriver.Chrome(service=Service("/usr/bin/chromedriver"), options=options)
         self.driver.set_script_timeout(60)
-        self.before("(() => {" + (ROOT / "tests/page.js").read_text(encoding="utf-8") + "})()")
+        self.before("(() => {" + (HERE / "page.js").read_text(encoding="utf-8") + "})()")
 
     def before(self, script):
         """Has the script run before the scripts of each page that is opened."""
@@ -827,7 +829,7 @@ def try_pictures(page):
     shown_in_picture(page, "light")
     taken = (PICTURES / "page.txt").read_text(encoding="utf-8")
     page.same(
-        "what the pictures show; tests/page --pictures takes them anew",
+        "what the pictures show; web/check --pictures takes them anew",
         said_in_picture(page),
         taken,
     )

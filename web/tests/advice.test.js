@@ -1,19 +1,19 @@
 // What the page says about texts and offers for them, without a browser.
-// Run js/build first, then: node --test tests/page.test.mjs
-// page-texts.json has the texts and what is expected of them; tests/page.py describes its parts.
+// Run js/build first, then: node --test web/tests/advice.test.js
+// texts.json has the texts and what is expected of them; page.py describes its parts.
 import assert from "node:assert/strict";
 import { readFileSync } from "node:fs";
 import test from "node:test";
 
-import { formatNs, parseNs, tryParseNs } from "../js/dist/duration-str.js";
-import { notesOn, offersFor, sentence } from "../web/advice.js";
-import { decimal, groupDigits, iso, seconds, termRows } from "../web/values.js";
+import { formatNs, parseNs, tryParseNs } from "../../js/dist/duration-str.js";
+import { notesOn, offersFor, sentence } from "../advice.js";
+import { decimal, groupDigits, iso, seconds, termRows } from "../values.js";
 
-const TEXTS = JSON.parse(readFileSync(new URL("page-texts.json", import.meta.url), "utf8"));
+const TEXTS = JSON.parse(readFileSync(new URL("texts.json", import.meta.url), "utf8"));
 /** A sentence of the page has at most so many words; a quoted text counts as one. */
 const MOST_WORDS = 9;
 
-/** The names of the options in JavaScript, and their names in page-texts.json. */
+/** The names of the options in JavaScript, and their names in texts.json. */
 const OPTIONS = {
     noCalc: "no_calc",
     lowercase: "lowercase",

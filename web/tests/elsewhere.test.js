@@ -8,9 +8,9 @@ import { tmpdir } from "node:os";
 import { join } from "node:path";
 import test, { after } from "node:test";
 
-import { READERS } from "../web/elsewhere.js";
+import { READERS } from "../elsewhere.js";
 
-const PAGE_TEXTS = JSON.parse(readFileSync(new URL("page-texts.json", import.meta.url), "utf8"));
+const PAGE_TEXTS = JSON.parse(readFileSync(new URL("texts.json", import.meta.url), "utf8"));
 /** Near limits, and where the programs differ */
 const MORE = [
     "100", "0", "-0", "+0", "1h30", "1h 30", "5M", "5m", "1.h", ".5h", "1.5.5s", "1h1h", "3ms2s",
