@@ -160,7 +160,7 @@ function showCode(isShown) {
 /** The lines that are not blank, each with the index where it starts. Of fewer than two lines, the
  * whole text is one. */
 function linesOf(whole) {
-    const found = Array.from(whole.matchAll(/[^\n]*\S[^\n]*/g));
+    const found = Array.from(whole.matchAll(/(?<![^\n])[^\n]*\S[^\n]*/g));
     const lines = found.map(({ 0: words, index }) => ({ words, start: index }));
     return lines.length > 1 ? lines : [{ words: whole, start: 0 }];
 }

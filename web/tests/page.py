@@ -54,6 +54,7 @@ LONG = [
     ("x" * MEGABYTE, None),
     ("1m " + "<b>" * 349_524, None),
     (" " * (MEGABYTE - 1) + "x", None),
+    (" " * MEGABYTE, None),
     ("1m " + "1" * (MEGABYTE - 6) + "m .5", None),
 ]
 
