@@ -41,8 +41,9 @@ export function unitOf(word) {
  * term as it is written, its number and its unit's name. */
 export function* terms(text, { cnUnit }) {
     const letters = `A-Za-zµ${cnUnit ? CHINESE_LETTERS : ""}`;
-    const term = new RegExp(`([+*]?)[ \t\r\n]*(([0-9]+)(?:[ \t\r\n]*([${letters}]+))?)`, "g");
-    for (const [, operator, words, number, unit] of text.matchAll(term)) {
+    const sign = "(?:([+*])[ \t\r\n]*)?";
+    const term = new RegExp(`${sign}(([0-9]+)(?:[ \t\r\n]*([${letters}]+))?)`, "g");
+    for (const [, operator = "", words, number, unit] of text.matchAll(term)) {
         yield { operator, words, number, unit };
     }
 }

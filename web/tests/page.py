@@ -51,6 +51,7 @@ MEGABYTE = 1 << 20
 # Texts of 1 MiB, and what is printed of them, or None; 349,525 s are 4 d 1 h 5 min 25 s.
 LONG = [
     ("1s " * 349_525 + " ", "4d 1h 5min 25s"),
+    ("1h\n" + " " * MEGABYTE, "1h"),
     ("x" * MEGABYTE, None),
     ("1m " + "<b>" * 349_524, None),
     (" " * (MEGABYTE - 1) + "x", None),
