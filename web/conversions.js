@@ -141,13 +141,17 @@ const LED = new RegExp(String.raw`^(?:${KEY}|(?<word>(?:${LEADING})(?=[=\s])|\+)
     + String.raw`(?<words>\S.*?)\s*[,;]?$`, "is");
 const ENCLOSED = /^(?:"(.+)"|'(.+)'|`(.+)`|“(.+)”|‘(.+)’|«(.+)»|\((.+)\)|\[(.+)\]|\{(.+)\})$/s;
 
+/** So many quotes, brackets and words around a duration are taken off: those of
+ * `{ "ttl": "5m" }`, and one more. */
+const MOST_AROUND = 4;
+
 /** What a part of a text means, as it stands or converted. */
-function inside(text, options) {
+function inside(text, options, around) {
     for (const each of [text, clean(text)]) {
         const { ok, value } = tryParseNs(each, options);
         if (ok) return meaning(text, [{ nanos: value, text: each.trim() }], null);
     }
-    return converted(text, options);
+    return around < MOST_AROUND ? converted(text, options, around + 1) : null;
 }
 
 /** Whether these terms, each with a unit, may be several durations: in a sum without operators the
@@ -159,10 +163,10 @@ function isListOf(sum) {
 }
 
 /** One duration after a key or another word, where every term has a unit. */
-function afterKey(text, options) {
+function afterKey(text, options, around) {
     const { key, word, words } = LED.exec(text)?.groups ?? {};
     if (!words) return null;
-    const meant = inside(words, options);
+    const meant = inside(words, options, around);
     if (!meant || meant.readings.length === 0) return meant;
     const sums = meant.readings.map(({ text: each }) => Array.from(terms(each, options)));
     const bare = sums.flat().find((term) => !term.unit);
@@ -177,9 +181,9 @@ function afterKey(text, options) {
 }
 
 /** `"30m"` and `(30m)` */
-function withinQuotes(text, options) {
+function withinQuotes(text, options, around) {
     const words = (ENCLOSED.exec(text) ?? []).slice(1).find(Boolean);
-    const meant = words ? inside(words, options) : null;
+    const meant = words ? inside(words, options, around) : null;
     if (!meant || meant.sentence) return meant;
     const isBracket = /^[([{]/.test(text);
     const sentence = isBracket ? say`Remove the brackets.` : say`Remove the quotes.`;
@@ -487,10 +491,10 @@ const CONVERSIONS = [
 /** What a text in another notation means; null if the notation is unknown. It is a list of
  * readings, each with its exact value and the text to write, and a sentence that says why the text
  * is refused, unless the library's line says it. */
-export function converted(text, options) {
+export function converted(text, options, around = 0) {
     const words = plain(text);
     for (const convert of CONVERSIONS) {
-        const meant = convert(words, options);
+        const meant = convert(words, options, around);
         if (meant) return meant;
     }
     for (const [pattern, sentence] of REFUSED) {

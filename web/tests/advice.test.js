@@ -80,3 +80,11 @@ for (const [group, rows] of Object.entries(TEXTS.meant)) {
         }
     });
 }
+
+test("many words and signs around a duration", () => {
+    const options = { noCalc: false, lowercase: false, cnUnit: false, requireUnit: false };
+    for (const sign of ["+", "a=", "-t ", "every ", "'", "("]) {
+        const text = `${sign.repeat(1_900 / sign.length)}5m`;
+        assert.deepEqual(offersFor(text, options), [], sign);
+    }
+});
