@@ -1,5 +1,6 @@
 // Programs that read and print the text, in each language. Text that is read has no character that
 // JSON and one of the languages escape differently.
+import { format, formatNs, parse, parseNs } from "../js/dist/duration-str.js";
 import { switches } from "./choices.js";
 import { UNITS } from "./units.js";
 
@@ -43,15 +44,18 @@ function rust(text, options, limits) {
     ].join("\n");
 }
 
+/** A `timedelta` counts microseconds, so a text with others is read as nanoseconds. */
 function python(text, options, limits) {
+    const isWhole = parseNs(text, options) % 1_000n === 0n;
+    const [name, call] = isWhole ? ["duration", "parse"] : ["nanoseconds", "parse_ns"];
     const taken = namesOf(options).map((name) => `, ${switches[name].id}=True`);
     const printed = Object.entries(limits)
         .map(([name, value]) => `, ${name}=${JSON.stringify(value)}`);
     return [
         "import duration_str",
         "",
-        `duration = duration_str.parse(${JSON.stringify(text)}${taken.join("")})`,
-        `text = duration_str.format(duration${printed.join("")})`,
+        `${name} = duration_str.${call}(${JSON.stringify(text)}${taken.join("")})`,
+        `text = duration_str.format(${name}${printed.join("")})`,
     ].join("\n");
 }
 
@@ -62,13 +66,16 @@ function argument(properties) {
     return fields.length > 0 ? `, { ${fields.join(", ")} }` : "";
 }
 
+/** A number of milliseconds may lack the last nanoseconds, so such a text is read as a bigint. */
 function javascript(text, options, limits) {
     const taken = Object.fromEntries(namesOf(options).map((name) => [name, true]));
+    const isExact = format(parse(text, options)) === formatNs(parseNs(text, options));
+    const [name, ns] = isExact ? ["milliseconds", ""] : ["nanoseconds", "Ns"];
     return [
-        'import { format, parse } from "duration-str";',
+        `import { format${ns}, parse${ns} } from "duration-str";`,
         "",
-        `const milliseconds = parse(${JSON.stringify(text)}${argument(taken)});`,
-        `const text = format(milliseconds${argument(limits)});`,
+        `const ${name} = parse${ns}(${JSON.stringify(text)}${argument(taken)});`,
+        `const text = format${ns}(${name}${argument(limits)});`,
     ].join("\n");
 }
 
