@@ -11,6 +11,12 @@ static void parse(sqlite3_context *context, int count, sqlite3_value **values) {
     (void)count;
     struct duration_str_answer answer;
     char line[DURATION_STR_ONE_LINE_BUFFER_SIZE];
+    const int type = sqlite3_value_type(values[0]);
+    if (type == SQLITE_INTEGER || type == SQLITE_FLOAT) {
+        /* As a text, a number counts seconds; format_duration takes nanoseconds. */
+        sqlite3_result_error(context, "a duration is a TEXT, such as '1h 30m'", -1);
+        return;
+    }
     const char *text = (const char *)sqlite3_value_text(values[0]);
     if (text == NULL)
         return; /* NULL of NULL */
