@@ -5,15 +5,17 @@
 //! 30.44 days here, whatever it is called, and a year 365.25. In the rest of this crate they have
 //! 30 and 365. What humantime printed and a program stored is read as it was meant.
 //!
-//! This module prints days and shorter units, with `us` for microseconds, so that humantime reads
-//! it.
+//! humantime's further names of units are read: `M` is a month, and `secs`, `mins`, `hrs`, `millis`
+//! and `nanos` are units, as are `yr` and `wk` of humantime 2.4. Capitals and small letters differ.
+//! The rest of this crate refuses these names, or reads `1M` as a minute.
+//!
+//! This module prints what humantime prints, such as `1day 2h 3m`.
 //!
 //! Some texts that humantime reads are refused. The error says what to write:
 //!
-//! - `1M`. Capitals and small letters differ, as in humantime; in the rest of this crate `1M` is a
-//!   minute.
-//! - `secs`, `mins`, `hrs`, `millis` and `nanos`
-//! - fractions and abbreviations of humantime 2.4, such as `1.5h` and `1yr`
+//! - fractions of humantime 2.4, such as `1.5h`, and its `0` without a unit
+//! - 584 years and more
+//! - a blank within a number, as in `1 000ms`, and blanks beyond ASCII
 //!
 //! As in humantime, a number without a unit is refused. `+`, `*`, `mon` and the quarter of 91 days
 //! are read, which humantime doesn't have. `docs/MIGRATING.md` of the repository has the rest.
@@ -26,11 +28,12 @@
 //! use duration_str::humantime;
 //!
 //! let timeout: humantime::Duration = "1h 30min".parse()?;
-//! assert_eq!(humantime::parse_duration("90min")?, *timeout);
-//! assert_eq!(humantime::format_duration(timeout.into()).to_string(), "1h 30min");
-//! // What humantime prints of 365 days
-//! let year = humantime::parse_duration("11months 30days 3h 50m 24s")?;
-//! assert_eq!(humantime::format_duration(year).to_string(), "365d");
+//! assert_eq!(humantime::parse_duration("90mins")?, *timeout);
+//! assert_eq!(humantime::format_duration(timeout.into()).to_string(), "1h 30m");
+//! let year = std::time::Duration::from_secs(365 * 86_400);
+//! let printed = humantime::format_duration(year).to_string();
+//! assert_eq!(printed, "11months 30days 3h 50m 24s");
+//! assert_eq!(humantime::parse_duration(&printed)?, year);
 //! # Ok::<(), humantime::DurationError>(())
 //! ```
 use crate::Fault;
@@ -38,11 +41,10 @@ use crate::formatted::pad;
 use crate::human_duration::written_as_text;
 use crate::parser::{CASE_SENSITIVE, parse_with};
 use alloc::string::{String, ToString};
-use core::fmt;
+use alloc::vec::Vec;
+use core::fmt::{self, Write};
 use core::time::Duration as StdDuration;
-use duration_str_core::{
-    self as proved, Cause, Format, STYLED_BUFFER_SIZE, TimeUnit, Tokens, What, write_within,
-};
+use duration_str_core::{self as proved, Cause, TimeUnit, Tokens};
 
 pub use crate::DurationError;
 
@@ -55,9 +57,9 @@ pub use crate::DurationError;
 /// ```
 /// use duration_str::humantime;
 ///
-/// assert_eq!(humantime::parse_duration("1month 1m")?.as_secs(), 2_630_016 + 60);
-/// let refusal = humantime::parse_duration("1M").unwrap_err();
-/// assert!(refusal.to_string().starts_with(r#"unknown unit "M" at column 2"#));
+/// assert_eq!(humantime::parse_duration("1M 1m")?.as_secs(), 2_630_016 + 60);
+/// let refusal = humantime::parse_duration("5mins 1H").unwrap_err();
+/// assert!(refusal.to_string().starts_with(r#"unknown unit "H" at column 8"#));
 /// # Ok::<(), humantime::DurationError>(())
 /// ```
 pub fn parse_duration(text: &str) -> Result<StdDuration, DurationError> {
@@ -95,30 +97,47 @@ fn has_longer(text: &str) -> bool {
         .any(|pair| pair == b"mo" || pair[1] == b'y' && pair[0] != b'a' || pair[0] >= 0xe0)
 }
 
-/// The seconds of a unit that is longer here than in the rest of this crate.
-const fn seconds(unit: TimeUnit) -> Option<u64> {
-    match unit {
-        TimeUnit::Year => Some(31_557_600),
-        TimeUnit::Month => Some(2_630_016),
+/// How many seconds a year has here.
+const YEAR_SECONDS: u64 = 31_557_600;
+
+/// How many seconds a month has here.
+const MONTH_SECONDS: u64 = 2_630_016;
+
+/// The name in the rest of this crate of what humantime alone calls so.
+fn own_name(name: &str) -> Option<&'static str> {
+    match name {
+        "yr" => Some("year"),
+        "M" => Some("month"),
+        "wk" => Some("week"),
+        "hrs" => Some("hour"),
+        "mins" => Some("min"),
+        "secs" => Some("sec"),
+        "millis" => Some("ms"),
+        "nanos" => Some("ns"),
         _ => None,
     }
 }
 
-/// Reads a text by the proved reader, which gets years and months in seconds. A syntax fault is
-/// that of the text as it was written, since its place is there. All other causes have the place 0
-/// or none.
+/// Reads a text by the proved reader, which gets it [rewritten](Rewritten) if it has one of
+/// humantime's further names, a year or a month.
 #[cold]
 #[inline(never)]
 fn read_other(text: &str) -> Result<StdDuration, Fault<'_>> {
-    let written = with_units(text);
-    if !has_longer(text) {
-        return written;
+    let mut tokens = Tokens::new(text, CASE_SENSITIVE);
+    if !has_longer(text) && !tokens.any(|token| own_name(token.text).is_some()) {
+        return with_units(text);
     }
-    match with_units(&in_seconds(text)).map_err(|fault| fault.cause()) {
-        Ok(duration) => Ok(duration),
-        Err(Cause::Syntax { .. }) => written,
-        Err(cause) => Err(Fault::of(text, cause, CASE_SENSITIVE)),
-    }
+    let rewritten = Rewritten::of(text);
+    with_units(&rewritten.text).map_err(|fault| {
+        let cause = match fault.cause() {
+            Cause::Syntax { place, expected } => Cause::Syntax {
+                place: rewritten.place_in(text, place),
+                expected,
+            },
+            cause => cause,
+        };
+        Fault::of(text, cause, CASE_SENSITIVE)
+    })
 }
 
 /// As the proved call of this name, but programs get only one of its readers.
@@ -131,34 +150,59 @@ fn with_units(text: &str) -> Result<StdDuration, Fault<'_>> {
     }
 }
 
-/// The tokens of a text, with a blank before each; but each number of years or months is one of
+/// A text as the rest of this crate means it: each token of the text that was written, and a blank
+/// after it. The further names of humantime are replaced. A number of years or months is one of
 /// seconds, or the greatest number, which is too many seconds as well. A number that is too large
 /// by itself stays.
-fn in_seconds(text: &str) -> String {
-    let mut written = String::from(" ");
-    let mut number: Option<(usize, u64)> = None;
-    for token in Tokens::new(text, CASE_SENSITIVE) {
-        let secs = if let What::Word(Some(unit)) = token.what {
-            seconds(unit)
-        } else {
-            None
+struct Rewritten {
+    text: String,
+    /// Where each token begins: here, and in the text that was written
+    starts: Vec<(usize, usize)>,
+}
+
+impl Rewritten {
+    fn of(text: &str) -> Rewritten {
+        let mut written = Rewritten {
+            text: String::new(),
+            starts: Vec::new(),
         };
-        let before = number.take();
-        if let (Some((start, number)), Some(secs)) = (before, secs) {
-            written.truncate(start);
-            written.push_str(&number.saturating_mul(secs).to_string());
-            written.push('s');
-        } else {
-            number = token
-                .text
-                .parse()
-                .ok()
-                .map(|number| (written.len(), number));
-            written.push_str(token.text);
+        let mut number: Option<(usize, u64)> = None;
+        for token in Tokens::new(text, CASE_SENSITIVE) {
+            let name = own_name(token.text).unwrap_or(token.text);
+            let seconds = match TimeUnit::from_word(name, CASE_SENSITIVE) {
+                Some(TimeUnit::Year) => Some(YEAR_SECONDS),
+                Some(TimeUnit::Month) => Some(MONTH_SECONDS),
+                _ => None,
+            };
+            let before = number.take();
+            if let (Some((start, number)), Some(seconds)) = (before, seconds) {
+                written.text.truncate(start);
+                let number = number.saturating_mul(seconds).to_string();
+                written.push(&number, None);
+                written.push("s", Some(token.start));
+            } else {
+                number = name.parse().ok().map(|number| (written.text.len(), number));
+                written.push(name, Some(token.start));
+            }
         }
-        written.push(' ');
+        written
     }
-    written
+
+    /// Appends a token, with where it begins in the text that was written unless that is known.
+    fn push(&mut self, token: &str, start: Option<usize>) {
+        self.starts
+            .extend(start.map(|start| (self.text.len(), start)));
+        self.text.push_str(token);
+        self.text.push(' ');
+    }
+
+    /// The place of a syntax fault in the text that was written: the token's, or the end.
+    fn place_in(&self, text: &str, place: usize) -> usize {
+        self.starts
+            .iter()
+            .find(|(here, _)| *here == place)
+            .map_or(text.len(), |(_, start)| *start)
+    }
 }
 
 /// A duration that is printed by its `Display`; [`format_duration`] makes it.
@@ -167,14 +211,13 @@ fn in_seconds(text: &str) -> String {
 #[derive(Clone, Copy, Debug, PartialEq, Eq, Hash)]
 pub struct FormattedDuration(StdDuration);
 
-/// The duration as what prints it: in days and shorter units, so that humantime reads the text as
-/// the same duration.
+/// The duration as what prints it. The text is the one that humantime prints.
 ///
 /// ```
 /// use duration_str::humantime::format_duration;
 /// use std::time::Duration;
 ///
-/// assert_eq!(format_duration(Duration::from_secs(400 * 86_400)).to_string(), "400d");
+/// assert_eq!(format_duration(Duration::from_secs(93_784)).to_string(), "1day 2h 3m 4s");
 /// assert_eq!(format!("{:>10}", format_duration(Duration::from_micros(90_001))), "  90ms 1us");
 /// ```
 #[must_use]
@@ -197,15 +240,29 @@ impl FormattedDuration {
     }
 }
 
-/// humantime 2.1 reads `us`, and not `µs`.
 impl fmt::Display for FormattedDuration {
     fn fmt(&self, f: &mut fmt::Formatter<'_>) -> fmt::Result {
-        let mut buffer = [0; STYLED_BUFFER_SIZE];
-        let text = write_within(&self.0, Format::whole().largest(TimeUnit::Day), &mut buffer);
-        match text.split_once('µ') {
-            Some((longer, shorter)) => pad(f, &[longer, "u", shorter]),
-            None => pad(f, &[text]),
+        let (seconds, nanos) = (self.0.as_secs(), self.0.subsec_nanos());
+        let in_year = seconds % YEAR_SECONDS;
+        let in_month = in_year % MONTH_SECONDS;
+        let counts = [
+            (seconds / YEAR_SECONDS, "year", "years"),
+            (in_year / MONTH_SECONDS, "month", "months"),
+            (in_month / 86_400, "day", "days"),
+            (in_month % 86_400 / 3_600, "h", "h"),
+            (in_month % 3_600 / 60, "m", "m"),
+            (in_month % 60, "s", "s"),
+            (u64::from(nanos / 1_000_000), "ms", "ms"),
+            (u64::from(nanos / 1_000 % 1_000), "us", "us"),
+            (u64::from(nanos % 1_000), "ns", "ns"),
+        ];
+        let mut text = String::new();
+        for (count, one, several) in counts.into_iter().filter(|(count, ..)| *count > 0) {
+            let blank = if text.is_empty() { "" } else { " " };
+            let name = if count == 1 { one } else { several };
+            write!(text, "{blank}{count}{name}")?;
         }
+        pad(f, &[if text.is_empty() { "0s" } else { &text }])
     }
 }
 
@@ -215,8 +272,8 @@ impl fmt::Display for FormattedDuration {
 /// use duration_str::humantime;
 ///
 /// let timeout: humantime::Duration = "90s".parse()?;
-/// assert_eq!((timeout.as_secs(), timeout.to_string()), (90, "1min 30s".to_string()));
-/// assert!("1M".parse::<humantime::Duration>().is_err());
+/// assert_eq!((timeout.as_secs(), timeout.to_string()), (90, "1m 30s".to_string()));
+/// assert!("90".parse::<humantime::Duration>().is_err());
 /// # Ok::<(), humantime::DurationError>(())
 /// ```
 #[derive(Clone, Copy, Debug, Default, PartialEq, Eq, PartialOrd, Ord, Hash)]
@@ -229,7 +286,7 @@ impl Duration {
     /// use duration_str::humantime::Duration;
     ///
     /// const TIMEOUT: Duration = Duration::new(std::time::Duration::from_secs(90));
-    /// assert_eq!(TIMEOUT.to_string(), "1min 30s");
+    /// assert_eq!(TIMEOUT.to_string(), "1m 30s");
     /// assert_eq!(*Duration::default(), std::time::Duration::ZERO);
     /// ```
     #[must_use]

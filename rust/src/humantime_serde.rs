@@ -2,8 +2,7 @@
 //!
 //! This is like the module [`human`](crate::human), but fields are read and printed as the module
 //! [`humantime`](crate::humantime) does. So capitals and small letters differ, a number without a
-//! unit is refused, a month has 30.44 days and a year 365.25, and days are the longest unit that is
-//! printed.
+//! unit is refused, a month has 30.44 days and a year 365.25, and humantime's texts are printed.
 //!
 //! There is no `Serde`: a field of the type [`HumanDuration`](crate::HumanDuration) needs no
 //! `with`, but is read as in the rest of this crate.
@@ -24,7 +23,7 @@
 //!
 //! let config: Config = serde_json::from_str(r#"{ "timeout": "1m 30s" }"#)?;
 //! assert_eq!((config.timeout, config.keep_alive), (Duration::from_secs(90), None));
-//! assert!(serde_json::from_str::<Config>(r#"{ "timeout": "1M" }"#).is_err());
+//! assert!(serde_json::from_str::<Config>(r#"{ "timeout": "90" }"#).is_err());
 //! # Ok::<(), serde_json::Error>(())
 //! ```
 use crate::human::{HumanText, STRICT};
@@ -43,7 +42,7 @@ use serde::ser::Serializer;
 /// use std::time::Duration;
 ///
 /// let month = Duration::from_secs(30 * 86_400);
-/// assert_eq!(duration_str::humantime_serde::serialize(&month, Serializer)?, "30d");
+/// assert_eq!(duration_str::humantime_serde::serialize(&month, Serializer)?, "30days");
 /// # Ok::<(), serde_json::Error>(())
 /// ```
 pub fn serialize<T: HumanText, S: Serializer>(value: &T, serializer: S) -> Result<S::Ok, S::Error> {

@@ -22,6 +22,10 @@ fn has_the_lengths_of_humantime() {
         ("0y 0mon", 0),
         ("4w 5days 1q", (28 + 5 + 91) * 86_400),
         ("31d", 31 * 86_400),
+        ("1M", MONTH),
+        ("1yr 2M 3wk 4d", YEAR + 2 * MONTH + 25 * 86_400),
+        ("1hrs2mins3secs", 3_723),
+        ("4000millis + 5000000000nanos", 9),
     ] {
         assert_eq!(
             parse_duration(text),
@@ -98,7 +102,17 @@ fn refuses_for_the_first_cause() {
         (" ", 1),
         ("y", 0),
         ("mon", 0),
-        ("1M", 1),
+        ("1MON", 1),
+        ("1m 2Mins", 4),
+        ("mins", 0),
+        ("5 mins mins", 7),
+        ("5mins 3x", 7),
+        ("5 mins 5 5", 9),
+        ("1M+", 3),
+        ("1hrs.", 4),
+        ("2secs 30", 8),
+        ("30+1M", 2),
+        ("1yrs", 1),
         ("1Y", 1),
         ("1y x", 3),
         ("1s 7014month x", 13),
@@ -109,7 +123,6 @@ fn refuses_for_the_first_cause() {
         ("1y + 30 + 2s", 8),
         ("1year\u{e9}", 5),
         ("1month.", 6),
-        ("1yr", 1),
         ("-1y", 0),
         ("1.5y", 1),
     ] {
@@ -120,14 +133,15 @@ fn refuses_for_the_first_cause() {
     };
     assert!(matches!(cause("1y 30"), Cause::Syntax { expected, .. } if only_unit(expected)));
     assert_eq!(
-        parse_duration("1y 5 mins").unwrap_err().to_string(),
-        r#"unknown unit "mins" at column 6 (did you mean "min"?)"#
+        parse_duration("1y 5 mins 5 mons").unwrap_err().to_string(),
+        r#"unknown unit "mons" at column 13 (did you mean "mon"?)"#
     );
 }
 
 /// The names of units with their length in seconds, if that is another one than elsewhere.
-const NAMES: [(&str, Option<u64>); 7] = [
+const NAMES: [(&str, Option<u64>); 8] = [
     ("y", Some(YEAR)),
+    ("M", Some(MONTH)),
     ("month", Some(MONTH)),
     ("mon", Some(MONTH)),
     ("days", None),
@@ -171,7 +185,23 @@ proptest! {
     }
 
     #[test]
-    fn reads_other_units_as_elsewhere(text in "[0-9dhmsnwkea .+*M]{0,9}") {
+    fn reads_further_names_as_the_others(
+        text in r"[0-9 ]{0,3}((h|hr|hrs|min|mins|sec|secs|millis|nanos|wk|x)[ .+*]{1,2}[0-9]{0,2}){0,4}",
+    ) {
+        // Names of the same length, so that all places stay.
+        let others = [("hrs", "hr "), ("mins", "min "), ("secs", "sec "), ("millis", "ms    "),
+            ("nanos", "ns   "), ("wk", "w ")]
+            .iter()
+            .fold(text.clone(), |text, (further, own)| text.replace(further, own));
+        match (parse_duration(&text), parse_duration(&others)) {
+            (Ok(read), Ok(wanted)) => prop_assert_eq!(read, wanted),
+            (Err(read), Err(wanted)) => prop_assert_eq!(read.cause(), wanted.cause(), "{}", text),
+            (read, wanted) => prop_assert!(false, "{}: {:?}, {:?}", text, read, wanted),
+        }
+    }
+
+    #[test]
+    fn reads_other_units_as_elsewhere(text in "[0-9dhmsnwea .+*]{0,9}") {
         let others = parse_with(&text, Options::off().with_lowercase());
         match (parse_duration(&text), others) {
             (Ok(read), others) => prop_assert_eq!(others, Ok(read)),

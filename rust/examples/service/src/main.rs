@@ -44,7 +44,7 @@ mod tests {
                 r#"{ "timeout": "60s", "keep_alive": "90s", "idle": "1h" }"#
             )
             .unwrap(),
-            r#"{"timeout":"1min","keep_alive":"1min 30s","idle":"1h"} pause 1s 500ms total 3min 3s"#
+            r#"{"timeout":"1m","keep_alive":"1m 30s","idle":"1h"} pause 1s 500ms total 3m 3s"#
         );
         assert_eq!(
             output(
@@ -52,7 +52,7 @@ mod tests {
                 r#"{ "timeout": "60s" }"#
             )
             .unwrap(),
-            r#"{"timeout":"2min","keep_alive":null} pause 1min total 8min"#
+            r#"{"timeout":"2m","keep_alive":null} pause 1m total 8m"#
         );
     }
 
@@ -61,7 +61,7 @@ mod tests {
         let line = |text| parse_duration(text).unwrap_err();
         for (option, text) in [
             ("timeout", "3h 2 hurs"),
-            ("pause", "5 mins"),
+            ("pause", "5 mons"),
             ("timeout", "-5m"),
         ] {
             let refusal = output(&[&format!("--{option}"), text], "").unwrap_err();
@@ -72,9 +72,8 @@ mod tests {
             );
             assert_eq!(refusal.lines().next(), Some(&told[..]));
         }
-        // A month of humantime.
-        let refusal = output(&[], r#"{ "timeout": "1M" }"#).unwrap_err();
-        let told = format!("invalid duration: {} at line 1 column 17", line("1M"));
+        let refusal = output(&[], r#"{ "timeout": "1H" }"#).unwrap_err();
+        let told = format!("invalid duration: {} at line 1 column 17", line("1H"));
         assert_eq!(refusal, told);
     }
 }
