@@ -599,7 +599,7 @@ ESCAPES = {'"': '\\"', "\\": "\\\\", "\t": "\\t", "\n": "\\n", "\r": "\\r"}
 LETTER = r"A-Za-z\x80-\U0010ffff"
 HELP = {
     rf"(?<=[{LETTER}])\.": "units have no point",
-    r"\.(?=[0-9])": "numbers have digits only: write 1h 30m for 1.5h",
+    r"\.(?=[0-9])": "numbers have digits only: write 1500ms for 1.5s",
     r"(?<=[0-9])([,_'](?=[0-9])|[Ee](?=[-+0-9]))": "numbers have digits only",
     r"(?<=[0-9]):(?=[0-9])": "clock times are not read: write 1h 30m or 1m 30s",
 }

@@ -294,7 +294,7 @@ pub record Lines : Type 0 where
       ≡ encode_utf8_all (codes "unknown unit \"μS\" at column 3 (did you mean \"us\"?)")
   -- ---- Help with a notation
   pub line-point : one_line_of (codes "1.5h") (Syntax 1 after_number)
-      ≡ codes "expected a unit, '+', '*' or the end at column 2, found \".\" (numbers have digits only: write 1h 30m for 1.5h)"
+      ≡ codes "expected a unit, '+', '*' or the end at column 2, found \".\" (numbers have digits only: write 1500ms for 1.5s)"
   pub line-point_after_unit : one_line_of (codes "5 min.") (Syntax 5 after_unit)
       ≡ codes "expected a number, '+', '*' or the end at column 6, found \".\" (units have no point)"
   pub line-comma : one_line_of (codes "1,000ms") (Syntax 1 after_number)

@@ -154,7 +154,7 @@ help_at expected text place piece =
     else if bytes_eq piece (codes ".") && (is_ascii_alphabetic last || nat_le 0x80 last)
     then codes " (units have no point)"
     else if bytes_eq piece (codes ".") && is_digit next
-    then codes " (numbers have digits only: write 1h 30m for 1.5h)"
+    then codes " (numbers have digits only: write 1500ms for 1.5s)"
     else if list_all is_blank before then first_help piece next
     else if is_digit last then digit_help piece next
     else []

@@ -357,7 +357,7 @@ fn help_at(expected: Expected, text: &[u8], place: usize, piece: &str) -> &'stat
     } else if piece == "." && (last.is_ascii_alphabetic() || last >= 0x80) {
         " (units have no point)"
     } else if piece == "." && next.is_ascii_digit() {
-        " (numbers have digits only: write 1h 30m for 1.5h)"
+        " (numbers have digits only: write 1500ms for 1.5s)"
     } else if are_blank(before) {
         first_help(piece, next)
     } else if last.is_ascii_digit() {
