@@ -1,5 +1,5 @@
 -- Worked examples, computed: what texts are read as, why others are refused, and what durations print as.
-use Rattle.duration_str.proofs.Common.{answer, Bool, codes, Compact, counts_of, Empty, encode_utf8_all, Err, Expected, false, flat_map, length, List, Long, map, MAX_LONG_LEN, MAX_PRINTED_LEN, message_of, Mixed, None, NumberTooLarge, off, Ok, older_row_of, older_unit_of_word, older_units, Options, OutOfRange, Overflow, Plus, printed_counts, Quarter, refl, replicate, row_of, Short, Some, Star, Style, Syntax, TimeUnit, true, unit_lengths, unit_of_word, units, [], ℕ, ◌++◌, ◌∷◌, ◌≡◌}
+use Rattle.duration_str.proofs.Common.{answer, Bool, codes, Compact, counts_of, Empty, encode_utf8_all, Err, Expected, false, flat_map, length, List, Long, map, MAX_LONG_LEN, MAX_PRINTED_LEN, message_of, Mixed, None, NumberTooLarge, off, Ok, older_row_of, older_unit_of_word, Options, OutOfRange, Overflow, Plus, printed_counts, Quarter, refl, replicate, row_of, Short, Some, Star, Style, Syntax, TimeUnit, true, unit_lengths, unit_of_word, units, [], ℕ, ◌++◌, ◌∷◌, ◌≡◌}
 use Rattle.duration_str.specs.declared.format.Format.{Format}
 use Rattle.duration_str.specs.declared.unit.TimeUnit.TheVariants.{Day, Hour, Minute}
 use Rattle.duration_str.specs.Limits.{counts_within, lengths_within, text_within, whole_format}
@@ -10,8 +10,9 @@ use Rattle.duration_str.specs.WithUnits.{expected_unit, HasUnits, LacksUnit}
 use Rattle.duration_str.proofs.OnePass.MissingLemmas.{has_units, lacks_unit}
 use Rattle.duration_str.proofs.Characters.UnitLemmas.{Each}
 use Rattle.std.specs.Fmt.{digits}
+use Rattle.std.specs.List.{count_by}
 use Rattle.std.specs.Option.{option_map_or}
-use Rattle.std.specs.Str.{chars}
+use Rattle.std.specs.Str.{bytes_eq, chars}
 use lib.Utf8.{encode}
 
 abbrev with_no_calc : Options
@@ -379,6 +380,9 @@ pub forty_three_names : length (flat_map (λ u. (row_of u).names) units) ≡ 43
 forty_three_names = refl
 
 -- With those of `cn_unit`, of which there were eleven.
-pub fifty_one_older_names :
-    length (flat_map (λ u. option_map_or (λ row. row.names ++ row.chinese) (older_row_of u) []) older_units) ≡ 51
+abbrev older_names : List (List ℕ)
+older_names = flat_map (λ u. option_map_or (λ row. row.names ++ row.chinese) (older_row_of u) []) units
+
+-- There were 51 names, each of them once.
+pub fifty_one_older_names : map (λ name. count_by (bytes_eq name) older_names) older_names ≡ replicate 51 1
 fifty_one_older_names = refl

@@ -7,7 +7,7 @@ use Rattle.duration_str.specs.declared.unit.TimeUnit.{TimeUnit}
 use Rattle.duration_str.specs.declared.unit.TimeUnit.TheVariants.{Year, Quarter, Month, Week, Day, Hour, Minute, Second, MilliSecond, MicroSecond, NanoSecond}
 use Rattle.duration_str.specs.declared.cause.Cause.{Cause}
 use Rattle.duration_str.specs.Text.{Characters}
-use Rattle.duration_str.specs.Units.{UnitRow, is_in_row}
+use Rattle.duration_str.specs.Units.{UnitRow, is_in_row, units}
 use Rattle.duration_str.specs.Grammar.{Terminal, terminal_by, IsSentence, Spells}
 use Rattle.duration_str.specs.Value.{Term, Evaluates, terms_by, value_of, or_else, evaluation_fault}
 use Rattle.duration_str.specs.Reading.{first_fault, running_fault}
@@ -26,10 +26,6 @@ older_row_of MilliSecond = Some (record { nanos = 1_000_000; printed = codes "ms
 older_row_of MicroSecond = Some (record { nanos = 1_000; printed = codes "µs"; names = codes "µs" ∷ codes "µsec" ∷ codes "µsecond" ∷ codes "us" ∷ codes "usec" ∷ codes "usecond" ∷ codes "microsecond" ∷ codes "microseconds" ∷ []; chinese = codes "微秒" ∷ [] })
 older_row_of NanoSecond = Some (record { nanos = 1; printed = codes "ns"; names = codes "ns" ∷ codes "nsec" ∷ codes "nanosecond" ∷ codes "nanoseconds" ∷ []; chinese = codes "纳秒" ∷ [] })
 
--- the units of that table, the longest first
-abbrev pub older_units : List TimeUnit
-older_units = Year ∷ Month ∷ Week ∷ Day ∷ Hour ∷ Minute ∷ Second ∷ MilliSecond ∷ MicroSecond ∷ NanoSecond ∷ []
-
 -- a unit's length in nanoseconds
 abbrev pub older_nanos_of : TimeUnit → ℕ
 older_nanos_of u = option_map_or (λ row. row.nanos) (older_row_of u) 0
@@ -40,7 +36,7 @@ was_named o word u = option_map_or (is_in_row o word) (older_row_of u) false
 
 -- the unit that a word named
 abbrev pub older_unit_of_word : Options → Characters → Option TimeUnit
-older_unit_of_word o word = find (was_named o word) older_units
+older_unit_of_word o word = find (was_named o word) units
 
 -- the terminals that these lexemes stood for
 abbrev pub older_terminals : Options → List Characters → List Terminal
