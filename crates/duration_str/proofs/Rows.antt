@@ -3,14 +3,15 @@ use Rattle.duration_str.proofs.Common.{answer, Bool, codes, Compact, counts_of, 
 use Rattle.duration_str.specs.declared.format.Format.{Format}
 use Rattle.duration_str.specs.declared.unit.TimeUnit.TheVariants.{Day, Hour, Minute}
 use Rattle.duration_str.specs.Limits.{counts_within, lengths_within, text_within, whole_format}
-use Rattle.duration_str.specs.OneLine.{one_line_of}
+use Rattle.duration_str.specs.OneLine.{is_letter, is_plain, one_line_of}
 use Rattle.duration_str.specs.Report.{report_of}
 use Rattle.duration_str.specs.Place.{terminals_of}
 use Rattle.duration_str.specs.WithUnits.{expected_unit, HasUnits, LacksUnit}
 use Rattle.duration_str.proofs.OnePass.MissingLemmas.{has_units, lacks_unit}
 use Rattle.duration_str.proofs.Characters.UnitLemmas.{Each}
+use Rattle.duration_str.specs.Text.{width}
 use Rattle.std.specs.Fmt.{digits}
-use Rattle.std.specs.List.{count_by}
+use Rattle.std.specs.List.{count_by, list_all, list_any}
 use Rattle.std.specs.Option.{option_map_or}
 use Rattle.std.specs.Str.{bytes_eq, chars}
 use lib.Utf8.{encode}
@@ -63,6 +64,8 @@ pub record Answers : Type 0 where
   pub product-middle_step_rounded : answer off (codes "1*1ns*1ns*1000000000") ≡ Ok 0
   pub plus_then_star : answer off (codes "1m 2s*3") ≡ Err (Mixed Plus Star)
   pub star_then_plus : answer off (codes "1m*2*3+4") ≡ Err (Mixed Star Plus)
+  -- the first term is added last, so that 585 years are no fault of the second one
+  pub first_added_last : answer off (codes "580y 5y 1s*2") ≡ Err (Mixed Plus Star)
   -- ---- The limits of numbers
   pub leading_zeros : answer off (codes "00000000000000000000000001") ≡ Ok 1_000_000_000
   pub greatest_number : answer off (codes "18446744073709551615ns") ≡ Ok 18_446_744_073_709_551_615
@@ -256,6 +259,8 @@ pub record Lines : Type 0 where
   pub line-end : one_line_of (codes "3+") (Syntax 2 number_alone) ≡ codes "expected a number at column 3, found the end"
   pub line-digits : one_line_of (encode_utf8_all (codes "1µs 2 345")) (Syntax 7 after_number-no_calc)
       ≡ codes "expected a unit or the end at column 7, found \"345\""
+  pub line-digits_alone : one_line_of (codes "1 2x") (Syntax 2 after_number)
+      ≡ codes "expected a unit, '+', '*' or the end at column 3, found \"2\""
   pub line-letters : one_line_of (encode_utf8_all (codes "1h 时x2")) (Syntax 3 after_unit-no_calc)
       ≡ encode_utf8_all (codes "expected a number or the end at column 4, found \"时x\"")
   pub line-sign_beyond_ascii : one_line_of (encode_utf8_all (codes "1：30")) (Syntax 1 after_number)
@@ -298,6 +303,10 @@ pub record Lines : Type 0 where
       ≡ codes "expected a unit, '+', '*' or the end at column 2, found \".\" (numbers have digits only: write 1500ms for 1.5s)"
   pub line-point_after_unit : one_line_of (codes "5 min.") (Syntax 5 after_unit)
       ≡ codes "expected a number, '+', '*' or the end at column 6, found \".\" (units have no point)"
+  pub line-point_after_chinese : one_line_of (encode_utf8_all (codes "1分.")) (Syntax 4 after_unit)
+      ≡ codes "expected a number, '+', '*' or the end at column 3, found \".\" (units have no point)"
+  pub line-point_alone : one_line_of (codes "5 .") (Syntax 2 after_number)
+      ≡ codes "expected a unit, '+', '*' or the end at column 3, found \".\""
   pub line-comma : one_line_of (codes "1,000ms") (Syntax 1 after_number)
       ≡ codes "expected a unit, '+', '*' or the end at column 2, found \",\" (numbers have digits only)"
   pub line-exponent : one_line_of (codes "1e3s") (Syntax 1 after_number)
@@ -322,10 +331,14 @@ pub record Lines : Type 0 where
       ≡ codes "expected a number at column 1, found \"+\""
   pub line-plus_later : one_line_of (codes "1++2") (Syntax 2 number_alone)
       ≡ codes "expected a number at column 3, found \"+\""
+  pub line-other_first : one_line_of (codes "(5m") (Syntax 0 number_alone)
+      ≡ codes "expected a number at column 1, found \"(\""
   pub line-iso : one_line_of (codes "Pt5M") (Syntax 0 number_alone)
       ≡ codes "expected a number at column 1, found \"Pt\" (ISO 8601 is not read: write 1mon 30m for P1MT30M)"
   pub line-comma_between : one_line_of (codes "1h, 30m") (Syntax 2 after_unit)
       ≡ codes "expected a number, '+', '*' or the end at column 3, found \",\" (one duration is read, without \",\" or \"and\")"
+  pub line-comma_after_an_operator : one_line_of (codes "1h + ,") (Syntax 5 number_alone)
+      ≡ codes "expected a number at column 6, found \",\""
   pub line-and : one_line_of (codes "1h And 30m") (Syntax 3 after_unit-no_calc)
       ≡ codes "expected a number or the end at column 4, found \"And\" (one duration is read, without \",\" or \"and\")"
   pub line-unit_alone : one_line_of (codes "1h 30") (Syntax 5 expected_unit)
@@ -336,6 +349,37 @@ pub record Lines : Type 0 where
 pub lines : Lines
 unfolding chars digits encode
 lines = assumption
+
+-- ---- Characters
+
+pub record Classes : Type 0 where
+  -- the first and the last of each range of characters that are escaped
+  pub hidden : list_any is_plain (
+      0 ∷ 0x1F ∷ 0x7F ∷ 0xA0 ∷ 0xAD ∷ 0x34F ∷ 0x61C ∷ 0x115F ∷ 0x1160 ∷ 0x1680 ∷ 0x17B4 ∷ 0x17B5 ∷ 0x180B ∷ 0x180F
+      ∷ 0x2000 ∷ 0x200F ∷ 0x2028 ∷ 0x202F ∷ 0x205F ∷ 0x206F ∷ 0x2800 ∷ 0x3000 ∷ 0x3164 ∷ 0xFE00 ∷ 0xFE0F ∷ 0xFEFF ∷ 0xFFA0
+      ∷ 0xFFF0 ∷ 0xFFFB ∷ 0x1BCA0 ∷ 0x1BCA3 ∷ 0x1D173 ∷ 0x1D17A ∷ 0xE0000 ∷ 0xE0FFF ∷ []) ≡ false
+  -- those beside them
+  pub seen : list_all is_plain (
+      0x20 ∷ 0x7E ∷ 0xA1 ∷ 0xAC ∷ 0xAE ∷ 0x34E ∷ 0x350 ∷ 0x61B ∷ 0x61D ∷ 0x115E ∷ 0x1161 ∷ 0x167F ∷ 0x1681 ∷ 0x17B3 ∷ 0x17B6
+      ∷ 0x180A ∷ 0x1810 ∷ 0x1FFF ∷ 0x2010 ∷ 0x2027 ∷ 0x2030 ∷ 0x205E ∷ 0x2070 ∷ 0x27FF ∷ 0x2801 ∷ 0x2FFF ∷ 0x3001 ∷ 0x3163
+      ∷ 0x3165 ∷ 0xFDFF ∷ 0xFE10 ∷ 0xFEFE ∷ 0xFF00 ∷ 0xFF9F ∷ 0xFFA1 ∷ 0xFFEF ∷ 0xFFFC ∷ 0x1BC9F ∷ 0x1BCA4 ∷ 0x1D172
+      ∷ 0x1D17B ∷ 0xDFFFF ∷ 0xE1000 ∷ []) ≡ true
+  -- the first and the last of each range of signs, and the letters beside them
+  pub signs : list_any is_letter (
+      0x40 ∷ 0x5B ∷ 0x60 ∷ 0x7B ∷ 0xA1 ∷ 0xB4 ∷ 0xB6 ∷ 0xBF ∷ 0xD7 ∷ 0xF7 ∷ 0x2010 ∷ 0x2BFF ∷ 0x3001 ∷ 0x303F
+      ∷ 0xFF00 ∷ 0xFF20 ∷ []) ≡ false
+  pub letters : list_all is_letter (
+      0x41 ∷ 0x5A ∷ 0x61 ∷ 0x7A ∷ 0xB5 ∷ 0xC0 ∷ 0xD6 ∷ 0xD8 ∷ 0xF6 ∷ 0xF8 ∷ 0x1FFF ∷ 0x2C00 ∷ 0x3040 ∷ 0xFEFE
+      ∷ 0xFF21 ∷ []) ≡ true
+  -- What is no character counts as four bytes.
+  pub widths : map width (
+      0x7F ∷ 0x80 ∷ 0x7FF ∷ 0x800 ∷ 0xD7FF ∷ 0xD800 ∷ 0xDFFF ∷ 0xE000 ∷ 0xFFFF ∷ 0x10000 ∷ 0x110000 ∷ [])
+      ≡ 1 ∷ 2 ∷ 2 ∷ 3 ∷ 3 ∷ 4 ∷ 4 ∷ 3 ∷ 3 ∷ 4 ∷ 4 ∷ []
+  pub unit_alone : expected_unit
+      ≡ record { number = false; unit_word = true; operator = false; text_end = false }
+
+pub classes : Classes
+classes = assumption
 
 -- ---- Reports
 
