@@ -115,6 +115,10 @@ where
             "600y\n^\noverflow error".to_string(),
         ),
         (
+            json!({ "timeout": "1m", "keep_alive": " " }),
+            duration_str::parse(" ").unwrap_err(),
+        ),
+        (
             json!({ "timeout": "1m", "keep_alive": 30 }),
             format!("invalid type: integer `30`, {optional}"),
         ),

@@ -321,4 +321,8 @@ fn refuses_other_numbers_in_one_line() {
         format!("invalid duration: {}", parse_duration("600y").unwrap_err())
     );
     assert!(human::deserialize::<Duration, _>(json!(60)).is_err());
+    // TOML asks for no text where a number stands.
+    let number = || I64Deserializer::<Error>::new(60);
+    assert!(human::deserialize::<Duration, _>(number()).is_err());
+    assert!(humantime_serde::deserialize::<Duration, _>(number()).is_err());
 }

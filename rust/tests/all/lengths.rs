@@ -10,6 +10,7 @@ const MONTH: u64 = 2_630_016;
 fn has_the_lengths_of_humantime() {
     for (text, seconds) in [
         ("1y", YEAR),
+        ("1 y", YEAR),
         ("2 years 1year", 3 * YEAR),
         ("1month", MONTH),
         ("3mon", 3 * MONTH),
@@ -124,6 +125,7 @@ fn refuses_for_the_first_cause() {
         ("1y 30 ", 6),
         ("30 + 1y", 3),
         ("30", 2),
+        ("30 ", 3),
         ("1y + 30 + 2s", 8),
         ("1year\u{e9}", 5),
         ("1month.", 6),
