@@ -45,7 +45,8 @@ int clock_nanosleep(clockid_t clock, int flags, const struct timespec *wait, str
     return tell(wait->tv_sec, wait->tv_nsec);
 }
 
-int timer_settime(timer_t timer, int flags, const struct itimerspec *wait, struct itimerspec *before)
+int timer_settime(timer_t timer, int flags, const struct itimerspec *wait,
+                  struct itimerspec *before)
 {
     (void)timer, (void)flags, (void)before;
     return tell(wait->it_value.tv_sec, wait->it_value.tv_nsec);
@@ -158,8 +159,8 @@ class Consumers:
         same("date", [each - start * 10**9 for each in in_nanos(got)], nanos)
 
     def systemd_analyze(self, nanos):
-        """systemd has weeks and shorter units as they are here, down to microseconds, but in the long
-        style down to seconds.
+        """systemd has weeks and shorter units as they are here: down to microseconds, and in the
+        long style down to seconds.
         """
         for style, smallest, length in (
             ("short", "us", 10**3),
@@ -228,9 +229,8 @@ def main(program, seconds="20", seed=str(time.time_ns())):
                 if name not in missing:
                     getattr(consumers, name)(nanos)
             count += len(nanos)
-    print(
-        f"duration_consumers: {count} durations, each the same in {len(names) - len(missing)} programs"
-    )
+    programs = len(names) - len(missing)
+    print(f"duration_consumers: {count} durations, each the same in {programs} programs")
 
 
 if __name__ == "__main__":
