@@ -1,22 +1,22 @@
 //! The tokens of a text: numbers, words, operators, and other single characters.
-ghost use Rattle.std.specs.Prelude.{◌≡◌, ◌+◌, ◌*◌, ◌%◌, ◌^◌, ◌≤◌, ◌<◌, [], ◌&&◌, ◌||◌, ◌==◌, true, length, take, is_some, Option, IsSome, IsTrue, if◌then◌else◌, false, Some, IsUtf8};
+ghost use Rattle.std.specs.Prelude.{◌≡◌, ◌+◌, ◌%◌, ◌^◌, ◌≤◌, ◌<◌, [], ◌&&◌, ◌||◌, ◌==◌, true, length, take, is_some, Option, IsSome, IsTrue, if◌then◌else◌, false, Some, IsUtf8};
 ghost use Rattle.std.specs.List.{list_all};
-ghost use Rattle.std.specs.Char.{is_ascii_alphabetic};
 ghost use Rattle.std.specs.Option.{ForSome, ForNone};
 ghost use Rattle.std.specs.Str.{chars};
 ghost use Rattle.std.specs.Iterator.{item_count};
-ghost use Rattle.duration_str.specs.Text.{is_blank, is_digit, is_unit_letter, is_chinese, number_of};
-ghost use Rattle.duration_str.specs.Internal.Positions.{ahead, letter_number, Stands, StandsAt, Passes, Stops, TakesDigits, TakesLetters, wide_number};
+ghost use Rattle.duration_str.specs.Text.{is_blank, is_digit, is_unit_letter, number_of};
+ghost use Rattle.duration_str.specs.Internal.Positions.{ahead, Stands, StandsAt, Passes, Stops, TakesDigits, TakesLetters};
 ghost use Rattle.duration_str.specs.Tokens.{tokens_of};
 ghost use Rattle.duration_str.specs.Value.{fits};
-ghost use Rattle.duration_str.specs.declared.unit.TimeUnit.{TimeUnit};
 ghost use Rattle.duration_str.specs.declared.token.TokenStart.{TokenStart};
 ghost use Rattle.duration_str.specs.declared.token.TokenStart.TheVariants.{Number as a_number, Word as a_word};
 
 use crate::eye::Eye;
 use crate::operator::CondUnit;
 use crate::options::Options;
-use crate::packed::unit_of_packed;
+use crate::packed::{
+    MODULUS, MOST_BYTES, first_number, is_unit_letter, letter_number, unit_of_packed, with_letter,
+};
 use crate::unit::TimeUnit;
 
 /// What a token is: a number, a word with the unit that it names, an operator, or another character.
@@ -344,130 +344,8 @@ impl<'a> Iterator for Tokens<'a> {
     }
 }
 
-impl TimeUnit {
-    ghost use Rattle.duration_str.specs.Units.{is_named, unit_of_word};
-
-    /// The unit that a word names under these options, if any. No word names two units.
-    ///
-    /// ```
-    /// use duration_str::{Options, TimeUnit};
-    ///
-    /// assert_eq!(TimeUnit::from_word("Minutes", Options::off()), Some(TimeUnit::Minute));
-    /// ```
-    #[tactic(auto, using(crate::proofs::Characters::UnitLemmas::named_unit))]
-    #[must_use]
-    pub fn from_word(word: &str, o: Options) -> Option<TimeUnit>
-        ensures unit { result ≡ unit_of_word o (chars word.now) }
-        ensures only { (unit : TimeUnit) → is_named o (chars word.now) unit ≡ true
-            → unit_of_word o (chars word.now) ≡ Some unit }
-    {
-        if word.len() > MOST_BYTES {
-            return None;
-        }
-        let mut packed = 0;
-        let mut chars = word.chars();
-        while let Some(c) = chars.next() {
-            packed = with_letter(packed, letter_number(c, o)?);
-        }
-        unit_of_packed(packed)
-    }
-}
-
-/// The values of digits and letters are kept modulo this.
-const MODULUS: u128 = 1 << 64;
-
 /// The most digits whose number is certainly below 2^64.
 const MOST_DIGITS: usize = 19;
-
-/// The most bytes of a name. The packed number of as many letters fits into a `u64`.
-const MOST_BYTES: usize = 12;
-
-/// A packed number with one more letter.
-#[inline(always)]
-fn with_letter(packed: u64, number: u64) -> u64
-    ensures { result ≡ (packed * 40 + number) % 2 ^ 64 }
-{
-    ((packed as u128 * 40 + number as u128) % MODULUS) as u64
-}
-
-#[inline]
-fn is_unit_letter(c: char, o: Options) -> bool
-    ensures { result ≡ is_unit_letter o c }
-{
-    letter_number(c, o).is_some()
-}
-
-/// The number of a unit letter under these options; `None` of any other character.
-#[inline(always)]
-fn letter_number(c: char, o: Options) -> Option<u64>
-    ensures { result ≡ (if is_unit_letter o c then Some (letter_number o c) else None) }
-{
-    if c.is_ascii_alphabetic() {
-        return Some(ascii_number(c, o));
-    }
-    if c.is_ascii() {
-        return None;
-    }
-    match wide_number(c, o.cn_unit) {
-        0 => None,
-        number => Some(number),
-    }
-}
-
-/// The number of a unit letter.
-#[inline(always)]
-fn first_number(c: char, o: Options) -> u64
-    requires { is_unit_letter o c ≡ true }
-    ensures { result ≡ letter_number o c }
-{
-    if c.is_ascii() {
-        return ascii_number(c, o);
-    }
-    wide_number(c, o.cn_unit)
-}
-
-/// The number of an ASCII letter, ignoring case: 1 to 26, its code modulo 32. Under `lowercase` a capital has a number
-/// that no letter of a name has.
-#[inline(always)]
-fn ascii_number(c: char, o: Options) -> u64
-    requires { is_ascii_alphabetic c ≡ true }
-    ensures { result ≡ letter_number o c }
-{
-    if o.lowercase && c < 'a' {
-        return CAPITAL;
-    }
-    u64::from(c as u32 % 32)
-}
-
-/// The number of a unit letter beyond ASCII: `µ`, and those that the option `cn_unit` adds; 0 of any other character.
-#[inline]
-fn wide_number(c: char, cn_unit: bool) -> u64
-    ensures { result ≡ (if c == 0xB5 || (cn_unit && is_chinese c) then wide_number c else 0) }
-{
-    if c == 'µ' {
-        return 27;
-    }
-    if !cn_unit {
-        return 0;
-    }
-    match c {
-        '年' => 28,
-        '月' => 29,
-        '周' => 30,
-        '日' => 31,
-        '天' => 32,
-        '时' => 33,
-        '分' => 34,
-        '秒' => 35,
-        '毫' => 36,
-        '微' => 37,
-        '纳' => 38,
-        _ => 0,
-    }
-}
-
-/// The number of a capital under `lowercase`.
-const CAPITAL: u64 = 39;
 
 /// Whether each character up to the space is a blank. A table takes fewer instructions than comparisons.
 static BLANKS: [bool; 33] = [

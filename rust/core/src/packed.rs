@@ -1,11 +1,113 @@
 // Made by tools/erase of crates/duration_str/src/packed.rt.
-//! Units by the packed numbers of their names, whose letters are digits to the base 40, ignoring case.
+//! The letters of units' names, packed into one number, to base 40, and the unit that such a number names.
 
+use crate::options::Options;
 use crate::unit::TimeUnit;
 use crate::unit::TimeUnit::{
     Day, Hour, MicroSecond as Micro, MilliSecond as Milli, Minute, Month, NanoSecond as Nano,
     Quarter, Second, Week, Year,
 };
+
+impl TimeUnit {
+    /// The unit that a word names under these options, if any. No word names two units.
+    ///
+    /// ```
+    /// use duration_str::{Options, TimeUnit};
+    ///
+    /// assert_eq!(TimeUnit::from_word("Minutes", Options::off()), Some(TimeUnit::Minute));
+    /// ```
+    #[must_use]
+    pub fn from_word(word: &str, o: Options) -> Option<TimeUnit> {
+        if word.len() > MOST_BYTES {
+            return None;
+        }
+        let mut packed = 0;
+        let mut chars = word.chars();
+        while let Some(c) = chars.next() {
+            packed = with_letter(packed, letter_number(c, o)?);
+        }
+        unit_of_packed(packed)
+    }
+}
+
+/// The most bytes of a name. The packed number of as many letters fits into a `u64`.
+pub(crate) const MOST_BYTES: usize = 12;
+
+/// The values of digits and letters are kept modulo this.
+pub(crate) const MODULUS: u128 = 1 << 64;
+
+/// A packed number with one more letter.
+#[inline(always)]
+pub(crate) fn with_letter(packed: u64, number: u64) -> u64 {
+    ((packed as u128 * 40 + number as u128) % MODULUS) as u64
+}
+
+#[inline]
+pub(crate) fn is_unit_letter(c: char, o: Options) -> bool {
+    letter_number(c, o).is_some()
+}
+
+/// The number of a unit letter under these options; `None` of any other character.
+#[inline(always)]
+pub(crate) fn letter_number(c: char, o: Options) -> Option<u64> {
+    if c.is_ascii_alphabetic() {
+        return Some(ascii_number(c, o));
+    }
+    if c.is_ascii() {
+        return None;
+    }
+    match wide_number(c, o.cn_unit) {
+        0 => None,
+        number => Some(number),
+    }
+}
+
+/// The number of a unit letter.
+#[inline(always)]
+pub(crate) fn first_number(c: char, o: Options) -> u64 {
+    if c.is_ascii() {
+        return ascii_number(c, o);
+    }
+    wide_number(c, o.cn_unit)
+}
+
+/// The number of an ASCII letter, ignoring case: 1 to 26, its code modulo 32. Under `lowercase` a capital has a number
+/// that no letter of a name has.
+#[inline(always)]
+fn ascii_number(c: char, o: Options) -> u64 {
+    if o.lowercase && c < 'a' {
+        return CAPITAL;
+    }
+    u64::from(c as u32 % 32)
+}
+
+/// The number of a unit letter beyond ASCII: `µ`, and those that the option `cn_unit` adds; 0 of any other character.
+#[inline]
+fn wide_number(c: char, cn_unit: bool) -> u64 {
+    if c == 'µ' {
+        return 27;
+    }
+    if !cn_unit {
+        return 0;
+    }
+    match c {
+        '年' => 28,
+        '月' => 29,
+        '周' => 30,
+        '日' => 31,
+        '天' => 32,
+        '时' => 33,
+        '分' => 34,
+        '秒' => 35,
+        '毫' => 36,
+        '微' => 37,
+        '纳' => 38,
+        _ => 0,
+    }
+}
+
+/// The number of a capital under `lowercase`.
+const CAPITAL: u64 = 39;
 
 /// The unit with a name that packs to this number.
 #[inline]

@@ -4,7 +4,9 @@
 use crate::eye::Eye;
 use crate::operator::CondUnit;
 use crate::options::Options;
-use crate::packed::unit_of_packed;
+use crate::packed::{
+    MODULUS, MOST_BYTES, first_number, is_unit_letter, letter_number, unit_of_packed, with_letter,
+};
 use crate::unit::TimeUnit;
 
 /// What a token is: a number, a word with the unit that it names, an operator, or another character.
@@ -264,109 +266,8 @@ impl<'a> Iterator for Tokens<'a> {
     }
 }
 
-impl TimeUnit {
-    /// The unit that a word names under these options, if any. No word names two units.
-    ///
-    /// ```
-    /// use duration_str_core::{Options, TimeUnit};
-    ///
-    /// assert_eq!(TimeUnit::from_word("Minutes", Options::off()), Some(TimeUnit::Minute));
-    /// ```
-    #[must_use]
-    pub fn from_word(word: &str, o: Options) -> Option<TimeUnit> {
-        if word.len() > MOST_BYTES {
-            return None;
-        }
-        let mut packed = 0;
-        let mut chars = word.chars();
-        while let Some(c) = chars.next() {
-            packed = with_letter(packed, letter_number(c, o)?);
-        }
-        unit_of_packed(packed)
-    }
-}
-
-/// The values of digits and letters are kept modulo this.
-const MODULUS: u128 = 1 << 64;
-
 /// The most digits whose number is certainly below 2^64.
 const MOST_DIGITS: usize = 19;
-
-/// The most bytes of a name. The packed number of as many letters fits into a `u64`.
-const MOST_BYTES: usize = 12;
-
-/// A packed number with one more letter.
-#[inline(always)]
-fn with_letter(packed: u64, number: u64) -> u64 {
-    ((packed as u128 * 40 + number as u128) % MODULUS) as u64
-}
-
-#[inline]
-fn is_unit_letter(c: char, o: Options) -> bool {
-    letter_number(c, o).is_some()
-}
-
-/// The number of a unit letter under these options; `None` of any other character.
-#[inline(always)]
-fn letter_number(c: char, o: Options) -> Option<u64> {
-    if c.is_ascii_alphabetic() {
-        return Some(ascii_number(c, o));
-    }
-    if c.is_ascii() {
-        return None;
-    }
-    match wide_number(c, o.cn_unit) {
-        0 => None,
-        number => Some(number),
-    }
-}
-
-/// The number of a unit letter.
-#[inline(always)]
-fn first_number(c: char, o: Options) -> u64 {
-    if c.is_ascii() {
-        return ascii_number(c, o);
-    }
-    wide_number(c, o.cn_unit)
-}
-
-/// The number of an ASCII letter, ignoring case: 1 to 26, its code modulo 32. Under `lowercase` a capital has a number
-/// that no letter of a name has.
-#[inline(always)]
-fn ascii_number(c: char, o: Options) -> u64 {
-    if o.lowercase && c < 'a' {
-        return CAPITAL;
-    }
-    u64::from(c as u32 % 32)
-}
-
-/// The number of a unit letter beyond ASCII: `µ`, and those that the option `cn_unit` adds; 0 of any other character.
-#[inline]
-fn wide_number(c: char, cn_unit: bool) -> u64 {
-    if c == 'µ' {
-        return 27;
-    }
-    if !cn_unit {
-        return 0;
-    }
-    match c {
-        '年' => 28,
-        '月' => 29,
-        '周' => 30,
-        '日' => 31,
-        '天' => 32,
-        '时' => 33,
-        '分' => 34,
-        '秒' => 35,
-        '毫' => 36,
-        '微' => 37,
-        '纳' => 38,
-        _ => 0,
-    }
-}
-
-/// The number of a capital under `lowercase`.
-const CAPITAL: u64 = 39;
 
 /// Whether each character up to the space is a blank. A table takes fewer instructions than comparisons.
 static BLANKS: [bool; 33] = [
