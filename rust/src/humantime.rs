@@ -42,7 +42,7 @@ use crate::human_duration::written_as_text;
 use crate::parser::{CASE_SENSITIVE, parse_with};
 use alloc::string::{String, ToString};
 use alloc::vec::Vec;
-use core::fmt::{self, Write};
+use core::fmt;
 use core::time::Duration as StdDuration;
 use duration_str_core::{self as proved, Cause, TimeUnit, Tokens};
 
@@ -240,6 +240,21 @@ impl FormattedDuration {
     }
 }
 
+/// The length of the longest text, `584542046089years 11months 30days 23h 59m 59s 999ms 999us 999ns`.
+const MAX_LEN: usize = 64;
+
+/// Appends a number. `write!` takes twice as many instructions.
+fn push_count(text: &mut String, mut count: u64) {
+    let mut digits = [b'0'; 20];
+    let mut start = digits.len();
+    while count > 0 {
+        start -= 1;
+        digits[start] += (count % 10) as u8;
+        count /= 10;
+    }
+    text.push_str(core::str::from_utf8(&digits[start..]).unwrap_or_default());
+}
+
 impl fmt::Display for FormattedDuration {
     fn fmt(&self, f: &mut fmt::Formatter<'_>) -> fmt::Result {
         let (seconds, nanos) = (self.0.as_secs(), self.0.subsec_nanos());
@@ -256,11 +271,13 @@ impl fmt::Display for FormattedDuration {
             (u64::from(nanos / 1_000 % 1_000), "us", "us"),
             (u64::from(nanos % 1_000), "ns", "ns"),
         ];
-        let mut text = String::new();
+        let mut text = String::with_capacity(MAX_LEN);
         for (count, one, several) in counts.into_iter().filter(|(count, ..)| *count > 0) {
-            let blank = if text.is_empty() { "" } else { " " };
-            let name = if count == 1 { one } else { several };
-            write!(text, "{blank}{count}{name}")?;
+            if !text.is_empty() {
+                text.push(' ');
+            }
+            push_count(&mut text, count);
+            text.push_str(if count == 1 { one } else { several });
         }
         pad(f, &[if text.is_empty() { "0s" } else { &text }])
     }
