@@ -143,8 +143,8 @@ INSTALL_DATA = $(INSTALL) -m 644
 export DESTDIR
 
 open := (
-calls = $(shell sed '/^static /d' $(header) | grep -o '\<duration_str_[a-z_]*$(open)' | \
-    tr -d '$(open)' | sort -u)
+calls = $(shell export LC_ALL=C; sed '/^static /d' $(header) | \
+    grep -o '\<duration_str_[a-z_]*$(open)' | tr -d '$(open)' | sort -u)
 shared = libduration_str.so $(soname)
 cmake_files = $(addprefix cmake/duration_str/duration_str-config,.cmake -version.cmake)
 completions = $(addprefix $(datarootdir)/,bash-completion/completions/duration zsh/site-functions/_duration \

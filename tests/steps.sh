@@ -94,7 +94,10 @@ path_without() {
 }
 
 # calls HEADER: those that it declares; exports LIBRARY: what a shared library has
-calls() { sed '/^static /d' "$1" | grep -o '\<duration_str_[a-z_]*(' | tr -d '(' | sort -u; }
+calls() (
+    export LC_ALL=C
+    sed '/^static /d' "$1" | grep -o '\<duration_str_[a-z_]*(' | tr -d '(' | sort -u
+)
 exports() { nm -D --defined-only "$1" | awk '{print $3}' | sort; }
 
 # writeless FOLDER WORDS..: runs the words, which can write nothing in the folder, also where root
