@@ -5,12 +5,20 @@ import letters from "duration_str.txt";
 const ADVICE = "allow 'wasm-unsafe-eval' in the content security policy, lift --jitless or the "
     + "limit of the address space, or import duration-str/plain";
 
+/** The byte of each letter. Node's Buffer makes them in a tenth of the time that the loop takes. */
+function bytesOf(text) {
+    const { Buffer, process } = globalThis;
+    // A page may have a Buffer that is something else.
+    if (Buffer && process?.versions?.node) return Buffer.from(text, "latin1");
+    const bytes = new Uint8Array(text.length);
+    for (let place = 0; place < bytes.length; place++) bytes[place] = text.charCodeAt(place);
+    return bytes;
+}
+
 /** The exports of the module. Where it may not be compiled, the error says what to do. */
 export function instance() {
     try {
-        const bytes = new Uint8Array(letters.length);
-        for (let place = 0; place < bytes.length; place++) bytes[place] = letters.charCodeAt(place);
-        return new WebAssembly.Instance(new WebAssembly.Module(bytes)).exports;
+        return new WebAssembly.Instance(new WebAssembly.Module(bytesOf(letters))).exports;
     } catch (cause) {
         const why = `duration-str cannot use WebAssembly here (${cause.message}): ${ADVICE}`;
         throw new Error(why, { cause });

@@ -109,6 +109,14 @@ expected a number, '+', '*' or the end at column 5, found "😀x" 4
 not UTF-8: a lone surrogate at index 3 3`);
 });
 
+test("takes the module's bytes without Node's Buffer, too", () => {
+    for (const missing of [
+        "delete globalThis.Buffer;", "delete globalThis.process; globalThis.Buffer = class {};",
+    ]) {
+        assert.equal(nodeOutput([], missing, TRY), "5400000000000n");
+    }
+});
+
 test("works where what is built in is frozen", () => {
     const frozen =
         `for (const one of [Object, Array, String, Number, BigInt, Error, Function, RegExp]) {
