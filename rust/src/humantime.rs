@@ -39,12 +39,12 @@
 use crate::Fault;
 use crate::formatted::pad;
 use crate::human_duration::written_as_text;
-use crate::parser::{CASE_SENSITIVE, parse_with};
+use crate::parser::CASE_SENSITIVE;
 use alloc::string::{String, ToString};
 use alloc::vec::Vec;
 use core::fmt;
 use core::time::Duration as StdDuration;
-use duration_str_core::{self as proved, Cause, TimeUnit, Tokens};
+use duration_str_core::{self as proved, Cause, Options, TimeUnit, Tokens};
 
 pub use crate::DurationError;
 
@@ -66,18 +66,35 @@ pub fn parse_duration(text: &str) -> Result<StdDuration, DurationError> {
     read(text).map_err(Fault::into_owned)
 }
 
-/// Reads a text. A sum without operators is read at once if it is known to mean here what it means
-/// elsewhere in this crate.
+/// Reads a text.
 #[inline]
 pub(crate) fn read(text: &str) -> Result<StdDuration, Fault<'_>> {
-    match proved::parse_with(text, CASE_SENSITIVE.with_no_calc()) {
-        Ok(sum) if has_last_unit(text) && (sum < MONTH || !has_longer(text)) => Ok(sum),
-        _ => read_other(text),
+    match sum_of(text) {
+        Some(nanos) => Ok(StdDuration::from_nanos(nanos)),
+        None => read_other(text),
     }
 }
 
-/// A sum that is shorter than this has no month and no year, except for counts of 0.
-const MONTH: StdDuration = StdDuration::from_nanos(TimeUnit::Month.nanos());
+/// The nanoseconds of a sum without operators, which most texts are. `None` for any other text, for
+/// one that is refused, and for some in Chinese.
+#[inline]
+fn sum_of(text: &str) -> Option<u64> {
+    match read_with(text, true) {
+        Ok(nanos) if has_last_unit(text) => nanos.checked_add(longer_by(text, nanos)?),
+        _ => None,
+    }
+}
+
+/// Reads a text by the proved reader, where capitals and small letters differ. It is compiled for
+/// this option alone, which makes it faster, and programs get no other reader.
+#[inline(never)]
+fn read_with(text: &str, no_calc: bool) -> Result<u64, proved::Fault<'_>> {
+    let options = Options {
+        no_calc,
+        ..CASE_SENSITIVE
+    };
+    proved::parse_nanos(text, options)
+}
 
 /// Whether a text that is read ends with a unit. No other one can be missing where no operators are
 /// read.
@@ -87,6 +104,39 @@ fn has_last_unit(text: &str) -> bool {
         .bytes()
         .next_back()
         .is_some_and(|last| !last.is_ascii_digit())
+}
+
+/// By how many nanoseconds a sum without operators is longer here than in the rest of this crate,
+/// where it has `nanos`. `None` if a name may be Chinese.
+#[inline]
+fn longer_by(sum: &str, nanos: u64) -> Option<u64> {
+    const MONTH: u64 = TimeUnit::Month.nanos();
+    let mut bytes = sum.bytes();
+    let mut left = nanos;
+    let mut longer = 0;
+    // If less than a month is left, no later term has months or years.
+    while left >= MONTH {
+        let Some(digit) = bytes.find(u8::is_ascii_digit) else {
+            break;
+        };
+        let mut number = u64::from(digit - b'0');
+        let letter = loop {
+            match bytes.next()? {
+                digit @ b'0'..=b'9' => number = number * 10 + u64::from(digit - b'0'),
+                b' ' | b'\t' | b'\r' | b'\n' => {}
+                letter => break letter,
+            }
+        };
+        let (unit, seconds) = match letter {
+            b'y' => (TimeUnit::Year, YEAR_SECONDS),
+            b'm' if bytes.clone().next() == Some(b'o') => (TimeUnit::Month, MONTH_SECONDS),
+            0xe0.. => return None,
+            _ => continue,
+        };
+        left -= number * unit.nanos();
+        longer += number * (seconds * 1_000_000_000 - unit.nanos());
+    }
+    Some(longer)
 }
 
 /// Whether a text may have years or months, which are longer here. Only `day` has a `y` that isn't
@@ -143,11 +193,11 @@ fn read_other(text: &str) -> Result<StdDuration, Fault<'_>> {
 /// As the proved call of this name, but programs get only one of its readers.
 #[inline(never)]
 fn with_units(text: &str) -> Result<StdDuration, Fault<'_>> {
-    let duration = parse_with(text, CASE_SENSITIVE)?;
-    match proved::unit_fault(text) {
-        Some(fault) => Err(Fault::new(fault, CASE_SENSITIVE)),
-        None => Ok(duration),
-    }
+    let read = match (read_with(text, false), proved::unit_fault(text)) {
+        (Ok(nanos), None) => Ok(StdDuration::from_nanos(nanos)),
+        (Ok(_), Some(fault)) | (Err(fault), _) => Err(fault),
+    };
+    read.map_err(|fault| Fault::new(fault, CASE_SENSITIVE))
 }
 
 /// A text as the rest of this crate means it: each token of the text that was written, and a blank

@@ -27,6 +27,9 @@ fn has_the_lengths_of_humantime() {
         ("1yr 2M 3wk 4d", YEAR + 2 * MONTH + 25 * 86_400),
         ("1hrs2mins3secs", 3_723),
         ("4000millis + 5000000000nanos", 9),
+        ("1s 2months", 1 + 2 * MONTH),
+        ("5m 3year", 5 * 60 + 3 * YEAR),
+        ("40days 1y1mon 40 days", 80 * 86_400 + YEAR + MONTH),
     ] {
         assert_eq!(
             parse_duration(text),
@@ -145,13 +148,15 @@ fn refuses_for_the_first_cause() {
 }
 
 /// The names of units with their length in seconds, if that is another one than elsewhere.
-const NAMES: [(&str, Option<u64>); 8] = [
+const NAMES: [(&str, Option<u64>); 10] = [
     ("y", Some(YEAR)),
+    ("years", Some(YEAR)),
     ("M", Some(MONTH)),
     ("month", Some(MONTH)),
     ("mon", Some(MONTH)),
     ("days", None),
     ("h", None),
+    ("m", None),
     ("ms", None),
     ("", None),
 ];
