@@ -4,6 +4,7 @@ import ctypes
 import mmap
 import os
 import pickle
+import signal
 import sys
 import tempfile
 import threading
@@ -13,7 +14,7 @@ from array import array
 from itertools import accumulate
 
 import duration_str
-from duration_str import Cause, DurationError, parse_buffers, parse_many, parse_ns
+from duration_str import Cause, DurationError, _native, parse_buffers, parse_many, parse_ns
 from tests.vectors import error_of, refused_positions, value_columns
 
 SECOND = 10**9
@@ -196,6 +197,28 @@ class Buffers(unittest.TestCase):
         finally:
             has_ended.set()
             sys.setswitchinterval(interval)
+
+    def test_is_ended_by_a_signal(self):
+        def interrupt(*_):
+            raise KeyboardInterrupt
+
+        count = 3_000_000
+        texts, nanos, printed = ["1s"] * count, array("Q", bytes(8 * count)), []
+        limits = _native.limits(parts=11, largest="y", smallest="ns", style="short")
+        before = signal.signal(signal.SIGVTALRM, interrupt)
+        try:
+            for call, arguments in [
+                (_native.read_list, (texts, nanos, 0, True, 0, None)),
+                (_native.format_list, ([SECOND] * count, None, printed, limits)),
+            ]:
+                with self.assertRaises(KeyboardInterrupt):
+                    signal.setitimer(signal.ITIMER_VIRTUAL, 0.005)
+                    call(*arguments)
+        finally:
+            signal.setitimer(signal.ITIMER_VIRTUAL, 0)
+            signal.signal(signal.SIGVTALRM, before)
+        self.assertEqual(nanos[-1], 0)
+        self.assertLess(len(printed), count)
 
     def test_skips_bytes_outside(self):
         self.assertEqual(

@@ -397,6 +397,17 @@ static PyObject *limits(
     return Py_BuildValue("(IIII)", limits.units[0], limits.units[1], limits.parts, limits.style);
 }
 
+/* After so many values of a column other threads may run, and a signal may end the call. It takes
+ * less than a millisecond to read or print them. */
+static const Py_ssize_t A_TURN = 4096;
+
+/* Lets other threads run. Returns -1 with an error if a signal has raised one. */
+static int end_turn(void) {
+    Py_BEGIN_ALLOW_THREADS;
+    Py_END_ALLOW_THREADS;
+    return PyErr_CheckSignals();
+}
+
 /* format_list(values, function, texts, limits): appends to `texts` the text of each value, so that
  * its length tells where an error stands. The function is called with what is neither int nor
  * timedelta. */
@@ -412,7 +423,7 @@ static PyObject *format_list(PyObject *self, PyObject *arguments) {
         const int failed = !text || PyList_Append(texts, text);
         Py_DECREF(value);
         Py_XDECREF(text);
-        if (failed)
+        if (failed || ((at + 1) % A_TURN == 0 && end_turn()))
             return NULL;
     }
     Py_RETURN_NONE;
@@ -540,7 +551,8 @@ static PyObject *read_list(PyObject *self, PyObject *arguments) {
     if (Py_IsNone(list.function))
         list.function = NULL;
     for (Py_ssize_t at = 0; refused && at < length_of(&list); at++)
-        if (read_value(state, &list, at, refused, &missing))
+        if (read_value(state, &list, at, refused, &missing) ||
+            ((at + 1) % A_TURN == 0 && end_turn()))
             Py_CLEAR(refused);
     if (refused && list.raises && raise_first(state, &list, refused))
         Py_CLEAR(refused);
