@@ -1,12 +1,16 @@
 // Times of the package for JavaScript over the lines of the standard input: a line for each call
 // with what it is, a tab, and the nanoseconds a call, the least of many rounds, which are short, so
 // that some run undisturbed.
-import { readFileSync } from "node:fs";
+import { existsSync, readFileSync } from "node:fs";
+import { createRequire } from "node:module";
 
-import { DurationError, formatNs, parseNs, parse } from "../js/dist/duration-str.js";
+import { DurationError, format, formatNs, parseNs, parse } from "../js/dist/duration-str.js";
 import { parse as parsePlain } from "../js/dist/plain.js";
 
 const ROUNDS = 2_500;
+const HALF_HOUR = 1_800_000;
+/** Debian's package node-ms; without it, its lines are left out. */
+const MS = "/usr/share/nodejs/ms/index.js";
 
 const texts = readFileSync(0, "utf8").trimEnd().split("\n");
 const values = texts.map((text) => parseNs(text));
@@ -20,6 +24,15 @@ function refuse(text) {
     throw new Error(`not refused: ${text}`);
 }
 
+const counts = Array.from({ length: 1000 }, (_, count) => count);
+const oneTerm = counts.map((count) => `${count % 60} ${["s", "min", "h", "d"][count % 4]}`);
+const halfHours = counts.map((count) => (1 + count % 47) * HALF_HOUR);
+const ms = existsSync(MS) ? createRequire(import.meta.url)(MS) : undefined;
+const OF_MS = [
+    ["`ms` of one term", (text) => ms(text), oneTerm],
+    ["`ms` of half hours, which it rounds to a unit", (length) => ms(length), halfHours],
+];
+
 /** The calls, and what each is called with. */
 const calls = [
     ["`parseNs`", (text) => parseNs(text), texts],
@@ -31,6 +44,9 @@ const calls = [
         refuse,
         Array(100).fill("1m 3-5"),
     ],
+    ["`parse` of one term, such as `5 min`", (text) => parse(text), oneTerm],
+    ["`format` of half hours, such as `13h 30min`", (length) => format(length), halfHours],
+    ...(ms ? OF_MS : []),
 ];
 
 function nanosecondsACall(call, inputs) {
