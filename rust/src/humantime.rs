@@ -290,7 +290,8 @@ impl FormattedDuration {
     }
 }
 
-/// The length of the longest text, `584542046089years 11months 30days 23h 59m 59s 999ms 999us 999ns`.
+/// The length of the longest text:
+/// `584542046089years 11months 30days 23h 59m 59s 999ms 999us 999ns`.
 const MAX_LEN: usize = 64;
 
 /// Appends a number. `write!` takes twice as many instructions.
