@@ -102,11 +102,12 @@ def read(data, options):
     text = (
         text if len(text) < 10_000 else text.strip(BLANKS)
     )  # The blanks around a long one would take long.
+    is_unit_required = "from" in options or "require-unit" in options
     answer = reference.answer_of(
-        text, reference.Options(False, "lowercase" in options, "cn-unit" in options)
+        text,
+        reference.Options(False, "lowercase" in options, "cn-unit" in options),
+        None if is_unit_required else reference.SECOND,
     )
-    if "from" in options or "require-unit" in options:
-        answer = reference.with_units(text, answer)
     if answer.cause == "read":
         return answer.value
     column = answer.place + 1 if answer.cause == "syntax" else None

@@ -152,20 +152,23 @@ def terminal_of(token, options):
 # ---- Sentences
 
 
-def is_sentence(kinds, options):
+# `default_unit` is the length of the unit of a bare number, one without a unit; None where each number must
+# have its unit.
+
+
+def is_sentence(kinds, options, default_unit=SECOND):
     """Whether these kinds of terminals, in order, are a sentence, by the rules of the grammar."""
     match kinds:
-        case ["number"] | ["number", "unit"]:
+        case ["number"]:
+            return default_unit is not None
+        case ["number", "unit"]:
             return True
-        case ["number", "operator", *rest] | [
-            "number",
-            "unit",
-            "operator",
-            *rest,
-        ] if not options.no_calc:
-            return is_sentence(rest, options)
+        case ["number", "operator", *rest] if default_unit is not None and not options.no_calc:
+            return is_sentence(rest, options, default_unit)
+        case ["number", "unit", "operator", *rest] if not options.no_calc:
+            return is_sentence(rest, options, default_unit)
         case ["number", "unit", *rest]:
-            return is_sentence(rest, options)
+            return is_sentence(rest, options, default_unit)
     return False
 
 
@@ -173,14 +176,15 @@ KINDS = ("number", "unit", "operator")
 
 
 @functools.lru_cache(1 << 20)
-def begins_sentence(kinds, options):
+def begins_sentence(kinds, options, default_unit):
     """Whether some sentence has these kinds of terminals in front.
 
-    A rule of the grammar asks for at most a number after what it has read, so if any sentence goes
-    on after them, one does with a single terminal.
+    A rule of the grammar asks for at most a number and a unit after what it has read, so if any
+    sentence goes on after them, one does with one or two terminals.
     """
-    return is_sentence(list(kinds), options) or any(
-        is_sentence([*kinds, kind], options) for kind in KINDS
+    return is_sentence(list(kinds), options, default_unit) or any(
+        is_sentence([*kinds, *more], options, default_unit)
+        for more in (*((kind,) for kind in KINDS), ("number", "unit"))
     )
 
 
@@ -209,7 +213,7 @@ def list_of(pairs):
     return items
 
 
-def sentences(text, options):
+def sentences(text, options, default_unit):
     """All sentences that spell the text: each way to split it into blanks and terminals that the
     grammar allows.
 
@@ -219,7 +223,7 @@ def sentences(text, options):
     """
     whole, after_number, after_unit = (
         [()] * len(text) + [[]],
-        [()] * len(text) + [[()]],
+        [()] * len(text) + [[] if default_unit is None else [()]],
         [()] * len(text) + [[()]],
     )
     # `no_calc` tells sentences apart, but neither terminals nor tokens.
@@ -240,7 +244,8 @@ def sentences(text, options):
                 units += [(terminal, rest) for rest in after_unit[end]]
             elif not options.no_calc:
                 signs += [(terminal, rest) for rest in whole[end]]
-        whole[at], after_number[at], after_unit[at] = numbers, units + signs, numbers + signs
+        whole[at], after_unit[at] = numbers, numbers + signs
+        after_number[at] = units if default_unit is None else units + signs
     return [tuple(list_of(pairs)) for pairs in whole[0]]
 
 
@@ -286,25 +291,25 @@ class Front(typing.NamedTuple):
         return tuple(terminal.kind for terminal in self.terminals)
 
 
-def front_of(text, options):
+def front_of(text, options, default_unit):
     (tokens,) = token_lists(text, options._replace(no_calc=False))
     terminals = ()
     for token in tokens:
         terminal = terminal_of(token[1], options)
         kinds = (*(terminal.kind for terminal in terminals), terminal.kind) if terminal else ()
-        if terminal is None or not begins_sentence(kinds, options):
+        if terminal is None or not begins_sentence(kinds, options, default_unit):
             return Front(terminals, token)
         terminals = (*terminals, terminal)
     return Front(terminals, None)
 
 
-def syntax_fault(text, front, options):
+def syntax_fault(text, front, options, default_unit):
     """The fault that is after the front; None where the front is all of the text, and a
     sentence."""
-    ends = is_sentence(list(front.kinds()), options)
+    ends = is_sentence(list(front.kinds()), options, default_unit)
     if front.next is None and ends:
         return None
-    expected = {kind for kind in KINDS if begins_sentence((*front.kinds(), kind), options)}
+    expected = {kind for kind in KINDS if begins_sentence((*front.kinds(), kind), options, default_unit)}
     place, found = front.next or (len(text), "")
     return Answer(
         "syntax",
@@ -333,14 +338,14 @@ class Term(typing.NamedTuple):
         return "overflow" if self.value() >= LIMIT else None
 
 
-def terms_of(terminals):
-    """The terms of a sentence, or of the beginning of one; a number without unit is in seconds."""
+def terms_of(terminals, default_unit):
+    """The terms of a sentence, or of the beginning of one whose last number may lack its unit."""
     terms = []
     operator = "+"
     for at, terminal in enumerate(terminals):
         if terminal.kind == "number":
             unit = terminals[at + 1 : at + 2]
-            length = unit[0].what if unit and unit[0].kind == "unit" else SECOND
+            length = unit[0].what if unit and unit[0].kind == "unit" else default_unit or 0
             terms.append(Term(int(terminal.what), length, operator))
             operator = "+"
         elif terminal.kind == "operator":
@@ -379,28 +384,29 @@ def evaluation_fault(terms):
     return Answer("overflow") if value_of(terms) >= LIMIT else None
 
 
-def first_term_fault(front):
-    """The fault of the first term, where that stands: with its unit, or before an operator, or
-    before the end.
+def first_term_fault(front, default_unit):
+    """The fault of the first term, where that stands: with its unit, or, a bare number, before an
+    operator or the end.
     """
     kinds = front.kinds()
     if (
         kinds[:2] in (("number", "unit"), ("number", "operator"))
         or kinds == ("number",)
         and front.next is None
+        and default_unit is not None
     ):
-        fault = terms_of(front.terminals)[0].fault()
+        fault = terms_of(front.terminals, default_unit)[0].fault()
         return Answer(fault, place=0) if fault else None
     return None
 
 
-def standing_fault(front):
+def standing_fault(front, default_unit):
     """Under `no_calc`: the first fault of the terms that stand: with their unit, or, the last one,
-    before the end.
+    a bare number, before the end.
     """
     kinds = front.kinds()
-    terms = terms_of(front.terminals)
-    if kinds[-1:] == ("number",) and front.next is not None:
+    terms = terms_of(front.terminals, default_unit)
+    if kinds[-1:] == ("number",) and (front.next is not None or default_unit is None):
         terms.pop()
     for count, term in enumerate(terms, 1):
         fault = term.fault()
@@ -414,7 +420,7 @@ def standing_fault(front):
 # ---- What a text is read as, and what is told of it
 
 
-def answer_of(text, options):
+def answer_of(text, options, default_unit=SECOND):
     """What the text is read as under these options, or the refusal that comes first.
 
     Folding does nothing where no capital is, and the Chinese names have Chinese letters alone, so
@@ -422,33 +428,23 @@ def answer_of(text, options):
     """
     folds = options.lowercase and text != text.translate(FOLDED)
     knows = options.cn_unit and any(character in CHINESE for character in text)
-    return computed_answer(text, options._replace(lowercase=folds, cn_unit=knows))
-
-
-def with_units(text, answer):
-    """The answer where each number must have its unit: a text that is read is refused where the
-    first one is missing.
-    """
-    missing = re.search(rf"[0-9][{BLANKS}]*([+*]|\Z)", text)
-    if answer.cause != "read" or not missing:
-        return answer
-    return Answer("syntax", place=missing.start(1), expected=frozenset({"unit"}), found=missing[1])
+    return computed_answer(text, options._replace(lowercase=folds, cn_unit=knows), default_unit)
 
 
 @functools.lru_cache(1 << 16)
-def computed_answer(text, options):
+def computed_answer(text, options, default_unit):
     if not text:
         return Answer("empty")
-    front = front_of(text, options)
-    spelled = sentences(text, options)
+    front = front_of(text, options, default_unit)
+    spelled = sentences(text, options, default_unit)
     assert len(spelled) <= 1, text
-    fault = syntax_fault(text, front, options)
+    fault = syntax_fault(text, front, options, default_unit)
     assert (fault is None) == bool(spelled), text
-    early = standing_fault(front) if options.no_calc else first_term_fault(front)
+    early = standing_fault(front, default_unit) if options.no_calc else first_term_fault(front, default_unit)
     if early or fault:
         return early or fault
     assert spelled[0] == front.terminals, text
-    terms = terms_of(spelled[0])
+    terms = terms_of(spelled[0], default_unit)
     return (None if options.no_calc else evaluation_fault(terms)) or Answer(
         "read", value=value_of(terms)
     )

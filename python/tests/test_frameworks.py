@@ -139,8 +139,10 @@ class Models(unittest.TestCase):
         )
         for text, line in [
             ("90", "expected a unit at column 3, found the end"),
+            ("1h 30 + 5x", "expected a unit at column 7, found \"\\+\""),
             ("", "empty text"),
-            ("9" * 99_999, "number of"),
+            ("9" * 99_999, "expected a unit at column 100000, found the end"),
+            ("9" * 99_999 + "s", "number of"),
         ]:
             with self.assertRaisesRegex(self.pydantic.ValidationError, line):
                 adapter.validate_python(text)

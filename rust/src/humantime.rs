@@ -39,12 +39,12 @@
 use crate::Fault;
 use crate::formatted::pad;
 use crate::human_duration::written_as_text;
-use crate::parser::CASE_SENSITIVE;
+use crate::parser::{CASE_SENSITIVE, parse_with_default_unit};
 use alloc::string::{String, ToString};
 use alloc::vec::Vec;
 use core::fmt;
 use core::time::Duration as StdDuration;
-use duration_str_core::{self as proved, Cause, Options, TimeUnit, Tokens};
+use duration_str_core::{self as proved, Cause, TimeUnit, Tokens};
 
 pub use crate::DurationError;
 
@@ -79,31 +79,8 @@ pub(crate) fn read(text: &str) -> Result<StdDuration, Fault<'_>> {
 /// one that is refused, and for some in Chinese.
 #[inline]
 fn sum_of(text: &str) -> Option<u64> {
-    match read_with(text, true) {
-        Ok(nanos) if has_last_unit(text) => nanos.checked_add(longer_by(text, nanos)?),
-        _ => None,
-    }
-}
-
-/// Reads a text by the proved reader, where capitals and small letters differ. It is compiled for
-/// this option alone, which makes it faster, and programs get no other reader.
-#[inline(never)]
-fn read_with(text: &str, no_calc: bool) -> Result<u64, proved::Fault<'_>> {
-    let options = Options {
-        no_calc,
-        ..CASE_SENSITIVE
-    };
-    proved::parse_nanos(text, options)
-}
-
-/// Whether a text that is read ends with a unit. No other one can be missing where no operators are
-/// read.
-#[inline]
-fn has_last_unit(text: &str) -> bool {
-    text.trim_ascii_end()
-        .bytes()
-        .next_back()
-        .is_some_and(|last| !last.is_ascii_digit())
+    let nanos = proved::parse_nanos(text, CASE_SENSITIVE.with_no_calc(), None).ok()?;
+    nanos.checked_add(longer_by(text, nanos)?)
 }
 
 /// By how many nanoseconds a sum without operators is longer here than in the rest of this crate,
@@ -175,10 +152,10 @@ fn own_name(name: &str) -> Option<&'static str> {
 fn read_other(text: &str) -> Result<StdDuration, Fault<'_>> {
     let mut tokens = Tokens::new(text, CASE_SENSITIVE);
     if !has_longer(text) && !tokens.any(|token| own_name(token.text).is_some()) {
-        return with_units(text);
+        return parse_with_default_unit(text, CASE_SENSITIVE, None);
     }
     let rewritten = Rewritten::of(text);
-    with_units(&rewritten.text).map_err(|fault| {
+    parse_with_default_unit(&rewritten.text, CASE_SENSITIVE, None).map_err(|fault| {
         let cause = match fault.cause() {
             Cause::Syntax { place, expected } => Cause::Syntax {
                 place: rewritten.place_in(text, place),
@@ -188,16 +165,6 @@ fn read_other(text: &str) -> Result<StdDuration, Fault<'_>> {
         };
         Fault::of(text, cause, CASE_SENSITIVE)
     })
-}
-
-/// As the proved call of this name, but programs get only one of its readers.
-#[inline(never)]
-fn with_units(text: &str) -> Result<StdDuration, Fault<'_>> {
-    let read = match (read_with(text, false), proved::unit_fault(text)) {
-        (Ok(nanos), None) => Ok(StdDuration::from_nanos(nanos)),
-        (Ok(_), Some(fault)) | (Err(fault), _) => Err(fault),
-    };
-    read.map_err(|fault| Fault::new(fault, CASE_SENSITIVE))
 }
 
 /// A text as the rest of this crate means it: each token of the text that was written, and a blank

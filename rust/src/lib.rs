@@ -223,7 +223,7 @@ pub use human_format::HumanFormat;
 pub use parser::parse_chrono;
 #[cfg(feature = "time")]
 pub use parser::parse_time;
-pub use parser::{parse, parse_duration, parse_std, parse_with};
+pub use parser::{parse, parse_with_default_unit, parse_duration, parse_std, parse_with};
 #[cfg(feature = "serde")]
 #[allow(deprecated)]
 pub use serde_texts::{DeserializeDuration, deserialize_duration, deserialize_option_duration};

@@ -1,9 +1,8 @@
 //! Reading, where each number must have its unit.
 use crate::error::DurationError;
 use crate::fault::Fault;
-use crate::parser::ADDITIONS;
+use crate::parser::{ADDITIONS, parse_with_default_unit};
 use core::time::Duration;
-use duration_str_core::{self as proved, Options};
 
 /// Reads a text as [`parse_duration`](crate::parse_duration) does, but refuses a number without a
 /// unit.
@@ -25,10 +24,5 @@ use duration_str_core::{self as proved, Options};
 /// # Ok::<(), DurationError>(())
 /// ```
 pub fn parse_with_units(input: &str) -> Result<Duration, DurationError> {
-    with_units(input, ADDITIONS).map_err(Fault::into_owned)
-}
-
-/// Reads a text under these options, by which each number must have its unit.
-pub(crate) fn with_units(input: &str, options: Options) -> Result<Duration, Fault<'_>> {
-    proved::parse_with_units(input, options).map_err(|fault| Fault::new(fault, options))
+    parse_with_default_unit(input, ADDITIONS, None).map_err(Fault::into_owned)
 }

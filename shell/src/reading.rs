@@ -1,6 +1,6 @@
 //! Reading by the library, and why a text is refused.
 use crate::options::{Choices, Round};
-use duration_str::{Fault, Options, TimeUnit, parse_with, parse_with_units};
+use duration_str::{Fault, Options, TimeUnit, parse_with_default_unit};
 use serde_json::json;
 
 /// Why a text is refused. For a syntax fault there are its place, what stands there, and the text
@@ -67,12 +67,9 @@ pub fn read<'a>(bytes: &'a [u8], choices: &Choices) -> Result<(&'a str, u64), Re
         cn_unit: choices.cn_unit,
         ..Options::off()
     };
-    let duration = parse_with(text, options)?;
-    if choices.require_unit || choices.from.is_some() {
-        // What is read under any options is refused here only if a unit is missing.
-        parse_with_units(text).map_err(|error| Refusal::from(error.as_fault()))?;
-    }
-    Ok((text, duration.as_nanos() as u64))
+    let is_unit_required = choices.require_unit || choices.from.is_some();
+    let default_unit = (!is_unit_required).then_some(TimeUnit::Second);
+    Ok((text, parse_with_default_unit(text, options, default_unit)?.as_nanos() as u64))
 }
 
 /// A text without blanks that is a bare number of this unit, such as `12.5`, `.5` or `1.2e-05`, and

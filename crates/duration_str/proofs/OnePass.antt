@@ -3,5 +3,3 @@ pub mod PlaceLemmas
 pub mod ReaderLemmas
 pub mod TermsLemmas
 pub mod EvaluationLemmas
-pub mod MissingLemmas
-pub mod GapLemmas

@@ -1,13 +1,10 @@
 -- Worked examples, computed: what texts are read as, why others are refused, and what durations print as.
-use Rattle.duration_str.proofs.Common.{answer, Bool, codes, Compact, counts_of, Empty, encode_utf8_all, Err, Expected, false, flat_map, length, List, Long, map, MAX_LONG_LEN, MAX_PRINTED_LEN, message_of, Mixed, None, NumberTooLarge, off, Ok, older_row_of, older_unit_of_word, Options, OutOfRange, Overflow, Plus, printed_counts, Quarter, refl, replicate, row_of, Short, Some, Star, Style, Syntax, TimeUnit, true, unit_lengths, unit_of_word, units, [], ℕ, ◌++◌, ◌∷◌, ◌≡◌}
+use Rattle.duration_str.proofs.Common.{answer, answer_with, Bool, Cause, codes, Compact, counts_of, Empty, encode_utf8_all, Err, Expected, false, flat_map, length, List, Long, map, MAX_LONG_LEN, MAX_PRINTED_LEN, message_of, Mixed, None, NumberTooLarge, off, Ok, older_row_of, older_unit_of_word, Options, OutOfRange, Overflow, Plus, printed_counts, Quarter, refl, replicate, Result, row_of, Short, Some, Star, Style, Syntax, TimeUnit, true, unit_lengths, unit_of_word, units, [], ℕ, ◌++◌, ◌∷◌, ◌≡◌}
 use Rattle.duration_str.specs.declared.format.Format.{Format}
-use Rattle.duration_str.specs.declared.unit.TimeUnit.TheVariants.{Day, Hour, Minute}
+use Rattle.duration_str.specs.declared.unit.TimeUnit.TheVariants.{Day, Hour, MilliSecond, Minute, Year}
 use Rattle.duration_str.specs.Limits.{counts_within, lengths_within, text_within, whole_format}
 use Rattle.duration_str.specs.OneLine.{is_letter, is_plain, one_line_of}
 use Rattle.duration_str.specs.Report.{report_of}
-use Rattle.duration_str.specs.Place.{terminals_of}
-use Rattle.duration_str.specs.WithUnits.{expected_unit, HasUnits, LacksUnit}
-use Rattle.duration_str.proofs.OnePass.MissingLemmas.{has_units, lacks_unit}
 use Rattle.duration_str.proofs.Characters.UnitLemmas.{Each}
 use Rattle.duration_str.specs.Text.{width}
 use Rattle.std.specs.Fmt.{digits}
@@ -41,6 +38,10 @@ after_number-no_calc = record { number = false; unit_word = true; operator = fal
 
 abbrev after_unit-no_calc : Expected
 after_unit-no_calc = record { number = true; unit_word = false; operator = false; text_end = true }
+
+-- what can stand after a number that must have a unit
+abbrev unit_alone : Expected
+unit_alone = record { number = false; unit_word = true; operator = false; text_end = false }
 
 -- ---- What texts are read as, and why others are refused
 
@@ -206,16 +207,46 @@ pub printed_texts : PrintedTexts
 unfolding chars digits encode
 printed_texts = assumption
 
--- ---- Where a unit is missing
+-- ---- The default unit
 
-pub missing-end : LacksUnit off (codes "1h 30") (Syntax 5 expected_unit)
-missing-end = lacks_unit off (codes "1h 30") refl
+abbrev in_milliseconds : List ℕ → Result ℕ Cause
+in_milliseconds = answer_with (Some MilliSecond) off
 
-pub missing-first : LacksUnit off (codes "5 + 1h 30") (Syntax 2 expected_unit)
-missing-first = lacks_unit off (codes "5 + 1h 30") refl
+abbrev with_units : List ℕ → Result ℕ Cause
+with_units = answer_with None off
 
-pub missing-nowhere : HasUnits (terminals_of off (codes "1h30m * 2 s"))
-missing-nowhere = has_units off (codes "1h30m * 2 s") refl
+pub record DefaultUnits : Type 0 where
+  -- ---- Another default unit
+  pub milliseconds-alone : in_milliseconds (codes "1500") ≡ Ok 1_500_000_000
+  pub milliseconds-last : in_milliseconds (codes "1s 500") ≡ Ok 1_500_000_000
+  pub milliseconds-greatest : in_milliseconds (codes "18446744073709") ≡ Ok 18_446_744_073_709_000_000
+  pub milliseconds-overflow : in_milliseconds (codes "18446744073710") ≡ Err (Overflow (Some 0))
+  pub milliseconds-product : in_milliseconds (codes "2*3") ≡ Ok 6_000
+  -- a factor is a length too
+  pub milliseconds-factor : in_milliseconds (codes "90s*2") ≡ Ok 180_000_000
+  pub milliseconds-two_numbers : in_milliseconds (codes "1 2") ≡ Err (Syntax 2 after_number)
+  pub milliseconds-later_overflow : in_milliseconds (codes "1+18446744073710") ≡ Err (Overflow None)
+  pub years : answer_with (Some Year) off (codes "2") ≡ Ok 63_072_000_000_000_000
+  -- ---- No default unit: each number must have its unit
+  pub required-each : with_units (codes "1h30m 2 s") ≡ Ok 5_402_000_000_000
+  pub required-end : with_units (codes "1h 30") ≡ Err (Syntax 5 unit_alone)
+  pub required-first_end : with_units (codes "1") ≡ Err (Syntax 1 unit_alone)
+  pub required-before_minus : with_units (codes "90 -") ≡ Err (Syntax 3 unit_alone)
+  pub required-before_later_plus : with_units (codes "1h 30 + 5x") ≡ Err (Syntax 6 unit_alone)
+  pub required-before_plus : with_units (codes "1 + 2x") ≡ Err (Syntax 2 unit_alone)
+  pub required-before_star : with_units (codes "1s+2*3") ≡ Err (Syntax 4 unit_alone)
+  pub required-before_word : with_units (codes "5x") ≡ Err (Syntax 1 unit_alone)
+  pub required-after_unit : with_units (codes "5s x") ≡ Err (Syntax 3 after_unit)
+  pub required-large_number_stands_not : with_units (codes "99999999999999999999") ≡ Err (Syntax 20 unit_alone)
+  pub required-first_term_before_end : with_units (codes "99999999999999999999h 5")
+      ≡ Err (NumberTooLarge (Some 0))
+  pub required-overflow_before_end : with_units (codes "600y 30") ≡ Err (Overflow (Some 0))
+  pub required-sum_after_end : with_units (codes "580y 580y 5") ≡ Err (Syntax 11 unit_alone)
+  pub required-no_calc : answer_with None with_no_calc (codes "580y 580y 5") ≡ Err (Overflow None)
+  pub required-no_calc_plus : answer_with None with_no_calc (codes "1+2s") ≡ Err (Syntax 1 unit_alone)
+
+pub default_units : DefaultUnits
+default_units = assumption
 
 -- ---- Within limits
 
@@ -341,7 +372,7 @@ pub record Lines : Type 0 where
       ≡ codes "expected a number at column 6, found \",\""
   pub line-and : one_line_of (codes "1h And 30m") (Syntax 3 after_unit-no_calc)
       ≡ codes "expected a number or the end at column 4, found \"And\" (one duration is read, without \",\" or \"and\")"
-  pub line-unit_alone : one_line_of (codes "1h 30") (Syntax 5 expected_unit)
+  pub line-unit_alone : one_line_of (codes "1h 30") (Syntax 5 unit_alone)
       ≡ codes "expected a unit at column 6, found the end"
   pub line-and_a_unit : one_line_of (codes "5 & 3") (Syntax 2 after_number)
       ≡ codes "expected a unit, '+', '*' or the end at column 3, found \"&\""
@@ -375,7 +406,7 @@ pub record Classes : Type 0 where
   pub widths : map width (
       0x7F ∷ 0x80 ∷ 0x7FF ∷ 0x800 ∷ 0xD7FF ∷ 0xD800 ∷ 0xDFFF ∷ 0xE000 ∷ 0xFFFF ∷ 0x10000 ∷ 0x110000 ∷ [])
       ≡ 1 ∷ 2 ∷ 2 ∷ 3 ∷ 3 ∷ 4 ∷ 4 ∷ 3 ∷ 3 ∷ 4 ∷ 4 ∷ []
-  pub unit_alone : expected_unit
+  pub unit_alone : unit_alone
       ≡ record { number = false; unit_word = true; operator = false; text_end = false }
 
 pub classes : Classes

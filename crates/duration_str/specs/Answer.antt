@@ -1,6 +1,8 @@
 -- The answer to a text, computed by the table of what may follow.
 use Rattle.std.specs.Prelude.{ℕ, suc, Bool, true, false, ◌&&◌, not, List, [], ◌∷◌, Option, Some, None, is_some, Result, Ok, Err, take, drop, if◌then◌else◌, unwrap_or}
 use Rattle.duration_str.specs.declared.options.Options.{Options}
+use Rattle.duration_str.specs.declared.unit.TimeUnit.{TimeUnit}
+use Rattle.duration_str.specs.declared.unit.TimeUnit.TheVariants.{Second}
 use Rattle.duration_str.specs.declared.cause.Cause.{Cause}
 use Rattle.duration_str.specs.declared.cause.Cause.TheVariants.{Empty, Syntax}
 use Rattle.duration_str.specs.declared.cause.Expected.{Expected}
@@ -16,21 +18,28 @@ use Rattle.duration_str.specs.Reading.{early_fault, late_fault}
 abbrev pub expected_at_start : Expected
 expected_at_start = record { number = true; unit_word = false; operator = false; text_end = false }
 
--- what may follow a number
-abbrev pub expected_after_number : Bool → Expected
-expected_after_number no_calc = record { number = false; unit_word = true; operator = not no_calc; text_end = true }
+-- what may follow a number: without a default unit, only its unit
+abbrev pub expected_after_number : Option TimeUnit → Bool → Expected
+expected_after_number default_unit no_calc =
+    record {
+      number = false;
+      unit_word = true;
+      operator = is_some default_unit && not no_calc;
+      text_end = is_some default_unit;
+    }
 
 -- what may follow a unit
 abbrev pub expected_after_unit : Bool → Expected
 expected_after_unit no_calc = record { number = true; unit_word = false; operator = not no_calc; text_end = true }
 
 -- The table: what may follow a terminal, or start a text.
-abbrev pub expected_after : Bool → Option Terminal → Expected
-expected_after no_calc None = expected_at_start
-expected_after no_calc (Some (number n)) = expected_after_number no_calc
-expected_after no_calc (Some (word u)) = expected_after_unit no_calc
-expected_after no_calc (Some (operator op)) = expected_at_start
-expected_after no_calc (Some other) = record { number = false; unit_word = false; operator = false; text_end = false }
+abbrev pub expected_after : Option TimeUnit → Bool → Option Terminal → Expected
+expected_after default_unit no_calc None = expected_at_start
+expected_after default_unit no_calc (Some (number n)) = expected_after_number default_unit no_calc
+expected_after default_unit no_calc (Some (word u)) = expected_after_unit no_calc
+expected_after default_unit no_calc (Some (operator op)) = expected_at_start
+expected_after default_unit no_calc (Some other) =
+    record { number = false; unit_word = false; operator = false; text_end = false }
 
 -- whether the terminal is of an expected kind
 abbrev pub allows : Expected → Terminal → Bool
@@ -45,36 +54,44 @@ last_of last [] = last
 last_of last (terminal ∷ terminals) = last_of (Some terminal) terminals
 
 -- how many terminals after `last` the table allows
-abbrev pub front_after : Bool → Option Terminal → List Terminal → ℕ
-front_after no_calc last [] = 0
-front_after no_calc last (terminal ∷ terminals) =
-    if allows (expected_after no_calc last) terminal then suc (front_after no_calc (Some terminal) terminals) else 0
+abbrev pub front_after : Option TimeUnit → Bool → Option Terminal → List Terminal → ℕ
+front_after default_unit no_calc last [] = 0
+front_after default_unit no_calc last (terminal ∷ terminals) =
+    if allows (expected_after default_unit no_calc last) terminal
+    then suc (front_after default_unit no_calc (Some terminal) terminals)
+    else 0
 
 -- the length of the front, by the table
-abbrev pub front_of : Bool → List Terminal → ℕ
-front_of no_calc terminals = front_after no_calc None terminals
+abbrev pub front_of : Option TimeUnit → Bool → List Terminal → ℕ
+front_of default_unit no_calc terminals = front_after default_unit no_calc None terminals
 
 -- whether the front is all the terminals, and a sentence
-abbrev pub is_whole : Bool → List Terminal → List Terminal → Bool
-is_whole no_calc front [] = (expected_after no_calc (last_of None front)).text_end
-is_whole no_calc front (terminal ∷ rest) = false
+abbrev pub is_whole : Option TimeUnit → Bool → List Terminal → List Terminal → Bool
+is_whole default_unit no_calc front [] = (expected_after default_unit no_calc (last_of None front)).text_end
+is_whole default_unit no_calc front (terminal ∷ rest) = false
 
 -- the answer to a sentence, given its evaluation's fault or `None`; without one there is a value, so 0 is never taken
-abbrev pub late_answer : Option Cause → List Terminal → Result ℕ Cause
-late_answer fault terminals = fault_or fault (Ok (unwrap_or (value_of (terms_of terminals)) 0))
+abbrev pub late_answer : Option TimeUnit → Option Cause → List Terminal → Result ℕ Cause
+late_answer default_unit fault terminals =
+    fault_or fault (Ok (unwrap_or (value_of (terms_of default_unit terminals)) 0))
 
 -- the answer to this front and this rest, which starts at byte `place`
-abbrev pub answer_at : Bool → ℕ → List Terminal → List Terminal → Result ℕ Cause
-answer_at no_calc place front rest =
-    fault_or (early_fault no_calc front rest)
-    (if is_whole no_calc front rest then late_answer (late_fault no_calc front) front
-    else Err (Syntax place (expected_after no_calc (last_of None front))))
+abbrev pub answer_at : Option TimeUnit → Bool → ℕ → List Terminal → List Terminal → Result ℕ Cause
+answer_at default_unit no_calc place front rest =
+    fault_or (early_fault default_unit no_calc front rest)
+    (if is_whole default_unit no_calc front rest
+    then late_answer default_unit (late_fault default_unit no_calc front) front
+    else Err (Syntax place (expected_after default_unit no_calc (last_of None front))))
 
--- the value in nanoseconds, or the cause of the refusal
-abbrev pub answer : Options → Characters → Result ℕ Cause
-answer o [] = Err Empty
-answer o (c ∷ text) =
+-- with this default unit the value in nanoseconds, or the cause of the refusal
+abbrev pub answer_with : Option TimeUnit → Options → Characters → Result ℕ Cause
+answer_with default_unit o [] = Err Empty
+answer_with default_unit o (c ∷ text) =
     let terminals = terminals_of o (c ∷ text) in
-    let n = front_of o.no_calc terminals in
-    answer_at o.no_calc (start_after n (byte_len (c ∷ text)) (tokens_of o (c ∷ text)))
+    let n = front_of default_unit o.no_calc terminals in
+    answer_at default_unit o.no_calc (start_after n (byte_len (c ∷ text)) (tokens_of o (c ∷ text)))
     (take n terminals) (drop n terminals)
+
+-- the same with the second
+abbrev pub answer : Options → Characters → Result ℕ Cause
+answer o text = answer_with (Some Second) o text

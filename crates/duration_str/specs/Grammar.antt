@@ -1,8 +1,9 @@
 -- Terminals, sentences, and the texts that a sentence spells.
-use Rattle.std.specs.Prelude.{◌≡◌, ℕ, Bool, false, List, [], ◌∷◌, ◌++◌, Option, Some, None, if◌then◌else◌, map, ⊤}
+use Rattle.std.specs.Prelude.{◌≡◌, ℕ, Bool, false, List, [], ◌∷◌, ◌++◌, Option, Some, None, IsSome, if◌then◌else◌, map, ⊤}
 use Rattle.std.specs.List.{list_all}
 use Rattle.duration_str.specs.declared.options.Options.{Options}
 use Rattle.duration_str.specs.declared.unit.TimeUnit.{TimeUnit}
+use Rattle.duration_str.specs.declared.unit.TimeUnit.TheVariants.{Second}
 use Rattle.duration_str.specs.declared.operator.CondUnit.{CondUnit}
 use Rattle.duration_str.specs.Text.{Characters, is_digit, is_unit_letter, operator_of, IsBlank, number_of}
 use Rattle.duration_str.specs.Units.{unit_of_word}
@@ -37,14 +38,19 @@ abbrev pub terminal_of : Options → Characters → Terminal
 terminal_of o w = terminal_by unit_of_word o w
 
 -- S = Number | Number Unit | Number Op S | Number Unit Op S | Number Unit S;
--- under `no_calc` S = Number | Number Unit | Number Unit S
-abbrev pub IsSentence : Bool → List Terminal → Type 0
-IsSentence no_calc (number n ∷ []) = ⊤
-IsSentence no_calc (number n ∷ operator op ∷ more) = (no_calc ≡ false) × IsSentence no_calc more
-IsSentence no_calc (number n ∷ word (Some u) ∷ []) = ⊤
-IsSentence no_calc (number n ∷ word (Some u) ∷ operator op ∷ more) = (no_calc ≡ false) × IsSentence no_calc more
-IsSentence no_calc (number n ∷ word (Some u) ∷ number m ∷ more) = IsSentence no_calc (number m ∷ more)
-IsSentence no_calc _ = ⊥
+-- under `no_calc` S = Number | Number Unit | Number Unit S.
+-- A number without a unit has the default unit. Without a default unit each number has its unit:
+-- S = Number Unit | Number Unit Op S | Number Unit S
+abbrev pub IsSentence : Option TimeUnit → Bool → List Terminal → Type 0
+IsSentence default_unit no_calc (number n ∷ []) = IsSome default_unit
+IsSentence default_unit no_calc (number n ∷ operator op ∷ more) =
+    IsSome default_unit × (no_calc ≡ false) × IsSentence default_unit no_calc more
+IsSentence default_unit no_calc (number n ∷ word (Some u) ∷ []) = ⊤
+IsSentence default_unit no_calc (number n ∷ word (Some u) ∷ operator op ∷ more) =
+    (no_calc ≡ false) × IsSentence default_unit no_calc more
+IsSentence default_unit no_calc (number n ∷ word (Some u) ∷ number m ∷ more) =
+    IsSentence default_unit no_calc (number m ∷ more)
+IsSentence default_unit no_calc _ = ⊥
 
 -- The text is blanks, the lexeme, and a rest for which `IsRest` holds.
 pub record BeginsWith (lexeme : Characters) (IsRest : Characters → Type 0) (text : Characters) : Type 0 where
@@ -59,6 +65,11 @@ abbrev pub Spells : List Characters → Characters → Type 0
 Spells [] text = IsBlank text
 Spells (w ∷ lexemes) text = BeginsWith w (Spells lexemes) text
 
--- The lexemes are a sentence of the options' grammar, and spell the text.
+-- With this default unit the lexemes are a sentence of the options' grammar, and they spell the text.
+abbrev pub IsSentenceWith : Option TimeUnit → Options → List Characters → Characters → Type 0
+IsSentenceWith default_unit o lexemes text =
+    IsSentence default_unit o.no_calc (map (terminal_of o) lexemes) × Spells lexemes text
+
+-- The same with the second.
 abbrev pub IsSentenceOf : Options → List Characters → Characters → Type 0
-IsSentenceOf o lexemes text = IsSentence o.no_calc (map (terminal_of o) lexemes) × Spells lexemes text
+IsSentenceOf o lexemes text = IsSentenceWith (Some Second) o lexemes text

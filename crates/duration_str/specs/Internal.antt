@@ -5,4 +5,3 @@ pub mod Positions
 pub mod Steps
 pub mod Rest
 pub mod PrintedBytes
-pub mod Gaps

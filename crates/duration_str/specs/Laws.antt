@@ -1,5 +1,5 @@
 -- The laws, each as one statement about the definitions.
-use Rattle.std.specs.Prelude.{◌≡◌, ℕ, ◌+◌, ◌*◌, ◌/◌, ◌^◌, ◌<◌, ◌≤◌, Bool, true, false, if◌then◌else◌, List, [], ◌∷◌, ◌++◌, Some, None, is_some, map, ◌%◌, ⊤, ◌↔◌, ◌≢◌, take, drop, codes, encode_utf8_all, Ok, Err, ◌⊎◌, IsTrue, not, ◌==◌, length}
+use Rattle.std.specs.Prelude.{◌≡◌, ℕ, ◌+◌, ◌*◌, ◌/◌, ◌^◌, ◌<◌, ◌≤◌, Bool, true, false, if◌then◌else◌, List, [], ◌∷◌, ◌++◌, Option, Some, None, is_some, map, ◌%◌, ⊤, ◌↔◌, ◌≢◌, take, drop, codes, encode_utf8_all, Ok, Err, ◌⊎◌, IsTrue, not, ◌==◌, length}
 use Rattle.std.specs.Char.{is_ascii_uppercase, to_ascii_lowercase}
 use Rattle.std.specs.List.{list_all}
 use Rattle.std.specs.Duration.{FitsDuration}
@@ -14,13 +14,13 @@ use Rattle.duration_str.specs.declared.cause.Expected.{Expected}
 use Rattle.duration_str.specs.Text.{Bytes, Characters, operator_of, is_chinese, IsBlank, is_blank, byte_len}
 use Rattle.duration_str.specs.Units.{UnitRow, row_of, unit_lengths, nanos_of, units, unit_of_word}
 use Rattle.duration_str.specs.OneLine.{is_among, near_name, near_words}
-use Rattle.duration_str.specs.Grammar.{Terminal, operator, IsSentence, IsSentenceOf, Spells, terminal_of}
+use Rattle.duration_str.specs.Grammar.{Terminal, operator, IsSentence, IsSentenceOf, IsSentenceWith, Spells, terminal_of}
 use Rattle.duration_str.specs.Tokens.{Token, tokens_of, lexemes_of, are_of_one_run, goes_on}
 use Rattle.duration_str.specs.Place.{BeginsSentence, CanFollow, IsFront}
-use Rattle.duration_str.specs.Value.{Term, value_of_term, written_terms, second}
-use Rattle.duration_str.specs.Reading.{IsRead, IsRefused}
+use Rattle.duration_str.specs.Value.{Term, value_of_term, terms_with, second}
+use Rattle.duration_str.specs.Reading.{IsRead, IsReadWith, IsRefused, IsRefusedWith}
 use Rattle.duration_str.specs.Messages.{EndsInsideLine, message_of, line_of}
-use Rattle.duration_str.specs.Answer.{answer, expected_after, last_of, front_of}
+use Rattle.duration_str.specs.Answer.{answer_with, expected_after, last_of, front_of}
 use Rattle.duration_str.specs.Older.{older_row_of, older_terminals, older_unit_of_word, WasSentenceOf, WasRead, WasRefused}
 use Rattle.duration_str.specs.Printing.{IsPrintedIn, IsGreatestBreakdown, long_name, weighted_sum}
 use Rattle.duration_str.specs.declared.format.Format.{Format}
@@ -49,10 +49,10 @@ HasNoChinese text = IsTrue (list_all (λ c. not (is_chinese c)) text)
 
 -- Two sentences that spell a text are equal, and a sentence spells it exactly if its lexemes are those of its tokens.
 pub record OneSentence : Type 0 where
-  pub equal : (o : Options) (text : Characters) (lexemes others : List Characters)
-      → IsSentenceOf o lexemes text → IsSentenceOf o others text → lexemes ≡ others
-  pub tokens : (o : Options) (text : Characters) (lexemes : List Characters)
-      → IsSentence o.no_calc (map (terminal_of o) lexemes)
+  pub equal : (default_unit : Option TimeUnit) (o : Options) (text : Characters) (lexemes others : List Characters)
+      → IsSentenceWith default_unit o lexemes text → IsSentenceWith default_unit o others text → lexemes ≡ others
+  pub tokens : (default_unit : Option TimeUnit) (o : Options) (text : Characters) (lexemes : List Characters)
+      → IsSentence default_unit o.no_calc (map (terminal_of o) lexemes)
       → (Spells lexemes text ↔ (lexemes ≡ lexemes_of (tokens_of o text)))
 
 -- One character that is not a blank, or a run of digits or of unit letters.
@@ -89,59 +89,79 @@ pub record OneCut : Type 0 where
 
 -- A text is read as one value or refused for one cause, not both.
 pub record OneReading : Type 0 where
-  pub some : (o : Options) (text : Characters)
-      → ((nanos : ℕ) × IsRead o text nanos) ⊎ ((cause : Cause) × IsRefused o text cause)
-  pub one_value : (o : Options) (text : Characters) (m n : ℕ) → IsRead o text m → IsRead o text n → m ≡ n
-  pub one_cause : (o : Options) (text : Characters) (c d : Cause) → IsRefused o text c → IsRefused o text d → c ≡ d
-  pub not_both : (o : Options) (text : Characters) (nanos : ℕ) (cause : Cause)
-      → IsRead o text nanos → IsRefused o text cause → ⊥
+  pub some : (default_unit : Option TimeUnit) (o : Options) (text : Characters)
+      → ((nanos : ℕ) × IsReadWith default_unit o text nanos)
+      ⊎ ((cause : Cause) × IsRefusedWith default_unit o text cause)
+  pub one_value : (default_unit : Option TimeUnit) (o : Options) (text : Characters) (m n : ℕ)
+      → IsReadWith default_unit o text m → IsReadWith default_unit o text n → m ≡ n
+  pub one_cause : (default_unit : Option TimeUnit) (o : Options) (text : Characters) (c d : Cause)
+      → IsRefusedWith default_unit o text c → IsRefusedWith default_unit o text d → c ≡ d
+  pub not_both : (default_unit : Option TimeUnit) (o : Options) (text : Characters) (nanos : ℕ) (cause : Cause)
+      → IsReadWith default_unit o text nanos → IsRefusedWith default_unit o text cause → ⊥
 
 -- The computed answer is the value of the text, or the cause of its refusal.
 pub record AnswerIsReading : Type 0 where
-  pub read : (o : Options) (text : Characters) (nanos : ℕ) → (answer o text ≡ Ok nanos ↔ IsRead o text nanos)
-  pub refused : (o : Options) (text : Characters) (cause : Cause) → (answer o text ≡ Err cause ↔ IsRefused o text cause)
+  pub read : (default_unit : Option TimeUnit) (o : Options) (text : Characters) (nanos : ℕ)
+      → (answer_with default_unit o text ≡ Ok nanos ↔ IsReadWith default_unit o text nanos)
+  pub refused : (default_unit : Option TimeUnit) (o : Options) (text : Characters) (cause : Cause)
+      → (answer_with default_unit o text ≡ Err cause ↔ IsRefusedWith default_unit o text cause)
 
 -- The table says by the last terminal what can follow the beginning of a sentence, and leads to the longest beginning.
 pub record PlaceAndKinds : Type 0 where
-  pub kinds : (no_calc : Bool) (front : List Terminal) (expected : Expected) → BeginsSentence no_calc front
-      → (CanFollow no_calc front expected ↔ (expected ≡ expected_after no_calc (last_of None front)))
-  pub no_operator : (no_calc : Bool) (front : List Terminal) (op : CondUnit)
-      → no_calc ≡ true → BeginsSentence no_calc front → last_of None front ≢ Some (operator op)
-  pub front : (no_calc : Bool) (terminals : List Terminal)
-      → IsFront no_calc terminals (take (front_of no_calc terminals) terminals)
-      (drop (front_of no_calc terminals) terminals)
-  pub only : (no_calc : Bool) (terminals front rest : List Terminal) → IsFront no_calc terminals front rest
-      → (front ≡ take (front_of no_calc terminals) terminals) × (rest ≡ drop (front_of no_calc terminals) terminals)
+  pub kinds : (default_unit : Option TimeUnit) (no_calc : Bool) (front : List Terminal) (expected : Expected)
+      → BeginsSentence default_unit no_calc front
+      → (CanFollow default_unit no_calc front expected
+      ↔ (expected ≡ expected_after default_unit no_calc (last_of None front)))
+  pub no_operator : (default_unit : Option TimeUnit) (no_calc : Bool) (front : List Terminal) (op : CondUnit)
+      → no_calc ≡ true → BeginsSentence default_unit no_calc front → last_of None front ≢ Some (operator op)
+  pub front : (default_unit : Option TimeUnit) (no_calc : Bool) (terminals : List Terminal)
+      → IsFront default_unit no_calc terminals (take (front_of default_unit no_calc terminals) terminals)
+      (drop (front_of default_unit no_calc terminals) terminals)
+  pub only : (default_unit : Option TimeUnit) (no_calc : Bool) (terminals front rest : List Terminal)
+      → IsFront default_unit no_calc terminals front rest
+      → (front ≡ take (front_of default_unit no_calc terminals) terminals)
+      × (rest ≡ drop (front_of default_unit no_calc terminals) terminals)
 
 -- Without operators `no_calc` changes neither what is accepted nor its value.
 abbrev pub NoCalcAgrees : Type 0
-NoCalcAgrees = (o : Options) (text : Characters) (nanos : ℕ) → HasNoOperator text
-    → (IsRead (record o { no_calc = true }) text nanos ↔ IsRead (record o { no_calc = false }) text nanos)
+NoCalcAgrees = (default_unit : Option TimeUnit) (o : Options) (text : Characters) (nanos : ℕ) → HasNoOperator text
+    → (IsReadWith default_unit (record o { no_calc = true }) text nanos
+    ↔ IsReadWith default_unit (record o { no_calc = false }) text nanos)
 
 -- With the option on and with it off, the text has the same values and is refused for the same causes.
-pub record IsIdle (choice : Bool → Options) (text : Characters) : Type 0 where
-  pub value : (nanos : ℕ) → (IsRead (choice true) text nanos ↔ IsRead (choice false) text nanos)
-  pub cause : (cause : Cause) → (IsRefused (choice true) text cause ↔ IsRefused (choice false) text cause)
+pub record IsIdle (default_unit : Option TimeUnit) (choice : Bool → Options) (text : Characters) : Type 0 where
+  pub value : (nanos : ℕ)
+      → (IsReadWith default_unit (choice true) text nanos ↔ IsReadWith default_unit (choice false) text nanos)
+  pub cause : (cause : Cause)
+      → (IsRefusedWith default_unit (choice true) text cause ↔ IsRefusedWith default_unit (choice false) text cause)
 
 -- `lowercase` changes nothing without ASCII capitals, and `cn_unit` nothing without Chinese characters.
 pub record OptionsIdle : Type 0 where
-  pub lowercase : (o : Options) (text : Characters) → HasNoCapital text
-      → IsIdle (λ on. record o { lowercase = on }) text
-  pub cn_unit : (o : Options) (text : Characters) → HasNoChinese text → IsIdle (λ on. record o { cn_unit = on }) text
+  pub lowercase : (default_unit : Option TimeUnit) (o : Options) (text : Characters) → HasNoCapital text
+      → IsIdle default_unit (λ on. record o { lowercase = on }) text
+  pub cn_unit : (default_unit : Option TimeUnit) (o : Options) (text : Characters) → HasNoChinese text
+      → IsIdle default_unit (λ on. record o { cn_unit = on }) text
 
 -- Texts that one sentence spells have the same value, or are refused for the same cause.
 pub record BlanksFree : Type 0 where
-  pub value : (o : Options) (a b : Characters) (lexemes : List Characters) (nanos : ℕ)
-      → IsSentenceOf o lexemes a → Spells lexemes b → IsRead o a nanos → IsRead o b nanos
-  pub cause : (o : Options) (a b : Characters) (lexemes : List Characters) (cause : Cause)
-      → IsSentenceOf o lexemes a → Spells lexemes b → IsRefused o a cause → IsRefused o b cause
+  pub value : (default_unit : Option TimeUnit) (o : Options) (a b : Characters) (lexemes : List Characters) (nanos : ℕ)
+      → IsSentenceWith default_unit o lexemes a → Spells lexemes b → IsReadWith default_unit o a nanos
+      → IsReadWith default_unit o b nanos
+  pub cause : (default_unit : Option TimeUnit) (o : Options) (a b : Characters) (lexemes : List Characters)
+      (cause : Cause)
+      → IsSentenceWith default_unit o lexemes a → Spells lexemes b → IsRefusedWith default_unit o a cause
+      → IsRefusedWith default_unit o b cause
 
 -- With `no_calc` off, two accepted texts without `*`, joined by a plus, have the sum of their values, or overflow.
 pub record SumOfTexts : Type 0 where
-  pub below : (o : Options) (a b : Characters) (m n : ℕ) → o.no_calc ≡ false → HasNoStar a → HasNoStar b
-      → IsRead o a m → IsRead o b n → m + n < 2 ^ 64 → IsRead o (a ++ codes "+" ++ b) (m + n)
-  pub above : (o : Options) (a b : Characters) (m n : ℕ) → o.no_calc ≡ false → HasNoStar a → HasNoStar b
-      → IsRead o a m → IsRead o b n → 2 ^ 64 ≤ m + n → IsRefused o (a ++ codes "+" ++ b) (Overflow None)
+  pub below : (default_unit : Option TimeUnit) (o : Options) (a b : Characters) (m n : ℕ) → o.no_calc ≡ false
+      → HasNoStar a → HasNoStar b
+      → IsReadWith default_unit o a m → IsReadWith default_unit o b n → m + n < 2 ^ 64
+      → IsReadWith default_unit o (a ++ codes "+" ++ b) (m + n)
+  pub above : (default_unit : Option TimeUnit) (o : Options) (a b : Characters) (m n : ℕ) → o.no_calc ≡ false
+      → HasNoStar a → HasNoStar b
+      → IsReadWith default_unit o a m → IsReadWith default_unit o b n → 2 ^ 64 ≤ m + n
+      → IsRefusedWith default_unit o (a ++ codes "+" ++ b) (Overflow None)
 
 -- how often a number is in a list
 abbrev pub times_in : ℕ → List ℕ → ℕ
@@ -156,28 +176,31 @@ AllPlus (terminal ∷ terminals) = AllPlus terminals
 
 -- Two sums with the same values of terms, each equally often, are accepted alike and have the same value.
 abbrev pub Reorder : Type 0
-Reorder = (o : Options) (a b : Characters) (lexemes others : List Characters) (nanos : ℕ)
-    → IsSentenceOf o lexemes a → IsSentenceOf o others b
+Reorder =
+    (default_unit : Option TimeUnit) (o : Options) (a b : Characters) (lexemes others : List Characters) (nanos : ℕ)
+    → IsSentenceWith default_unit o lexemes a → IsSentenceWith default_unit o others b
     → AllPlus (map (terminal_of o) lexemes) → AllPlus (map (terminal_of o) others)
-    → ((n : ℕ) → times_in n (map value_of_term (written_terms o lexemes))
-    ≡ times_in n (map value_of_term (written_terms o others)))
-    → IsRead o a nanos → IsRead o b nanos
+    → ((n : ℕ) → times_in n (map value_of_term (terms_with default_unit o lexemes))
+    ≡ times_in n (map value_of_term (terms_with default_unit o others)))
+    → IsReadWith default_unit o a nanos → IsReadWith default_unit o b nanos
 
 -- A text of two terms joined by `*` is read exactly if both numbers, both terms and the product of the terms in
 -- seconds, rounded down to nanoseconds, are below 2^64, and then as that product. With the terms exchanged it is read
 -- as the same value.
 pub record TwoFactors : Type 0 where
-  pub product : (o : Options) (text : Characters) (lexemes : List Characters) (t u : Term) (nanos : ℕ)
-      → IsSentenceOf o lexemes text → written_terms o lexemes ≡ t ∷ u ∷ [] → u.operator ≡ Star
-      → (IsRead o text nanos ↔ ((t.number < 2 ^ 64) × (value_of_term t < 2 ^ 64)
+  pub product : (default_unit : Option TimeUnit) (o : Options) (text : Characters) (lexemes : List Characters)
+      (t u : Term) (nanos : ℕ)
+      → IsSentenceWith default_unit o lexemes text → terms_with default_unit o lexemes ≡ t ∷ u ∷ [] → u.operator ≡ Star
+      → (IsReadWith default_unit o text nanos ↔ ((t.number < 2 ^ 64) × (value_of_term t < 2 ^ 64)
       × (u.number < 2 ^ 64) × (value_of_term u < 2 ^ 64)
       × (nanos < 2 ^ 64) × (nanos ≡ value_of_term t * value_of_term u / second)))
-  pub exchanged : (o : Options) (a b : Characters) (lexemes others : List Characters) (t u v w : Term) (nanos : ℕ)
-      → IsSentenceOf o lexemes a → IsSentenceOf o others b
-      → written_terms o lexemes ≡ t ∷ u ∷ [] → u.operator ≡ Star
-      → written_terms o others ≡ v ∷ w ∷ [] → w.operator ≡ Star
+  pub exchanged : (default_unit : Option TimeUnit) (o : Options) (a b : Characters) (lexemes others : List Characters)
+      (t u v w : Term) (nanos : ℕ)
+      → IsSentenceWith default_unit o lexemes a → IsSentenceWith default_unit o others b
+      → terms_with default_unit o lexemes ≡ t ∷ u ∷ [] → u.operator ≡ Star
+      → terms_with default_unit o others ≡ v ∷ w ∷ [] → w.operator ≡ Star
       → v.number ≡ u.number → v.length ≡ u.length → w.number ≡ t.number → w.length ≡ t.length
-      → IsRead o a nanos → IsRead o b nanos
+      → IsReadWith default_unit o a nanos → IsReadWith default_unit o b nanos
 
 -- how often each length goes into what the longer lengths leave
 abbrev pub counts_of : List ℕ → ℕ → List ℕ
@@ -195,12 +218,15 @@ EqualTexts = (style : Style) (m n : ℕ) (a b : Characters) → FitsDuration m �
 
 -- A text printed in any style is read as its duration below 2^64 ns, or overflows: from 585 years in the first term.
 pub record ReadsBack : Type 0 where
-  pub below : (o : Options) (style : Style) (nanos : ℕ) (text : Characters) → nanos < 2 ^ 64
-      → IsPrintedIn style nanos text → IsRead o text nanos
-  pub above : (o : Options) (style : Style) (nanos : ℕ) (text : Characters) → 2 ^ 64 ≤ nanos
-      → nanos < 585 * nanos_of Year → IsPrintedIn style nanos text → IsRefused o text (Overflow None)
-  pub far_above : (o : Options) (style : Style) (nanos : ℕ) (text : Characters) → 585 * nanos_of Year ≤ nanos
-      → FitsDuration nanos → IsPrintedIn style nanos text → IsRefused o text (Overflow (Some 0))
+  pub below : (default_unit : Option TimeUnit) (o : Options) (style : Style) (nanos : ℕ) (text : Characters)
+      → nanos < 2 ^ 64
+      → IsPrintedIn style nanos text → IsReadWith default_unit o text nanos
+  pub above : (default_unit : Option TimeUnit) (o : Options) (style : Style) (nanos : ℕ) (text : Characters)
+      → 2 ^ 64 ≤ nanos
+      → nanos < 585 * nanos_of Year → IsPrintedIn style nanos text → IsRefusedWith default_unit o text (Overflow None)
+  pub far_above : (default_unit : Option TimeUnit) (o : Options) (style : Style) (nanos : ℕ) (text : Characters)
+      → 585 * nanos_of Year ≤ nanos
+      → FitsDuration nanos → IsPrintedIn style nanos text → IsRefusedWith default_unit o text (Overflow (Some 0))
 
 -- Neither the line of a cause nor the text of a fault ends with a line feed.
 pub record LastLine : Type 0 where
@@ -242,7 +268,7 @@ pub record KeepsWithin (format : Format) (nanos : ℕ) (counts : List ℕ) : Typ
 -- to the one printed, whose own breakdown keeps within the limits.
 pub record IsMostWithin (format : Format) (nanos : ℕ) (text : Characters) (most : ℕ) : Type 0 where
   pub again : IsPrintedWithin format most text
-  pub read : (o : Options) → most < 2 ^ 64 → IsRead o text most
+  pub read : (default_unit : Option TimeUnit) (o : Options) → most < 2 ^ 64 → IsReadWith default_unit o text most
   pub never_more : most ≤ nanos
   pub own : (counts : List ℕ) × KeepsWithin format most counts
   pub greatest : (between : ℕ) (counts : List ℕ) → most < between → between ≤ nanos

@@ -44,11 +44,11 @@ older_terminals o lexemes = map (terminal_by older_unit_of_word o) lexemes
 
 -- the terms of a sentence of these lexemes
 abbrev pub older_terms : Options → List Characters → List Term
-older_terms o lexemes = terms_by older_nanos_of Plus (older_terminals o lexemes)
+older_terms o lexemes = terms_by older_nanos_of (Some Second) Plus (older_terminals o lexemes)
 
 -- The lexemes were a sentence of the options' grammar, and spell the text.
 pub record WasSentenceOf (o : Options) (lexemes : List Characters) (text : Characters) : Type 0 where
-  pub sentence : IsSentence o.no_calc (older_terminals o lexemes)
+  pub sentence : IsSentence (Some Second) o.no_calc (older_terminals o lexemes)
   pub spells : Spells lexemes text
 
 -- The text was read as this value.

@@ -1,23 +1,26 @@
 -- What the other calls that read a text return: values of another type, nanoseconds, looks.
-use Rattle.std.specs.Prelude.{◌≡◌, ℕ, ◌≤◌, Result, Ok, Err, IfOk, IfErr, IsOk, length, take, chars}
+use Rattle.std.specs.Prelude.{◌≡◌, ℕ, ◌≤◌, Option, Result, Ok, Err, IfOk, IfErr, IsOk, length, take, chars}
 use Rattle.duration_str.specs.declared.options.Options.{Options}
 use Rattle.duration_str.specs.declared.cause.Cause.{Cause}
 use Rattle.duration_str.specs.declared.cause.Cause.TheVariants.{Syntax}
 use Rattle.duration_str.specs.declared.cause.Expected.{Expected}
+use Rattle.duration_str.specs.declared.unit.TimeUnit.{TimeUnit}
 use Rattle.duration_str.specs.declared.fault.Fault.{Fault}
 use Rattle.duration_str.specs.Text.{Bytes}
-use Rattle.duration_str.specs.Reading.{IsRead, IsRefused}
+use Rattle.duration_str.specs.Reading.{IsReadWith, IsRefusedWith}
 
 -- The result is a value for which `reads` holds, or a fault of exactly these bytes, whose cause `refuses` holds for.
 abbrev pub IsValueOrFault : {T : Type 0} → (T → Type 0) → (Cause → Type 0) → Bytes → Result T Fault → Type 0
 IsValueOrFault reads refuses bytes (Ok value) = reads value
 IsValueOrFault reads refuses bytes (Err fault) = (fault.text.now ≡ bytes) × refuses fault.cause
 
--- Under these options the bytes are read as the nanoseconds in `Ok`, or refused for the cause in `Err`.
-pub record ReadsText (o : Options) (bytes : Bytes) (result : Result ℕ Fault) : Type 0 where
-  pub read : IfOk result (IsRead o (chars bytes))
-  pub accepts : (nanos : ℕ) → IsRead o (chars bytes) nanos → IsOk result
-  pub refused : IfErr result (λ f. (f.text.now ≡ bytes) × IsRefused o (chars bytes) f.cause)
+-- With this default unit and these options the bytes are read as the nanoseconds in `Ok`, or refused for the cause in
+-- `Err`.
+pub record ReadsWith (default_unit : Option TimeUnit) (o : Options) (bytes : Bytes) (result : Result ℕ Fault)
+    : Type 0 where
+  pub read : IfOk result (IsReadWith default_unit o (chars bytes))
+  pub accepts : (nanos : ℕ) → IsReadWith default_unit o (chars bytes) nanos → IsOk result
+  pub refused : IfErr result (λ f. (f.text.now ≡ bytes) × IsRefusedWith default_unit o (chars bytes) f.cause)
 
 -- There are at least as many looks as characters before the place of a syntax fault.
 abbrev pub ReachesPlace : Bytes → Cause → ℕ → Type 0

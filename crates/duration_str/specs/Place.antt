@@ -1,5 +1,5 @@
 -- Where a text stops being the beginning of a sentence, and what could stand there.
-use Rattle.std.specs.Prelude.{◌≡◌, ℕ, ◌≤◌, Bool, List, [], ◌∷◌, ◌++◌, Some, map, length, take, drop, IsTrue, ◌↔◌}
+use Rattle.std.specs.Prelude.{◌≡◌, ℕ, ◌≤◌, Bool, Option, List, [], ◌∷◌, ◌++◌, Some, map, length, take, drop, IsTrue, ◌↔◌}
 use Rattle.duration_str.specs.declared.options.Options.{Options}
 use Rattle.duration_str.specs.declared.unit.TimeUnit.{TimeUnit}
 use Rattle.duration_str.specs.declared.operator.CondUnit.{CondUnit}
@@ -13,23 +13,28 @@ abbrev pub terminals_of : Options → Characters → List Terminal
 terminals_of o text = map (terminal_of o) (lexemes_of (tokens_of o text))
 
 -- Some sentence starts with these terminals.
-abbrev pub BeginsSentence : Bool → List Terminal → Type 0
-BeginsSentence no_calc terminals = (more : List Terminal) × IsSentence no_calc (terminals ++ more)
+abbrev pub BeginsSentence : Option TimeUnit → Bool → List Terminal → Type 0
+BeginsSentence default_unit no_calc terminals =
+    (more : List Terminal) × IsSentence default_unit no_calc (terminals ++ more)
 
 -- The front is the longest start of the terminals that begins a sentence, and the rest follows it.
-pub record IsFront (no_calc : Bool) (terminals front rest : List Terminal) : Type 0 where
+pub record IsFront (default_unit : Option TimeUnit) (no_calc : Bool) (terminals front rest : List Terminal)
+    : Type 0 where
   pub parts : terminals ≡ front ++ rest
-  pub begins : BeginsSentence no_calc front
-  pub longest : (n : ℕ) → n ≤ length terminals → BeginsSentence no_calc (take n terminals) → n ≤ length front
+  pub begins : BeginsSentence default_unit no_calc front
+  pub longest : (n : ℕ) → n ≤ length terminals → BeginsSentence default_unit no_calc (take n terminals)
+      → n ≤ length front
 
 -- A kind is expected exactly if the front with some terminal of it begins a sentence; the end, if the front is one.
-pub record CanFollow (no_calc : Bool) (front : List Terminal) (expected : Expected) : Type 0 where
-  pub number_expected : IsTrue expected.number ↔ ((n : ℕ) × BeginsSentence no_calc (front ++ number n ∷ []))
+pub record CanFollow (default_unit : Option TimeUnit) (no_calc : Bool) (front : List Terminal) (expected : Expected)
+    : Type 0 where
+  pub number_expected : IsTrue expected.number
+      ↔ ((n : ℕ) × BeginsSentence default_unit no_calc (front ++ number n ∷ []))
   pub unit_expected : IsTrue expected.unit_word
-      ↔ ((u : TimeUnit) × BeginsSentence no_calc (front ++ word (Some u) ∷ []))
+      ↔ ((u : TimeUnit) × BeginsSentence default_unit no_calc (front ++ word (Some u) ∷ []))
   pub operator_expected : IsTrue expected.operator
-      ↔ ((op : CondUnit) × BeginsSentence no_calc (front ++ operator op ∷ []))
-  pub end_expected : IsTrue expected.text_end ↔ IsSentence no_calc front
+      ↔ ((op : CondUnit) × BeginsSentence default_unit no_calc (front ++ operator op ∷ []))
+  pub end_expected : IsTrue expected.text_end ↔ IsSentence default_unit no_calc front
 
 -- the byte at which the first token starts; `len` without one
 abbrev pub start_or : ℕ → List Token → ℕ

@@ -1,5 +1,5 @@
 -- The terms of a sentence, their value, and their faults.
-use Rattle.std.specs.Prelude.{◌≡◌, ℕ, ◌+◌, ◌*◌, ◌/◌, ◌^◌, Bool, true, false, List, [], ◌∷◌, ◌++◌, Option, Some, None, if◌then◌else◌, nat_lt, map}
+use Rattle.std.specs.Prelude.{◌≡◌, ℕ, ◌+◌, ◌*◌, ◌/◌, ◌^◌, Bool, true, false, List, [], ◌∷◌, ◌++◌, Option, Some, None, if◌then◌else◌, nat_lt, map, unwrap_or}
 use Rattle.std.specs.List.{list_all, fold}
 use Rattle.duration_str.specs.declared.options.Options.{Options}
 use Rattle.duration_str.specs.declared.unit.TimeUnit.{TimeUnit}
@@ -26,26 +26,32 @@ value_of_term t = t.number * t.length
 abbrev pub second : ℕ
 second = nanos_of Second
 
--- the terms after `op`, with these lengths of the units; an operator left out is plus, and a unit left out the second
-abbrev pub terms_by : (TimeUnit → ℕ) → CondUnit → List Terminal → List Term
-terms_by length_of op (number n ∷ word (Some u) ∷ more) =
-    record { operator = op; number = n; length = length_of u } ∷ terms_by length_of Plus more
-terms_by length_of op (number n ∷ more) =
-    record { operator = op; number = n; length = length_of Second } ∷ terms_by length_of Plus more
-terms_by length_of op (operator next ∷ more) = terms_by length_of next more
-terms_by length_of op _ = []
+-- the terms after `op`, with these lengths of the units; an operator left out is plus, and a unit left out the default
+-- unit. Without a default unit no sentence leaves a unit out, so the second is never taken
+abbrev pub terms_by : (TimeUnit → ℕ) → Option TimeUnit → CondUnit → List Terminal → List Term
+terms_by length_of default_unit op (number n ∷ word (Some u) ∷ more) =
+    record { operator = op; number = n; length = length_of u } ∷ terms_by length_of default_unit Plus more
+terms_by length_of default_unit op (number n ∷ more) =
+    record { operator = op; number = n; length = length_of (unwrap_or default_unit Second) }
+    ∷ terms_by length_of default_unit Plus more
+terms_by length_of default_unit op (operator next ∷ more) = terms_by length_of default_unit next more
+terms_by length_of default_unit op _ = []
 
 -- the terms after the operator `op`
-abbrev pub terms_after : CondUnit → List Terminal → List Term
-terms_after op terminals = terms_by nanos_of op terminals
+abbrev pub terms_after : Option TimeUnit → CondUnit → List Terminal → List Term
+terms_after default_unit op terminals = terms_by nanos_of default_unit op terminals
 
 -- the terms of a sentence; the first one's operator is plus, and has no meaning
-abbrev pub terms_of : List Terminal → List Term
-terms_of terminals = terms_after Plus terminals
+abbrev pub terms_of : Option TimeUnit → List Terminal → List Term
+terms_of default_unit terminals = terms_after default_unit Plus terminals
 
--- the terms that the lexemes of a sentence write
+-- the terms that the lexemes of a sentence write, with this default unit
+abbrev pub terms_with : Option TimeUnit → Options → List Characters → List Term
+terms_with default_unit o lexemes = terms_of default_unit (map (terminal_of o) lexemes)
+
+-- the same with the second
 abbrev pub written_terms : Options → List Characters → List Term
-written_terms o lexemes = terms_of (map (terminal_of o) lexemes)
+written_terms o lexemes = terms_with (Some Second) o lexemes
 
 -- whether two operators are the same
 abbrev pub is_same_operator : CondUnit → CondUnit → Bool

@@ -3,9 +3,9 @@ ghost use Rattle.std.specs.Prelude.{◌≡◌, encode_utf8_all};
 ghost use Rattle.duration_str.specs.Answer.{expected_at_start, expected_after_number, expected_after_unit};
 ghost use Rattle.duration_str.specs.Faults.{place_of};
 ghost use Rattle.duration_str.specs.Messages.{line_of};
-ghost use Rattle.duration_str.specs.WithUnits.{expected_unit};
 
 use crate::operator::CondUnit;
+use crate::unit::TimeUnit;
 
 /// What could stand at the place of a syntax fault.
 ///
@@ -42,14 +42,14 @@ impl Expected {
     }
 
     #[inline(always)]
-    pub(crate) fn after_number(no_calc: bool) -> Expected
-        ensures { result ≡ expected_after_number no_calc }
+    pub(crate) fn after_number(no_calc: bool, default_unit: Option<TimeUnit>) -> Expected
+        ensures { result ≡ expected_after_number default_unit no_calc }
     {
         Expected {
             number: false,
             unit_word: true,
-            operator: !no_calc,
-            text_end: true,
+            operator: default_unit.is_some() && !no_calc,
+            text_end: default_unit.is_some(),
         }
     }
 
@@ -62,17 +62,6 @@ impl Expected {
             unit_word: false,
             operator: !no_calc,
             text_end: true,
-        }
-    }
-
-    /// Only a unit: what must follow a number if units are required.
-    #[inline(always)]
-    pub(crate) fn unit() -> Expected
-        ensures { result ≡ expected_unit }
-    {
-        Expected {
-            text_end: false,
-            ..Expected::after_number(true)
         }
     }
 }

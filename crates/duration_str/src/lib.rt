@@ -23,13 +23,15 @@ mod signed;
 pub mod token;
 pub mod top;
 pub mod unit;
-mod with_units;
 
 pub use error::{DError, DResult};
 pub use ext::HumanFormat;
 pub use format::{Format, Style};
 pub use one_line::{MAX_ONE_LINE_LEN, ONE_LINE_BUFFER_SIZE};
-pub use parser::{Cause, Expected, Fault, parse, parse_looked, parse_nanos, parse_std, parse_with};
+pub use parser::{
+    Cause, Expected, Fault, parse, parse_looked, parse_nanos, parse_std, parse_with,
+    parse_with_default_unit, parse_with_units,
+};
 pub use printing::{
     FORMAT_BUFFER_SIZE, MAX_LONG_LEN, MAX_PRINTED_LEN, STYLED_BUFFER_SIZE, write_human,
     write_within,
@@ -43,4 +45,3 @@ pub use top::{
     deserialize_option_duration_time, parse_chrono, parse_time,
 };
 pub use unit::{CondUnit, Options, TimeUnit, UNITS};
-pub use with_units::{parse_with_units, unit_fault};

@@ -1,15 +1,17 @@
 //! Reading: the duration that a text means, or why it means none.
-ghost use Rattle.std.specs.Prelude.{◌≡◌, ◌≤◌, length, IfErr, OnOk};
+ghost use Rattle.std.specs.Prelude.{◌≡◌, ◌≤◌, length, Some, None, IfErr, OnOk};
 ghost use Rattle.std.specs.Str.{chars};
-ghost use Rattle.duration_str.specs.Results.{ParsesText};
-ghost use Rattle.duration_str.specs.OtherResults.{ReadsText, ReachesPlace};
+ghost use Rattle.duration_str.specs.Results.{ParsesText, ParsesWith};
+ghost use Rattle.duration_str.specs.OtherResults.{ReadsWith, ReachesPlace};
 ghost use Rattle.duration_str.specs.Options.{off};
+ghost use Rattle.duration_str.specs.declared.unit.TimeUnit.TheVariants.{Second};
 
 pub use crate::cause::{Cause, Expected};
 pub use crate::fault::Fault;
 use crate::options::Options;
 use crate::reader::read;
 use crate::token::Tokens;
+use crate::unit::TimeUnit;
 use std::time::Duration;
 
 /// The duration that a text means with all options off.
@@ -28,11 +30,11 @@ use std::time::Duration;
 /// assert_eq!(parse("3m 13s 29ms").unwrap(), Duration::from_millis(193_029));
 /// assert!(parse("1m 3-5").is_err());
 /// ```
-#[inline(never)]
+#[inline]
 pub fn parse(input: &str) -> Result<Duration, Fault<'_>>
     ensures { ParsesText off input.now result }
 {
-    parse_nanos(input, Options::off()).map(Duration::from_nanos)
+    parse_with(input, Options::off())
 }
 
 /// What `parse` returns.
@@ -81,33 +83,94 @@ pub fn parse_std(input: &str) -> Result<Duration, Fault<'_>>
 pub fn parse_with(input: &str, o: Options) -> Result<Duration, Fault<'_>>
     ensures { ParsesText o input.now result }
 {
-    if o.are_off() {
-        return parse(input);
-    }
-    parse_chosen(input, o)
+    parse_with_default_unit(input, o, Some(TimeUnit::Second))
 }
 
-#[inline(never)]
-fn parse_chosen(input: &str, o: Options) -> Result<Duration, Fault<'_>>
-    ensures { ParsesText o input.now result }
-{
-    parse_nanos(input, o).map(Duration::from_nanos)
-}
-
-/// The nanoseconds of what `parse_with` returns, or its refusal.
+/// The duration that a text means under these options, where a number without a unit has the default unit.
+///
+/// `parse_with` is this call with the second. With `None` each number must have its unit, so that after a number only a
+/// unit can stand.
+///
+/// A product multiplies seconds, so a factor without a unit is a length too: in milliseconds `90s*2` is 180 ms. Texts
+/// whose numbers are milliseconds have no operators: turn on `no_calc` for them. Allocates nothing.
 ///
 /// # Errors
 ///
-/// That of [`parse_with`].
+/// The [`Fault`], if the text means no duration.
 ///
 /// ```text
-/// parse_nanos("1ms 5ns", Options::off()) // Ok(1_000_005)
+/// let in_milliseconds = |text| parse_with_default_unit(text, Options::off(), Some(TimeUnit::MilliSecond));
+/// in_milliseconds("1500")  // Ok(Duration::from_millis(1_500))
+/// in_milliseconds("90s*2") // Ok(Duration::from_millis(180))
+/// parse_with_default_unit("1h 30", Options::off(), None).unwrap_err().cause().place() // Some(5)
 /// ```
-#[inline(always)]
-pub fn parse_nanos(input: &str, o: Options) -> Result<u64, Fault<'_>>
-    ensures { ReadsText o input.now result }
+#[inline]
+pub fn parse_with_default_unit(
+    input: &str,
+    o: Options,
+    default_unit: Option<TimeUnit>,
+) -> Result<Duration, Fault<'_>>
+    ensures { ParsesWith default_unit o input.now result }
 {
-    read_text(input, o).0
+    parse_nanos(input, o, default_unit).map(Duration::from_nanos)
+}
+
+/// The duration that a text means under these options, where each number must have its unit.
+///
+/// It returns what `parse_with_default_unit` returns for `None`. Allocates nothing.
+///
+/// # Errors
+///
+/// The [`Fault`], if the text means no duration, or lacks a unit.
+///
+/// ```text
+/// parse_with_units("1h 30m", Options::off()) // Ok(Duration::from_secs(5_400))
+/// parse_with_units("1h 30", Options::off()).unwrap_err().cause().place() // Some(5)
+/// ```
+#[inline]
+pub fn parse_with_units(input: &str, o: Options) -> Result<Duration, Fault<'_>>
+    ensures { ParsesWith None o input.now result }
+{
+    parse_with_default_unit(input, o, None)
+}
+
+/// The nanoseconds of what `parse_with_default_unit` returns, or its refusal.
+///
+/// With all options off and the second, a copy of the reader is called that knows this, and is faster.
+///
+/// # Errors
+///
+/// That of [`parse_with_default_unit`].
+///
+/// ```text
+/// parse_nanos("1ms 5ns", Options::off(), None) // Ok(1_000_005)
+/// ```
+#[inline]
+pub fn parse_nanos(
+    input: &str,
+    o: Options,
+    default_unit: Option<TimeUnit>,
+) -> Result<u64, Fault<'_>>
+    ensures { ReadsWith default_unit o input.now result }
+{
+    if o.are_off() && default_unit == Some(TimeUnit::Second) {
+        return nanos_off(input);
+    }
+    nanos_chosen(input, o, default_unit)
+}
+
+#[inline(never)]
+fn nanos_off(input: &str) -> Result<u64, Fault<'_>>
+    ensures { ReadsWith (Some Second) off input.now result }
+{
+    read_text(input, Options::off(), Some(TimeUnit::Second)).0
+}
+
+#[inline(never)]
+fn nanos_chosen(input: &str, o: Options, default_unit: Option<TimeUnit>) -> Result<u64, Fault<'_>>
+    ensures { ReadsWith default_unit o input.now result }
+{
+    read_text(input, o, default_unit).0
 }
 
 /// What `parse_with` returns, and how many times a character of the text was looked at.
@@ -124,13 +187,17 @@ pub fn parse_looked(input: &str, o: Options) -> (Result<Duration, Fault<'_>>, u6
     ensures whole { OnOk result.0 (result.1 ≡ length (chars input.now)) }
     ensures reaches { IfErr result.0 (λ f. ReachesPlace input.now f.cause result.1) }
 {
-    let (answer, looks) = read_text(input, o);
+    let (answer, looks) = read_text(input, o, Some(TimeUnit::Second));
     (answer.map(Duration::from_nanos), looks)
 }
 
 #[inline(always)]
-fn read_text(input: &str, o: Options) -> (Result<u64, Fault<'_>>, u64)
-    ensures reads { ReadsText o input.now result.0 }
+fn read_text(
+    input: &str,
+    o: Options,
+    default_unit: Option<TimeUnit>,
+) -> (Result<u64, Fault<'_>>, u64)
+    ensures reads { ReadsWith default_unit o input.now result.0 }
     ensures once { result.1 ≤ length (chars input.now) }
     ensures whole { OnOk result.0 (result.1 ≡ length (chars input.now)) }
     ensures reaches { IfErr result.0 (λ f. ReachesPlace input.now f.cause result.1) }
@@ -143,7 +210,7 @@ fn read_text(input: &str, o: Options) -> (Result<u64, Fault<'_>>, u64)
         return (Err(fault), 0);
     }
     let mut tokens = Tokens::new(input, o);
-    match read(&mut tokens, o.no_calc) {
+    match read(&mut tokens, o.no_calc, default_unit) {
         Ok(nanos) => (Ok(nanos), tokens.looked()),
         Err(cause) => (Err(Fault { text: input, cause }), tokens.looked()),
     }

@@ -1,6 +1,5 @@
 -- The answer that a caller of C gets for a text.
 use Rattle.std.specs.Prelude.{◌≡◌, ℕ, ◌+◌, ◌==◌, Bool, not, List, ◌⊎◌, Option, Some, None, if◌then◌else◌, is_some, unwrap_or, IsUtf8, false}
-use Rattle.std.specs.Bool.{MatchBool}
 use Rattle.std.specs.Int.Bits.{bit_and}
 use Rattle.std.specs.Option.{ForSome}
 use Rattle.std.specs.Str.{chars, IsCharBoundary}
@@ -13,8 +12,9 @@ use Rattle.duration_str.specs.declared.cause.Expected.{Expected}
 use Rattle.duration_str.specs.Text.{byte_len}
 use Rattle.duration_str.specs.Tokens.{Token}
 use Rattle.duration_str.specs.Faults.{place_of, found_token}
-use Rattle.duration_str.specs.Reading.{IsRead, IsRefused}
-use Rattle.duration_str.specs.WithUnits.{IsReadWithUnits, IsRefusedWithUnits}
+use Rattle.duration_str.specs.declared.unit.TimeUnit.{TimeUnit}
+use Rattle.duration_str.specs.declared.unit.TimeUnit.TheVariants.{Second}
+use Rattle.duration_str.specs.Reading.{IsReadWith, IsRefusedWith}
 use Rattle.duration_str_c.specs.declared.answer.Answer.{Answer}
 
 -- whether a flag is set among the bits
@@ -28,6 +28,10 @@ AreOptions bits = bit_and bits 15 ≡ bits
 -- the options whose bits are set
 abbrev pub options_of_bits : ℕ → Options
 options_of_bits bits = record { no_calc = has_flag bits 1; lowercase = has_flag bits 2; cn_unit = has_flag bits 4 }
+
+-- the unit of a bare number: the second, or none if bit 8 is set
+abbrev pub default_unit_of_bits : ℕ → Option TimeUnit
+default_unit_of_bits bits = if has_flag bits 8 then None else Some Second
 
 -- the number of a cause
 abbrev pub cause_number : Cause → ℕ
@@ -115,17 +119,13 @@ TellsFault o bytes cause answer =
     (answer ≡ refusal_answer cause (token_length (found_token o (chars bytes) cause)))
     × ForSome (place_of cause) (IsCharBoundary bytes)
 
--- The text is read as this value under the options whose bits are set; where bit 8 is, each number has its unit.
+-- The text is read as this value under the options whose bits are set.
 abbrev pub IsReadBy : ℕ → List ℕ → ℕ → Type 0
-IsReadBy bits text nanos =
-    MatchBool (has_flag bits 8) (IsReadWithUnits (options_of_bits bits) text nanos)
-    (IsRead (options_of_bits bits) text nanos)
+IsReadBy bits text nanos = IsReadWith (default_unit_of_bits bits) (options_of_bits bits) text nanos
 
 -- The text is refused for this cause under the options whose bits are set.
 abbrev pub IsRefusedBy : ℕ → List ℕ → Cause → Type 0
-IsRefusedBy bits text cause =
-    MatchBool (has_flag bits 8) (IsRefusedWithUnits (options_of_bits bits) text cause)
-    (IsRefused (options_of_bits bits) text cause)
+IsRefusedBy bits text cause = IsRefusedWith (default_unit_of_bits bits) (options_of_bits bits) text cause
 
 -- What is told of the bytes: that a bit is no option's; otherwise that they are not UTF-8; otherwise their value, or the
 -- cause of their refusal, under the options whose bits are set.

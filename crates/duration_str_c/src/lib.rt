@@ -7,11 +7,11 @@ ghost use Rattle.std.specs.Prelude.{◌≡◌, ℕ, ◌+◌, ◌<◌, ◌≤◌,
 ghost use Rattle.std.specs.Bool.{MatchBool};
 ghost use Rattle.std.specs.Str.{chars};
 ghost use Rattle.duration_str.specs.Options.{off};
-ghost use Rattle.duration_str.specs.OtherResults.{ReadsText};
+ghost use Rattle.duration_str.specs.OtherResults.{ReadsWith};
 ghost use Rattle.duration_str.specs.Reading.{IsRead};
 ghost use Rattle.duration_str.specs.Printing.{IsPrinted};
 ghost use Rattle.duration_str.specs.declared.printing.TheConstants.{MAX_PRINTED_LEN};
-ghost use Rattle.duration_str_c.specs.Answers.{options_of_bits, IsAnswerTo, IsReadBy, IsRefusedBy};
+ghost use Rattle.duration_str_c.specs.Answers.{default_unit_of_bits, options_of_bits, IsAnswerTo};
 
 pub mod answer;
 pub mod limits;
@@ -19,7 +19,7 @@ pub mod message;
 
 use crate::answer::Answer;
 use crate::message::refusal_of;
-use duration_str::{FORMAT_BUFFER_SIZE, Fault, Options, parse_nanos, unit_fault, write_human};
+use duration_str::{FORMAT_BUFFER_SIZE, Fault, Options, TimeUnit, parse_nanos, write_human};
 use std::time::Duration;
 
 const NO_CALC: u32 = 1;
@@ -44,6 +44,16 @@ pub(crate) fn options_of_bits(bits: u32) -> Options
     }
 }
 
+/// The unit of a bare number: the second, or none if the bit is set that requires a unit.
+fn default_unit_of_bits(bits: u32) -> Option<TimeUnit>
+    ensures { result ≡ default_unit_of_bits bits }
+{
+    if bits & REQUIRE_UNIT != 0 {
+        return None;
+    }
+    Some(TimeUnit::Second)
+}
+
 /// Reads a text with all options off into nanoseconds. Returns false if it is refused, and then `nanos` is unchanged.
 pub fn duration_str_parse(text: &[u8], nanos: &mut u64) -> bool
     ensures read { IsTrue result → IsRead off (chars text.now) nanos.new }
@@ -55,7 +65,7 @@ pub fn duration_str_parse(text: &[u8], nanos: &mut u64) -> bool
     let Some(text) = text_of(text) else {
         return false;
     };
-    match parse_nanos(text, Options::off()) {
+    match parse_nanos(text, Options::off(), Some(TimeUnit::Second)) {
         Ok(value) => {
             *nanos = value;
             true
@@ -103,40 +113,11 @@ pub fn duration_str_parse_with(text: &[u8], options: u32, answer: &mut Answer) -
 }
 
 /// The value of a text under the options whose bits are set, or its fault.
+#[inline(always)]
 pub(crate) fn read_by(text: &str, bits: u32) -> Result<u64, Fault<'_>>
-    ensures value { IfOk result (IsReadBy bits (chars text.now)) }
-    ensures fault { IfErr result (λ fault. (fault.text.now ≡ text.now)
-        × IsRefusedBy bits (chars text.now) fault.cause) }
+    ensures { ReadsWith (default_unit_of_bits bits) (options_of_bits bits) text.now result }
 {
-    let options = options_of_bits(bits);
-    let answer = read(text, options);
-    if bits & REQUIRE_UNIT == 0 {
-        return answer;
-    }
-    let nanos = answer?;
-    match unit_fault(text) {
-        Some(fault) => Err(fault),
-        None => Ok(nanos),
-    }
-}
-
-/// What `parse_nanos` returns, out of line. A copy of the reader that knows that all options are off is faster.
-#[inline(never)]
-fn read(text: &str, options: Options) -> Result<u64, Fault<'_>>
-    ensures { ReadsText options text.now result }
-{
-    if options.are_off() {
-        return parse_nanos(text, Options::off());
-    }
-    read_chosen(text, options)
-}
-
-/// The same where an option is on.
-#[inline(never)]
-fn read_chosen(text: &str, options: Options) -> Result<u64, Fault<'_>>
-    ensures { ReadsText options text.now result }
-{
-    parse_nanos(text, options)
+    parse_nanos(text, options_of_bits(bits), default_unit_of_bits(bits))
 }
 
 /// The version: the major number times a million, plus the minor number times a thousand, plus the patch number.

@@ -1,8 +1,8 @@
 // What texts are read as: each by every call that reads under its options, and printed again where that is told.
 use crate::vectors::{CN_UNIT, LOWERCASE, NO_CALC, OFF};
 use duration_str::{
-    Cause, HumanFormat, Options, parse, parse_chrono, parse_looked, parse_std, parse_time,
-    parse_with, parse_with_units, write_human,
+    Cause, HumanFormat, Options, TimeUnit, parse, parse_chrono, parse_looked, parse_std,
+    parse_time, parse_with, parse_with_default_unit, parse_with_units, write_human,
 };
 use jiff::SignedDuration;
 use std::alloc::{AllocError, Global};
@@ -129,36 +129,45 @@ fn reads_values(rt: HostRuntime) {
 fn requires_units(rt: HostRuntime) {
     for (text, at) in [
         ("90", 2),
+        ("90 -", 3),
         ("1h 30", 5),
+        ("1h 30 + 5x", 6),
         ("5 + 1h 30", 2),
         ("2s*3 ", 5),
         ("1m*60*20s", 5),
+        ("1m 3-5", 4),
+        ("99999999999999999999", 20),
     ] {
-        assert!(rt; parse_with(text, OFF).is_ok(), "{text}");
         let Err(fault) = parse_with_units(text, OFF) else {
             panic!(rt; "{text} is read");
         };
         let Cause::Syntax { place, expected } = fault.cause() else {
             panic!(rt; "{text} has another fault");
         };
+        assert!(rt; place == at, "{text}");
         assert!(rt;
-            place == at && expected.unit_word && !expected.text_end,
+            expected.unit_word && !expected.number && !expected.operator && !expected.text_end,
             "{text}"
         );
     }
-    for text in [
-        "1h 30m",
-        "1 m*60s",
-        "1m 3-5",
-        "",
-        "99999999999999999999",
-        "600y",
-        "1s 2*3",
-    ] {
+    for text in ["1h 30m", "1 m*60s", "", "+1s", "1s -", "600y", "1s 2s*3s"] {
         assert!(rt;
             parse_with_units(text, OFF) == parse_with(text, OFF),
             "{text}"
         );
+    }
+}
+
+#[test]
+fn counts_numbers_in_the_default_unit(rt: HostRuntime) {
+    for (text, millis) in [
+        ("1500", 1_500),
+        ("1h 500", 3_600_500),
+        ("2000*3", 6),
+        ("1s + 5", 1_005),
+    ] {
+        let length = parse_with_default_unit(text, OFF, Some(TimeUnit::MilliSecond));
+        assert!(rt; length == Ok(Duration::from_millis(millis)), "{text}");
     }
 }
 

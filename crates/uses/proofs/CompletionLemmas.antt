@@ -1,5 +1,5 @@
 -- What can be typed at the place of a syntax fault.
-use Rattle.std.proofs.Common.{ap, append-nil, append_assoc, arith, codes, IsTrue, length, List, map, refl, sym, take, [], ℕ, ◌++◌, ◌∙◌, ◌∷◌, ◌≡◌}
+use Rattle.std.proofs.Common.{ap, append-nil, append_assoc, arith, codes, IsTrue, length, List, map, refl, Some, sym, take, [], ℕ, ◌++◌, ◌∙◌, ◌∷◌, ◌≡◌}
 use Rattle.duration_str.proofs.Common.{allows, AreTokens, BeginsSentence, byte_len, IsLexeme, IsRefused, IsSentence, lexemes_of, map-append, number, OneCut, OneSentence, operator, other, PlaceAndKinds, Spells, Terminal, terminal_of, tokens_of, word}
 use Rattle.uses.proofs.Common.{Expected, Options, Syntax, take-map, Token}
 use Rattle.std.proofs.Math.Seq.{take-append_seam}
@@ -9,6 +9,7 @@ use Rattle.uses.specs.Completion.{BeginsExpression, IsCompletion}
 use Rattle.uses.proofs.FollowLemmas.{ends, follows, zero_ends}
 use Rattle.uses.proofs.CutLemmas.{IsSplit, split_at, typed_lexemes}
 use Rattle.uses.proofs.SyntaxLemmas.{refused_at}
+use Rattle.duration_str.specs.declared.unit.TimeUnit.TheVariants.{Second}
 
 spells_one : (w : List ℕ) → Spells (w ∷ []) (32 ∷ w)
 spells_one w = begins_with (32 ∷ []) [] refl (rw append-nil) refl
@@ -22,11 +23,11 @@ record IsEnding (o : Options) (front : List Terminal) : Type 0 where
   lexemes : List (List ℕ)
   text : List ℕ
   spells : Spells lexemes (32 ∷ text)
-  sentence : IsSentence o.no_calc (front ++ map (terminal_of o) lexemes)
+  sentence : IsSentence (Some Second) o.no_calc (front ++ map (terminal_of o) lexemes)
 
 module _ (one : OneSentence) (cut : OneCut) (law : PlaceAndKinds) (o : Options) where
   -- Nothing ends a sentence after a number or a word, and zero after an operator.
-  ending_after : (front : List Terminal) (t : Terminal) (expected : Expected) → BeginsSentence o.no_calc
+  ending_after : (front : List Terminal) (t : Terminal) (expected : Expected) → BeginsSentence (Some Second) o.no_calc
       (front ++ t ∷ [])
       → IsTrue (allows expected t) → IsEnding o (front ++ t ∷ [])
   ending_after front (operator op) expected b a = record {
@@ -55,7 +56,7 @@ module _ (one : OneSentence) (cut : OneCut) (law : PlaceAndKinds) (o : Options) 
 
   -- What the table allows can be typed.
   allowed_typed : (kept w : List ℕ) (tokens : List Token) (expected : Expected) → AreTokens o 0 kept tokens
-      → BeginsSentence o.no_calc (stand_for o tokens ++ terminal_of o w ∷ [])
+      → BeginsSentence (Some Second) o.no_calc (stand_for o tokens ++ terminal_of o w ∷ [])
       → IsTrue (allows expected (terminal_of o w)) → BeginsExpression o (kept ++ (codes " " ++ w))
   allowed_typed kept w tokens expected are b a =
       let e : IsEnding o (stand_for o tokens ++ terminal_of o w ∷ []) =
@@ -68,12 +69,12 @@ module _ (one : OneSentence) (cut : OneCut) (law : PlaceAndKinds) (o : Options) 
 
   -- What can be typed goes on with the beginning of a sentence.
   typed_begins : (kept w : List ℕ) (tokens : List Token) → AreTokens o 0 kept tokens → IsLexeme o w
-      → BeginsExpression o (kept ++ (codes " " ++ w)) → BeginsSentence o.no_calc
+      → BeginsExpression o (kept ++ (codes " " ++ w)) → BeginsSentence (Some Second) o.no_calc
       (stand_for o tokens ++ terminal_of o w ∷ [])
   typed_begins kept w tokens are h (more, (lexemes, (sentence, spells))) =
       let cut_at_blanks = typed_lexemes o kept w more tokens are h in
       let same : lexemes ≡ lexemes_of tokens ++ w ∷ cut_at_blanks.0 =
-      (one.tokens o _ lexemes sentence).0 (rw append_assoc at spells) ∙ cut_at_blanks.1 in
+      (one.tokens (Some Second) o _ lexemes sentence).0 (rw append_assoc at spells) ∙ cut_at_blanks.1 in
       (map (terminal_of o) cut_at_blanks.0, rw append_assoc (rw (same, map-append) at sentence))
 
   pub refused_completion : (text : List ℕ) (place : ℕ) (expected : Expected) → IsRefused o text (Syntax place expected)
@@ -90,7 +91,7 @@ module _ (one : OneSentence) (cut : OneCut) (law : PlaceAndKinds) (o : Options) 
       sym (rw (take-map, take-map) at (ap (take n) is_front.parts ∙ take-append_seam front rest)) in
       let begins = rw same at is_front.begins in
       let can_follow = rw same at at_front.1 in
-      let table = (law.kinds o.no_calc (stand_for o tokens) expected begins).0 can_follow in
+      let table = (law.kinds (Some Second) o.no_calc (stand_for o tokens) expected begins).0 can_follow in
       record {
         front = k.front;
         rest = k.rest;
@@ -101,7 +102,7 @@ module _ (one : OneSentence) (cut : OneCut) (law : PlaceAndKinds) (o : Options) 
           λ a. allowed_typed k.front w tokens expected k.are (next.0 (rw table at a)) a,
         );
         nothing_more = (
-          λ whole. let lexemes = (one.tokens o k.front whole.0 whole.1.0).0 whole.1.1
+          λ whole. let lexemes = (one.tokens (Some Second) o k.front whole.0 whole.1.0).0 whole.1.1
               ∙ ap lexemes_of (sym (cut.only o k.front tokens k.are)) in
               can_follow.end_expected.1 (rw lexemes at whole.1.0),
           λ ended. (lexemes_of tokens, (can_follow.end_expected.0 ended, tokens_spell_at o 0 k.front tokens k.are)),

@@ -2,6 +2,7 @@
 use Rattle.std.proofs.Common.{append-nil, Bool, IsTrue, le_of_suc-le-suc, length, length-take, List, None, Option, refl, rules, Some, suc-le-suc, [], ◌++◌, ◌↔◌, ◌∷◌, ◌≡◌, ◌≤◌}
 use Rattle.duration_str.proofs.Common.{allows, BeginsSentence, cases_Bool, expected_after, front_after, front_of, IsSentence, last_of, number, operator, PlaceAndKinds, Terminal}
 use Rattle.uses.proofs.Common.{CondUnit, take_all}
+use Rattle.duration_str.specs.declared.unit.TimeUnit.TheVariants.{Second}
 
 last_of_pushed : (last : Option Terminal) (front : List Terminal) (t : Terminal) → last_of last (front ++ t ∷ [])
     ≡ Some t
@@ -10,33 +11,33 @@ last_of_pushed last (s ∷ front) t = last_of_pushed (Some s) front t
 
 module _ (law : PlaceAndKinds) (no_calc : Bool) where
   -- Terminals begin a sentence exactly if the table's front is all of them.
-  begins_whole : (ts : List Terminal) → (BeginsSentence no_calc ts ↔ length ts ≤ front_of no_calc ts)
+  begins_whole : (ts : List Terminal) → (BeginsSentence (Some Second) no_calc ts ↔ length ts ≤ front_of (Some Second) no_calc ts)
   begins_whole ts = search (rules, append-nil, length-take, take_all)
 
   -- The table finds one more terminal exactly if it allows it after the last.
   pushed : (last : Option Terminal) (front : List Terminal) (t : Terminal)
-      → length front ≤ front_after no_calc last front
-      → (IsTrue (allows (expected_after no_calc (last_of last front)) t)
-      ↔ length (front ++ t ∷ []) ≤ front_after no_calc last (front ++ t ∷ []))
+      → length front ≤ front_after (Some Second) no_calc last front
+      → (IsTrue (allows (expected_after (Some Second) no_calc (last_of last front)) t)
+      ↔ length (front ++ t ∷ []) ≤ front_after (Some Second) no_calc last (front ++ t ∷ []))
   pushed last [] t h = search (rules, cases_Bool)
   pushed last (s ∷ front) t h = search (rules, cases_Bool, le_of_suc-le-suc, suc-le-suc, pushed (Some s) front t)
 
   -- One more terminal goes on with the beginning of a sentence exactly if the table allows it.
-  pub follows : (front : List Terminal) (t : Terminal) → BeginsSentence no_calc front
-      → (IsTrue (allows (expected_after no_calc (last_of None front)) t) ↔ BeginsSentence no_calc (front ++ t ∷ []))
+  pub follows : (front : List Terminal) (t : Terminal) → BeginsSentence (Some Second) no_calc front
+      → (IsTrue (allows (expected_after (Some Second) no_calc (last_of None front)) t) ↔ BeginsSentence (Some Second) no_calc (front ++ t ∷ []))
   follows front t b =
       let push = pushed None front t ((begins_whole front).0 b) in
       let begins = begins_whole (front ++ t ∷ []) in (λ a. begins.1 (push.0 a), λ more. push.1 (begins.0 more))
 
   -- The beginning of a sentence is a sentence if the table lets the text end after its last terminal.
-  pub ends : (front : List Terminal) (t : Terminal) → BeginsSentence no_calc (front ++ t ∷ [])
-      → IsTrue (expected_after no_calc (Some t)).text_end → IsSentence no_calc (front ++ t ∷ [])
+  pub ends : (front : List Terminal) (t : Terminal) → BeginsSentence (Some Second) no_calc (front ++ t ∷ [])
+      → IsTrue (expected_after (Some Second) no_calc (Some t)).text_end → IsSentence (Some Second) no_calc (front ++ t ∷ [])
   ends front t b h =
-      ((law.kinds no_calc (front ++ t ∷ []) _ b).1 refl).end_expected.0 (rw (last_of_pushed None front t) h)
+      ((law.kinds (Some Second) no_calc (front ++ t ∷ []) _ b).1 refl).end_expected.0 (rw (last_of_pushed None front t) h)
 
   -- After an operator, zero ends a sentence.
-  pub zero_ends : (front : List Terminal) (op : CondUnit) → BeginsSentence no_calc (front ++ operator op ∷ [])
-      → IsSentence no_calc ((front ++ operator op ∷ []) ++ number 0 ∷ [])
+  pub zero_ends : (front : List Terminal) (op : CondUnit) → BeginsSentence (Some Second) no_calc (front ++ operator op ∷ [])
+      → IsSentence (Some Second) no_calc ((front ++ operator op ∷ []) ++ number 0 ∷ [])
   zero_ends front op b =
       let more = (follows (front ++ operator op ∷ []) (number 0) b).0
       (rw (last_of_pushed None front (operator op)) refl) in

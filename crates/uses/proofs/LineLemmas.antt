@@ -1,9 +1,10 @@
 -- Lines and their texts are spelled by the same sentences.
-use Rattle.std.proofs.Common.{ap, append-nil, inl, inr, IsUtf8, List, refl, rules, [], ℕ, ◌+◌, ◌∙◌, ◌∷◌, ◌≡◌}
+use Rattle.std.proofs.Common.{ap, append-nil, inl, inr, IsUtf8, List, refl, rules, Some, [], ℕ, ◌+◌, ◌∙◌, ◌∷◌, ◌≡◌}
 use Rattle.duration_str.proofs.Common.{BlanksFree, cases_Bool, chars-append, goes_on, IsSentenceOf, lexemes_of, OneSentence, Spells, tokens_from, width}
 use Rattle.uses.proofs.Common.{IsReadAsBefore, Options, run-not_blank, true≢false, with_line_feed}
 use Rattle.std.specs.Str.{chars}
 use Rattle.duration_str.proofs.LawProofs.SumOfTexts.{spells_both}
+use Rattle.duration_str.specs.declared.unit.TimeUnit.TheVariants.{Second}
 
 chars_line : (bytes : List ℕ) → IsUtf8 bytes → chars (with_line_feed bytes) ≡ with_line_feed (chars bytes)
 unfolding chars
@@ -37,7 +38,7 @@ line_tokens o at (c ∷ d ∷ text) = rw (line_tokens o (at + width c) (d ∷ te
 spells_text : OneSentence → (o : Options) (lexemes : List (List ℕ)) (text : List ℕ)
     → IsSentenceOf o lexemes (with_line_feed text) → Spells lexemes text
 spells_text law o lexemes text s =
-    (law.tokens o text lexemes s.0).1 ((law.tokens o (with_line_feed text) lexemes s.0).0 s.1 ∙ ap lexemes_of
+    (law.tokens (Some Second) o text lexemes s.0).1 ((law.tokens (Some Second) o (with_line_feed text) lexemes s.0).0 s.1 ∙ ap lexemes_of
     (line_tokens o 0 text))
 
 pub text_read : OneSentence → BlanksFree → (bytes : List ℕ) → IsUtf8 bytes

@@ -1,10 +1,11 @@
 -- Texts that multiply two parts, in either order.
-use Rattle.std.proofs.Common.{arith, inl, inr, List, mul_comm, refl, rules, ℕ, ◌*◌, ◌/◌, ◌<◌, ◌^◌, ◌↔◌, ◌≡◌}
+use Rattle.std.proofs.Common.{arith, inl, inr, List, mul_comm, refl, rules, ℕ, ◌*◌, ◌/◌, ◌<◌, ◌^◌, ◌↔◌, ◌≡◌, Some}
 use Rattle.duration_str.proofs.Common.{IsRead, nanos_of, second, TwoFactors}
 use Rattle.uses.proofs.Common.{MultipliesInEitherOrder, nanos_in, Options, Part, Plus, Star, term_of_part}
 use Rattle.duration_str.specs.declared.unit.TimeUnit.{TimeUnit}
 use Rattle.duration_str.specs.declared.unit.TimeUnit.TheVariants.{Year}
 use Rattle.uses.specs.Product.{Multiplies}
+use Rattle.duration_str.specs.declared.unit.TimeUnit.TheVariants.{Second}
 
 -- A part whose length is below 2^64 has such a number.
 number_below : (n : ℕ) (u : TimeUnit) → n * nanos_of u < 2 ^ 64 → n < 2 ^ 64
@@ -24,7 +25,7 @@ exchanged a b nanos p = search (rules, mul_comm)
 in_order : TwoFactors → (o : Options) (text : List ℕ) (a b : Part) (nanos : ℕ) → Multiplies o a b text
     → (IsRead o text nanos ↔ IsProduct (nanos_in a) (nanos_in b) nanos)
 in_order law o text a b nanos m =
-    let read = law.product o text m.lexemes (term_of_part Plus a) (term_of_part Star b) nanos m.spells m.terms refl in (
+    let read = law.product (Some Second) o text m.lexemes (term_of_part Plus a) (term_of_part Star b) nanos m.spells m.terms refl in (
       λ r. let h = read.0 r in record { length = h.1; other_length = h.3; product = h.4; is = h.5 },
       λ p. read.1 (
         number_below _ a.unit p.length,

@@ -3,15 +3,16 @@ use Rattle.std.proofs.Common.{ap, Bool, List, rules, Some, ℕ, ◌++◌, ◌∙
 use Rattle.duration_str.proofs.Common.{CanFollow, early, IsRefusedAt, late, syntax_fault, Terminal}
 use Rattle.duration_str.proofs.OnePass.PlaceLemmas.{early_stands, late_stands}
 use Rattle.uses.proofs.Common.{Cause, Expected, Syntax}
+use Rattle.duration_str.specs.declared.unit.TimeUnit.TheVariants.{Second}
 
 -- A syntax fault stands after the front, and its kinds are those that can follow. The faults of the evaluation are
 -- none.
 pub refused_at : (no_calc : Bool) (at : ℕ) (front rest : List Terminal) (cause : Cause) (place : ℕ)
     (expected : Expected)
-    → IsRefusedAt no_calc at front rest cause → cause ≡ Syntax place expected
-    → (place ≡ at) × CanFollow no_calc front expected
+    → IsRefusedAt (Some Second) no_calc at front rest cause → cause ≡ Syntax place expected
+    → (place ≡ at) × CanFollow (Some Second) no_calc front expected
 refused_at no_calc at front rest cause place expected (early h) e =
-    absurd (rw (h ∙ ap Some e) at (early_stands (λ n. ⊥) no_calc front rest))
+    absurd (rw (h ∙ ap Some e) at (early_stands (λ n. ⊥) (Some Second) no_calc front rest))
 refused_at no_calc at front rest cause place expected (syntax_fault other none whole can is) e = search rules
 refused_at no_calc at front rest cause place expected (late none s h) e =
-    absurd (rw (h ∙ ap Some e) at (late_stands (λ n. ⊥) no_calc (front ++ rest)))
+    absurd (rw (h ∙ ap Some e) at (late_stands (λ n. ⊥) (Some Second) no_calc (front ++ rest)))

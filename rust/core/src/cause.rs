@@ -2,6 +2,7 @@
 //! Why a text is refused: what could stand at the place of a syntax fault, the cause, and its line.
 
 use crate::operator::CondUnit;
+use crate::unit::TimeUnit;
 
 /// What could stand at the place of a syntax fault.
 ///
@@ -37,12 +38,12 @@ impl Expected {
     }
 
     #[inline(always)]
-    pub(crate) fn after_number(no_calc: bool) -> Expected {
+    pub(crate) fn after_number(no_calc: bool, default_unit: Option<TimeUnit>) -> Expected {
         Expected {
             number: false,
             unit_word: true,
-            operator: !no_calc,
-            text_end: true,
+            operator: default_unit.is_some() && !no_calc,
+            text_end: default_unit.is_some(),
         }
     }
 
@@ -53,15 +54,6 @@ impl Expected {
             unit_word: false,
             operator: !no_calc,
             text_end: true,
-        }
-    }
-
-    /// Only a unit: what must follow a number if units are required.
-    #[inline(always)]
-    pub(crate) fn unit() -> Expected {
-        Expected {
-            text_end: false,
-            ..Expected::after_number(true)
         }
     }
 }

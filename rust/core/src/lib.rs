@@ -37,12 +37,13 @@ mod report;
 mod token;
 #[forbid(unsafe_code)]
 mod unit;
-#[forbid(unsafe_code)]
-mod with_units;
 
 pub use self::format::{Format, Style};
 pub use self::one_line::{MAX_ONE_LINE_LEN, ONE_LINE_BUFFER_SIZE};
-pub use self::parser::{Cause, Expected, Fault, parse, parse_looked, parse_nanos, parse_std, parse_with};
+pub use self::parser::{
+    Cause, Expected, Fault, parse, parse_looked, parse_nanos, parse_std, parse_with,
+    parse_with_default_unit, parse_with_units,
+};
 pub use self::printing::{
     FORMAT_BUFFER_SIZE, MAX_LONG_LEN, MAX_PRINTED_LEN, STYLED_BUFFER_SIZE, write_human,
     write_within,
@@ -50,4 +51,3 @@ pub use self::printing::{
 pub use self::report::REPORT_BUFFER_SIZE;
 pub use self::token::{Token, Tokens, What};
 pub use self::unit::{CondUnit, Options, TimeUnit, UNITS};
-pub use self::with_units::{parse_with_units, unit_fault};

@@ -6,6 +6,7 @@ pub use crate::fault::Fault;
 use crate::options::Options;
 use crate::reader::read;
 use crate::token::Tokens;
+use crate::unit::TimeUnit;
 use core::time::Duration;
 
 /// The duration that a text means with all options off.
@@ -24,9 +25,9 @@ use core::time::Duration;
 /// assert_eq!(parse("3m 13s 29ms").unwrap(), Duration::from_millis(193_029));
 /// assert!(parse("1m 3-5").is_err());
 /// ```
-#[inline(never)]
+#[inline]
 pub fn parse(input: &str) -> Result<Duration, Fault<'_>> {
-    parse_nanos(input, Options::off()).map(Duration::from_nanos)
+    parse_with(input, Options::off())
 }
 
 /// What `parse` returns.
@@ -71,29 +72,84 @@ pub fn parse_std(input: &str) -> Result<Duration, Fault<'_>> {
 /// ```
 #[inline]
 pub fn parse_with(input: &str, o: Options) -> Result<Duration, Fault<'_>> {
-    if o.are_off() {
-        return parse(input);
-    }
-    parse_chosen(input, o)
+    parse_with_default_unit(input, o, Some(TimeUnit::Second))
 }
 
-#[inline(never)]
-fn parse_chosen(input: &str, o: Options) -> Result<Duration, Fault<'_>> {
-    parse_nanos(input, o).map(Duration::from_nanos)
-}
-
-/// The nanoseconds of what `parse_with` returns, or its refusal.
+/// The duration that a text means under these options, where a number without a unit has the default unit.
+///
+/// `parse_with` is this call with the second. With `None` each number must have its unit, so that after a number only a
+/// unit can stand.
+///
+/// A product multiplies seconds, so a factor without a unit is a length too: in milliseconds `90s*2` is 180 ms. Texts
+/// whose numbers are milliseconds have no operators: turn on `no_calc` for them. Allocates nothing.
 ///
 /// # Errors
 ///
-/// That of [`parse_with`].
+/// The [`Fault`], if the text means no duration.
 ///
 /// ```text
-/// parse_nanos("1ms 5ns", Options::off()) // Ok(1_000_005)
+/// let in_milliseconds = |text| parse_with_default_unit(text, Options::off(), Some(TimeUnit::MilliSecond));
+/// in_milliseconds("1500")  // Ok(Duration::from_millis(1_500))
+/// in_milliseconds("90s*2") // Ok(Duration::from_millis(180))
+/// parse_with_default_unit("1h 30", Options::off(), None).unwrap_err().cause().place() // Some(5)
 /// ```
-#[inline(always)]
-pub fn parse_nanos(input: &str, o: Options) -> Result<u64, Fault<'_>> {
-    read_text(input, o).0
+#[inline]
+pub fn parse_with_default_unit(
+    input: &str,
+    o: Options,
+    default_unit: Option<TimeUnit>,
+) -> Result<Duration, Fault<'_>> {
+    parse_nanos(input, o, default_unit).map(Duration::from_nanos)
+}
+
+/// The duration that a text means under these options, where each number must have its unit.
+///
+/// It returns what `parse_with_default_unit` returns for `None`. Allocates nothing.
+///
+/// # Errors
+///
+/// The [`Fault`], if the text means no duration, or lacks a unit.
+///
+/// ```text
+/// parse_with_units("1h 30m", Options::off()) // Ok(Duration::from_secs(5_400))
+/// parse_with_units("1h 30", Options::off()).unwrap_err().cause().place() // Some(5)
+/// ```
+#[inline]
+pub fn parse_with_units(input: &str, o: Options) -> Result<Duration, Fault<'_>> {
+    parse_with_default_unit(input, o, None)
+}
+
+/// The nanoseconds of what `parse_with_default_unit` returns, or its refusal.
+///
+/// With all options off and the second, a copy of the reader is called that knows this, and is faster.
+///
+/// # Errors
+///
+/// That of [`parse_with_default_unit`].
+///
+/// ```text
+/// parse_nanos("1ms 5ns", Options::off(), None) // Ok(1_000_005)
+/// ```
+#[inline]
+pub fn parse_nanos(
+    input: &str,
+    o: Options,
+    default_unit: Option<TimeUnit>,
+) -> Result<u64, Fault<'_>> {
+    if o.are_off() && default_unit == Some(TimeUnit::Second) {
+        return nanos_off(input);
+    }
+    nanos_chosen(input, o, default_unit)
+}
+
+#[inline(never)]
+fn nanos_off(input: &str) -> Result<u64, Fault<'_>> {
+    read_text(input, Options::off(), Some(TimeUnit::Second)).0
+}
+
+#[inline(never)]
+fn nanos_chosen(input: &str, o: Options, default_unit: Option<TimeUnit>) -> Result<u64, Fault<'_>> {
+    read_text(input, o, default_unit).0
 }
 
 /// What `parse_with` returns, and how many times a character of the text was looked at.
@@ -105,12 +161,16 @@ pub fn parse_nanos(input: &str, o: Options) -> Result<u64, Fault<'_>> {
 /// parse_looked("3m 13s", Options::off()) // (Ok(Duration::from_secs(193)), 6)
 /// ```
 pub fn parse_looked(input: &str, o: Options) -> (Result<Duration, Fault<'_>>, u64) {
-    let (answer, looks) = read_text(input, o);
+    let (answer, looks) = read_text(input, o, Some(TimeUnit::Second));
     (answer.map(Duration::from_nanos), looks)
 }
 
 #[inline(always)]
-fn read_text(input: &str, o: Options) -> (Result<u64, Fault<'_>>, u64) {
+fn read_text(
+    input: &str,
+    o: Options,
+    default_unit: Option<TimeUnit>,
+) -> (Result<u64, Fault<'_>>, u64) {
     if input.is_empty() {
         let fault = Fault {
             text: input,
@@ -119,7 +179,7 @@ fn read_text(input: &str, o: Options) -> (Result<u64, Fault<'_>>, u64) {
         return (Err(fault), 0);
     }
     let mut tokens = Tokens::new(input, o);
-    match read(&mut tokens, o.no_calc) {
+    match read(&mut tokens, o.no_calc, default_unit) {
         Ok(nanos) => (Ok(nanos), tokens.looked()),
         Err(cause) => (Err(Fault { text: input, cause }), tokens.looked()),
     }

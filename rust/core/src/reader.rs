@@ -16,10 +16,14 @@ type Later = Result<Option<(CondUnit, u64)>, Cause>;
 /// term stands at once under `no_calc`; else it takes the total's place, and the syntax is read to its end, whose fault
 /// precedes it.
 #[inline(always)]
-pub(crate) fn read(tokens: &mut Tokens<'_>, no_calc: bool) -> Result<u64, Cause> {
+pub(crate) fn read(
+    tokens: &mut Tokens<'_>,
+    no_calc: bool,
+    default_unit: Option<TimeUnit>,
+) -> Result<u64, Cause> {
     expect_number(tokens)?;
     let number = tokens.take_number();
-    let value = read_unit(tokens, no_calc)?.times(number, Some(0))?;
+    let value = read_unit(tokens, no_calc, default_unit)?.times(number, Some(0))?;
     let (first, mut later) = if no_calc {
         (0, Ok(Some((CondUnit::Plus, value))))
     } else {
@@ -27,7 +31,7 @@ pub(crate) fn read(tokens: &mut Tokens<'_>, no_calc: bool) -> Result<u64, Cause>
     };
     while let Some(next) = read_operator(tokens, no_calc)? {
         let number = tokens.take_number();
-        let unit = read_unit(tokens, no_calc)?;
+        let unit = read_unit(tokens, no_calc, default_unit)?;
         later = with_term(later, next, number, unit);
         if no_calc {
             later?;
@@ -48,29 +52,43 @@ fn expect_number(tokens: &mut Tokens<'_>) -> Result<(), Cause> {
     Err(Cause::syntax(tokens.place(), Expected::at_start()))
 }
 
-/// Reads the unit after a number. Seconds if an operator or the end follows, which is not taken.
+/// Reads the unit after a number: the default unit if an operator or the end follows, which is not taken.
 #[inline(always)]
-fn read_unit(tokens: &mut Tokens<'_>, no_calc: bool) -> Result<TimeUnit, Cause> {
+fn read_unit(
+    tokens: &mut Tokens<'_>,
+    no_calc: bool,
+    default_unit: Option<TimeUnit>,
+) -> Result<TimeUnit, Cause> {
     let Some(sort) = tokens.sort_after_number() else {
-        return Ok(TimeUnit::Second);
+        return unit_left_out(tokens.place(), no_calc, default_unit);
     };
     let place = tokens.place();
     match sort {
         TokenStart::Word => match tokens.take_word() {
             Some(unit) => Ok(unit),
-            None => Err(no_unit(place, no_calc)),
+            None => Err(no_unit(place, no_calc, default_unit)),
         },
-        TokenStart::Operator(_) if !no_calc => Ok(TimeUnit::Second),
+        TokenStart::Operator(_) if !no_calc => unit_left_out(place, no_calc, default_unit),
         // An arm of its own, since the prover would not know of a joined one which pattern it is.
-        TokenStart::Operator(_) => Err(no_unit(place, no_calc)),
-        TokenStart::Number | TokenStart::Other => Err(no_unit(place, no_calc)),
+        TokenStart::Operator(_) => Err(no_unit(place, no_calc, default_unit)),
+        TokenStart::Number | TokenStart::Other => Err(no_unit(place, no_calc, default_unit)),
     }
 }
 
-/// The fault of what stands after a number and is neither a unit nor what may follow seconds.
+/// The default unit, which a number without a unit has; if there is none, the fault that only a unit could stand there.
 #[inline(always)]
-fn no_unit(place: usize, no_calc: bool) -> Cause {
-    Cause::syntax(place, Expected::after_number(no_calc))
+fn unit_left_out(
+    place: usize,
+    no_calc: bool,
+    default_unit: Option<TimeUnit>,
+) -> Result<TimeUnit, Cause> {
+    default_unit.ok_or(no_unit(place, no_calc, default_unit))
+}
+
+/// The fault of what stands after a number and is neither a unit nor what may follow a number without one.
+#[inline(always)]
+fn no_unit(place: usize, no_calc: bool, default_unit: Option<TimeUnit>) -> Cause {
+    Cause::syntax(place, Expected::after_number(no_calc, default_unit))
 }
 
 /// Reads the operator after a unit, up to the number that must follow: a plus if it is left out, `None` at the end.

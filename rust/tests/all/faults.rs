@@ -194,6 +194,11 @@ fn requires_units() {
         ("1h30 ", 5, "column 6, found the end"),
         ("1µs+2 + 3", 7, "column 7, found \"+\""),
         ("2*1h", 1, "column 2, found \"*\""),
+        ("90 -", 3, "column 4, found \"-\""),
+        ("1h 30 + 5x", 6, "column 7, found \"+\""),
+        ("1 2", 2, "column 3, found \"2\""),
+        ("1s+2*3", 4, "column 5, found \"*\""),
+        ("99999999999999999999", 20, "column 21, found the end"),
     ];
     for (text, place, wanted) in rows {
         let error = parse_with_units(text).unwrap_err();
@@ -206,16 +211,8 @@ fn requires_units() {
         let spaces = " ".repeat(text[..place].chars().count());
         assert_eq!(error.report(), format!("{text}\n{spaces}^\n{line}"));
     }
-    // What is refused anyway is refused for the same.
-    for text in [
-        "",
-        "1 2",
-        "1 x",
-        "600y",
-        "1s+2*3",
-        "-5",
-        "99999999999999999999",
-    ] {
+    // What lacks no unit up to its fault is refused for the same.
+    for text in ["", "600y", "1s+2s*3s", "1s x", "-5", "99999999999999999999h 5"] {
         let (error, same) = (
             parse_with_units(text).unwrap_err(),
             parse_duration(text).unwrap_err(),

@@ -4,9 +4,9 @@ use Rattle.duration_str.proofs.Sentences.AnswerLemmas.{read_sentence, refused_se
 
 pub blanks_free_holds : BlanksFree
 blanks_free_holds = record {
-  value = λ o a b lexemes nanos s spells r.
+  value = λ default_unit o a b lexemes nanos s spells r.
       let found = read_sentence lexemes s r in
       record { lexemes = lexemes; spells = (s.0, spells); evaluates = found.evaluates; value = found.value };
-  cause = λ o a b lexemes cause s spells h.
+  cause = λ default_unit o a b lexemes cause s spells h.
       sentence_refused o b lexemes cause (s.0, spells) (λ place. refused_sentence o a lexemes cause place s h);
 }

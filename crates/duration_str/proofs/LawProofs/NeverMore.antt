@@ -1,5 +1,5 @@
 -- What is printed within limits is the greatest duration whose own breakdown keeps within them.
-use Rattle.duration_str.proofs.Common.{ap, arith, counts_of, counts_within, div-eq_of_lt-le, Format, if◌then◌else◌, IsGreatestBreakdown, IsRead, le-div_iff_mul-le, le-mul_of_pos_right, length, lengths_within, List, map, map-append, nanos_of, nat_lt, NeverMore, Options, part_count, refl, rules, subst, sym, terminal_of, text_within, TimeUnit, units, units_down_to, units_from, units_within, weighted_sum, Year, zero-div, zero_unit, [], ℕ, ◌%◌, ◌*◌, ◌++◌, ◌+◌, ◌/◌, ◌<◌, ◌^◌, ◌∙◌, ◌∷◌, ◌≡◌, ◌≤◌}
+use Rattle.duration_str.proofs.Common.{Format, IsGreatestBreakdown, IsReadWith, List, NeverMore, Option, Options, TimeUnit, Year, [], ap, arith, counts_of, counts_within, div-eq_of_lt-le, if◌then◌else◌, le-div_iff_mul-le, le-mul_of_pos_right, length, lengths_within, map, map-append, nanos_of, nat_lt, part_count, refl, rules, subst, sym, terminal_of, text_within, units, units_down_to, units_from, units_within, weighted_sum, zero-div, zero_unit, ℕ, ◌%◌, ◌*◌, ◌++◌, ◌+◌, ◌/◌, ◌<◌, ◌^◌, ◌∙◌, ◌∷◌, ◌≡◌, ◌≤◌}
 use Rattle.duration_str.proofs.LawProofs.GreatestBreakdown.{breakdown_of, EndInOne, one_greatest}
 use Rattle.duration_str.proofs.LawProofs.GreatestWithin.{ArePositive, greatest_within, left_whole, lengths_positive, one_greatest_within, within_each, within_few, within_sum}
 use Rattle.duration_str.proofs.Printer.PrintingLemmas.{all_spelled, EachBelow, kept, lexemes, or_zero, parts_kept, sum_kept, sum_or_zero, terminals, terminals_kept, terminals_or_zero, units_plus, units_sentence}
@@ -80,10 +80,11 @@ each_below [] (n ∷ counts) h e small = absurd (omega arith)
 each_below (l ∷ lengths) [] h e small = absurd (omega arith)
 each_below (l ∷ lengths) (n ∷ counts) h e small = search (rules, le-mul_of_pos_right, each_below lengths counts)
 
-reads : (o : Options) (format : Format) (counts text : List ℕ) → length counts ≡ length (lengths_within format)
+reads : (default_unit : Option TimeUnit) (o : Options) (format : Format) (counts text : List ℕ)
+    → length counts ≡ length (lengths_within format)
     → weighted_sum (lengths_within format) counts < 2 ^ 64 → text ≡ text_within format counts
-    → IsRead o text (weighted_sum (lengths_within format) counts)
-reads o format counts text each small same =
+    → IsReadWith default_unit o text (weighted_sum (lengths_within format) counts)
+reads default_unit o format counts text each small same =
     let us = units_within format in
     let zero = zero_unit format.smallest in
     let ps = kept us counts in
@@ -92,11 +93,11 @@ reads o format counts text each small same =
     terminals_or_zero o format.style zero ps (terminals_kept o format.style us counts below) in
     sum_read {lexemes = lexemes format.style (or_zero zero ps)} (record {
       sentence = (
-        rw are (units_sentence o.no_calc zero ps),
+        rw are (units_sentence default_unit o.no_calc zero ps),
         rw (same, parts_kept format.style us counts) (all_spelled format.style zero ps),
       );
       plus = rw are (units_plus (or_zero zero ps));
-    }) (rw (are, sum_or_zero zero ps, sum_kept us counts)) small
+    }) (rw (are, sum_or_zero default_unit zero ps, sum_kept default_unit us counts)) small
 
 pub never_more_holds : NeverMore
 never_more_holds format nanos text p =
@@ -120,7 +121,7 @@ never_more_holds format nanos text p =
           greatest_within format most,
           same ∙ ap (text_within format) (sym (within_again lengths format.parts nanos positive)),
         );
-        read = λ o small. reads o format counts text each small same;
+        read = λ default_unit o small. reads default_unit o format counts text each small same;
         never_more = within_sum lengths format.parts nanos;
         own = (
           counts ++ counts_of more 0,

@@ -1,5 +1,5 @@
 -- Without operators `no_calc` changes neither what is accepted nor its value.
-use Rattle.duration_str.proofs.Common.{and_parts, Bool, HasNoOperator, is_operator, IsRead, IsSentence, List, map, NoCalcAgrees, not, number, operator, Options, rules, Some, Terminal, terminal_of, word, [], ℕ, ⊤, ◌∷◌}
+use Rattle.duration_str.proofs.Common.{and_parts, Bool, HasNoOperator, is_operator, IsReadWith, IsSentence, List, map, NoCalcAgrees, not, number, operator, Option, Options, rules, Some, Terminal, terminal_of, TimeUnit, word, [], ℕ, ⊤, ◌∷◌}
 use Rattle.duration_str.proofs.Cutting.SortLemmas.{terminal_cases}
 use Rattle.duration_str.proofs.Sentences.SpellingLemmas.{EachPasses, lexemes_pass}
 
@@ -18,16 +18,20 @@ no_operator_terminals o (w ∷ lexemes) h =
     (λ c op _ _ sign plain. cc (rw sign at (and_parts (not (is_operator c)) _ plain).0)) (λ c cs _ _ plain. more) w h.0
 
 -- A sentence without operators is a sentence under both options.
-sentence_for : (a b : Bool) (terminals : List Terminal) → HaveNoOperator terminals → IsSentence a terminals
-    → IsSentence b terminals
-sentence_for a b (number n ∷ []) h s = tt
-sentence_for a b (number n ∷ word (Some u) ∷ []) h s = tt
-sentence_for a b (number n ∷ word (Some u) ∷ number m ∷ more) h s = sentence_for a b (number m ∷ more) h s
-sentence_for a b _ h s = absurd assumption
+sentence_for : (default_unit : Option TimeUnit) (a b : Bool) (terminals : List Terminal) → HaveNoOperator terminals
+    → IsSentence default_unit a terminals
+    → IsSentence default_unit b terminals
+sentence_for default_unit a b (number n ∷ []) h s = s
+sentence_for default_unit a b (number n ∷ word (Some u) ∷ []) h s = tt
+sentence_for default_unit a b (number n ∷ word (Some u) ∷ number m ∷ more) h s =
+    sentence_for default_unit a b (number m ∷ more) h s
+sentence_for default_unit a b _ h s = absurd assumption
 
-read_under : (o : Options) (a b : Bool) (text : List ℕ) (nanos : ℕ) → HasNoOperator text
-    → IsRead (record o { no_calc = a }) text nanos → IsRead (record o { no_calc = b }) text nanos
-read_under o a b text nanos plain r = search (rules, lexemes_pass, no_operator_terminals, sentence_for)
+read_under : (default_unit : Option TimeUnit) (o : Options) (a b : Bool) (text : List ℕ) (nanos : ℕ)
+    → HasNoOperator text
+    → IsReadWith default_unit (record o { no_calc = a }) text nanos
+    → IsReadWith default_unit (record o { no_calc = b }) text nanos
+read_under default_unit o a b text nanos plain r = search (rules, lexemes_pass, no_operator_terminals, sentence_for)
 
 pub no_calc_agrees_holds : NoCalcAgrees
-no_calc_agrees_holds o text nanos plain = search (rules, read_under)
+no_calc_agrees_holds default_unit o text nanos plain = search (rules, read_under)

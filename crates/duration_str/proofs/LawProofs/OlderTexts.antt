@@ -1,5 +1,5 @@
 -- The law `older_texts`: a sentence over the units without the quarter is a sentence over all units.
-use Rattle.duration_str.proofs.Common.{allows, ap, append-nil, ap₂, Bool, cases_Bool, Cause, CondUnit, expected_after, inl, inr, is_digit, is_unit_letter, IsRead, IsRefused, IsRefusedAt, IsSentence, IsSentenceOf, IsTrue, List, list_all, map, nanos_of, None, number, older_nanos_of, older_row_of, older_terminals, older_terms, older_unit_of_word, OlderTexts, operator, Option, Options, Plus, refl, row_of, rules, sentence_fault, sign_terminal, Some, Terminal, terminal_by, terminal_of, terms_by, terms_of, TimeUnit, unit_of_word, WasRead, WasRefused, WasSentenceOf, word, [], ℕ, ⊤, ◌∙◌, ◌∷◌, ◌≡◌}
+use Rattle.duration_str.proofs.Common.{allows, ap, append-nil, ap₂, Bool, cases_Bool, Cause, CondUnit, expected_after, inl, inr, is_digit, is_unit_letter, IsRead, IsRefused, IsRefusedAt, IsSentence, IsSentenceOf, IsTrue, List, list_all, map, nanos_of, None, number, older_nanos_of, older_row_of, older_terminals, older_terms, older_unit_of_word, OlderTexts, operator, Option, Options, Plus, refl, row_of, rules, Second, sentence_fault, sign_terminal, Some, Terminal, terminal_by, terminal_of, terms_by, terms_of, TimeUnit, unit_of_word, WasRead, WasRefused, WasSentenceOf, word, [], ℕ, ⊤, ◌∙◌, ◌∷◌, ◌≡◌}
 use Rattle.duration_str.specs.Laws.{IsSameUnit}
 use Rattle.duration_str.specs.Units.{UnitRow}
 use Rattle.duration_str.proofs.Sentences.AnswerLemmas.{sentence_refused}
@@ -23,7 +23,7 @@ KeepLengths (word (Some u) ∷ terminals) = (older_nanos_of u ≡ nanos_of u) ×
 KeepLengths (terminal ∷ terminals) = KeepLengths terminals
 
 same_word : (o : Options) (last : Option Terminal) (w : List ℕ) (found : Option TimeUnit) (terminals : List Terminal)
-    → older_unit_of_word o w ≡ found → IsTrue (allows (expected_after o.no_calc last) (word found))
+    → older_unit_of_word o w ≡ found → IsTrue (allows (expected_after (Some Second) o.no_calc last) (word found))
     → KeepLengths terminals
     → (word found ≡ word (unit_of_word o w)) × KeepLengths (word found ∷ terminals)
 same_word o last w found terminals e a k = search rules
@@ -34,7 +34,7 @@ sign_keeps w terminals k = search rules
 
 -- A lexeme that the table allows where it is has the same terminal as before, with a unit of the same length.
 same_terminal : (o : Options) (last : Option Terminal) (w : List ℕ) (terminals : List Terminal)
-    → IsTrue (allows (expected_after o.no_calc last) (terminal_by older_unit_of_word o w)) → KeepLengths terminals
+    → IsTrue (allows (expected_after (Some Second) o.no_calc last) (terminal_by older_unit_of_word o w)) → KeepLengths terminals
     → (terminal_by older_unit_of_word o w ≡ terminal_of o w)
     × KeepLengths (terminal_by older_unit_of_word o w ∷ terminals)
 same_terminal o last [] terminals a k = (refl, k)
@@ -48,7 +48,7 @@ same_terminal o last (c ∷ cs) terminals a k = elim (cases_Bool (list_all is_di
 ]
 
 same_terminals : (o : Options) (last : Option Terminal) (lexemes : List (List ℕ))
-    → AreAllowed o.no_calc last (older_terminals o lexemes)
+    → AreAllowed (Some Second) o.no_calc last (older_terminals o lexemes)
     → (older_terminals o lexemes ≡ map (terminal_of o) lexemes) × KeepLengths (older_terminals o lexemes)
 same_terminals o last [] a = (refl, tt)
 same_terminals o last (w ∷ lexemes) a =
@@ -56,7 +56,7 @@ same_terminals o last (w ∷ lexemes) a =
     let first = same_terminal o last w (older_terminals o lexemes) a.0 more.1 in (ap₂ ◌∷◌ first.0 more.0, first.1)
 
 same_terms : (op : CondUnit) (terminals : List Terminal) → KeepLengths terminals
-    → terms_by older_nanos_of op terminals ≡ terms_by nanos_of op terminals
+    → terms_by older_nanos_of (Some Second) op terminals ≡ terms_by nanos_of (Some Second) op terminals
 same_terms op (number n ∷ word (Some u) ∷ more) k = rw (k.0, same_terms Plus more k.1) refl
 same_terms op (number n ∷ more) k = rw (same_terms Plus more k) refl
 same_terms op (operator next ∷ more) k = same_terms next more k
@@ -64,13 +64,13 @@ same_terms op _ k = refl
 
 module _ (o : Options) (lexemes : List (List ℕ)) (text : List ℕ) (was : WasSentenceOf o lexemes text) where
   older : (older_terminals o lexemes ≡ map (terminal_of o) lexemes) × KeepLengths (older_terminals o lexemes)
-  older = same_terminals o None lexemes (sentence_allowed o.no_calc (older_terminals o lexemes) was.sentence)
+  older = same_terminals o None lexemes (sentence_allowed (Some Second) o.no_calc (older_terminals o lexemes) was.sentence)
 
   older_sentence : IsSentenceOf o lexemes text
   older_sentence = (rw older.0 at was.sentence, was.spells)
 
-  older_terms_same : older_terms o lexemes ≡ terms_of (map (terminal_of o) lexemes)
-  older_terms_same = same_terms Plus (older_terminals o lexemes) older.1 ∙ ap terms_of older.0
+  older_terms_same : older_terms o lexemes ≡ terms_of (Some Second) (map (terminal_of o) lexemes)
+  older_terms_same = same_terms Plus (older_terminals o lexemes) older.1 ∙ ap (terms_of (Some Second)) older.0
 
 -- ---- Values and causes
 
@@ -78,8 +78,8 @@ older_value : (o : Options) (text : List ℕ) (nanos : ℕ) → WasRead o text n
 older_value o text nanos was = search (rules, older_terms_same, older_sentence)
 
 -- A sentence whose evaluation has this fault is refused for it, wherever its end stands.
-refused_at : (no_calc : Bool) (place : ℕ) (terminals : List Terminal) (cause : Cause) → IsSentence no_calc terminals
-    → sentence_fault no_calc (terms_of terminals) ≡ Some cause → IsRefusedAt no_calc place terminals [] cause
+refused_at : (no_calc : Bool) (place : ℕ) (terminals : List Terminal) (cause : Cause) → IsSentence (Some Second) no_calc terminals
+    → sentence_fault no_calc (terms_of (Some Second) terminals) ≡ Some cause → IsRefusedAt (Some Second) no_calc place terminals [] cause
 refused_at no_calc place terminals cause s e = search (rules, append-nil)
 
 older_cause : (o : Options) (text : List ℕ) (cause : Cause) → WasRefused o text cause → IsRefused o text cause

@@ -6,9 +6,10 @@ use Rattle.duration_str.proofs.Sentences.AnswerLemmas.{answer_is_reading_holds, 
 
 pub one_sentence_holds : OneSentence
 one_sentence_holds = record {
-  equal = λ o text lexemes others s t. sentence_tokens o text lexemes s ∙ sym (sentence_tokens o text others t);
-  tokens = λ o text lexemes s. (
-    λ spells. sentence_tokens o text lexemes (s, spells),
+  equal =
+      λ default_unit o text lexemes others s t. sentence_tokens default_unit o text lexemes s ∙ sym (sentence_tokens default_unit o text others t);
+  tokens = λ default_unit o text lexemes s. (
+    λ spells. sentence_tokens default_unit o text lexemes (s, spells),
     λ e. subst (λ (ws : List (List ℕ)). Spells ws text) (sym e) (tokens_spell o text),
   );
 }

@@ -1,5 +1,5 @@
 -- `lowercase` changes nothing without ASCII capitals, and `cn_unit` nothing without Chinese characters.
-use Rattle.duration_str.proofs.Common.{and_parts, arith, Bool, bytes_eq, Cause, false, goes_on, HasNoCapital, HasNoChinese, if◌then◌else◌, is_chinese, is_unit_letter, IsIdle, IsRead, IsRefused, IsTrue, List, list_all, list_any, map, not, not-true, Options, OptionsIdle, refl, rules, terminal_of, terminals_of, to_ascii_lowercase, tokens_from, tokens_of, true, unit_of_word, width, [], ℕ, ◌+◌, ◌∷◌, ◌≡◌}
+use Rattle.duration_str.proofs.Common.{Bool, Cause, HasNoCapital, HasNoChinese, IsIdle, IsReadWith, IsRefusedWith, IsTrue, List, Option, Options, OptionsIdle, TimeUnit, [], and_parts, arith, bytes_eq, false, goes_on, if◌then◌else◌, is_chinese, is_unit_letter, list_all, list_any, map, not, not-true, refl, rules, terminal_of, terminals_of, to_ascii_lowercase, tokens_from, tokens_of, true, unit_of_word, width, ℕ, ◌+◌, ◌∷◌, ◌≡◌}
 use Rattle.duration_str.proofs.Characters.UnitLemmas.{named_passes}
 use Rattle.duration_str.proofs.Sentences.SpellingLemmas.{EachPasses, lexemes_pass, tokens_spell}
 use Rattle.duration_str.proofs.Sentences.AnswerLemmas.{read_terminals, terminals_read}
@@ -12,17 +12,21 @@ record AreAlike (o p : Options) (text : List ℕ) : Type 0 where
   tokens : tokens_of o text ≡ tokens_of p text
   terminals : terminals_of o text ≡ terminals_of p text
 
-read_alike : {o p : Options} {text : List ℕ} (nanos : ℕ) → AreAlike o p text → IsRead o text nanos → IsRead p text nanos
-read_alike {p = p} {text = text} nanos h r =
-    terminals_read p text nanos (rw (h.grammar, h.terminals) at (read_terminals r))
+read_alike : {default_unit : Option TimeUnit} {o p : Options} {text : List ℕ} (nanos : ℕ) → AreAlike o p text
+    → IsReadWith default_unit o text nanos → IsReadWith default_unit p text nanos
+read_alike {default_unit} {p = p} {text = text} nanos h r =
+    terminals_read default_unit p text nanos (rw (h.grammar, h.terminals) at (read_terminals r))
 
-refused_alike : {o p : Options} (text : List ℕ) (cause : Cause) → AreAlike o p text → IsRefused o text cause
-    → IsRefused p text cause
-refused_alike [] cause h r = r
-refused_alike (c ∷ text) cause h r = (r.0, r.1, rw (h.grammar, h.terminals) at r.2, rw (h.grammar, h.tokens) at r.3)
+refused_alike : (default_unit : Option TimeUnit) {o p : Options} (text : List ℕ) (cause : Cause) → AreAlike o p text
+    → IsRefusedWith default_unit o text cause
+    → IsRefusedWith default_unit p text cause
+refused_alike default_unit [] cause h r = r
+refused_alike default_unit (c ∷ text) cause h r =
+    (r.0, r.1, rw (h.grammar, h.terminals) at r.2, rw (h.grammar, h.tokens) at r.3)
 
-idle : (choice : Bool → Options) (text : List ℕ) → AreAlike (choice true) (choice false) text → IsIdle choice text
-idle choice text h = search (rules, read_alike, refused_alike)
+idle : (default_unit : Option TimeUnit) (choice : Bool → Options) (text : List ℕ)
+    → AreAlike (choice true) (choice false) text → IsIdle default_unit choice text
+idle default_unit choice text h = search (rules, read_alike, refused_alike)
 
 -- ---- Options that agree on characters and words give the same tokens and terminals
 

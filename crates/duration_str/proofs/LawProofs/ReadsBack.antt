@@ -1,5 +1,5 @@
 -- A printed text is read back below 2^64 nanoseconds, and otherwise overflows.
-use Rattle.duration_str.proofs.Common.{arith, Bool, counts_of, drop, early, early_fault, FitsDuration, IsPrintedIn, IsRead, IsRefused, le-ltb, List, lt-ltb, map, nanos_of, None, number, Options, Overflow, ReadsBack, rules, Some, Style, sum_of, sym, Terminal, terminal_of, terms_of, unit_lengths, units, word, Year, [], ℕ, ◌*◌, ◌+◌, ◌/◌, ◌<◌, ◌^◌, ◌∷◌, ◌≡◌, ◌≤◌}
+use Rattle.duration_str.proofs.Common.{Bool, FitsDuration, IsPrintedIn, IsReadWith, IsRefusedWith, List, None, Option, Options, Overflow, ReadsBack, Some, Style, Terminal, TimeUnit, Year, [], arith, counts_of, drop, early, early_fault, le-ltb, lt-ltb, map, nanos_of, number, rules, sum_of, sym, terminal_of, terms_of, unit_lengths, units, word, ℕ, ◌*◌, ◌+◌, ◌/◌, ◌<◌, ◌^◌, ◌∷◌, ◌≡◌, ◌≤◌}
 use Rattle.duration_str.proofs.Sentences.AnswerLemmas.{EachFits, sentence_refused, sum_fits_each, sum_overflows, sum_read, terms_of_lexemes}
 use Rattle.duration_str.proofs.Printer.PrintingLemmas.{duration_lexemes, duration_sum, kept, printed_is_sum, terminals, terminals_of_duration}
 
@@ -14,38 +14,42 @@ years_first : (o : Options) (style : Style) (nanos : ℕ) → FitsDuration nanos
     → map (terminal_of o) (duration_lexemes style nanos) ≡ number (years nanos) ∷ word (Some Year) ∷ after_years nanos
 years_first o style nanos h low = search (rules, terminals_of_duration)
 
-reads_below : (o : Options) (style : Style) (nanos : ℕ) (text : List ℕ) → nanos < 2 ^ 64
-    → IsPrintedIn style nanos text → IsRead o text nanos
-reads_below o style nanos text h p =
+reads_below : (default_unit : Option TimeUnit) (o : Options) (style : Style) (nanos : ℕ) (text : List ℕ)
+    → nanos < 2 ^ 64
+    → IsPrintedIn style nanos text → IsReadWith default_unit o text nanos
+reads_below default_unit o style nanos text h p =
     let within : FitsDuration nanos = omega arith in
-    sum_read (printed_is_sum o style nanos text within p) (duration_sum o style nanos within) h
+    sum_read (printed_is_sum default_unit o style nanos text within p) (duration_sum default_unit o style nanos within) h
 
-overflows_above : (o : Options) (style : Style) (nanos : ℕ) (text : List ℕ) → 2 ^ 64 ≤ nanos
-    → nanos < 585 * nanos_of Year → IsPrintedIn style nanos text → IsRefused o text (Overflow None)
-overflows_above o style nanos text low high p =
+overflows_above : (default_unit : Option TimeUnit) (o : Options) (style : Style) (nanos : ℕ) (text : List ℕ)
+    → 2 ^ 64 ≤ nanos
+    → nanos < 585 * nanos_of Year → IsPrintedIn style nanos text → IsRefusedWith default_unit o text (Overflow None)
+overflows_above default_unit o style nanos text low high p =
     let within : FitsDuration nanos = omega arith in
     let lexemes : List (List ℕ) = duration_lexemes style nanos in
     let rest : List Terminal = after_years nanos in
     let terminals : map (terminal_of o) lexemes ≡ number (years nanos) ∷ word (Some Year) ∷ rest =
     years_first o style nanos within (omega arith) in
-    let whole : sum_of (terms_of_lexemes o lexemes) ≡ nanos = duration_sum o style nanos within in
-    let parts : years nanos * nanos_of Year + sum_of (terms_of rest) ≡ nanos = rw terminals at whole in
-    let each : EachFits (terms_of_lexemes o lexemes) =
-    rw terminals (omega arith, sum_fits_each (terms_of rest) (omega arith)) in
-    sum_overflows (printed_is_sum o style nanos text within p) each (omega arith)
+    let whole : sum_of (terms_of_lexemes default_unit o lexemes) ≡ nanos = duration_sum default_unit o style nanos within in
+    let parts : years nanos * nanos_of Year + sum_of (terms_of default_unit rest) ≡ nanos = rw terminals at whole in
+    let each : EachFits (terms_of_lexemes default_unit o lexemes) =
+    rw terminals (omega arith, sum_fits_each (terms_of default_unit rest) (omega arith)) in
+    sum_overflows (printed_is_sum default_unit o style nanos text within p) each (omega arith)
 
 -- The years overflow by themselves.
-first_overflows : (no_calc : Bool) (n : ℕ) (rest : List Terminal) → n < 2 ^ 64 → 2 ^ 64 ≤ n * nanos_of Year
-    → early_fault no_calc (number n ∷ word (Some Year) ∷ rest) [] ≡ Some (Overflow (Some 0))
-first_overflows no_calc n rest small large = search (rules, lt-ltb, le-ltb)
+first_overflows : (default_unit : Option TimeUnit) (no_calc : Bool) (n : ℕ) (rest : List Terminal) → n < 2 ^ 64
+    → 2 ^ 64 ≤ n * nanos_of Year
+    → early_fault default_unit no_calc (number n ∷ word (Some Year) ∷ rest) [] ≡ Some (Overflow (Some 0))
+first_overflows default_unit no_calc n rest small large = search (rules, lt-ltb, le-ltb)
 
-overflows_far_above : (o : Options) (style : Style) (nanos : ℕ) (text : List ℕ) → 585 * nanos_of Year ≤ nanos
-    → FitsDuration nanos → IsPrintedIn style nanos text → IsRefused o text (Overflow (Some 0))
-overflows_far_above o style nanos text low high p =
+overflows_far_above : (default_unit : Option TimeUnit) (o : Options) (style : Style) (nanos : ℕ) (text : List ℕ)
+    → 585 * nanos_of Year ≤ nanos
+    → FitsDuration nanos → IsPrintedIn style nanos text → IsRefusedWith default_unit o text (Overflow (Some 0))
+overflows_far_above default_unit o style nanos text low high p =
     let terminals = sym (years_first o style nanos high (omega arith)) in
-    let fault = first_overflows o.no_calc (years nanos) (after_years nanos) (omega arith) (omega arith) in
+    let fault = first_overflows default_unit o.no_calc (years nanos) (after_years nanos) (omega arith) (omega arith) in
     sentence_refused o text (duration_lexemes style nanos) (Overflow (Some 0))
-    (printed_is_sum o style nanos text high p).sentence (λ place. early (rw (← terminals) fault))
+    (printed_is_sum default_unit o style nanos text high p).sentence (λ place. early (rw (← terminals) fault))
 
 pub reads_back_holds : ReadsBack
 reads_back_holds = search (rules, reads_below, overflows_above, overflows_far_above)

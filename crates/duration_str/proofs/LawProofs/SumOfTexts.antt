@@ -1,5 +1,5 @@
 -- Two accepted texts without `*`, joined by a plus, have the sum of their values, or overflow.
-use Rattle.duration_str.proofs.Common.{AllPlus, and_from, and_parts, append_assoc, arith, cases_Bool, codes, common_steps, CondUnit, false, HasNoStar, inl, inr, IsBlank, IsRead, IsSentence, List, list_all-append, map, map-append, nat_tests, not, number, operator, operator_of, Options, Plus, refl, rules, Some, Spells, sum_of, SumOfTexts, Term, Terminal, terminal_of, terms_after, terms_of, true, word, [], ℕ, ◌++◌, ◌+◌, ◌==◌, ◌∙◌, ◌∷◌, ◌≡◌}
+use Rattle.duration_str.proofs.Common.{AllPlus, CondUnit, HasNoStar, IsBlank, IsReadWith, IsSentence, List, Option, Options, Plus, Some, Spells, SumOfTexts, Term, Terminal, TimeUnit, [], and_from, and_parts, append_assoc, arith, cases_Bool, codes, common_steps, false, inl, inr, list_all-append, map, map-append, nat_tests, not, number, operator, operator_of, refl, rules, sum_of, terminal_of, terms_after, terms_of, true, word, ℕ, ◌++◌, ◌+◌, ◌==◌, ◌∙◌, ◌∷◌, ◌≡◌}
 use Rattle.duration_str.proofs.Cutting.SortLemmas.{terminal_cases}
 use Rattle.duration_str.proofs.Sentences.SpellingLemmas.{begins_with, EachPasses, lexemes_pass}
 use Rattle.duration_str.proofs.Sentences.SumLemmas.{sum-append}
@@ -24,23 +24,29 @@ spells_both (x ∷ xs) ys s t h k =
 plus_terminal : (o : Options) → terminal_of o (codes "+") ≡ operator Plus
 plus_terminal o = elim (cases_Bool o.cn_unit) [ inl e ↦ rw e | inr e ↦ rw e ]
 
-both_sentence : (xs ys : List Terminal) → IsSentence false xs → IsSentence false ys
-    → IsSentence false (xs ++ operator Plus ∷ ys)
-both_sentence (number n ∷ []) ys s t = (refl, t)
-both_sentence (number n ∷ operator next ∷ more) ys s t = (refl, both_sentence more ys s.1 t)
-both_sentence (number n ∷ word (Some u) ∷ []) ys s t = (refl, t)
-both_sentence (number n ∷ word (Some u) ∷ operator next ∷ more) ys s t = (refl, both_sentence more ys s.1 t)
-both_sentence (number n ∷ word (Some u) ∷ number m ∷ more) ys s t = both_sentence (number m ∷ more) ys s t
-both_sentence _ ys s t = absurd s
+both_sentence : (default_unit : Option TimeUnit) (xs ys : List Terminal) → IsSentence default_unit false xs
+    → IsSentence default_unit false ys
+    → IsSentence default_unit false (xs ++ operator Plus ∷ ys)
+both_sentence default_unit (number n ∷ []) ys s t = (s, refl, t)
+both_sentence default_unit (number n ∷ operator next ∷ more) ys s t =
+    (s.0, refl, both_sentence default_unit more ys s.2 t)
+both_sentence default_unit (number n ∷ word (Some u) ∷ []) ys s t = (refl, t)
+both_sentence default_unit (number n ∷ word (Some u) ∷ operator next ∷ more) ys s t =
+    (refl, both_sentence default_unit more ys s.1 t)
+both_sentence default_unit (number n ∷ word (Some u) ∷ number m ∷ more) ys s t =
+    both_sentence default_unit (number m ∷ more) ys s t
+both_sentence default_unit _ ys s t = absurd s
 
-both_terms : (op : CondUnit) (xs ys : List Terminal) → IsSentence false xs
-    → terms_after op (xs ++ operator Plus ∷ ys) ≡ terms_after op xs ++ terms_of ys
-both_terms op (number n ∷ []) ys s = refl
-both_terms op (number n ∷ operator next ∷ more) ys s = rw (both_terms next more ys s.1)
-both_terms op (number n ∷ word (Some u) ∷ []) ys s = refl
-both_terms op (number n ∷ word (Some u) ∷ operator next ∷ more) ys s = rw (both_terms next more ys s.1)
-both_terms op (number n ∷ word (Some u) ∷ number m ∷ more) ys s = rw (both_terms Plus (number m ∷ more) ys s)
-both_terms op _ ys s = absurd s
+both_terms : (default_unit : Option TimeUnit) (op : CondUnit) (xs ys : List Terminal) → IsSentence default_unit false xs
+    → terms_after default_unit op (xs ++ operator Plus ∷ ys) ≡ terms_after default_unit op xs ++ terms_of default_unit ys
+both_terms default_unit op (number n ∷ []) ys s = refl
+both_terms default_unit op (number n ∷ operator next ∷ more) ys s = rw (both_terms default_unit next more ys s.2)
+both_terms default_unit op (number n ∷ word (Some u) ∷ []) ys s = refl
+both_terms default_unit op (number n ∷ word (Some u) ∷ operator next ∷ more) ys s =
+    rw (both_terms default_unit next more ys s.1)
+both_terms default_unit op (number n ∷ word (Some u) ∷ number m ∷ more) ys s =
+    rw (both_terms default_unit Plus (number m ∷ more) ys s)
+both_terms default_unit op _ ys s = absurd s
 
 -- ---- A text without `*` has no operator other than plus
 
@@ -58,8 +64,9 @@ module _ (o : Options) where
       (λ c op _ _ sign plain. (no_star_plus c op (and_parts (not (c == 42)) _ plain).0 sign, more))
       (λ c cs _ _ plain. more) w h.0
 
-  read_is_sum : {text : List ℕ} {nanos : ℕ} → HasNoStar text → (r : IsRead o text nanos) → IsSumOf o r.lexemes text
-  read_is_sum {text} plain r = search (rules, lexemes_plus, lexemes_pass)
+  read_is_sum : {default_unit : Option TimeUnit} {text : List ℕ} {nanos : ℕ} → HasNoStar text
+      → (r : IsReadWith default_unit o text nanos) → IsSumOf default_unit o r.lexemes text
+  read_is_sum {default_unit} {text} plain r = search (rules, lexemes_plus, lexemes_pass)
 
 both_plus : (xs ys : List Terminal) → AllPlus xs → AllPlus ys → AllPlus (xs ++ operator Plus ∷ ys)
 both_plus [] ys h k = (refl, k)
@@ -80,28 +87,32 @@ joined_terminals : (o : Options) (lexemes others : List (List ℕ))
     ≡ map (terminal_of o) lexemes ++ operator Plus ∷ map (terminal_of o) others
 joined_terminals o lexemes others = rw (append_assoc lexemes, map-append (terminal_of o) lexemes, plus_terminal o)
 
-joined_is_sum : {o : Options} {a b : List ℕ} {lexemes others : List (List ℕ)} → o.no_calc ≡ false
-    → IsSumOf o lexemes a → IsSumOf o others b → IsSumOf o (joined_lexemes lexemes others) (a ++ codes "+" ++ b)
-joined_is_sum {o} {a} {b} {lexemes} {others} calc s t =
+joined_is_sum : {default_unit : Option TimeUnit} {o : Options} {a b : List ℕ} {lexemes others : List (List ℕ)}
+    → o.no_calc ≡ false
+    → IsSumOf default_unit o lexemes a → IsSumOf default_unit o others b
+    → IsSumOf default_unit o (joined_lexemes lexemes others) (a ++ codes "+" ++ b)
+joined_is_sum {default_unit} {o} {a} {b} {lexemes} {others} calc s t =
     grind (arith, common_steps, spells_both, joined_terminals, both_sentence, both_plus)
 
-joined_terms : (o : Options) (lexemes others : List (List ℕ)) → IsSentence false (map (terminal_of o) lexemes)
-    → terms_of_lexemes o (joined_lexemes lexemes others) ≡ terms_of_lexemes o lexemes ++ terms_of_lexemes o others
-joined_terms o lexemes others s = search (rules, both_terms, joined_terminals)
+joined_terms : (default_unit : Option TimeUnit) (o : Options) (lexemes others : List (List ℕ))
+    → IsSentence default_unit false (map (terminal_of o) lexemes)
+    → terms_of_lexemes default_unit o (joined_lexemes lexemes others) ≡ terms_of_lexemes default_unit o lexemes ++ terms_of_lexemes default_unit o others
+joined_terms default_unit o lexemes others s = search (rules, both_terms, joined_terminals)
 
 -- What is known of the joined text of two texts that are read.
-record IsJoined (o : Options) (text : List ℕ) (nanos : ℕ) : Type 0 where
+record IsJoined (default_unit : Option TimeUnit) (o : Options) (text : List ℕ) (nanos : ℕ) : Type 0 where
   lexemes : List (List ℕ)
-  sum : IsSumOf o lexemes text
-  total : sum_of (terms_of_lexemes o lexemes) ≡ nanos
-  each : EachFits (terms_of_lexemes o lexemes)
+  sum : IsSumOf default_unit o lexemes text
+  total : sum_of (terms_of_lexemes default_unit o lexemes) ≡ nanos
+  each : EachFits (terms_of_lexemes default_unit o lexemes)
 
-reads_joined : {o : Options} {a b : List ℕ} {m n : ℕ} → o.no_calc ≡ false → HasNoStar a → HasNoStar b → IsRead o a m
-    → IsRead o b n → IsJoined o (a ++ codes "+" ++ b) (m + n)
-reads_joined {o} {a} {b} calc plain_a plain_b r q =
-    let (s, t) : IsSumOf o r.lexemes a × IsSumOf o q.lexemes b = (read_is_sum o plain_a r, read_is_sum o plain_b q) in
-    let (xs, ys) : List Term × List Term = (terms_of_lexemes o r.lexemes, terms_of_lexemes o q.lexemes) in
-    let terms = joined_terms o r.lexemes q.lexemes (rw calc at r.spells.0) in
+reads_joined : {default_unit : Option TimeUnit} {o : Options} {a b : List ℕ} {m n : ℕ} → o.no_calc ≡ false → HasNoStar a
+    → HasNoStar b → IsReadWith default_unit o a m
+    → IsReadWith default_unit o b n → IsJoined default_unit o (a ++ codes "+" ++ b) (m + n)
+reads_joined {default_unit} {o} {a} {b} calc plain_a plain_b r q =
+    let (s, t) : IsSumOf default_unit o r.lexemes a × IsSumOf default_unit o q.lexemes b = (read_is_sum o plain_a r, read_is_sum o plain_b q) in
+    let (xs, ys) : List Term × List Term = (terms_of_lexemes default_unit o r.lexemes, terms_of_lexemes default_unit o q.lexemes) in
+    let terms = joined_terms default_unit o r.lexemes q.lexemes (rw calc at r.spells.0) in
     record {
       lexemes = joined_lexemes r.lexemes q.lexemes;
       sum = joined_is_sum calc s t;
@@ -112,8 +123,8 @@ reads_joined {o} {a} {b} calc plain_a plain_b r q =
 
 pub sum_of_texts_holds : SumOfTexts
 sum_of_texts_holds = record {
-  below = λ o a b m n calc plain_a plain_b r q h.
+  below = λ default_unit o a b m n calc plain_a plain_b r q h.
       let j = reads_joined calc plain_a plain_b r q in sum_read j.sum j.total h;
-  above = λ o a b m n calc plain_a plain_b r q h.
+  above = λ default_unit o a b m n calc plain_a plain_b r q h.
       let j = reads_joined calc plain_a plain_b r q in sum_overflows j.sum j.each (rw j.total h);
 }

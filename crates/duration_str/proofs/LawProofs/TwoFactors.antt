@@ -1,5 +1,5 @@
 -- A product of two terms is accepted exactly if both terms and their product fit, and so is the exchanged product.
-use Rattle.duration_str.proofs.Common.{arith, IsRead, IsSentenceOf, List, mul-div_cancel, mul_comm, Options, refl, second, Some, Star, Term, TwoFactors, value_of, value_of_term, [], ℕ, ◌*◌, ◌/◌, ◌<◌, ◌^◌, ◌↔◌, ◌∷◌, ◌≡◌}
+use Rattle.duration_str.proofs.Common.{IsReadWith, IsSentenceWith, List, Option, Options, Some, Star, Term, TimeUnit, TwoFactors, [], arith, mul-div_cancel, mul_comm, refl, second, value_of, value_of_term, ℕ, ◌*◌, ◌/◌, ◌<◌, ◌^◌, ◌↔◌, ◌∷◌, ◌≡◌}
 use Rattle.duration_str.proofs.Sentences.SumLemmas.{no_fault}
 use Rattle.duration_str.proofs.Sentences.AnswerLemmas.{read_sentence, terms_of_lexemes}
 
@@ -17,10 +17,12 @@ product_value : (t u : Term) → u.operator ≡ Star
     → value_of (t ∷ u ∷ []) ≡ Some (value_of_term t * value_of_term u / second)
 product_value t u e = rw (e, one_step (value_of_term u))
 
-product : (o : Options) (text : List ℕ) (lexemes : List (List ℕ)) (t u : Term) (nanos : ℕ)
-    → IsSentenceOf o lexemes text → terms_of_lexemes o lexemes ≡ t ∷ u ∷ [] → u.operator ≡ Star
-    → (IsRead o text nanos ↔ Fit t u nanos)
-product o text lexemes t u nanos s terms e = (
+product : (default_unit : Option TimeUnit) (o : Options) (text : List ℕ) (lexemes : List (List ℕ)) (t u : Term)
+    (nanos : ℕ)
+    → IsSentenceWith default_unit o lexemes text → terms_of_lexemes default_unit o lexemes ≡ t ∷ u ∷ []
+    → u.operator ≡ Star
+    → (IsReadWith default_unit o text nanos ↔ Fit t u nanos)
+product default_unit o text lexemes t u nanos s terms e = (
   λ r. let read = read_sentence lexemes s r in
       let first = simp no_fault at (rw terms at read.evaluates).0 in
       let later = simp (no_fault, one_step) at (rw (terms, e) at read.evaluates).1 in
@@ -41,8 +43,9 @@ product o text lexemes t u nanos s terms e = (
 pub two_factors_hold : TwoFactors
 two_factors_hold = record {
   product = product;
-  exchanged = λ o a b lexemes others t u v w nanos s s' terms e terms' e' number length other_number other_length r.
-      let f = (product o a lexemes t u nanos s terms e).0 r in
-      (product o b others v w nanos s' terms' e').1
+  exchanged =
+      λ default_unit o a b lexemes others t u v w nanos s s' terms e terms' e' number length other_number other_length r.
+      let f = (product default_unit o a lexemes t u nanos s terms e).0 r in
+      (product default_unit o b others v w nanos s' terms' e').1
       (rw (number, length, other_number, other_length, mul_comm (value_of_term u)) (f.2, f.3, f.0, f.1, f.4, f.5));
 }

@@ -74,27 +74,27 @@ value_at_end first (Some (op, total)) = checked_combination op first (Ok total)
 
 -- the answer, given the first value, the operator of the later terms with their total so far, the terms that are left,
 -- and the syntax fault after them
-abbrev pub answer_with : Bool → ℕ → Option (CondUnit × ℕ) → List Term → Option Cause → Result ℕ Cause
-answer_with no_calc first later [] syntax = fault_or syntax (value_at_end first later)
-answer_with no_calc first later (t ∷ terms) syntax =
-    after_term no_calc syntax (λ total. answer_with no_calc first (Some (t.operator, total)) terms syntax)
+abbrev pub answer_given : Bool → ℕ → Option (CondUnit × ℕ) → List Term → Option Cause → Result ℕ Cause
+answer_given no_calc first later [] syntax = fault_or syntax (value_at_end first later)
+answer_given no_calc first later (t ∷ terms) syntax =
+    after_term no_calc syntax (λ total. answer_given no_calc first (Some (t.operator, total)) terms syntax)
     (total_with later t.operator (u64_from t.number) t.length)
 
 -- the answer, given the value of the first term and the terms after it
 abbrev pub answer_after_first : Bool → ℕ → List Term → Option Cause → Result ℕ Cause
-answer_after_first true value terms syntax = answer_with true 0 (Some (Plus, value)) terms syntax
-answer_after_first false value terms syntax = answer_with false value None terms syntax
+answer_after_first true value terms syntax = answer_given true 0 (Some (Plus, value)) terms syntax
+answer_after_first false value terms syntax = answer_given false value None terms syntax
 
 default_left : (first : ℕ) (op : CondUnit) (before later : List Term) (syntax : Option Cause)
     → fault_of_terms op [] before ≡ None
-    → answer_with false first (Some (op, later_total op before)) later syntax
+    → answer_given false first (Some (op, later_total op before)) later syntax
     ≡ fault_or syntax (checked_combination op first (value_by op (before ++ later)))
 default_left first op before [] syntax none = rw (append-nil, none)
 default_left first op before (t ∷ later) syntax none =
     search (rules, append_assoc, later_append, one_more, no_fault, default_left first op (before ++ t ∷ []) later syntax)
 
 default_first : (first : ℕ) (u : Term) (later : List Term) (syntax : Option Cause)
-    → answer_with false first None (u ∷ later) syntax
+    → answer_given false first None (u ∷ later) syntax
     ≡ fault_or syntax (checked_combination u.operator first (value_by u.operator (u ∷ later)))
 default_first first u later syntax = search (rules, default_left)
 
@@ -111,7 +111,7 @@ one_added f before t plus = search (rules, sum-append)
 
 no_calc_left : (f : Term) (before later : List Term) (syntax : Option Cause) → sum_of (f ∷ before) < 2 ^ 64
     → AreAdded later
-    → answer_with true 0 (Some (Plus, sum_of (f ∷ before))) later syntax
+    → answer_given true 0 (Some (Plus, sum_of (f ∷ before))) later syntax
     ≡ fault_or (running_fault (f ∷ before) later) (fault_or syntax (Ok (sum_of (f ∷ (before ++ later)))))
 no_calc_left f before [] syntax h a = search (rules, append-nil)
 no_calc_left f before (t ∷ later) syntax h a =

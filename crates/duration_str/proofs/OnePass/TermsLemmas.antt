@@ -1,9 +1,9 @@
 -- The terms that are left while a text is read, and the answer that they give.
 use Rattle.duration_str.proofs.Common.{AllPlus, answer_at, answer_left, ap, arith, Bool, by_operator, Cause, checked_term, complete_terminals, CondUnit, cut_place, drop, Err, Expected, expected_after, false, fault_or, front_of, IfErr, if◌then◌else◌, IsTrue, last_of, leaving, length, List, nanos_of, None, number, Ok, operator, operator_read, Option, Plus, ReadItem, refl, Rest, rest_of, Result, rules, Some, start_left, subst, sym, Syntax, take, TakesNumber, Term, term_of, Terminal, terminal_at, terminals_in, terms_after, terms_of, TimeUnit, Tokens, true, unit_read, unless, with_term, without_last_number, word, [], ℕ, ◌<◌, ◌∙◌, ◌∷◌, ◌≡◌}
-use Rattle.duration_str.proofs.Sentences.FrontLemmas.{begins_allowed, table_front}
+use Rattle.duration_str.proofs.Sentences.FrontLemmas.{begins_allowed, whole_complete, table_front}
 use Rattle.duration_str.proofs.Sentences.SumLemmas.{AreAdded, terms_added}
 use Rattle.duration_str.proofs.Sentences.AnswerLemmas.{allowed_plus}
-use Rattle.duration_str.proofs.OnePass.EvaluationLemmas.{after_term, answer_after_first, answer_of, answer_with, checked_term_is, one_by_one}
+use Rattle.duration_str.proofs.OnePass.EvaluationLemmas.{after_term, answer_after_first, answer_of, answer_given, checked_term_is, one_by_one}
 use Rattle.duration_str.proofs.OnePass.ReaderLemmas.{after_token}
 
 -- the syntax fault at a place with these kinds expected and these terminals following
@@ -17,81 +17,89 @@ pub record Ended : Type 0 where
   pub fault : Option Cause
 
 -- the part of the rest that the table allows, and what follows it
-abbrev front_in : Bool → Rest → List Terminal
-front_in no_calc rest = take (front_of no_calc (terminals_in rest)) (terminals_in rest)
+abbrev front_in : Option TimeUnit → Bool → Rest → List Terminal
+front_in default_unit no_calc rest = take (front_of default_unit no_calc (terminals_in rest)) (terminals_in rest)
 
-abbrev after_in : Bool → Rest → List Terminal
-after_in no_calc rest = drop (front_of no_calc (terminals_in rest)) (terminals_in rest)
+abbrev after_in : Option TimeUnit → Bool → Rest → List Terminal
+after_in default_unit no_calc rest = drop (front_of default_unit no_calc (terminals_in rest)) (terminals_in rest)
 
 -- the terms that are left after the operator `op`, and the syntax fault after them
-abbrev pub left_after : Bool → CondUnit → Rest → Ended
-left_after no_calc op rest = record {
-  terms = terms_after op (complete_terminals (front_in no_calc rest) (after_in no_calc rest));
-  fault = fault_at (start_left (front_of no_calc (terminals_in rest)) rest)
-      (expected_after no_calc (last_of None (front_in no_calc rest))) (after_in no_calc rest);
+abbrev pub left_after : Option TimeUnit → Bool → CondUnit → Rest → Ended
+left_after default_unit no_calc op rest = record {
+  terms =
+      terms_after default_unit op (complete_terminals default_unit (front_in default_unit no_calc rest) (after_in default_unit no_calc rest));
+  fault = fault_at (start_left (front_of default_unit no_calc (terminals_in rest)) rest)
+      (expected_after default_unit no_calc (last_of None (front_in default_unit no_calc rest))) (after_in default_unit no_calc rest);
 }
 
 -- the terms after an operator, or none at the end
-abbrev pub next_terms : Bool → Option CondUnit → Rest → Ended
-next_terms no_calc None rest = record { terms = []; fault = None }
-next_terms no_calc (Some op) rest = left_after no_calc op rest
+abbrev pub next_terms : Option TimeUnit → Bool → Option CondUnit → Rest → Ended
+next_terms default_unit no_calc None rest = record { terms = []; fault = None }
+next_terms default_unit no_calc (Some op) rest = left_after default_unit no_calc op rest
 
 -- no terms, and this fault
 abbrev pub no_terms : Cause → Ended
 no_terms cause = record { terms = []; fault = Some cause }
 
 -- the terms after a unit, given what was read as the operator after it
-abbrev pub after_unit : Bool → Result (ReadItem (Option CondUnit)) Cause → Ended
-after_unit no_calc (Ok r) = next_terms no_calc r.item r.rest
-after_unit no_calc (Err cause) = no_terms cause
+abbrev pub after_unit : Option TimeUnit → Bool → Result (ReadItem (Option CondUnit)) Cause → Ended
+after_unit default_unit no_calc (Ok r) = next_terms default_unit no_calc r.item r.rest
+after_unit default_unit no_calc (Err cause) = no_terms cause
 
 -- the terms from the number n on, given what was read as the unit after it
-abbrev pub after_number : Bool → CondUnit → ℕ → Result (ReadItem TimeUnit) Cause → Ended
-after_number no_calc op n (Ok r) =
-    let more = after_unit no_calc (operator_read no_calc r.rest) in
+abbrev pub after_number : Option TimeUnit → Bool → CondUnit → ℕ → Result (ReadItem TimeUnit) Cause → Ended
+after_number default_unit no_calc op n (Ok r) =
+    let more = after_unit default_unit no_calc (operator_read no_calc r.rest) in
     record { terms = record { operator = op; number = n; length = nanos_of r.item } ∷ more.terms; fault = more.fault }
-after_number no_calc op n (Err cause) = no_terms cause
+after_number default_unit no_calc op n (Err cause) = no_terms cause
 
 -- The terms from a number on are determined by the unit and the operator read after it.
-terms_read : (no_calc : Bool) (op : CondUnit) (at n : ℕ) (rest : Rest)
-    → left_after no_calc op (terminal_at at (number n) rest) ≡ after_number no_calc op n (unit_read no_calc rest)
-terms_read no_calc op at n (terminal_at p (word (Some u)) (terminal_at q (number m) rest)) = search rules
-terms_read false op at n (terminal_at p (word (Some u)) (terminal_at q (operator next)
+terms_read : (default_unit : Option TimeUnit) (no_calc : Bool) (op : CondUnit) (at n : ℕ) (rest : Rest)
+    → left_after default_unit no_calc op (terminal_at at (number n) rest) ≡ after_number default_unit no_calc op n (unit_read default_unit no_calc rest)
+terms_read default_unit no_calc op at n (terminal_at p (word (Some u)) (terminal_at q (number m) rest)) = search rules
+terms_read default_unit false op at n (terminal_at p (word (Some u)) (terminal_at q (operator next)
     (terminal_at r (number m) rest))) =
     search arith
-terms_read false op at n (terminal_at p (operator next) (terminal_at q (number m) rest)) = search rules
-terms_read no_calc op at n rest = refl
+terms_read (Some b) false op at n (terminal_at p (operator next) (terminal_at q (number m) rest)) = search rules
+terms_read (Some b) no_calc op at n rest = refl
+terms_read None false op at n (terminal_at p (operator next) rest) = refl
+terms_read None true op at n (terminal_at p (operator next) rest) = refl
+terms_read None no_calc op at n rest = refl
 
 -- A number is taken, and r is the result of reading the unit after it.
-pub number_taken : {s a : Tokens} {n : Option ℕ} (no_calc : Bool) (op : CondUnit) (taken : TakesNumber s a n)
-    (r : Result (ReadItem TimeUnit) Cause) → r ≡ unit_read no_calc (rest_of a)
-    → left_after no_calc op (rest_of s) ≡ after_number no_calc op taken.n r
-number_taken {s} {a} no_calc op taken r is =
-    rw (after_token taken.token, terms_read no_calc op (cut_place s) taken.n (rest_of a), is)
+pub number_taken : {s a : Tokens} {n : Option ℕ} (default_unit : Option TimeUnit) (no_calc : Bool) (op : CondUnit)
+    (taken : TakesNumber s a n)
+    (r : Result (ReadItem TimeUnit) Cause) → r ≡ unit_read default_unit no_calc (rest_of a)
+    → left_after default_unit no_calc op (rest_of s) ≡ after_number default_unit no_calc op taken.n r
+number_taken {s} {a} default_unit no_calc op taken r is =
+    rw (after_token taken.token, terms_read default_unit no_calc op (cut_place s) taken.n (rest_of a), is)
 
 -- An operator that was read and a number are passed, up to the unit.
-pub term_passed : {s a : Tokens} {n : Option ℕ} {next : CondUnit} (no_calc : Bool) (b : Rest)
+pub term_passed : {s a : Tokens} {n : Option ℕ} {next : CondUnit} (default_unit : Option TimeUnit) (no_calc : Bool)
+    (b : Rest)
     → leaving (rest_of s) (Ok (Some next)) ≡ operator_read no_calc b → (taken : TakesNumber s a n)
-    → (r : Result (ReadItem TimeUnit) Cause) → r ≡ unit_read no_calc (rest_of a)
-    → after_unit no_calc (operator_read no_calc b) ≡ after_number no_calc next taken.n r
-term_passed {next = next} no_calc b is taken r unit =
-    ap (after_unit no_calc) (sym is) ∙ number_taken no_calc next taken r unit
+    → (r : Result (ReadItem TimeUnit) Cause) → r ≡ unit_read default_unit no_calc (rest_of a)
+    → after_unit default_unit no_calc (operator_read no_calc b) ≡ after_number default_unit no_calc next taken.n r
+term_passed {next = next} default_unit no_calc b is taken r unit =
+    ap (after_unit default_unit no_calc) (sym is) ∙ number_taken default_unit no_calc next taken r unit
 
 abbrev pub count : Ended → ℕ
 count left = length left.terms
 
 -- Of the terms that are left one is passed.
-pub fewer : {s a : Tokens} {b : Rest} {n : Option ℕ} {u : TimeUnit} {next : CondUnit} (no_calc : Bool) (p : Rest)
+pub fewer : {s a : Tokens} {b : Rest} {n : Option ℕ} {u : TimeUnit} {next : CondUnit} (default_unit : Option TimeUnit)
+    (no_calc : Bool) (p : Rest)
     → leaving (rest_of s) (Ok (Some next)) ≡ operator_read no_calc p → TakesNumber s a n
-    → leaving b (Ok u) ≡ unit_read no_calc (rest_of a)
-    → count (after_unit no_calc (operator_read no_calc b)) < count (after_unit no_calc (operator_read no_calc p))
-fewer no_calc p read taken unit = omega (arith, ap count (term_passed no_calc p read taken _ unit))
+    → leaving b (Ok u) ≡ unit_read default_unit no_calc (rest_of a)
+    → count (after_unit default_unit no_calc (operator_read no_calc b)) < count (after_unit default_unit no_calc (operator_read no_calc p))
+fewer default_unit no_calc p read taken unit =
+    omega (arith, ap count (term_passed default_unit no_calc p read taken _ unit))
 
 -- ---- Steps of the answer
 
 -- the answer, given the first value, the later terms so far or their first fault, and what is left
 abbrev pub with_left : Bool → ℕ → Result (Option (CondUnit × ℕ)) Cause → Ended → Result ℕ Cause
-with_left no_calc first (Ok later) left = answer_with no_calc first later left.terms left.fault
+with_left no_calc first (Ok later) left = answer_given no_calc first later left.terms left.fault
 with_left no_calc first (Err fault) left = if no_calc then Err fault else fault_or left.fault (Err fault)
 
 -- the answer, given the value of the first term and what is left after it
@@ -104,29 +112,31 @@ pub unread : (no_calc : Bool) (first : ℕ) (later : Result (Option (CondUnit ×
 unread no_calc first later cause held = search rules
 
 by_total : (no_calc : Bool) (first : ℕ) (op : CondUnit) (left : Ended) (total : Result ℕ Cause)
-    → after_term no_calc left.fault (λ n. answer_with no_calc first (Some (op, n)) left.terms left.fault) total
+    → after_term no_calc left.fault (λ n. answer_given no_calc first (Some (op, n)) left.terms left.fault) total
     ≡ with_left no_calc first (by_operator op total) left
 by_total no_calc first op left total = search rules
 
 -- A later term is read from p up to b and combined.
-pub later_step : (no_calc : Bool) (first : ℕ) (later : Result (Option (CondUnit × ℕ)) Cause) (p : Rest) {s a : Tokens}
+pub later_step : (default_unit : Option TimeUnit) (no_calc : Bool) (first : ℕ)
+    (later : Result (Option (CondUnit × ℕ)) Cause) (p : Rest) {s a : Tokens}
     {b : Rest} {n : Option ℕ} {u : TimeUnit} {next : CondUnit}
     → leaving (rest_of s) (Ok (Some next)) ≡ operator_read no_calc p → TakesNumber s a n
-    → leaving b (Ok u) ≡ unit_read no_calc (rest_of a)
-    → with_left no_calc first later (after_unit no_calc (operator_read no_calc p))
-    ≡ with_left no_calc first (with_term later next n (nanos_of u)) (after_unit no_calc (operator_read no_calc b))
-later_step no_calc first (Ok later) p {b = b} {next = next} read taken unit =
-    ap (with_left no_calc first (Ok later)) (term_passed no_calc p read taken _ unit)
-    ∙ rw taken.is_value (by_total no_calc first next (after_unit no_calc (operator_read no_calc b)) _)
-later_step no_calc first (Err fault) p read taken unit =
-    ap (with_left no_calc first (Err fault)) (term_passed no_calc p read taken _ unit)
+    → leaving b (Ok u) ≡ unit_read default_unit no_calc (rest_of a)
+    → with_left no_calc first later (after_unit default_unit no_calc (operator_read no_calc p))
+    ≡ with_left no_calc first (with_term later next n (nanos_of u)) (after_unit default_unit no_calc (operator_read no_calc b))
+later_step default_unit no_calc first (Ok later) p {b = b} {next = next} read taken unit =
+    ap (with_left no_calc first (Ok later)) (term_passed default_unit no_calc p read taken _ unit)
+    ∙ rw taken.is_value (by_total no_calc first next (after_unit default_unit no_calc (operator_read no_calc b)) _)
+later_step default_unit no_calc first (Err fault) p read taken unit =
+    ap (with_left no_calc first (Err fault)) (term_passed default_unit no_calc p read taken _ unit)
 
 -- ---- The answer in order: the early fault, the syntax fault, the late fault, and the value
 
-in_order : (no_calc : Bool) (place : ℕ) (front rest : List Terminal)
-    → answer_of no_calc (terms_of (complete_terminals front rest))
-    (fault_at place (expected_after no_calc (last_of None front)) rest) ≡ answer_at no_calc place front rest
-in_order no_calc place front rest = search rules
+in_order : (default_unit : Option TimeUnit) (no_calc : Bool) (place : ℕ) (front rest : List Terminal)
+    → answer_of no_calc (terms_of default_unit (complete_terminals default_unit front rest))
+    (fault_at place (expected_after default_unit no_calc (last_of None front)) rest) ≡ answer_at default_unit no_calc place front rest
+in_order default_unit no_calc place front (t ∷ rest) = search rules
+in_order default_unit no_calc place front [] = search (rules, whole_complete)
 
 -- ---- The answer in terms of what is left
 
@@ -136,18 +146,20 @@ without_last_plus (number n ∷ []) a = tt
 without_last_plus (operator op ∷ terminals) a = (a.0, without_last_plus terminals a.1)
 without_last_plus (t ∷ terminals) a = without_last_plus terminals a
 
-complete_plus : (front rest : List Terminal) → AllPlus front → AllPlus (complete_terminals front rest)
-complete_plus front rest a = search (rules, without_last_plus)
+complete_plus : (default_unit : Option TimeUnit) (front rest : List Terminal) → AllPlus front
+    → AllPlus (complete_terminals default_unit front rest)
+complete_plus default_unit front rest a = search (rules, without_last_plus)
 
 -- Under `no_calc` all terms that are left are added.
-left_added : (no_calc : Bool) (op : CondUnit) (rest : Rest) → op ≡ Plus → IsTrue no_calc
-    → AreAdded (left_after no_calc op rest).terms
-left_added false op rest plus h = cc h
-left_added true op rest plus h =
-    let front = front_in true rest in
-    let allowed = begins_allowed true front (table_front true (terminals_in rest)).begins in
-    rw plus (terms_added (complete_terminals front (after_in true rest))
-    (complete_plus front _ (allowed_plus None front allowed)))
+left_added : (default_unit : Option TimeUnit) (no_calc : Bool) (op : CondUnit) (rest : Rest) → op ≡ Plus
+    → IsTrue no_calc
+    → AreAdded (left_after default_unit no_calc op rest).terms
+left_added default_unit false op rest plus h = cc h
+left_added default_unit true op rest plus h =
+    let front = front_in default_unit true rest in
+    let allowed = begins_allowed default_unit true front (table_front default_unit true (terminals_in rest)).begins in
+    rw plus (terms_added default_unit (complete_terminals default_unit front (after_in default_unit true rest))
+    (complete_plus default_unit front _ (allowed_plus default_unit None front allowed)))
 
 -- the answer, given the first value or its fault, and what is left after it
 abbrev pub by_first : Bool → Result ℕ Cause → Ended → Result ℕ Cause
@@ -158,28 +170,33 @@ by_first-fault : (no_calc : Bool) (fault : Option Cause) (first : ℕ) (left : E
     → by_first no_calc (fault_or fault (Ok first)) left ≡ fault_or fault (total_of no_calc first left)
 by_first-fault no_calc fault first left = search rules
 
-from_start : (no_calc : Bool) (rest : Rest) (left : Ended) → left_after no_calc Plus rest ≡ left
-    → answer_of no_calc left.terms left.fault ≡ answer_left no_calc rest
-from_start no_calc rest left is = search rules
+from_start : (default_unit : Option TimeUnit) (no_calc : Bool) (rest : Rest) (left : Ended)
+    → left_after default_unit no_calc Plus rest ≡ left
+    → answer_of no_calc left.terms left.fault ≡ answer_left default_unit no_calc rest
+from_start default_unit no_calc rest left is =
+    rw (← is) (in_order default_unit no_calc (start_left (front_of default_unit no_calc (terminals_in rest)) rest) _ _)
 
 -- The first unit cannot be read.
-pub first_unread : {m a : Tokens} {s : Rest} {n : Option ℕ} {cause : Cause} (no_calc : Bool) → rest_of m ≡ s
-    → TakesNumber m a n → Err cause ≡ unit_read no_calc (rest_of a) → Err cause ≡ answer_left no_calc s
-first_unread {m} {cause = cause} no_calc same taken unit =
-    rw (← same, ← from_start no_calc (rest_of m) _ (number_taken no_calc Plus taken _ unit))
+pub first_unread : {m a : Tokens} {s : Rest} {n : Option ℕ} {cause : Cause} (default_unit : Option TimeUnit)
+    (no_calc : Bool) → rest_of m ≡ s
+    → TakesNumber m a n → Err cause ≡ unit_read default_unit no_calc (rest_of a)
+    → Err cause ≡ answer_left default_unit no_calc s
+first_unread {m} {cause = cause} default_unit no_calc same taken unit =
+    rw (← same, ← from_start default_unit no_calc (rest_of m) _ (number_taken default_unit no_calc Plus taken _ unit))
     (elim no_calc as (λ b. Err cause ≡ answer_of b [] (Some cause)) [ false ↦ refl | true ↦ refl ])
 
 -- The first term is read up to b, and has this value or fault.
-pub first_step : {m a : Tokens} {s b : Rest} {n : Option ℕ} {u : TimeUnit} {first : Result ℕ Cause} (no_calc : Bool)
-    → rest_of m ≡ s → TakesNumber m a n → leaving b (Ok u) ≡ unit_read no_calc (rest_of a)
+pub first_step : {m a : Tokens} {s b : Rest} {n : Option ℕ} {u : TimeUnit} {first : Result ℕ Cause}
+    (default_unit : Option TimeUnit) (no_calc : Bool)
+    → rest_of m ≡ s → TakesNumber m a n → leaving b (Ok u) ≡ unit_read default_unit no_calc (rest_of a)
     → first ≡ checked_term (Some 0) n (nanos_of u)
-    → answer_left no_calc s ≡ by_first no_calc first (after_unit no_calc (operator_read no_calc b))
-first_step {m} {b = b} {u = u} no_calc same taken unit is =
+    → answer_left default_unit no_calc s ≡ by_first no_calc first (after_unit default_unit no_calc (operator_read no_calc b))
+first_step {m} {b = b} {u = u} default_unit no_calc same taken unit is =
     let t = term_of taken.n u in
-    let more = after_unit no_calc (operator_read no_calc b) in
-    let read = number_taken no_calc Plus taken _ unit in
+    let more = after_unit default_unit no_calc (operator_read no_calc b) in
+    let read = number_taken default_unit no_calc Plus taken _ unit in
     let added =
-    λ (h : IsTrue no_calc). subst (λ (l : Ended). AreAdded l.terms) read (left_added no_calc Plus (rest_of m) refl h) in
-    let start = from_start no_calc (rest_of m) _ read in
+    λ (h : IsTrue no_calc). subst (λ (l : Ended). AreAdded l.terms) read (left_added default_unit no_calc Plus (rest_of m) refl h) in
+    let start = from_start default_unit no_calc (rest_of m) _ read in
     rw (← same, ← start, is, taken.is_value, checked_term_is (Some 0) t, by_first-fault no_calc)
     (one_by_one no_calc t more.terms more.fault added)

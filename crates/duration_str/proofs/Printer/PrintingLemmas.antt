@@ -1,5 +1,5 @@
 -- A printed text is spelled by a sum whose total is the duration.
-use Rattle.duration_str.proofs.Common.{AllPlus, append-nil, arith, between, Bool, common_steps, Compact, counts_of, decimal, drop, eqb-true, false, FitsDuration, flat_map, if◌then◌else◌, IsBlank, IsPrintedIn, IsSentence, joined_parts, List, Long, map, name_in, nanos_of, number, Options, printed_counts, printed_part, printed_parts, refl, row_of, rules, Second, Short, Some, Spells, Style, sum_of, Terminal, terminal_of, terms_of, TimeUnit, true, unit_lengths, units, weighted_sum, word, Year, [], ℕ, ⊤, ◌%◌, ◌++◌, ◌<◌, ◌==◌, ◌^◌, ◌∷◌, ◌≡◌}
+use Rattle.duration_str.proofs.Common.{AllPlus, append-nil, arith, between, Bool, common_steps, Compact, counts_of, decimal, drop, eqb-true, false, FitsDuration, flat_map, if◌then◌else◌, IsBlank, IsPrintedIn, IsSentence, joined_parts, List, Long, map, name_in, nanos_of, number, Option, Options, printed_counts, printed_part, printed_parts, refl, row_of, rules, Second, Short, Some, Spells, Style, sum_of, Terminal, terminal_of, terms_of, TimeUnit, true, unit_lengths, units, weighted_sum, word, Year, [], ℕ, ⊤, ◌%◌, ◌++◌, ◌<◌, ◌==◌, ◌^◌, ◌∷◌, ◌≡◌}
 use Rattle.duration_str.proofs.Characters.NumberLemmas.{decimal_terminal}
 use Rattle.duration_str.proofs.LawProofs.GreatestBreakdown.{greatest_breakdown_holds, one_greatest}
 use Rattle.duration_str.proofs.Sentences.AnswerLemmas.{IsSumOf, terms_of_lexemes}
@@ -104,11 +104,11 @@ terminals_of_duration o style nanos h =
 
 -- ---- The terminals are a sentence without operators
 
-pub units_sentence : (no_calc : Bool) (u : TimeUnit) (ps : List (ℕ × TimeUnit))
-    → IsSentence no_calc (terminals (or_zero u ps))
-units_sentence no_calc u [] = tt
-units_sentence no_calc u (p ∷ []) = tt
-units_sentence no_calc u (p ∷ q ∷ ps) = units_sentence no_calc u (q ∷ ps)
+pub units_sentence : (default_unit : Option TimeUnit) (no_calc : Bool) (u : TimeUnit) (ps : List (ℕ × TimeUnit))
+    → IsSentence default_unit no_calc (terminals (or_zero u ps))
+units_sentence default_unit no_calc u [] = tt
+units_sentence default_unit no_calc u (p ∷ []) = tt
+units_sentence default_unit no_calc u (p ∷ q ∷ ps) = units_sentence default_unit no_calc u (q ∷ ps)
 
 pub units_plus : (ps : List (ℕ × TimeUnit)) → AllPlus (terminals ps)
 units_plus [] = tt
@@ -120,13 +120,14 @@ counts_are style nanos text p =
     let same = one_greatest unit_lengths nanos p.0 (counts_of unit_lengths nanos) p.1
     (greatest_breakdown_holds nanos) in cc (p.2)
 
-pub printed_is_sum : (o : Options) (style : Style) (nanos : ℕ) (text : List ℕ) → FitsDuration nanos
-    → IsPrintedIn style nanos text → IsSumOf o (duration_lexemes style nanos) text
-printed_is_sum o style nanos text h p =
+pub printed_is_sum : (default_unit : Option TimeUnit) (o : Options) (style : Style) (nanos : ℕ) (text : List ℕ)
+    → FitsDuration nanos
+    → IsPrintedIn style nanos text → IsSumOf default_unit o (duration_lexemes style nanos) text
+printed_is_sum default_unit o style nanos text h p =
     let counts : List ℕ = counts_of unit_lengths nanos in
     record {
       sentence = (
-        rw (terminals_of_duration o style nanos h) (units_sentence o.no_calc Second (kept units counts)),
+        rw (terminals_of_duration o style nanos h) (units_sentence default_unit o.no_calc Second (kept units counts)),
         rw (counts_are style nanos text p, parts_kept style units counts)
             (all_spelled style Second (kept units counts)),
       );
@@ -135,18 +136,18 @@ printed_is_sum o style nanos text h p =
 
 -- ---- The total is the duration
 
-pub sum_kept : (us : List TimeUnit) (counts : List ℕ)
-    → sum_of (terms_of (terminals (kept us counts))) ≡ weighted_sum (map nanos_of us) counts
-sum_kept (u ∷ us) (n ∷ counts) = search (rules, eqb-true, sum_kept us counts)
-sum_kept _ _ = refl
+pub sum_kept : (default_unit : Option TimeUnit) (us : List TimeUnit) (counts : List ℕ)
+    → sum_of (terms_of default_unit (terminals (kept us counts))) ≡ weighted_sum (map nanos_of us) counts
+sum_kept default_unit (u ∷ us) (n ∷ counts) = search (rules, eqb-true, sum_kept default_unit us counts)
+sum_kept default_unit _ _ = refl
 
-pub sum_or_zero : (u : TimeUnit) (ps : List (ℕ × TimeUnit))
-    → sum_of (terms_of (terminals (or_zero u ps))) ≡ sum_of (terms_of (terminals ps))
-sum_or_zero u ps = search rules
+pub sum_or_zero : (default_unit : Option TimeUnit) (u : TimeUnit) (ps : List (ℕ × TimeUnit))
+    → sum_of (terms_of default_unit (terminals (or_zero u ps))) ≡ sum_of (terms_of default_unit (terminals ps))
+sum_or_zero default_unit u ps = search rules
 
-pub duration_sum : (o : Options) (style : Style) (nanos : ℕ) → FitsDuration nanos
-    → sum_of (terms_of_lexemes o (duration_lexemes style nanos)) ≡ nanos
-duration_sum o style nanos h =
+pub duration_sum : (default_unit : Option TimeUnit) (o : Options) (style : Style) (nanos : ℕ) → FitsDuration nanos
+    → sum_of (terms_of_lexemes default_unit o (duration_lexemes style nanos)) ≡ nanos
+duration_sum default_unit o style nanos h =
     let counts : List ℕ = counts_of unit_lengths nanos in
-    rw (terminals_of_duration o style nanos h, sum_or_zero Second (kept units counts), sum_kept units counts)
+    rw (terminals_of_duration o style nanos h, sum_or_zero default_unit Second (kept units counts), sum_kept default_unit units counts)
     (greatest_breakdown_holds nanos).breakdown.whole

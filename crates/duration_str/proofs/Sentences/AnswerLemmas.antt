@@ -1,37 +1,43 @@
 -- A text is read or refused, not both, and the computed answer says which.
-use Rattle.duration_str.proofs.Common.{AllPlus, answer, AnswerIsReading, append-nil, arith, as_nanos, Bool, byte_len, Cause, chars, combination, CondUnit, early, early_fault, Err, Evaluates, evaluation_fault, expected_after, false, Fault, fault_of_terms, fault_or, first_fault, IfErr, if◌then◌else◌, inl, inr, is_same_operator, is_whole, IsFront, IsOkAnd, IsRead, IsRefused, IsRefusedAt, IsSentence, IsSentenceOf, last_of, late, late_answer, late_fault, later_total, le-ltb, length, List, list_all, map, MatchResult, None, number, Ok, OneReading, operator, Option, Options, other, Overflow, ParsesText, refl, Result, rules, Some, start_after, sum_of, sym, Syntax, syntax_fault, Term, Terminal, terminal_of, terminals_of, terms_of, tokens_of, true, value_of, value_of_term, word, [], ℕ, ◌++◌, ◌<◌, ◌^◌, ◌↔◌, ◌∙◌, ◌∷◌, ◌≡◌, ◌≤◌, ◌⊎◌}
-use Rattle.duration_str.proofs.Sentences.FrontLemmas.{AreAllowed, ends_by_table, expected_by_table, front_allowed, no_operators, one_expected, one_front, sentence_allowed, table_front}
+use Rattle.duration_str.proofs.Common.{AllPlus, answer_with, AnswerIsReading, append-nil, arith, as_nanos, Bool, byte_len, Cause, chars, combination, CondUnit, early, early_fault, Err, Evaluates, evaluation_fault, expected_after, false, Fault, fault_of_terms, fault_or, first_fault, IfErr, if◌then◌else◌, inl, inr, is_same_operator, is_whole, IsFront, IsOkAnd, IsReadWith, IsRefusedAt, IsRefusedWith, IsSentence, IsSentenceWith, last_of, late, late_answer, late_fault, later_total, le-ltb, length, List, list_all, map, MatchResult, None, number, Ok, OneReading, operator, Option, Options, other, Overflow, ParsesWith, refl, Result, rules, Some, start_after, sum_of, sym, Syntax, syntax_fault, Term, Terminal, terminal_of, terminals_of, terms_of, TimeUnit, tokens_of, true, value_of, value_of_term, word, [], ℕ, ◌++◌, ◌<◌, ◌^◌, ◌↔◌, ◌∙◌, ◌∷◌, ◌≡◌, ◌≤◌, ◌⊎◌}
+use Rattle.duration_str.proofs.Sentences.FrontLemmas.{AreAllowed, complete_sentence, ends_by_table, expected_by_table, front_allowed, no_operators, one_expected, one_front, sentence_allowed, table_front}
 use Rattle.duration_str.proofs.Sentences.SpellingLemmas.{empty_no_sentence, sentence_terminals, tokens_spell}
 use Rattle.duration_str.proofs.Sentences.SumLemmas.{added_overflow, AreAdded, below_evaluate, evaluate_below, has_terms, no_fault, or_else-none, running_below, running_none, running_overflow, terms_added, value_is_sum}
 pub use Rattle.duration_str.proofs.Sentences.SumLemmas.{EachFits, sum_fits_each}
 use Rattle.std.specs.declared.time.Duration.{Duration}
-use Rattle.duration_str.specs.OtherResults.{IsValueOrFault, ReadsText}
+use Rattle.duration_str.specs.OtherResults.{IsValueOrFault, ReadsWith}
 
 -- ---- The faults of a sentence
 
 -- Under `no_calc` the table allows no operator.
-pub allowed_plus : (last : Option Terminal) (terminals : List Terminal) → AreAllowed true last terminals
+pub allowed_plus : (default_unit : Option TimeUnit) (last : Option Terminal) (terminals : List Terminal)
+    → AreAllowed default_unit true last terminals
     → AllPlus terminals
-allowed_plus last [] h = tt
-allowed_plus last (number n ∷ terminals) h = allowed_plus (Some (number n)) terminals h.1
-allowed_plus last (word u ∷ terminals) h = allowed_plus (Some (word u)) terminals h.1
-allowed_plus last (operator op ∷ terminals) h = let none = no_operators true last refl in cc h.0
-allowed_plus last (other ∷ terminals) h = cc h.0
+allowed_plus default_unit last [] h = tt
+allowed_plus default_unit last (number n ∷ terminals) h = allowed_plus default_unit (Some (number n)) terminals h.1
+allowed_plus default_unit last (word u ∷ terminals) h = allowed_plus default_unit (Some (word u)) terminals h.1
+allowed_plus default_unit last (operator op ∷ terminals) h =
+    let none = no_operators default_unit true last refl in cc h.0
+allowed_plus default_unit last (other ∷ terminals) h = cc h.0
 
 evaluates_by_faults : (terms : List Term) → 1 ≤ length terms
     → (Evaluates terms ↔ (first_fault terms ≡ None) × (evaluation_fault terms ≡ None))
 evaluates_by_faults terms l = search rules
 
 -- A sentence evaluates exactly if it has neither an early nor a late fault.
-evaluates_by : (no_calc : Bool) (terminals : List Terminal) → IsSentence no_calc terminals
-    → (Evaluates (terms_of terminals)
-    ↔ (early_fault no_calc terminals [] ≡ None) × (late_fault no_calc terminals ≡ None))
-evaluates_by false terminals s = evaluates_by_faults (terms_of terminals) (has_terms false terminals s)
-evaluates_by true terminals s =
-    let terms = terms_of terminals in
-    let added = terms_added terminals (allowed_plus None terminals (sentence_allowed true terminals s)) in (
+evaluates_by : (default_unit : Option TimeUnit) (no_calc : Bool) (terminals : List Terminal)
+    → IsSentence default_unit no_calc terminals
+    → (Evaluates (terms_of default_unit terminals)
+    ↔ (early_fault default_unit no_calc terminals [] ≡ None) × (late_fault default_unit no_calc terminals ≡ None))
+evaluates_by default_unit false terminals s =
+    rw (complete_sentence default_unit false terminals s)
+    (evaluates_by_faults (terms_of default_unit terminals) (has_terms default_unit false terminals s))
+evaluates_by default_unit true terminals s =
+    let terms = terms_of default_unit terminals in
+    let added = terms_added default_unit terminals (allowed_plus default_unit None terminals (sentence_allowed default_unit true terminals s)) in
+    rw (complete_sentence default_unit true terminals s) (
       λ e. (running_none terms added (evaluate_below terms added e), refl),
-      λ f. below_evaluate terms (has_terms true terminals s) added (running_below [] terms (omega arith) f.0),
+      λ f. below_evaluate terms (has_terms default_unit true terminals s) added (running_below [] terms (omega arith) f.0),
     )
 
 -- ---- The value of terms that evaluate
@@ -54,37 +60,45 @@ has_value_below (t ∷ u ∷ later) e =
 
 -- ---- Readings and refusals in terms of terminals
 
-sentence_front : (no_calc : Bool) (terminals : List Terminal) → IsSentence no_calc terminals
-    → IsFront no_calc terminals terminals []
-sentence_front no_calc terminals s = search rules
+sentence_front : (default_unit : Option TimeUnit) (no_calc : Bool) (terminals : List Terminal)
+    → IsSentence default_unit no_calc terminals
+    → IsFront default_unit no_calc terminals terminals []
+sentence_front default_unit no_calc terminals s = search rules
 
 -- These terminals are a sentence, evaluate, and have this value.
-pub record EvaluatesTo (no_calc : Bool) (terminals : List Terminal) (nanos : ℕ) : Type 0 where
-  pub sentence : IsSentence no_calc terminals
-  pub evaluates : Evaluates (terms_of terminals)
-  pub value : value_of (terms_of terminals) ≡ Some nanos
+pub record EvaluatesTo (default_unit : Option TimeUnit) (no_calc : Bool) (terminals : List Terminal) (nanos : ℕ)
+    : Type 0 where
+  pub sentence : IsSentence default_unit no_calc terminals
+  pub evaluates : Evaluates (terms_of default_unit terminals)
+  pub value : value_of (terms_of default_unit terminals) ≡ Some nanos
 
-pub read_terminals : {o : Options} {text : List ℕ} {nanos : ℕ} → IsRead o text nanos
-    → EvaluatesTo o.no_calc (terminals_of o text) nanos
-read_terminals {o} {text} r = search (rules, sentence_terminals)
+pub read_terminals : {default_unit : Option TimeUnit} {o : Options} {text : List ℕ} {nanos : ℕ}
+    → IsReadWith default_unit o text nanos
+    → EvaluatesTo default_unit o.no_calc (terminals_of o text) nanos
+read_terminals {default_unit} {o} {text} r = search (rules, sentence_terminals)
 
-pub read_sentence : {o : Options} {text : List ℕ} {nanos : ℕ} (lexemes : List (List ℕ)) → IsSentenceOf o lexemes text
-    → IsRead o text nanos → EvaluatesTo o.no_calc (map (terminal_of o) lexemes) nanos
-read_sentence {o} {text} lexemes s r = rw (sentence_terminals o text lexemes s) (read_terminals r)
+pub read_sentence : {default_unit : Option TimeUnit} {o : Options} {text : List ℕ} {nanos : ℕ} (lexemes : List (List ℕ))
+    → IsSentenceWith default_unit o lexemes text
+    → IsReadWith default_unit o text nanos → EvaluatesTo default_unit o.no_calc (map (terminal_of o) lexemes) nanos
+read_sentence {default_unit} {o} {text} lexemes s r =
+    rw (sentence_terminals default_unit o text lexemes s) (read_terminals r)
 
-pub terminals_read : (o : Options) (text : List ℕ) (nanos : ℕ) → EvaluatesTo o.no_calc (terminals_of o text) nanos
-    → IsRead o text nanos
-terminals_read o text nanos r = search (rules, tokens_spell)
+pub terminals_read : (default_unit : Option TimeUnit) (o : Options) (text : List ℕ) (nanos : ℕ)
+    → EvaluatesTo default_unit o.no_calc (terminals_of o text) nanos
+    → IsReadWith default_unit o text nanos
+terminals_read default_unit o text nanos r = search (rules, tokens_spell)
 
-pub read_below : {o : Options} {text : List ℕ} {nanos : ℕ} → IsRead o text nanos → nanos < 2 ^ 64
-read_below {o} {nanos = nanos} r = search (rules, has_value_below)
+pub read_below : {default_unit : Option TimeUnit} {o : Options} {text : List ℕ} {nanos : ℕ}
+    → IsReadWith default_unit o text nanos → nanos < 2 ^ 64
+read_below {default_unit} {o} {nanos = nanos} r = search (rules, has_value_below)
 
-one_value : {o : Options} {text : List ℕ} {m n : ℕ} → IsRead o text m → IsRead o text n → m ≡ n
+one_value : {default_unit : Option TimeUnit} {o : Options} {text : List ℕ} {m n : ℕ} → IsReadWith default_unit o text m
+    → IsReadWith default_unit o text n → m ≡ n
 one_value r s = cc ((read_terminals r).value, (read_terminals s).value)
 
 -- There is one cause for a front, its rest and the place of the rest.
-one_cause_at : {no_calc : Bool} {place : ℕ} {front rest : List Terminal} {c d : Cause}
-    → IsRefusedAt no_calc place front rest c → IsRefusedAt no_calc place front rest d → c ≡ d
+one_cause_at : {default_unit : Option TimeUnit} {no_calc : Bool} {place : ℕ} {front rest : List Terminal} {c d : Cause}
+    → IsRefusedAt default_unit no_calc place front rest c → IsRefusedAt default_unit no_calc place front rest d → c ≡ d
 one_cause_at (early h) (early k) = cc
 one_cause_at (early h) (syntax_fault x e n f s) = cc
 one_cause_at (early h) (late e n f) = cc
@@ -95,41 +109,49 @@ one_cause_at (late e n f) (early k) = cc
 one_cause_at (late e n f) (syntax_fault x e' n' f' s') = absurd (n' n)
 one_cause_at (late e n f) (late e' n' f') = cc
 
-evaluates_not_refused : {no_calc : Bool} {place : ℕ} (terminals : List Terminal) (cause : Cause)
-    → IsSentence no_calc terminals → Evaluates (terms_of terminals) → IsRefusedAt no_calc place terminals [] cause → ⊥
-evaluates_not_refused {no_calc} terminals cause s e h = search (rules, evaluates_by, append-nil)
+evaluates_not_refused : {default_unit : Option TimeUnit} {no_calc : Bool} {place : ℕ} (terminals : List Terminal)
+    (cause : Cause)
+    → IsSentence default_unit no_calc terminals → Evaluates (terms_of default_unit terminals)
+    → IsRefusedAt default_unit no_calc place terminals [] cause → ⊥
+evaluates_not_refused {default_unit} {no_calc} terminals cause s e h = search (rules, evaluates_by, append-nil)
 
 -- A sentence has no syntax fault, so its refusal does not depend on the place of the rest.
-place_free : {no_calc : Bool} {p : ℕ} (q : ℕ) {terminals : List Terminal} {cause : Cause} → IsSentence no_calc terminals
-    → IsRefusedAt no_calc p terminals [] cause → IsRefusedAt no_calc q terminals [] cause
+place_free : {default_unit : Option TimeUnit} {no_calc : Bool} {p : ℕ} (q : ℕ) {terminals : List Terminal}
+    {cause : Cause} → IsSentence default_unit no_calc terminals
+    → IsRefusedAt default_unit no_calc p terminals [] cause → IsRefusedAt default_unit no_calc q terminals [] cause
 place_free q s h = search (rules, append-nil)
 
 -- A text that a sentence spells is refused exactly if the terminals of the sentence are.
-pub refused_sentence : (o : Options) (text : List ℕ) (lexemes : List (List ℕ)) (cause : Cause) (place : ℕ)
-    → IsSentenceOf o lexemes text → IsRefused o text cause
-    → IsRefusedAt o.no_calc place (map (terminal_of o) lexemes) [] cause
-refused_sentence o [] lexemes cause place s h = absurd (empty_no_sentence o lexemes s)
-refused_sentence o (c ∷ text) lexemes cause place s h =
-    let front = rw (← sentence_terminals o (c ∷ text) lexemes s) at h.2 in
-    let same = one_front front (sentence_front o.no_calc (map (terminal_of o) lexemes) s.0) in
+pub refused_sentence : {default_unit : Option TimeUnit} (o : Options) (text : List ℕ) (lexemes : List (List ℕ))
+    (cause : Cause) (place : ℕ)
+    → IsSentenceWith default_unit o lexemes text → IsRefusedWith default_unit o text cause
+    → IsRefusedAt default_unit o.no_calc place (map (terminal_of o) lexemes) [] cause
+refused_sentence {default_unit} o [] lexemes cause place s h = absurd (empty_no_sentence default_unit o lexemes s)
+refused_sentence {default_unit} o (c ∷ text) lexemes cause place s h =
+    let front = rw (← sentence_terminals default_unit o (c ∷ text) lexemes s) at h.2 in
+    let same = one_front front (sentence_front default_unit o.no_calc (map (terminal_of o) lexemes) s.0) in
     place_free place s.0 (rw (same.0, same.1) at h.3)
 
-pub sentence_refused : (o : Options) (text : List ℕ) (lexemes : List (List ℕ)) (cause : Cause)
-    → IsSentenceOf o lexemes text → ((place : ℕ) → IsRefusedAt o.no_calc place (map (terminal_of o) lexemes) [] cause)
-    → IsRefused o text cause
-sentence_refused o [] lexemes cause s h = absurd (empty_no_sentence o lexemes s)
-sentence_refused o (c ∷ text) lexemes cause s h =
+pub sentence_refused : {default_unit : Option TimeUnit} (o : Options) (text : List ℕ) (lexemes : List (List ℕ))
+    (cause : Cause)
+    → IsSentenceWith default_unit o lexemes text
+    → ((place : ℕ) → IsRefusedAt default_unit o.no_calc place (map (terminal_of o) lexemes) [] cause)
+    → IsRefusedWith default_unit o text cause
+sentence_refused {default_unit} o [] lexemes cause s h = absurd (empty_no_sentence default_unit o lexemes s)
+sentence_refused {default_unit} o (c ∷ text) lexemes cause s h =
     let terminals = terminals_of o (c ∷ text) in
-    let same : map (terminal_of o) lexemes ≡ terminals = sentence_terminals o (c ∷ text) lexemes s in
-    (terminals, [], sentence_front o.no_calc terminals (rw same at s.0), rw (← same) (h _))
+    let same : map (terminal_of o) lexemes ≡ terminals = sentence_terminals default_unit o (c ∷ text) lexemes s in
+    (terminals, [], sentence_front default_unit o.no_calc terminals (rw same at s.0), rw (← same) (h _))
 
-module _ (o : Options) where
-  not_both : (text : List ℕ) (nanos : ℕ) (cause : Cause) → IsRead o text nanos → IsRefused o text cause → ⊥
+module _ (default_unit : Option TimeUnit) (o : Options) where
+  not_both : (text : List ℕ) (nanos : ℕ) (cause : Cause) → IsReadWith default_unit o text nanos
+      → IsRefusedWith default_unit o text cause → ⊥
   not_both text nanos cause r h =
       evaluates_not_refused (map (terminal_of o) r.lexemes) cause r.spells.0 r.evaluates
       (refused_sentence o text r.lexemes cause 0 r.spells h)
 
-  one_cause : (text : List ℕ) (c d : Cause) → IsRefused o text c → IsRefused o text d → c ≡ d
+  one_cause : (text : List ℕ) (c d : Cause) → IsRefusedWith default_unit o text c → IsRefusedWith default_unit o text d
+      → c ≡ d
   one_cause [] c d h k = h ∙ sym k
   one_cause (x ∷ text) c d h k =
       let same = one_front k.2 h.2 in
@@ -138,133 +160,154 @@ module _ (o : Options) where
 -- ---- The computed answer
 
 -- the meaning of a result for a text
-abbrev Means : Options → List ℕ → Result ℕ Cause → Type 0
-Means o text (Ok nanos) = IsRead o text nanos
-Means o text (Err cause) = IsRefused o text cause
+abbrev Means : Option TimeUnit → Options → List ℕ → Result ℕ Cause → Type 0
+Means default_unit o text (Ok nanos) = IsReadWith default_unit o text nanos
+Means default_unit o text (Err cause) = IsRefusedWith default_unit o text cause
 
 -- the meaning of a result for a front and a rest that starts at byte `place`
-abbrev MeansAt : Bool → ℕ → List Terminal → List Terminal → Result ℕ Cause → Type 0
-MeansAt no_calc place front rest (Ok nanos) = (rest ≡ []) × EvaluatesTo no_calc front nanos
-MeansAt no_calc place front rest (Err cause) = IsRefusedAt no_calc place front rest cause
+abbrev MeansAt : Option TimeUnit → Bool → ℕ → List Terminal → List Terminal → Result ℕ Cause → Type 0
+MeansAt default_unit no_calc place front rest (Ok nanos) = (rest ≡ []) × EvaluatesTo default_unit no_calc front nanos
+MeansAt default_unit no_calc place front rest (Err cause) = IsRefusedAt default_unit no_calc place front rest cause
 
-module _ (no_calc : Bool) (place : ℕ) where
-  late_means : (terminals : List Terminal) (cause : Option Cause) → IsSentence no_calc terminals
-      → early_fault no_calc terminals [] ≡ None → late_fault no_calc terminals ≡ cause
-      → MeansAt no_calc place terminals [] (late_answer cause terminals)
+module _ (default_unit : Option TimeUnit) (no_calc : Bool) (place : ℕ) where
+  late_means : (terminals : List Terminal) (cause : Option Cause) → IsSentence default_unit no_calc terminals
+      → early_fault default_unit no_calc terminals [] ≡ None → late_fault default_unit no_calc terminals ≡ cause
+      → MeansAt default_unit no_calc place terminals [] (late_answer default_unit cause terminals)
   late_means terminals cause s e l = search (rules, append-nil, evaluates_by, has_value_below)
 
-  syntax_means : {terminals : List Terminal} (front rest : List Terminal) → IsFront no_calc terminals front rest
-      → early_fault no_calc front rest ≡ None → (IsSentence no_calc (front ++ rest) → ⊥)
-      → IsRefusedAt no_calc place front rest (Syntax place (expected_after no_calc (last_of None front)))
-  syntax_means front rest f e n = syntax_fault _ e n ((expected_by_table no_calc front _ f.begins).1 refl) refl
+  syntax_means : {terminals : List Terminal} (front rest : List Terminal)
+      → IsFront default_unit no_calc terminals front rest
+      → early_fault default_unit no_calc front rest ≡ None → (IsSentence default_unit no_calc (front ++ rest) → ⊥)
+      → IsRefusedAt default_unit no_calc place front rest (Syntax place (expected_after default_unit no_calc (last_of None front)))
+  syntax_means front rest f e n =
+      syntax_fault _ e n ((expected_by_table default_unit no_calc front _ f.begins).1 refl) refl
 
-  whole_means : {terminals : List Terminal} (front rest : List Terminal) → IsFront no_calc terminals front rest
-      → early_fault no_calc front rest ≡ None → (whole : Bool) → is_whole no_calc front rest ≡ whole
-      → MeansAt no_calc place front rest
-      (if whole then late_answer (late_fault no_calc front) front
-      else Err (Syntax place (expected_after no_calc (last_of None front))))
-  whole_means front [] f e true w = late_means front _ ((ends_by_table no_calc front f.begins).0 w) e refl
+  whole_means : {terminals : List Terminal} (front rest : List Terminal)
+      → IsFront default_unit no_calc terminals front rest
+      → early_fault default_unit no_calc front rest ≡ None → (whole : Bool)
+      → is_whole default_unit no_calc front rest ≡ whole
+      → MeansAt default_unit no_calc place front rest
+      (if whole then late_answer default_unit (late_fault default_unit no_calc front) front
+      else Err (Syntax place (expected_after default_unit no_calc (last_of None front))))
+  whole_means front [] f e true w = late_means front _ ((ends_by_table default_unit no_calc front f.begins).0 w) e refl
   whole_means front [] f e false w =
-      syntax_means front [] f e (λ s. cc ((ends_by_table no_calc front f.begins).1 (rw append-nil at s)))
+      syntax_means front [] f e (λ s. cc ((ends_by_table default_unit no_calc front f.begins).1 (rw append-nil at s)))
   whole_means front (t ∷ rest) f e true w = cc
   whole_means front (t ∷ rest) f e false w =
       syntax_means front (t ∷ rest) f e
-      (λ s. cc (one_front (rw f.parts at f) (sentence_front no_calc (front ++ t ∷ rest) s)).1)
+      (λ s. cc (one_front (rw f.parts at f) (sentence_front default_unit no_calc (front ++ t ∷ rest) s)).1)
 
-  front_means : {terminals : List Terminal} (front rest : List Terminal) → IsFront no_calc terminals front rest
-      → (cause : Option Cause) → early_fault no_calc front rest ≡ cause
-      → MeansAt no_calc place front rest
-      (fault_or cause (if is_whole no_calc front rest then late_answer (late_fault no_calc front) front
-      else Err (Syntax place (expected_after no_calc (last_of None front)))))
+  front_means : {terminals : List Terminal} (front rest : List Terminal)
+      → IsFront default_unit no_calc terminals front rest
+      → (cause : Option Cause) → early_fault default_unit no_calc front rest ≡ cause
+      → MeansAt default_unit no_calc place front rest
+      (fault_or cause (if is_whole default_unit no_calc front rest then late_answer default_unit (late_fault default_unit no_calc front) front
+      else Err (Syntax place (expected_after default_unit no_calc (last_of None front)))))
   front_means front rest f (Some cause) e = early e
   front_means front rest f None e = whole_means front rest f e _ refl
 
-text_means : (o : Options) (c : ℕ) (text : List ℕ) (front rest : List Terminal) (result : Result ℕ Cause)
-    → IsFront o.no_calc (terminals_of o (c ∷ text)) front rest
-    → MeansAt o.no_calc (start_after (length front) (byte_len (c ∷ text)) (tokens_of o (c ∷ text))) front rest result
-    → Means o (c ∷ text) result
-text_means o c text front rest (Err cause) f h = (front, rest, f, h)
-text_means o c text front rest (Ok nanos) f h = terminals_read o (c ∷ text) nanos (rw (f.parts, h.0, append-nil) h.1)
+text_means : (default_unit : Option TimeUnit) (o : Options) (c : ℕ) (text : List ℕ) (front rest : List Terminal)
+    (result : Result ℕ Cause)
+    → IsFront default_unit o.no_calc (terminals_of o (c ∷ text)) front rest
+    → MeansAt default_unit o.no_calc (start_after (length front) (byte_len (c ∷ text)) (tokens_of o (c ∷ text))) front rest result
+    → Means default_unit o (c ∷ text) result
+text_means default_unit o c text front rest (Err cause) f h = (front, rest, f, h)
+text_means default_unit o c text front rest (Ok nanos) f h =
+    terminals_read default_unit o (c ∷ text) nanos (rw (f.parts, h.0, append-nil) h.1)
 
-answer_means : (o : Options) (text : List ℕ) → Means o text (answer o text)
-answer_means o [] = refl
-answer_means o (c ∷ text) =
+answer_means : (default_unit : Option TimeUnit) (o : Options) (text : List ℕ)
+    → Means default_unit o text (answer_with default_unit o text)
+answer_means default_unit o [] = refl
+answer_means default_unit o (c ∷ text) =
     let terminals : List Terminal = terminals_of o (c ∷ text) in
-    let f = table_front o.no_calc terminals in
-    text_means o c text _ _ _ f (rw (front_allowed o.no_calc None terminals).1 (front_means o.no_calc _ _ _ f _ refl))
+    let f = table_front default_unit o.no_calc terminals in
+    text_means default_unit o c text _ _ _ f (rw (front_allowed default_unit o.no_calc None terminals).1 (front_means default_unit o.no_calc _ _ _ f _ refl))
 
 -- The result that means what is known of the text is its answer.
-only_meaning : (o : Options) (text : List ℕ) (x y : Result ℕ Cause) → Means o text x → Means o text y → x ≡ y
-only_meaning o text x y h k = search (rules, one_value, not_both, one_cause)
+only_meaning : (default_unit : Option TimeUnit) (o : Options) (text : List ℕ) (x y : Result ℕ Cause)
+    → Means default_unit o text x → Means default_unit o text y → x ≡ y
+only_meaning default_unit o text x y h k = search (rules, one_value, not_both, one_cause)
 
 pub one_reading_holds : OneReading
 one_reading_holds = record {
-  some = λ o text. elim (answer o text) as (λ r. Means o text r
-      → ((nanos : ℕ) × IsRead o text nanos) ⊎ ((cause : Cause) × IsRefused o text cause)) [
+  some = λ default_unit o text. elim (answer_with default_unit o text) as (λ r. Means default_unit o text r
+      → ((nanos : ℕ) × IsReadWith default_unit o text nanos) ⊎ ((cause : Cause) × IsRefusedWith default_unit o text cause)) [
         | Ok nanos ↦ λ h. inl (nanos, h)
         | Err cause ↦ λ h. inr (cause, h)
-      ] (answer_means o text);
-  one_value = λ o text m n. one_value;
+      ] (answer_means default_unit o text);
+  one_value = λ default_unit o text m n. one_value;
   one_cause = one_cause;
   not_both = not_both;
 }
 
 pub answer_is_reading_holds : AnswerIsReading
 answer_is_reading_holds = record {
-  read = λ o text nanos. let is = answer_means o text in (λ e. rw e at is, only_meaning o text _ (Ok nanos) is);
-  refused = λ o text cause. let is = answer_means o text in (λ e. rw e at is, only_meaning o text _ (Err cause) is);
+  read =
+      λ default_unit o text nanos. let is =
+      answer_means default_unit o text in (λ e. rw e at is, only_meaning default_unit o text _ (Ok nanos) is);
+  refused =
+      λ default_unit o text cause. let is =
+      answer_means default_unit o text in (λ e. rw e at is, only_meaning default_unit o text _ (Err cause) is);
 }
 
 -- ---- A text that a sum spells is read as the sum if it is below 2^64, and otherwise refused as an overflow
 
 -- The lexemes are a sentence of the options' grammar without `*`, and spell the text.
-pub record IsSumOf (o : Options) (lexemes : List (List ℕ)) (text : List ℕ) : Type 0 where
-  pub sentence : IsSentenceOf o lexemes text
+pub record IsSumOf (default_unit : Option TimeUnit) (o : Options) (lexemes : List (List ℕ)) (text : List ℕ)
+    : Type 0 where
+  pub sentence : IsSentenceWith default_unit o lexemes text
   pub plus : AllPlus (map (terminal_of o) lexemes)
 
-abbrev pub terms_of_lexemes : Options → List (List ℕ) → List Term
-terms_of_lexemes o lexemes = terms_of (map (terminal_of o) lexemes)
+abbrev pub terms_of_lexemes : Option TimeUnit → Options → List (List ℕ) → List Term
+terms_of_lexemes default_unit o lexemes = terms_of default_unit (map (terminal_of o) lexemes)
 
-sum_terms : {o : Options} {lexemes : List (List ℕ)} {text : List ℕ} → IsSumOf o lexemes text
-    → (1 ≤ length (terms_of_lexemes o lexemes)) × AreAdded (terms_of_lexemes o lexemes)
-sum_terms {o} {lexemes} s = search (rules, terms_added)
+sum_terms : {default_unit : Option TimeUnit} {o : Options} {lexemes : List (List ℕ)} {text : List ℕ}
+    → IsSumOf default_unit o lexemes text
+    → (1 ≤ length (terms_of_lexemes default_unit o lexemes)) × AreAdded (terms_of_lexemes default_unit o lexemes)
+sum_terms {default_unit} {o} {lexemes} s = search (rules, terms_added)
 
 -- ---- Sums below 2^64
 
-pub sum_read : {o : Options} {lexemes : List (List ℕ)} {text : List ℕ} {nanos : ℕ} → IsSumOf o lexemes text
-    → sum_of (terms_of_lexemes o lexemes) ≡ nanos → nanos < 2 ^ 64 → IsRead o text nanos
-sum_read {o} {lexemes} s e h = search (rules, sum_terms, below_evaluate, value_is_sum)
+pub sum_read : {default_unit : Option TimeUnit} {o : Options} {lexemes : List (List ℕ)} {text : List ℕ} {nanos : ℕ}
+    → IsSumOf default_unit o lexemes text
+    → sum_of (terms_of_lexemes default_unit o lexemes) ≡ nanos → nanos < 2 ^ 64 → IsReadWith default_unit o text nanos
+sum_read {default_unit} {o} {lexemes} s e h = search (rules, sum_terms, below_evaluate, value_is_sum)
 
-pub read_sum : {o : Options} {lexemes : List (List ℕ)} {text : List ℕ} {nanos : ℕ} → IsSumOf o lexemes text
-    → IsRead o text nanos → sum_of (terms_of_lexemes o lexemes) ≡ nanos
-read_sum {o} {lexemes} s r =
+pub read_sum : {default_unit : Option TimeUnit} {o : Options} {lexemes : List (List ℕ)} {text : List ℕ} {nanos : ℕ}
+    → IsSumOf default_unit o lexemes text
+    → IsReadWith default_unit o text nanos → sum_of (terms_of_lexemes default_unit o lexemes) ≡ nanos
+read_sum {default_unit} {o} {lexemes} s r =
     let (some, added) = sum_terms s in
-    cc ((read_sentence lexemes s.sentence r).value, value_is_sum (terms_of_lexemes o lexemes) some added)
+    cc ((read_sentence lexemes s.sentence r).value, value_is_sum (terms_of_lexemes default_unit o lexemes) some added)
 
 -- ---- Sums from 2^64 on, of terms below 2^64
 
-terminals_overflow : (no_calc : Bool) (place : ℕ) (terminals : List Terminal) → IsSentence no_calc terminals
-    → AreAdded (terms_of terminals) → EachFits (terms_of terminals) → 2 ^ 64 ≤ sum_of (terms_of terminals)
-    → IsRefusedAt no_calc place terminals [] (Overflow None)
-terminals_overflow no_calc place terminals s a f h =
-    search (rules, added_overflow, append-nil, le-ltb, running_overflow)
+terminals_overflow : (default_unit : Option TimeUnit) (no_calc : Bool) (place : ℕ) (terminals : List Terminal)
+    → IsSentence default_unit no_calc terminals
+    → AreAdded (terms_of default_unit terminals) → EachFits (terms_of default_unit terminals)
+    → 2 ^ 64 ≤ sum_of (terms_of default_unit terminals)
+    → IsRefusedAt default_unit no_calc place terminals [] (Overflow None)
+terminals_overflow default_unit no_calc place terminals s a f h =
+    search (rules, added_overflow, append-nil, le-ltb, running_overflow, complete_sentence)
 
-pub sum_overflows : {o : Options} {lexemes : List (List ℕ)} {text : List ℕ} → IsSumOf o lexemes text
-    → EachFits (terms_of_lexemes o lexemes) → 2 ^ 64 ≤ sum_of (terms_of_lexemes o lexemes)
-    → IsRefused o text (Overflow None)
-sum_overflows {o} {lexemes} {text} s f h = search (rules, sentence_refused, terminals_overflow, terms_added)
+pub sum_overflows : {default_unit : Option TimeUnit} {o : Options} {lexemes : List (List ℕ)} {text : List ℕ}
+    → IsSumOf default_unit o lexemes text
+    → EachFits (terms_of_lexemes default_unit o lexemes) → 2 ^ 64 ≤ sum_of (terms_of_lexemes default_unit o lexemes)
+    → IsRefusedWith default_unit o text (Overflow None)
+sum_overflows {default_unit} {o} {lexemes} {text} s f h =
+    search (rules, sentence_refused, terminals_overflow, terms_added)
 
 -- ---- The result of a call, in terms of the sentences of the text
 
 -- The computed answer is what the text is read as.
-pub reads_text : (o : Options) (bytes : List ℕ) (r : Result ℕ Fault)
-    → IsValueOrFault (λ nanos. answer o (chars bytes) ≡ Ok nanos) (λ cause. answer o (chars bytes) ≡ Err cause) bytes r
-    → ReadsText o bytes r
-reads_text o bytes (Ok nanos) h = search (arith, answer_is_reading_holds)
-reads_text o bytes (Err f) h = record {
+pub reads_text : (default_unit : Option TimeUnit) (o : Options) (bytes : List ℕ) (r : Result ℕ Fault)
+    → IsValueOrFault (λ nanos. answer_with default_unit o (chars bytes) ≡ Ok nanos) (λ cause. answer_with default_unit o (chars bytes) ≡ Err cause) bytes r
+    → ReadsWith default_unit o bytes r
+reads_text default_unit o bytes (Ok nanos) h = search (arith, answer_is_reading_holds)
+reads_text default_unit o bytes (Err f) h = record {
   read = tt;
-  accepts = λ n read. cc (h.1, (answer_is_reading_holds.read o (chars bytes) n).1 read);
-  refused = (h.0, (answer_is_reading_holds.refused o (chars bytes) f.cause).0 h.1);
+  accepts = λ n read. cc (h.1, (answer_is_reading_holds.read default_unit o (chars bytes) n).1 read);
+  refused = (h.0, (answer_is_reading_holds.refused default_unit o (chars bytes) f.cause).0 h.1);
 }
 
 -- The result is these nanoseconds as a duration, or the same fault.
@@ -272,11 +315,13 @@ abbrev IsDurationOf : Result ℕ Fault → Result Duration Fault → Type 0
 IsDurationOf n r = MatchResult n (λ nanos. IsOkAnd r (λ d. as_nanos d ≡ nanos)) (λ fault. r ≡ Err fault)
 
 -- What holds of nanoseconds holds of them as a duration.
-pub parses_text : (o : Options) (bytes : List ℕ) (n : Result ℕ Fault) (r : Result Duration Fault) → IsDurationOf n r
-    → ReadsText o bytes n → ParsesText o bytes r
-parses_text o bytes (Ok nanos) (Ok d) is h = search (arith, read_below)
-parses_text o bytes (Ok nanos) (Err f) is h = absurd is
-parses_text o bytes (Err f) r is h = rw is (record { read = tt; accepts = h.accepts; refused = h.refused; fits = tt })
+pub parses_text : (default_unit : Option TimeUnit) (o : Options) (bytes : List ℕ) (n : Result ℕ Fault)
+    (r : Result Duration Fault) → IsDurationOf n r
+    → ReadsWith default_unit o bytes n → ParsesWith default_unit o bytes r
+parses_text default_unit o bytes (Ok nanos) (Ok d) is h = search (arith, read_below)
+parses_text default_unit o bytes (Ok nanos) (Err f) is h = absurd is
+parses_text default_unit o bytes (Err f) r is h =
+    rw is (record { read = tt; accepts = h.accepts; refused = h.refused; fits = tt })
 
 pub same_on_err : (P : Cause → Type 0) (n : Result ℕ Fault) (r : Result Duration Fault) → IsDurationOf n r
     → IfErr n (λ f. P f.cause) → IfErr r (λ f. P f.cause)

@@ -1,5 +1,5 @@
 -- Terms that are added evaluate exactly if their sum is below 2^64, and the sum is their value.
-use Rattle.duration_str.proofs.Common.{AllPlus, ap, append-nil, append_assoc, arith, Bool, cases_lt, Cause, combination, CondUnit, Evaluates, evaluation_fault, fault_of_terms, first_fault, fits, is_same_operator, IsSentence, later_total, le-ltb, leb, leb-true, length, List, list_all, lt-ltb, ltb-true, nanos_of, None, number, operator, Option, or_else, Overflow, Plus, refl, rules, running_fault, Some, sum_of, Term, term_fault, Terminal, terms_after, terms_of, TimeUnit, true, unless, value_of, value_of_term, word, [], ℕ, ⊤, ◌++◌, ◌+◌, ◌<◌, ◌^◌, ◌↔◌, ◌∷◌, ◌≡◌, ◌≤◌}
+use Rattle.duration_str.proofs.Common.{AllPlus, ap, append-nil, append_assoc, arith, Bool, cases_lt, Cause, combination, CondUnit, Evaluates, evaluation_fault, fault_of_terms, first_fault, fits, is_same_operator, IsSentence, later_total, le-ltb, leb, leb-true, length, List, list_all, lt-ltb, ltb-true, nanos_of, None, number, operator, Option, or_else, Overflow, Plus, refl, rules, running_fault, Second, Some, sum_of, Term, term_fault, Terminal, terms_after, terms_of, TimeUnit, true, unless, unwrap_or, value_of, value_of_term, word, [], ℕ, ⊤, ◌++◌, ◌+◌, ◌<◌, ◌^◌, ◌↔◌, ◌∷◌, ◌≡◌, ◌≤◌}
 use Rattle.duration_str.proofs.Characters.UnitLemmas.{all_units}
 
 -- ---- When there is no fault: a set of equivalences for `simp`
@@ -33,19 +33,24 @@ AreAdded (t ∷ terms) = (t.operator ≡ Plus) × (1 ≤ t.length) × AreAdded t
 unit_above_zero : (u : TimeUnit) → 1 ≤ nanos_of u
 unit_above_zero u = leb-true 1 (nanos_of u) (all_units (λ v. leb 1 (nanos_of v)) refl u)
 
-terms_added_after : (op : CondUnit) (terminals : List Terminal) → op ≡ Plus → AllPlus terminals
-    → AreAdded (terms_after op terminals)
-terms_added_after op (number n ∷ word (Some u) ∷ more) e a = (e, unit_above_zero u, terms_added_after Plus more refl a)
-terms_added_after op (number n ∷ more) e a = (e, omega arith, terms_added_after Plus more refl a)
-terms_added_after op (operator next ∷ more) e a = terms_added_after next more a.0 a.1
-terms_added_after op _ e a = tt
+terms_added_after : (default_unit : Option TimeUnit) (op : CondUnit) (terminals : List Terminal) → op ≡ Plus
+    → AllPlus terminals
+    → AreAdded (terms_after default_unit op terminals)
+terms_added_after default_unit op (number n ∷ word (Some u) ∷ more) e a =
+    (e, unit_above_zero u, terms_added_after default_unit Plus more refl a)
+terms_added_after default_unit op (number n ∷ more) e a =
+    (e, unit_above_zero (unwrap_or default_unit Second), terms_added_after default_unit Plus more refl a)
+terms_added_after default_unit op (operator next ∷ more) e a = terms_added_after default_unit next more a.0 a.1
+terms_added_after default_unit op _ e a = tt
 
-pub terms_added : (terminals : List Terminal) → AllPlus terminals → AreAdded (terms_of terminals)
-terms_added terminals a = terms_added_after Plus terminals refl a
+pub terms_added : (default_unit : Option TimeUnit) (terminals : List Terminal) → AllPlus terminals
+    → AreAdded (terms_of default_unit terminals)
+terms_added default_unit terminals a = terms_added_after default_unit Plus terminals refl a
 
-pub has_terms : (no_calc : Bool) (terminals : List Terminal) → IsSentence no_calc terminals
-    → 1 ≤ length (terms_of terminals)
-has_terms no_calc terminals h = search rules
+pub has_terms : (default_unit : Option TimeUnit) (no_calc : Bool) (terminals : List Terminal)
+    → IsSentence default_unit no_calc terminals
+    → 1 ≤ length (terms_of default_unit terminals)
+has_terms default_unit no_calc terminals h = search rules
 
 pub sum-append : (xs ys : List Term) → sum_of (xs ++ ys) ≡ sum_of xs + sum_of ys
 sum-append [] ys = omega arith

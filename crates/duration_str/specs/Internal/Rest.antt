@@ -3,7 +3,6 @@ use Rattle.std.specs.Prelude.{◌≡◌, ℕ, zero, suc, ◌≤◌, Bool, false,
 use Rattle.std.specs.Option.{ForSome, ok_or}
 use Rattle.duration_str.specs.declared.options.Options.{Options}
 use Rattle.duration_str.specs.declared.unit.TimeUnit.{TimeUnit}
-use Rattle.duration_str.specs.declared.unit.TimeUnit.TheVariants.{Second}
 use Rattle.duration_str.specs.declared.operator.CondUnit.{CondUnit}
 use Rattle.duration_str.specs.declared.operator.CondUnit.TheVariants.{Plus}
 use Rattle.duration_str.specs.declared.cause.Cause.{Cause}
@@ -67,12 +66,15 @@ abbrev pub number_fault : Rest → Option Cause
 number_fault (terminal_at at (number n) rest) = None
 number_fault rest = Some (misplacement expected_at_start rest)
 
--- the unit after a number; seconds if it is left out before an operator or at the end
-abbrev pub unit_read : Bool → Rest → Result (ReadItem TimeUnit) Cause
-unit_read no_calc (terminal_at at (word (Some u)) rest) = leaving rest (Ok u)
-unit_read false (terminal_at at (operator op) rest) = leaving (terminal_at at (operator op) rest) (Ok Second)
-unit_read no_calc (end_at at) = leaving (end_at at) (Ok Second)
-unit_read no_calc rest = Err (misplacement (expected_after_number no_calc) rest)
+-- the unit after a number; the default unit, if there is one, where it is left out before an operator or at the end
+abbrev pub unit_read : Option TimeUnit → Bool → Rest → Result (ReadItem TimeUnit) Cause
+unit_read default_unit no_calc (terminal_at at (word (Some u)) rest) = leaving rest (Ok u)
+unit_read default_unit false (terminal_at at (operator op) rest) =
+    leaving (terminal_at at (operator op) rest)
+    (ok_or default_unit (Syntax at (expected_after_number default_unit false)))
+unit_read default_unit no_calc (end_at at) =
+    leaving (end_at at) (ok_or default_unit (Syntax at (expected_after_number default_unit no_calc)))
+unit_read default_unit no_calc rest = Err (misplacement (expected_after_number default_unit no_calc) rest)
 
 -- the operator after a unit, which a number must follow; plus if it is left out, `None` at the end
 abbrev pub operator_read : Bool → Rest → Result (ReadItem (Option CondUnit)) Cause
@@ -94,11 +96,11 @@ IsPlaceless cause = place_of cause ≡ None
 -- ---- The answer
 
 -- the answer to a text when this rest is left and must start with a number
-abbrev pub answer_left : Bool → Rest → Result ℕ Cause
-answer_left no_calc rest =
+abbrev pub answer_left : Option TimeUnit → Bool → Rest → Result ℕ Cause
+answer_left default_unit no_calc rest =
     let terminals = terminals_in rest in
-    let n = front_of no_calc terminals in
-    answer_at no_calc (start_left n rest) (take n terminals) (drop n terminals)
+    let n = front_of default_unit no_calc terminals in
+    answer_at default_unit no_calc (start_left n rest) (take n terminals) (drop n terminals)
 
 -- ---- Values, or the first fault
 

@@ -1,6 +1,8 @@
 use Rattle.duration_str.proofs.Common.{arith, as_nanos, cases_lt, chars, inl, inr, IsMostWithin, IsPrintedWithin, List, off, ℕ}
 use Rattle.uses.specs.Countdown.{coarse}
 use Rattle.uses.proofs.countdown.time_left.Goals as goal
+use Rattle.duration_str.specs.declared.unit.TimeUnit.TheVariants.{Second}
+use Rattle.std.proofs.Common.{Some}
 
 pub returns : goal.returns
 returns c =
@@ -18,7 +20,7 @@ returns c =
           | inl less ↦ absurd (most.greatest left counts less (omega arith) keeps)
           | inr up ↦ omega (arith, most.never_more)
         ];
-        read = λ small. most.read off small;
+        read = λ small. most.read (Some Second) off small;
         again = most.again;
       },
     )

@@ -1,5 +1,0 @@
-use Rattle.duration_str.proofs.Sentences.AnswerLemmas.{parses_text}
-use Rattle.duration_str.proofs.parser.parse_chosen.Goals as goal
-
-pub returns : goal.returns
-returns c = parses_text c.args.o c.args.input.now _ _ c.map.ensures.cases c.parse_nanos.ensures

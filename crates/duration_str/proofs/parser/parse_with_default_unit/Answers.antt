@@ -1,0 +1,5 @@
+use Rattle.duration_str.proofs.Sentences.AnswerLemmas.{parses_text}
+use Rattle.duration_str.proofs.parser.parse_with_default_unit.Goals as goal
+
+pub returns : goal.returns
+returns c = parses_text c.args.default_unit c.args.o c.args.input.now _ _ c.map.ensures.cases c.parse_nanos.ensures
