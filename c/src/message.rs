@@ -2,7 +2,7 @@
 //! What is said about a refused text.
 
 use crate::answer::{Answer, refused};
-use crate::{OPTIONS, options_of_bits, put, read_by, text_of};
+use crate::{are_options, options_of_bits, put, read_by, text_of};
 use duration_str_core::{Cause, Fault, ONE_LINE_BUFFER_SIZE, REPORT_BUFFER_SIZE};
 
 /// Reads a text under the options whose bits are set, as `duration_str_parse_with` does, and writes what is wrong with
@@ -41,7 +41,7 @@ pub(crate) fn refusal_of<'a>(
     options: u32,
     answer: &mut Answer,
 ) -> Result<Fault<'a>, &'static str> {
-    if options & OPTIONS != options {
+    if !are_options(options) {
         *answer = Answer::unknown_option();
         return Err("unknown option");
     }

@@ -1,5 +1,8 @@
 -- What is told of a text.
-use Rattle.std.proofs.Common.{arith, ◌≡◌, ℕ, ◌≤◌, List, inl, inr, subst, IsUtf8}
+use Rattle.std.proofs.Common.{ap, arith, inl, inr, IsUtf8, length, List, None, Option, refl, slice_get, slice_index_or, Some, subst, suc, zero, [], ℕ, ◌∷◌, ◌≡◌, ◌<◌, ◌≤◌, Bor}
+use Rattle.std.specs.Option.{option_copied}
+use Rattle.std.specs.Slice.{IsItemAt}
+use Rattle.duration_str.specs.declared.unit.TimeUnit.{TimeUnit}
 use Rattle.std.specs.Str.{chars}
 use Rattle.duration_str.specs.declared.options.Options.{Options}
 use Rattle.duration_str.specs.declared.cause.Cause.{Cause}
@@ -28,17 +31,35 @@ refusal_answers o bits bytes same cause answer known utf8 e f refused tells =
 
 -- ---- What is said without a fault
 
-pub said_shown : {bits len : ℕ} {bytes line old new : List ℕ} (shown : Cause → List ℕ) → IsSaidOf bits bytes line
-    → IsShown line old len new → ShowsRefusal shown bits bytes old len new
-said_shown shown (inl (unknown, is)) h = inl (unknown, rw is at h)
-said_shown shown (inr (inl (known, no_text, is))) h = inr (inl (known, no_text, rw is at h))
-said_shown shown (inr (inr (inl (known, utf8, nanos, read, is)))) h =
+pub said_shown : (bits : ℕ) {len : ℕ} {bytes line old new : List ℕ} (shown : Cause → List ℕ)
+    → IsSaidOf bits bytes line → IsShown line old len new → ShowsRefusal shown bits bytes old len new
+said_shown bits shown (inl (unknown, is)) h = inl (unknown, rw is at h)
+said_shown bits shown (inr (inl (known, no_text, is))) h = inr (inl (known, no_text, rw is at h))
+said_shown bits shown (inr (inr (inl (known, utf8, nanos, read, is)))) h =
     inr (inr (inl (known, utf8, nanos, read, rw is at h)))
-said_shown shown (inr (inr (inr (known, utf8, cause, refused, none)))) h = absurd none
+said_shown bits shown (inr (inr (inr (known, utf8, cause, refused, none)))) h = absurd none
 
-pub said_short : {bits len : ℕ} {bytes line old new : List ℕ} → IsSaidOf bits bytes line → IsShown line old len new
-    → len ≤ 14
-said_short (inl (unknown, is)) h = omega (arith, rw is at h.0)
-said_short (inr (inl (known, no_text, is))) h = omega (arith, rw is at h.0)
-said_short (inr (inr (inl (known, utf8, nanos, read, is)))) h = omega (arith, rw is at h.0)
-said_short (inr (inr (inr (known, utf8, cause, refused, none)))) h = absurd none
+pub said_short : (bits : ℕ) {len : ℕ} {bytes line old new : List ℕ} → IsSaidOf bits bytes line
+    → IsShown line old len new → len ≤ 14
+said_short bits (inl (unknown, is)) h = omega (arith, rw is at h.0)
+said_short bits (inr (inl (known, no_text, is))) h = omega (arith, rw is at h.0)
+said_short bits (inr (inr (inl (known, utf8, nanos, read, is)))) h = omega (arith, rw is at h.0)
+said_short bits (inr (inr (inr (known, utf8, cause, refused, none)))) h = absurd none
+
+-- ---- The unit at a place
+
+none_at : (us : List TimeUnit) (i : ℕ) → length us ≤ i → None ≡ slice_get us i
+none_at [] i beyond = refl
+none_at (v ∷ us) zero beyond = absurd (omega arith)
+none_at (v ∷ us) (suc i) beyond = none_at us i (omega arith)
+
+some_at : (us : List TimeUnit) (i : ℕ) (u : TimeUnit) → i < length us → ((d : TimeUnit) → u ≡ slice_index_or us i d)
+    → Some u ≡ slice_get us i
+some_at [] i u inside is = absurd (omega arith)
+some_at (v ∷ us) zero u inside is = ap Some (is u)
+some_at (v ∷ us) (suc i) u inside is = some_at us i u (omega arith) is
+
+pub copied_at : (us : List TimeUnit) (i : ℕ) (r : Option (Bor TimeUnit)) → IsItemAt us i r
+    → option_copied r ≡ slice_get us i
+copied_at us i None item = none_at us i item.3
+copied_at us i (Some u) item = some_at us i u.now item.3.0 (λ d. item.4 (omega arith) d)

@@ -1,5 +1,5 @@
 -- The answer that a caller of C gets for a text.
-use Rattle.std.specs.Prelude.{◌≡◌, ℕ, ◌+◌, ◌==◌, Bool, not, List, ◌⊎◌, Option, Some, None, if◌then◌else◌, is_some, unwrap_or, IsUtf8, false}
+use Rattle.std.specs.Prelude.{◌≡◌, ℕ, ◌+◌, ◌-◌, ◌/◌, ◌^◌, ◌==◌, Bool, ◌&&◌, ◌||◌, IsTrue, not, List, length, nat_le, slice_get, ◌⊎◌, Option, Some, None, if◌then◌else◌, is_some, unwrap_or, IsUtf8, false}
 use Rattle.std.specs.Int.Bits.{bit_and}
 use Rattle.std.specs.Option.{ForSome}
 use Rattle.std.specs.Str.{chars, IsCharBoundary}
@@ -14,6 +14,7 @@ use Rattle.duration_str.specs.Tokens.{Token}
 use Rattle.duration_str.specs.Faults.{place_of, found_token}
 use Rattle.duration_str.specs.declared.unit.TimeUnit.{TimeUnit}
 use Rattle.duration_str.specs.declared.unit.TimeUnit.TheVariants.{Second}
+use Rattle.duration_str.specs.Units.{units}
 use Rattle.duration_str.specs.Reading.{IsReadWith, IsRefusedWith}
 use Rattle.duration_str_c.specs.declared.answer.Answer.{Answer}
 
@@ -21,17 +22,32 @@ use Rattle.duration_str_c.specs.declared.answer.Answer.{Answer}
 abbrev pub has_flag : ℕ → ℕ → Bool
 has_flag bits flag = not (bit_and bits flag == 0)
 
+-- the number in the bits from 16 on: 0, or that of the default unit plus 1
+abbrev pub unit_field : ℕ → ℕ
+unit_field bits = bits / 2 ^ 16
+
+-- whether each bit that is set is an option's: 1, 2, 4, 8, and the four from 16 on. If these are not 0, they hold the
+-- number of a unit plus 1, bit 1 is set, so that no operators are read, and bit 8 is not, which requires a unit
+abbrev pub are_options : ℕ → Bool
+are_options bits =
+    bit_and bits 0xF000F == bits
+    && (unit_field bits == 0
+    || (nat_le (unit_field bits) (length units) && has_flag bits 1 && not (has_flag bits 8)))
+
 -- Each bit that is set is an option's.
 abbrev pub AreOptions : ℕ → Type 0
-AreOptions bits = bit_and bits 15 ≡ bits
+AreOptions bits = IsTrue (are_options bits)
 
 -- the options whose bits are set
 abbrev pub options_of_bits : ℕ → Options
 options_of_bits bits = record { no_calc = has_flag bits 1; lowercase = has_flag bits 2; cn_unit = has_flag bits 4 }
 
--- the unit of a bare number: the second, or none if bit 8 is set
+-- the default unit: none if bit 8 is set, otherwise the one in the bits from 16 on, or the second if they are 0
 abbrev pub default_unit_of_bits : ℕ → Option TimeUnit
-default_unit_of_bits bits = if has_flag bits 8 then None else Some Second
+default_unit_of_bits bits =
+    if has_flag bits 8 then None
+    else if unit_field bits == 0 then Some Second
+    else slice_get units (unit_field bits - 1)
 
 -- the number of a cause
 abbrev pub cause_number : Cause → ℕ

@@ -11,7 +11,7 @@ ghost use Rattle.duration_str.specs.OtherResults.{ReadsWith};
 ghost use Rattle.duration_str.specs.Reading.{IsRead};
 ghost use Rattle.duration_str.specs.Printing.{IsPrinted};
 ghost use Rattle.duration_str.specs.declared.printing.TheConstants.{MAX_PRINTED_LEN};
-ghost use Rattle.duration_str_c.specs.Answers.{default_unit_of_bits, options_of_bits, IsAnswerTo};
+ghost use Rattle.duration_str_c.specs.Answers.{are_options, default_unit_of_bits, options_of_bits, IsAnswerTo};
 
 pub mod answer;
 pub mod limits;
@@ -19,7 +19,7 @@ pub mod message;
 
 use crate::answer::Answer;
 use crate::message::refusal_of;
-use duration_str::{FORMAT_BUFFER_SIZE, Fault, Options, TimeUnit, parse_nanos, write_human};
+use duration_str::{FORMAT_BUFFER_SIZE, Fault, Options, TimeUnit, UNITS, parse_nanos, write_human};
 use std::time::Duration;
 
 const NO_CALC: u32 = 1;
@@ -30,8 +30,11 @@ const CN_UNIT: u32 = 4;
 
 const REQUIRE_UNIT: u32 = 8;
 
+/// The bits from this one on hold 0, or the number of the default unit plus 1.
+const DEFAULT_UNIT: u32 = 16;
+
 /// The bits of all options.
-pub(crate) const OPTIONS: u32 = 15;
+const OPTIONS: u32 = 0xF_000F;
 
 /// The options whose bits are set.
 pub(crate) fn options_of_bits(bits: u32) -> Options
@@ -44,14 +47,28 @@ pub(crate) fn options_of_bits(bits: u32) -> Options
     }
 }
 
-/// The unit of a bare number: the second, or none if the bit is set that requires a unit.
+/// Whether each bit that is set is an option's. Another default unit has no operators, and leaves no unit to require.
+pub(crate) fn are_options(bits: u32) -> bool
+    ensures { result ≡ are_options bits }
+{
+    let number = bits >> DEFAULT_UNIT;
+    bits & OPTIONS == bits
+        && (number == 0
+            || number as usize <= UNITS.len() && bits & NO_CALC != 0 && bits & REQUIRE_UNIT == 0)
+}
+
+/// The default unit: none if the bit is set that requires a unit, and the second if no unit is given.
 fn default_unit_of_bits(bits: u32) -> Option<TimeUnit>
     ensures { result ≡ default_unit_of_bits bits }
 {
     if bits & REQUIRE_UNIT != 0 {
         return None;
     }
-    Some(TimeUnit::Second)
+    let number = bits >> DEFAULT_UNIT;
+    if number == 0 {
+        return Some(TimeUnit::Second);
+    }
+    UNITS.get(number as usize - 1).copied()
 }
 
 /// Reads a text with all options off into nanoseconds. Returns false if it is refused, and then `nanos` is unchanged.

@@ -9,7 +9,7 @@ ghost use Rattle.duration_str_c.specs.Answers.{AreOptions, IsAnswerTo, IsRefused
 ghost use Rattle.duration_str_c.specs.Messages.{IsShown, IsSaidOf, ShowsRefusal};
 
 use crate::answer::{Answer, refused};
-use crate::{OPTIONS, options_of_bits, put, read_by, text_of};
+use crate::{are_options, options_of_bits, put, read_by, text_of};
 use duration_str::{Cause, Fault, ONE_LINE_BUFFER_SIZE, REPORT_BUFFER_SIZE};
 
 /// Reads a text under the options whose bits are set, as `duration_str_parse_with` does, and writes what is wrong with
@@ -67,7 +67,7 @@ pub(crate) fn refusal_of<'a>(
         × IsUtf8 bytes.now × IsRefusedBy options (chars bytes.now) fault.cause) }
     ensures said { IfErr result (λ line. IsSaidOf options bytes.now line.now) }
 {
-    if options & OPTIONS != options {
+    if !are_options(options) {
         *answer = Answer::unknown_option();
         return Err("unknown option");
     }

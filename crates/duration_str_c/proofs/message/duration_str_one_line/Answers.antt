@@ -3,8 +3,8 @@ use Rattle.duration_str_c.proofs.AnswerLemmas.{said_short, said_shown}
 use Rattle.duration_str_c.proofs.message.duration_str_one_line.Goals as goal
 
 pub returns-in-Err-clause-text : goal.returns-in-Err-clause-text
-returns-in-Err-clause-text c = said_shown _ c.in-Err.ensures.said c.show.ensures.shown
+returns-in-Err-clause-text c = said_shown c.args.options _ c.in-Err.ensures.said c.show.ensures.shown
 
 pub returns-in-Err-clause-utf8 : goal.returns-in-Err-clause-utf8
 returns-in-Err-clause-utf8 c =
-    c.show.ensures.utf8 (omega (arith, said_short c.in-Err.ensures.said c.show.ensures.shown))
+    c.show.ensures.utf8 (omega (arith, said_short c.args.options c.in-Err.ensures.said c.show.ensures.shown))
