@@ -212,8 +212,8 @@ size_t duration_str_format(
  *
  * If all counts are 0, the text is `0` and the name of the smallest unit, or of
  * the second if the smallest unit is shorter than a second: `0h`, `0s`,
- * `0 seconds`. It is this text for every duration if `largest` is shorter than
- * `smallest`, or if `parts` is 0.
+ * `0 seconds`. It is this text for every duration if `parts` is 0, and `0s` if
+ * `largest` is shorter than `smallest`.
  *
  * Returns 0, and the text is empty, if `nanos` is 1,000,000,000 or more, if
  * `style` is above 2, or if a unit's number is above 10. */
@@ -221,6 +221,18 @@ DURATION_STR_NONNULL(7)
 size_t duration_str_format_styled(
     uint64_t secs, uint32_t nanos, uint32_t largest, uint32_t smallest,
     uint32_t parts, uint32_t style,
+    char buffer[DURATION_STR_AT_LEAST DURATION_STR_STYLED_BUFFER_SIZE]);
+
+/* Prints as duration_str_format_styled does, but in the units of a set, which
+ * is a number with the bit `1 << unit` for each unit of `enum
+ * duration_str_unit`, so 0x7FF is all of them: 180 days without the bits of
+ * the quarter and the week are `6mon`. The zero of an empty set is `0s`.
+ *
+ * Returns 0, and the text is empty, also if `units` is above 0x7FF. */
+DURATION_STR_NONNULL(6)
+size_t duration_str_format_units(
+    uint64_t secs, uint32_t nanos, uint32_t units, uint32_t parts,
+    uint32_t style,
     char buffer[DURATION_STR_AT_LEAST DURATION_STR_STYLED_BUFFER_SIZE]);
 
 /* Reads a text under these options. Returns true if it is read. Writes to

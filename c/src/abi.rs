@@ -37,13 +37,12 @@ extern "C" fn duration_str_format(nanos: u64, buffer: &mut [u8; 64]) -> usize {
 extern "C" fn duration_str_format_styled(
     secs: u64,
     nanos: u32,
-    largest: u32,
-    smallest: u32,
+    units: u32,
     parts: u32,
     style: u32,
     buffer: &mut [u8; 144],
 ) -> usize {
-    limits::duration_str_format_styled(secs, nanos, largest, smallest, parts, style, buffer)
+    limits::duration_str_format_styled(secs, nanos, units, parts, style, buffer)
 }
 
 #[unsafe(no_mangle)]

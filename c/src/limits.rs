@@ -2,26 +2,24 @@
 //! Durations printed within limits and in a style.
 
 use crate::put;
-use duration_str_core::{Format, STYLED_BUFFER_SIZE, Style, TimeUnit, UNITS, write_within};
+use duration_str_core::{Format, STYLED_BUFFER_SIZE, Style, Units, write_within};
 use core::time::Duration;
 
-/// Prints a duration within limits and in a style, and a zero byte, to the start of the buffer, and returns the length of
-/// the text, without the zero. The units are given by number, from 0 for the year to 10 for the nanosecond, and so are
-/// the styles: 0 short, 1 compact, 2 long. The rest of the buffer is unchanged. If `nanos` is a second or more, or there
-/// is no unit or style of a number, it returns 0, and the text is empty.
+/// Prints a duration in the units of a set, in so many parts at most and in a style, and a zero byte, to the start of the
+/// buffer, and returns the length of the text, without the zero. The rest of the buffer is unchanged.
+///
+/// The set is a number with the bit 2^n for the unit than which n are longer: 1 for the year, 1,024 for the nanosecond, and
+/// 2,047 for all. The styles are 0 short, 1 compact, 2 long. If `nanos` is a second or more, `units` above 2,047, or `style`
+/// above 2, it returns 0, and the text is empty.
 pub fn duration_str_format_styled(
     secs: u64,
     nanos: u32,
-    largest: u32,
-    smallest: u32,
+    units: u32,
     parts: u32,
     style: u32,
     buffer: &mut [u8; STYLED_BUFFER_SIZE],
 ) -> usize {
-    let Some(style) = style_numbered(style) else {
-        return put("", buffer);
-    };
-    match format_numbered(largest, smallest, parts, style) {
+    match format_of(units, parts, style) {
         Some(format) if nanos < 1_000_000_000 => {
             let mut printed = [0; STYLED_BUFFER_SIZE];
             let text = write_within(&Duration::new(secs, nanos), format, &mut printed);
@@ -31,12 +29,22 @@ pub fn duration_str_format_styled(
     }
 }
 
-/// The format in this style whose units have these numbers; `None` if one is above 10.
-fn format_numbered(largest: u32, smallest: u32, parts: u32, style: Style) -> Option<Format> {
-    let units = Format::whole()
-        .largest(unit_numbered(largest)?)
-        .smallest(unit_numbered(smallest)?);
-    Some(units.parts(parts as usize).style(style))
+/// The format with the units of these bits, so many parts and the style with this number; `None` if a bit is above that of
+/// the last unit, or there is no such style.
+fn format_of(units: u32, parts: u32, style: u32) -> Option<Format> {
+    let mut format = Format::whole()
+        .parts(parts as usize)
+        .style(style_numbered(style)?);
+    format.units = units_of(units)?;
+    Some(format)
+}
+
+/// The set of the units of these bits; `None` if one is above that of the last unit.
+fn units_of(bits: u32) -> Option<Units> {
+    match u16::try_from(bits) {
+        Ok(bits) => Units::from_bits(bits),
+        Err(_) => None,
+    }
 }
 
 /// The style with this number: 0 short, 1 compact, 2 long.
@@ -47,9 +55,4 @@ fn style_numbered(number: u32) -> Option<Style> {
         2 => Some(Style::Long),
         _ => None,
     }
-}
-
-/// The unit with this number, from 0 for the year to 10 for the nanosecond.
-fn unit_numbered(number: u32) -> Option<TimeUnit> {
-    UNITS.get(number as usize).copied()
 }

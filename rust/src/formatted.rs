@@ -19,6 +19,7 @@ use duration_str_core::{Format, STYLED_BUFFER_SIZE, Style, TimeUnit, write_withi
 /// assert_eq!(uptime.to_string(), "1w 4d 13h 46min 40s");
 /// assert_eq!(uptime.parts(2).to_string(), "1w 4d");
 /// assert_eq!(uptime.largest(TimeUnit::Hour).smallest(TimeUnit::Minute).to_string(), "277h 46min");
+/// assert_eq!(uptime.without(TimeUnit::Week).to_string(), "11d 13h 46min 40s");
 /// assert_eq!(uptime.parts(2).style(Style::Long).to_string(), "1 week 4 days");
 /// ```
 ///
@@ -29,8 +30,8 @@ use duration_str_core::{Format, STYLED_BUFFER_SIZE, Style, TimeUnit, write_withi
 /// Counts of 0 are left out. What is left at the end is left out too.
 ///
 /// If all counts are 0, the text is `0` and the smallest unit's name, or `0s` if that unit is
-/// shorter than a second. The text is also this if there are no parts, or if the largest unit is
-/// shorter than the smallest.
+/// shorter than a second. The text is also this if there are no parts. It is `0s`, whatever the
+/// duration, if there are no units.
 ///
 /// Width and fill pad the text. A precision is ignored.
 ///
@@ -133,7 +134,32 @@ macro_rules! chooses {
 }
 
 chooses! {
-    /// Prints the duration in this unit and shorter ones.
+    /// Leaves out the units that are not among these, in any order.
+    ///
+    /// ```
+    /// use duration_str::{TimeUnit, format_duration};
+    /// use std::time::Duration;
+    ///
+    /// let age = format_duration(Duration::from_secs(400 * 86_400));
+    /// assert_eq!(age.to_string(), "1y 1mon 5d");
+    /// assert_eq!(age.only(&[TimeUnit::Year, TimeUnit::Day]).to_string(), "1y 35d");
+    /// ```
+    only: &[TimeUnit],
+
+    /// Leaves out this unit.
+    ///
+    /// ```
+    /// use duration_str::{TimeUnit, format_duration};
+    /// use std::time::Duration;
+    ///
+    /// let half_a_year = format_duration(Duration::from_secs(180 * 86_400));
+    /// assert_eq!(half_a_year.to_string(), "1q 2mon 4w 1d");
+    /// let usual = half_a_year.without(TimeUnit::Quarter).without(TimeUnit::Week);
+    /// assert_eq!(usual.to_string(), "6mon");
+    /// ```
+    without: TimeUnit,
+
+    /// Leaves out the units that are longer than this one.
     ///
     /// ```
     /// use duration_str::{TimeUnit, format_duration};
@@ -144,7 +170,7 @@ chooses! {
     /// ```
     largest: TimeUnit,
 
-    /// Prints the duration in this unit and longer ones.
+    /// Leaves out the units that are shorter than this one.
     ///
     /// ```
     /// use duration_str::{TimeUnit, format_duration};

@@ -207,7 +207,7 @@ pub use derror::{DError, DResult};
 #[doc(inline)]
 pub use duration_str_core::{
     Cause, CondUnit, Expected, FORMAT_BUFFER_SIZE, Format, Options, STYLED_BUFFER_SIZE, Style,
-    TimeUnit, UnknownStyle, UnknownUnit, write_human, write_within,
+    TimeUnit, Units, UnknownStyle, UnknownUnit, write_human, write_within,
 };
 // For the core's examples; here the buffers' sizes and `TimeUnit::ALL` say as much.
 #[doc(hidden)]

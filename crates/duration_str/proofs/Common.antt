@@ -40,7 +40,9 @@ pub use Rattle.duration_str.specs.declared.format.Format.{Format}
 pub use Rattle.duration_str.specs.declared.format.Style.{Style}
 pub use Rattle.duration_str.specs.declared.format.Style.TheVariants.{Compact, Long, Short}
 pub use Rattle.duration_str.specs.declared.printing.TheConstants.{MAX_LONG_LEN, MAX_PRINTED_LEN}
-pub use Rattle.duration_str.specs.Limits.{counts_within, IsGreatestWithin, IsPrintedWithin, IsWithin, lengths_within, most_len, part_count, text_within, units_down_to, units_from, units_within, whole_format, zero_unit}
+pub use Rattle.duration_str.specs.Limits.{counts_within, IsGreatestWithin, IsPrintedWithin, IsWithin, lengths_within, most_len, part_count, last_unit, shorter_units, text_within, units_within, whole_format, zero_unit}
+pub use Rattle.duration_str.specs.declared.format.Units.{Units}
+pub use Rattle.duration_str.specs.declared.format.TheConstants.Units.{ALL}
 pub use Rattle.duration_str.specs.Place.{BeginsSentence, CanFollow, IsFront, start_after, terminals_of}
 pub use Rattle.duration_str.specs.Printing.{before_name, between, IsBefore, IsGreatestBreakdown, IsPrinted, IsPrintedIn, joined_parts, long_name, name_in, printed_counts, printed_part, printed_parts, weighted_sum}
 pub use Rattle.duration_str.specs.OneTerm.{fault_or, term_of, IsNumber}
@@ -52,10 +54,10 @@ pub use Rattle.duration_str.specs.Value.{combination, Evaluates, evaluation_faul
 pub use Rattle.duration_str.specs.Text.{byte_len, chinese_letters, is_blank, is_chinese, is_digit, is_unit_letter, IsBlank, number_after, number_of, operator_of, width}
 pub use Rattle.duration_str.specs.Iteration.{cut_place, KeepsInput, options_of, source, tokens_left, what_of, YieldsNextToken}
 pub use Rattle.duration_str.specs.Tokens.{are_of_one_run, goes_on, lexemes_of, Token, tokens_from, tokens_of, with_first_character}
-pub use Rattle.duration_str.specs.Units.{comparison_form, is_named, nanos_of, row_of, unit_lengths, unit_of_word, UnitRow, units}
+pub use Rattle.duration_str.specs.Units.{comparison_form, is_named, nanos_of, rank_of, row_of, unit_lengths, unit_of_word, UnitRow, units}
 pub use Rattle.duration_str.specs.Internal.Numbers.{checked_term, u64_from}
-pub use Rattle.duration_str.specs.Internal.UnitTable.{all_names, packs_to, unit_of_packed, printed_row, rank_of, units_in}
-pub use Rattle.duration_str.specs.Internal.PrintedBytes.{name_part, part_bytes, with_counts, with_gap, with_part}
+pub use Rattle.duration_str.specs.Internal.UnitTable.{all_names, packs_to, unit_of_packed, printed_row, units_in, units_of}
+pub use Rattle.duration_str.specs.Internal.PrintedBytes.{name_part, part_bytes, with_counts, with_gap, with_part, with_parts}
 pub use Rattle.duration_str.specs.Internal.Rest.{answer_left, by_operator, checked_combination, end_at, IsPlaceless, leaving, number_fault, operator_read, ReadItem, Rest, rest_from, rest_of, start_left, terminal_at, terminals_in, total_with, unit_read, with_term}
 pub use Rattle.duration_str.specs.Internal.Steps.{is_number, IsAhead, IsSign, LooksAhead, sign_sort, sort_at, sort_of, TakesNumber, TakesSign, TakesToken, TakesTokenWith}
 pub use Rattle.std.proofs.lemmas.Grind.{common_steps, get_or_default_zero}

@@ -6,5 +6,6 @@ pub mod PrintingLemmas
 pub mod DigitLemmas
 pub mod PrintedBytesLemmas
 pub mod LimitsLemmas
+pub mod SetLemmas
 pub mod SpacedLemmas
 pub mod NearLemmas

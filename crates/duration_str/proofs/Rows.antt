@@ -1,11 +1,11 @@
 -- Worked examples, computed: what texts are read as, why others are refused, and what durations print as.
-use Rattle.duration_str.proofs.Common.{answer, answer_with, Bool, Cause, codes, Compact, counts_of, Empty, encode_utf8_all, Err, Expected, false, flat_map, length, List, Long, map, MAX_LONG_LEN, MAX_PRINTED_LEN, message_of, Mixed, None, NumberTooLarge, off, Ok, older_row_of, older_unit_of_word, Options, OutOfRange, Overflow, Plus, printed_counts, Quarter, refl, replicate, Result, row_of, Short, Some, Star, Style, Syntax, TimeUnit, true, unit_lengths, unit_of_word, units, [], ℕ, ◌++◌, ◌∷◌, ◌≡◌}
+use Rattle.duration_str.proofs.Common.{ALL, answer, answer_with, Bool, Cause, codes, Compact, counts_of, Empty, encode_utf8_all, Err, Expected, false, flat_map, if◌then◌else◌, length, List, Long, map, MAX_LONG_LEN, MAX_PRINTED_LEN, message_of, Mixed, nanos_of, nat_lt, None, NumberTooLarge, off, Ok, older_row_of, older_unit_of_word, Options, OutOfRange, Overflow, Plus, printed_counts, Quarter, refl, replicate, Result, row_of, Short, Some, Star, Style, Syntax, TimeUnit, true, unit_lengths, unit_of_word, units, [], ℕ, ◌++◌, ◌∷◌, ◌≡◌}
 use Rattle.duration_str.specs.declared.format.Format.{Format}
-use Rattle.duration_str.specs.declared.unit.TimeUnit.TheVariants.{Day, Hour, MilliSecond, Minute, Year}
-use Rattle.duration_str.specs.Limits.{counts_within, lengths_within, text_within, whole_format}
+use Rattle.duration_str.specs.declared.unit.TimeUnit.TheVariants.{Day, Hour, MilliSecond, Minute, Month, NanoSecond, Second, Week, Year}
+use Rattle.duration_str.specs.Limits.{chosen, intersection, counts_within, down_to, is_in, lengths_within, set_of, text_within, up_to, whole_format, without_unit}
 use Rattle.duration_str.specs.OneLine.{is_letter, is_plain, one_line_of}
 use Rattle.duration_str.specs.Report.{report_of}
-use Rattle.duration_str.proofs.Characters.UnitLemmas.{Each}
+use Rattle.duration_str.proofs.Characters.UnitLemmas.{Each, each_unit}
 use Rattle.duration_str.specs.Text.{width}
 use Rattle.std.specs.Fmt.{digits}
 use Rattle.std.specs.List.{count_by, list_all, list_any}
@@ -254,17 +254,74 @@ default_units = assumption
 abbrev limited : Format → ℕ → List ℕ
 limited format nanos = text_within format (counts_within (lengths_within format) format.parts nanos)
 
+-- the format with these units alone
+abbrev only : List TimeUnit → Format
+only us = record whole_format { units = intersection ALL (set_of us) }
+
+-- the format without the quarter and the week
+abbrev usual : Format
+usual = record whole_format { units = without_unit Week (without_unit Quarter ALL) }
+
 pub record LimitedTexts : Type 0 where
   pub two_parts : limited (record whole_format { parts = 2 }) 193_029_000_000 ≡ codes "3min 13s"
   pub one_part-119_days : limited (record whole_format { parts = 1 }) 10_281_600_000_000_000 ≡ codes "1q"
-  pub from_days : limited (record whole_format { largest = Day }) 10_368_000_000_000_005 ≡ codes "120d 5ns"
-  pub down_to_hours : limited (record whole_format { smallest = Hour }) 193_029_000_000 ≡ codes "0h"
-  pub no_units : limited (record whole_format { largest = Minute; smallest = Hour }) 7_200_000_000_000 ≡ codes "0h"
   pub no_parts : limited (record whole_format { parts = 0; style = Long }) 7_200_000_000_000 ≡ codes "0 seconds"
+  -- ---- A largest and a smallest unit
+  pub from_days : limited (record whole_format { units = up_to Day ALL }) 10_368_000_000_000_005 ≡ codes "120d 5ns"
+  pub down_to_hours : limited (record whole_format { units = down_to Hour ALL }) 193_029_000_000 ≡ codes "0h"
+  pub down_to_seconds : limited (record whole_format { units = down_to Second ALL }) 193_029_000_000
+      ≡ codes "3min 13s"
+  pub no_units : limited (record whole_format { units = down_to Hour (up_to Minute ALL) }) 7_200_000_000_000
+      ≡ codes "0s"
+  -- ---- Other sets of units
+  pub usual-180_days : limited usual 15_552_000_000_000_000 ≡ codes "6mon"
+  pub usual-400_days : limited usual 34_560_000_000_000_000 ≡ codes "1y 1mon 5d"
+  pub usual-compact : limited (record usual { style = Compact }) 34_560_000_000_000_000 ≡ codes "1y1mon5d"
+  pub years_and_days-400_days : limited (only (Year ∷ Day ∷ [])) 34_560_000_000_000_000 ≡ codes "1y 35d"
+  pub other_order : limited (only (Day ∷ Year ∷ Day ∷ [])) 34_560_000_000_000_000 ≡ codes "1y 35d"
+  pub years_and_days-hours : limited (only (Year ∷ Day ∷ [])) 3_600_000_000_000 ≡ codes "0d"
+  pub months_and_days-one_part : limited (record (only (Month ∷ Day ∷ [])) { parts = 1 }) 10_281_600_000_000_000
+      ≡ codes "3mon"
+  pub weeks_alone : limited (only (Week ∷ [])) 10_281_600_000_000_000 ≡ codes "17w"
+  pub weeks_alone-days : limited (only (Week ∷ [])) 518_400_000_000_000 ≡ codes "0w"
+  pub milliseconds_alone : limited (only (MilliSecond ∷ [])) 1_500_999_999 ≡ codes "1500ms"
+  -- the second's name for the zero of shorter units, also where it is not among them
+  pub milliseconds_alone-zero : limited (only (MilliSecond ∷ [])) 999_999 ≡ codes "0s"
+  pub years_and_milliseconds-long : limited (record (only (Year ∷ MilliSecond ∷ [])) { style = Long })
+      31_536_000_001_000_000 ≡ codes "1 year 1 millisecond"
+  pub none : limited (only []) 34_560_000_000_000_000 ≡ codes "0s"
+  -- ---- No choice brings a unit back
+  pub taken_out : intersection (without_unit Week ALL) (set_of (Week ∷ Day ∷ [])) ≡ set_of (Day ∷ [])
+  pub number_of_all : set_of units ≡ ALL
+  pub number_of_year : set_of (Year ∷ []) ≡ record { bits = 1 }
+  pub number_of_nanosecond : set_of (NanoSecond ∷ []) ≡ record { bits = 1_024 }
 
 pub limited_texts : LimitedTexts
-unfolding chars digits encode
+unfolding chars digits encode chosen is_in
 limited_texts = assumption
+
+-- the units from the first on that is not longer than the largest
+abbrev units_from : TimeUnit → List TimeUnit → List TimeUnit
+units_from largest [] = []
+units_from largest (u ∷ us) = if nat_lt (nanos_of largest) (nanos_of u) then units_from largest us else u ∷ us
+
+-- the units before the first that is shorter than the smallest
+abbrev units_down_to : TimeUnit → List TimeUnit → List TimeUnit
+units_down_to smallest [] = []
+units_down_to smallest (u ∷ us) = if nat_lt (nanos_of u) (nanos_of smallest) then [] else u ∷ units_down_to smallest us
+
+abbrev IsRange : TimeUnit → TimeUnit → Type 0
+IsRange largest smallest =
+    chosen (down_to smallest (up_to largest ALL)) units ≡ units_down_to smallest (units_from largest units)
+
+each_range : (largest : TimeUnit) → Each (IsRange largest) units
+unfolding chosen is_in
+each_range Year = assumption
+each_range largest = assumption
+
+-- What a largest and a smallest unit leave are the units from the one to the other.
+pub ranges : (largest smallest : TimeUnit) → IsRange largest smallest
+ranges largest = each_unit (IsRange largest) (each_range largest)
 
 -- ---- Faults in one line
 

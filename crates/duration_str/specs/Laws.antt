@@ -25,7 +25,7 @@ use Rattle.duration_str.specs.Older.{older_row_of, older_terminals, older_unit_o
 use Rattle.duration_str.specs.Printing.{IsPrintedIn, IsGreatestBreakdown, long_name, weighted_sum}
 use Rattle.duration_str.specs.declared.format.Format.{Format}
 use Rattle.duration_str.specs.declared.format.Style.{Style}
-use Rattle.duration_str.specs.Limits.{whole_format, units_from, lengths_within, part_count, IsPrintedWithin}
+use Rattle.duration_str.specs.Limits.{whole_format, lengths_within, part_count, shorter_units, units_within, IsPrintedWithin}
 
 -- whether a character is `+` or `*`
 abbrev pub is_operator : ℕ → Bool
@@ -258,9 +258,10 @@ abbrev pub AllParts : Type 0
 AllParts = (style : Style) (parts nanos : ℕ) (text : Characters) → length units ≤ parts
     → (IsPrintedWithin (record whole_format { parts = parts; style = style }) nanos text ↔ IsPrintedIn style nanos text)
 
--- Broken down from the limits' largest unit on, it has no more parts than they allow, none below their smallest unit.
+-- Broken down into the format's units and all that are shorter, it has no more parts than the format allows, and all
+-- are of the format's units.
 pub record KeepsWithin (format : Format) (nanos : ℕ) (counts : List ℕ) : Type 0 where
-  pub breakdown : IsGreatestBreakdown (map nanos_of (units_from format.largest units)) nanos counts
+  pub breakdown : IsGreatestBreakdown (map nanos_of (units_within format ++ shorter_units (units_within format))) nanos counts
   pub few : part_count counts ≤ format.parts
   pub whole : weighted_sum (lengths_within format) counts ≡ nanos
 

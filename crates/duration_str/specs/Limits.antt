@@ -1,32 +1,67 @@
--- A duration printed within limits, in the units from a largest to a smallest, in so many parts at most, and in a style.
-use Rattle.std.specs.Prelude.{◌≡◌, ℕ, ◌+◌, ◌-◌, ◌/◌, ◌%◌, ◌≤◌, List, [], ◌∷◌, if◌then◌else◌, length, ◌⊎◌, ◌==◌, nat_lt, map}
+-- A duration printed within limits, in the units of a set, in so many parts at most, and in a style.
+use Rattle.std.specs.Prelude.{◌≡◌, ℕ, ◌+◌, ◌-◌, ◌/◌, ◌%◌, ◌≤◌, ◌*◌, ◌^◌, Bool, List, [], ◌∷◌, if◌then◌else◌, length, ◌⊎◌, ◌==◌, nat_lt, map, filter, bit_and, bit_or}
+use Rattle.std.specs.Int.{bit_at, bit_not, w16}
+use Rattle.std.specs.List.{list_any}
 use Rattle.duration_str.specs.declared.format.Format.{Format}
 use Rattle.duration_str.specs.declared.unit.TimeUnit.{TimeUnit}
-use Rattle.duration_str.specs.declared.unit.TimeUnit.TheVariants.{Year, Second, NanoSecond}
+use Rattle.duration_str.specs.declared.unit.TimeUnit.TheVariants.{Second}
+use Rattle.duration_str.specs.declared.format.Units.{Units}
+use Rattle.duration_str.specs.declared.format.TheConstants.Units.{ALL}
 use Rattle.duration_str.specs.Text.{Characters}
-use Rattle.duration_str.specs.Units.{units, nanos_of}
+use Rattle.duration_str.specs.Units.{units, nanos_of, rank_of}
 use Rattle.duration_str.specs.declared.format.Style.{Style}
 use Rattle.duration_str.specs.declared.format.Style.TheVariants.{Long, Short}
 use Rattle.duration_str.specs.declared.printing.TheConstants.{MAX_LONG_LEN, MAX_PRINTED_LEN}
 use Rattle.duration_str.specs.Printing.{weighted_sum, IsBefore, printed_parts, joined_parts}
 
+-- whether the unit is in the set: the bit 2^n is that of the unit than which n are longer
+unfoldable pub is_in : Units → TimeUnit → Bool
+is_in set u = bit_at set.bits (rank_of u) == 1
+
+-- those of these units that are in the set
+unfoldable pub chosen : Units → List TimeUnit → List TimeUnit
+chosen set us = filter (is_in set) us
+
+-- the set with this unit too
+abbrev pub with_unit : TimeUnit → Units → Units
+with_unit u set = record { bits = bit_or set.bits (2 ^ rank_of u) }
+
+-- the set without this unit
+abbrev pub without_unit : TimeUnit → Units → Units
+without_unit u set = record { bits = bit_and set.bits (bit_not w16 (2 ^ rank_of u)) }
+
+-- the set with these units too
+abbrev pub with_each : List TimeUnit → Units → Units
+with_each [] set = set
+with_each (u ∷ us) set = with_each us (with_unit u set)
+
+-- the set of these units
+abbrev pub set_of : List TimeUnit → Units
+set_of us = with_each us (record { bits = 0 })
+
+-- whether the unit is one of these
+abbrev pub is_one_of : List TimeUnit → TimeUnit → Bool
+is_one_of us u = list_any (λ v. nanos_of u == nanos_of v) us
+
+-- the units that are in both sets
+abbrev pub intersection : Units → Units → Units
+intersection a b = record { bits = bit_and a.bits b.bits }
+
+-- the set without the units that are longer than this one
+abbrev pub up_to : TimeUnit → Units → Units
+up_to largest set = record { bits = set.bits / 2 ^ rank_of largest * 2 ^ rank_of largest }
+
+-- the set without the units that are shorter than this one
+abbrev pub down_to : TimeUnit → Units → Units
+down_to smallest set = record { bits = set.bits % 2 ^ (rank_of smallest + 1) }
+
 -- all units, as many parts as there are units, and the short style
 abbrev pub whole_format : Format
-whole_format = record { largest = Year; smallest = NanoSecond; parts = length units; style = Short }
+whole_format = record { units = ALL; parts = length units; style = Short }
 
--- the units from the first on that is not longer than the largest
-abbrev pub units_from : TimeUnit → List TimeUnit → List TimeUnit
-units_from largest [] = []
-units_from largest (u ∷ us) = if nat_lt (nanos_of largest) (nanos_of u) then units_from largest us else u ∷ us
-
--- the units before the first that is shorter than the smallest
-abbrev pub units_down_to : TimeUnit → List TimeUnit → List TimeUnit
-units_down_to smallest [] = []
-units_down_to smallest (u ∷ us) = if nat_lt (nanos_of u) (nanos_of smallest) then [] else u ∷ units_down_to smallest us
-
--- the units from the largest to the smallest; none if the largest is shorter than the smallest
+-- the units of the format, the longest first
 abbrev pub units_within : Format → List TimeUnit
-units_within format = units_down_to format.smallest (units_from format.largest units)
+units_within format = chosen format.units units
 
 -- their lengths
 abbrev pub lengths_within : Format → List ℕ
@@ -48,14 +83,23 @@ pub record IsGreatestWithin (lengths : List ℕ) (parts nanos : ℕ) (counts : L
   pub within : IsWithin lengths parts nanos counts
   pub greatest : (others : List ℕ) → IsWithin lengths parts nanos others → (others ≡ counts) ⊎ IsBefore others counts
 
--- the unit of a zero: the smallest, or the second where that is shorter
-abbrev pub zero_unit : TimeUnit → TimeUnit
-zero_unit smallest = if nat_lt (nanos_of smallest) (nanos_of Second) then Second else smallest
+-- the last of these units, or this one if there are none
+abbrev pub last_unit : TimeUnit → List TimeUnit → TimeUnit
+last_unit u [] = u
+last_unit u (v ∷ us) = last_unit v us
+
+-- the units that are shorter than all of these; than the second if there are none
+abbrev pub shorter_units : List TimeUnit → List TimeUnit
+shorter_units us = filter (λ u. nat_lt (nanos_of u) (nanos_of (last_unit Second us))) units
+
+-- the unit of a zero: the smallest of these, or the second if that is shorter or there are none
+abbrev pub zero_unit : List TimeUnit → TimeUnit
+zero_unit us = if nat_lt (nanos_of (last_unit Second us)) (nanos_of Second) then Second else last_unit Second us
 
 -- the text that prints these counts
 abbrev pub text_within : Format → List ℕ → Characters
 text_within format counts =
-    joined_parts format.style (zero_unit format.smallest)
+    joined_parts format.style (zero_unit (units_within format))
     (printed_parts format.style (units_within format) counts)
 
 -- A duration of `nanos` nanoseconds prints in this format as this text.

@@ -1,5 +1,5 @@
 -- The units: their lengths, the names that are printed, and the names that are read.
-use Rattle.std.specs.Prelude.{ℕ, Bool, ◌&&◌, ◌||◌, List, [], ◌∷◌, Option, if◌then◌else◌, map, bytes_eq, codes}
+use Rattle.std.specs.Prelude.{ℕ, Bool, ◌&&◌, ◌||◌, List, [], ◌∷◌, Option, if◌then◌else◌, map, bytes_eq, codes, count_by, nat_lt}
 use Rattle.std.specs.Char.{to_ascii_lowercase}
 use Rattle.std.specs.List.{list_any, find}
 use Rattle.duration_str.specs.declared.options.Options.{Options}
@@ -35,6 +35,10 @@ units = Year ∷ Quarter ∷ Month ∷ Week ∷ Day ∷ Hour ∷ Minute ∷ Seco
 -- the length of a unit in nanoseconds
 abbrev pub nanos_of : TimeUnit → ℕ
 nanos_of u = (row_of u).nanos
+
+-- how many units are longer
+abbrev pub rank_of : TimeUnit → ℕ
+rank_of u = count_by (λ v. nat_lt (nanos_of u) (nanos_of v)) units
 
 -- the lengths of the units, the longest first
 abbrev pub unit_lengths : List ℕ

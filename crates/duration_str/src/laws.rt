@@ -109,9 +109,9 @@ pub fn all_parts()
 {}
 
 /// What is printed within limits is the greatest duration, not above the given one, whose own breakdown into the
-/// largest unit and all shorter ones has so few parts, none of them shorter than the smallest unit. The text is also
-/// that duration's, and is read as it below 2^64 nanoseconds. So a countdown never shows more than is left, and of 366
-/// days one part is `1y`.
+/// format's units and all that are shorter has so few parts, all of the format's units. The text is also that
+/// duration's, and is read as it below 2^64 nanoseconds. So a countdown never shows more than is left, and of 366 days
+/// one part is `1y`.
 #[tactic(auto, using(crate::proofs::LawProofs::NeverMore::never_more_holds))]
 pub fn never_more()
     ensures { NeverMore }

@@ -26,7 +26,7 @@ pub mod unit;
 
 pub use error::{DError, DResult};
 pub use ext::HumanFormat;
-pub use format::{Format, Style};
+pub use format::{Format, Style, Units};
 pub use one_line::{MAX_ONE_LINE_LEN, ONE_LINE_BUFFER_SIZE};
 pub use parser::{
     Cause, Expected, Fault, parse, parse_looked, parse_nanos, parse_std, parse_with,

@@ -5,9 +5,9 @@ ghost use Rattle.std.specs.Str.{chars};
 ghost use Rattle.duration_str.specs.Text.{number_of};
 ghost use Rattle.duration_str.specs.OneTerm.{IsNumber, term_of, term_answer};
 ghost use Rattle.duration_str.specs.declared.unit.TimeUnit.TheVariants.{Second};
-ghost use Rattle.duration_str.specs.Units.{nanos_of, row_of};
+ghost use Rattle.duration_str.specs.Units.{nanos_of, rank_of, row_of};
 ghost use Rattle.duration_str.specs.Printing.{long_name};
-ghost use Rattle.duration_str.specs.Internal.UnitTable.{printed_row, rank_of};
+ghost use Rattle.duration_str.specs.Internal.UnitTable.{printed_row};
 ghost use Rattle.duration_str.specs.Internal.Numbers.{checked_term};
 
 use crate::cause::Cause;
@@ -127,7 +127,7 @@ impl TimeUnit {
 
     /// How many units are longer.
     #[inline(always)]
-    pub(crate) fn rank(self) -> usize
+    pub(crate) const fn rank(self) -> usize
         ensures { result ≡ rank_of self }
     {
         self as usize

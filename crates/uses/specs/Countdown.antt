@@ -1,10 +1,10 @@
 -- The time that is left, as it is shown.
 use Rattle.std.specs.Prelude.{◌≡◌, ℕ, ◌^◌, ◌<◌, ◌≤◌, List}
 use Rattle.duration_str.specs.declared.format.Format.{Format}
-use Rattle.duration_str.specs.declared.format.Style.TheVariants.{Short}
-use Rattle.duration_str.specs.declared.unit.TimeUnit.TheVariants.{Year, Second}
+use Rattle.duration_str.specs.declared.format.TheConstants.Units.{ALL}
+use Rattle.duration_str.specs.declared.unit.TimeUnit.TheVariants.{Second}
 use Rattle.duration_str.specs.Laws.{KeepsWithin}
-use Rattle.duration_str.specs.Limits.{IsPrintedWithin, part_count}
+use Rattle.duration_str.specs.Limits.{down_to, IsPrintedWithin, part_count, whole_format}
 use Rattle.duration_str.specs.Printing.{IsGreatestBreakdown}
 use Rattle.duration_str.specs.Reading.{IsRead}
 use Rattle.duration_str.specs.Units.{unit_lengths}
@@ -12,7 +12,7 @@ use Rattle.duration_str.specs.Options.{off}
 
 -- two parts at most, and none of a unit below the second
 abbrev pub coarse : Format
-coarse = record { largest = Year; smallest = Second; parts = 2; style = Short }
+coarse = record whole_format { units = down_to Second ALL; parts = 2 }
 
 -- The text shows a time that is not more than what is left, and that has at most two parts; what is left is shown
 -- exactly if it has so few itself. It is read as that time below 2^64 nanoseconds, which is shown as the same text

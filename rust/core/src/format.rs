@@ -1,11 +1,12 @@
 // Made by tools/erase of crates/duration_str/src/format.rt.
-//! How a duration is printed: in the units from a largest to a smallest, in so many parts at most, and in a style.
+//! How a duration is printed: in which units, in so many parts at most, and in a style.
 
-use crate::unit::{PRINTED, Printed, TimeUnit, UNITS};
+use crate::unit::{TimeUnit, UNITS};
 
 /// How a duration is printed: the units, the greatest number of parts, and the style.
 ///
-/// Start from [`Format::whole`], since a later version may have more fields.
+/// Start from [`Format::whole`], since a later version may have more fields. `largest`, `smallest`, `only` and `without`
+/// each take units out of the set. So their order does not matter, and none brings a unit back.
 ///
 /// ```
 /// use duration_str::{Format, STYLED_BUFFER_SIZE, TimeUnit, write_within};
@@ -18,15 +19,158 @@ use crate::unit::{PRINTED, Printed, TimeUnit, UNITS};
 #[derive(Clone, Copy, Debug, PartialEq, Eq, Hash)]
 #[non_exhaustive]
 pub struct Format {
-    /// The largest unit that is printed. If it is shorter than the smallest, every duration prints as the zero, as
-    /// [`write_within`](crate::write_within) says.
-    pub largest: TimeUnit,
-    /// The smallest unit that is printed.
-    pub smallest: TimeUnit,
+    /// The units that are printed. If there are none, every duration prints as the zero, `0s`.
+    pub units: Units,
     /// The greatest number of parts. If it is 0, every duration prints as the zero.
     pub parts: usize,
     /// How the parts are written.
     pub style: Style,
+}
+
+/// A set of units.
+///
+/// ```
+/// use duration_str::{Format, STYLED_BUFFER_SIZE, TimeUnit, Units, write_within};
+/// use std::time::Duration;
+///
+/// let half_a_year = Duration::new(180 * 86_400, 0);
+/// let mut buffer = [0; STYLED_BUFFER_SIZE];
+/// let mut usual = Format::whole();
+/// usual.units = Units::ALL.without(TimeUnit::Quarter).without(TimeUnit::Week);
+/// assert_eq!(write_within(&half_a_year, usual, &mut buffer), "6mon");
+/// ```
+#[derive(Clone, Copy, Debug, PartialEq, Eq, Hash)]
+pub struct Units {
+    /// The bit 2^n is that of the unit than which n are longer.
+    bits: u16,
+}
+
+impl Units {
+    /// All units.
+    pub const ALL: Units = Units { bits: 0x7FF };
+
+    /// No unit.
+    pub const NONE: Units = Units { bits: 0 };
+
+    /// The set of the units of these bits. The bit 2^n is that of the unit than which n are longer: 1 for the year, 2 for
+    /// the quarter, and 1,024 for the nanosecond. `None` if a bit is above that of the nanosecond.
+    ///
+    /// ```
+    /// use duration_str::{TimeUnit, Units};
+    ///
+    /// assert_eq!(Units::from_bits(2_047), Some(Units::ALL));
+    /// assert_eq!(Units::from_bits(1), Some(Units::NONE.with(TimeUnit::Year)));
+    /// assert_eq!(Units::from_bits(2_048), None);
+    /// ```
+    #[inline]
+    #[must_use]
+    pub const fn from_bits(bits: u16) -> Option<Units> {
+        if bits < 2_048 {
+            Some(Units { bits })
+        } else {
+            None
+        }
+    }
+
+    /// The bits of the units in the set, which [`Units::from_bits`] takes.
+    ///
+    /// ```
+    /// use duration_str::Units;
+    ///
+    /// assert_eq!(Units::ALL.bits(), 2_047);
+    /// ```
+    #[inline]
+    #[must_use]
+    pub const fn bits(self) -> u16 {
+        self.bits
+    }
+
+    /// The set of these units. Their order does not matter, and a unit may be among them twice.
+    ///
+    /// ```
+    /// use duration_str::{TimeUnit, Units};
+    ///
+    /// let days = Units::of(&[TimeUnit::Day, TimeUnit::Year]);
+    /// assert_eq!(days, Units::NONE.with(TimeUnit::Year).with(TimeUnit::Day));
+    /// ```
+    #[must_use]
+    pub const fn of(units: &[TimeUnit]) -> Units {
+        let mut set = Units::NONE;
+        let mut i = 0;
+        while i < units.len() {
+            set = set.with(units[i]);
+            i += 1;
+        }
+        set
+    }
+
+    /// The units that are in both sets.
+    #[inline]
+    const fn intersection(self, other: Units) -> Units {
+        Units {
+            bits: self.bits & other.bits,
+        }
+    }
+
+    /// Whether the unit is in the set.
+    ///
+    /// ```
+    /// use duration_str::{TimeUnit, Units};
+    ///
+    /// assert!(Units::ALL.contains(TimeUnit::Week));
+    /// assert!(!Units::NONE.contains(TimeUnit::Week));
+    /// ```
+    #[inline]
+    #[must_use]
+    pub const fn contains(self, unit: TimeUnit) -> bool {
+        self.bits >> unit.rank() & 1 == 1
+    }
+
+    /// The set with this unit too.
+    ///
+    /// ```
+    /// use duration_str::{TimeUnit, Units};
+    ///
+    /// assert!(Units::NONE.with(TimeUnit::Week).contains(TimeUnit::Week));
+    /// ```
+    #[inline]
+    #[must_use]
+    pub const fn with(self, unit: TimeUnit) -> Units {
+        Units {
+            bits: self.bits | 1 << unit.rank(),
+        }
+    }
+
+    /// The set without this unit.
+    ///
+    /// ```
+    /// use duration_str::{TimeUnit, Units};
+    ///
+    /// assert!(!Units::ALL.without(TimeUnit::Week).contains(TimeUnit::Week));
+    /// ```
+    #[inline]
+    #[must_use]
+    pub const fn without(self, unit: TimeUnit) -> Units {
+        Units {
+            bits: self.bits & !(1 << unit.rank()),
+        }
+    }
+
+    /// The set without the units that are longer than this one.
+    #[inline]
+    pub(crate) const fn up_to(self, largest: TimeUnit) -> Units {
+        Units {
+            bits: self.bits >> largest.rank() << largest.rank(),
+        }
+    }
+
+    /// The set without the units that are shorter than this one.
+    #[inline]
+    const fn down_to(self, smallest: TimeUnit) -> Units {
+        Units {
+            bits: self.bits % (2 << smallest.rank()),
+        }
+    }
 }
 
 /// How the parts of a printed duration are written.
@@ -51,14 +195,51 @@ impl Format {
     #[must_use]
     pub const fn whole() -> Format {
         Format {
-            largest: TimeUnit::Year,
-            smallest: TimeUnit::NanoSecond,
+            units: Units::ALL,
             parts: UNITS.len(),
             style: Style::Short,
         }
     }
 
-    /// The same format with this largest unit.
+    /// The same format without the units that are not among these.
+    ///
+    /// ```
+    /// use duration_str::{Format, STYLED_BUFFER_SIZE, TimeUnit, write_within};
+    /// use std::time::Duration;
+    ///
+    /// let days = Format::whole().only(&[TimeUnit::Year, TimeUnit::Day]);
+    /// let mut buffer = [0; STYLED_BUFFER_SIZE];
+    /// assert_eq!(write_within(&Duration::new(400 * 86_400, 0), days, &mut buffer), "1y 35d");
+    /// ```
+    #[inline]
+    #[must_use]
+    pub const fn only(self, units: &[TimeUnit]) -> Format {
+        Format {
+            units: self.units.intersection(Units::of(units)),
+            ..self
+        }
+    }
+
+    /// The same format without this unit.
+    ///
+    /// ```
+    /// use duration_str::{Format, STYLED_BUFFER_SIZE, TimeUnit, write_within};
+    /// use std::time::Duration;
+    ///
+    /// let usual = Format::whole().without(TimeUnit::Quarter).without(TimeUnit::Week);
+    /// let mut buffer = [0; STYLED_BUFFER_SIZE];
+    /// assert_eq!(write_within(&Duration::new(180 * 86_400, 0), usual, &mut buffer), "6mon");
+    /// ```
+    #[inline]
+    #[must_use]
+    pub const fn without(self, unit: TimeUnit) -> Format {
+        Format {
+            units: self.units.without(unit),
+            ..self
+        }
+    }
+
+    /// The same format without the units that are longer than this one.
     ///
     /// ```
     /// use duration_str::{Format, STYLED_BUFFER_SIZE, TimeUnit, write_within};
@@ -70,10 +251,13 @@ impl Format {
     #[inline]
     #[must_use]
     pub const fn largest(self, largest: TimeUnit) -> Format {
-        Format { largest, ..self }
+        Format {
+            units: self.units.up_to(largest),
+            ..self
+        }
     }
 
-    /// The same format with this smallest unit.
+    /// The same format without the units that are shorter than this one.
     ///
     /// ```
     /// use duration_str::{Format, STYLED_BUFFER_SIZE, TimeUnit, write_within};
@@ -87,7 +271,10 @@ impl Format {
     #[inline]
     #[must_use]
     pub const fn smallest(self, smallest: TimeUnit) -> Format {
-        Format { smallest, ..self }
+        Format {
+            units: self.units.down_to(smallest),
+            ..self
+        }
     }
 
     /// The same format with at most so many parts.
@@ -120,23 +307,19 @@ impl Format {
         Format { style, ..self }
     }
 
-    #[inline(always)]
-    pub(crate) fn units(self) -> &'static [Printed] {
-        let first = self.largest.rank();
-        let last = self.smallest.rank();
-        if last < first {
-            return &[];
+    /// The unit of a zero: the smallest, or the second if that is shorter or there is none.
+    #[inline]
+    pub(crate) fn zero_unit(self) -> TimeUnit {
+        let mut smallest = TimeUnit::Second;
+        for unit in &UNITS {
+            if self.units.contains(*unit) {
+                smallest = *unit;
+            }
         }
-        &PRINTED[first..last + 1]
-    }
-
-    /// The units in which so many nanoseconds are printed as in all of these. Most durations are below a day, and have
-    /// no longer units to look for.
-    #[inline(always)]
-    pub(crate) fn units_for(self, nanos: u64) -> &'static [Printed] {
-        if nanos < TimeUnit::Day.nanos() && self.largest.rank() < TimeUnit::Hour.rank() {
-            return self.largest(TimeUnit::Hour).units();
+        if smallest.nanos() < TimeUnit::Second.nanos() {
+            TimeUnit::Second
+        } else {
+            smallest
         }
-        self.units()
     }
 }

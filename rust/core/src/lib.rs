@@ -38,7 +38,7 @@ mod token;
 #[forbid(unsafe_code)]
 mod unit;
 
-pub use self::format::{Format, Style};
+pub use self::format::{Format, Style, Units};
 pub use self::one_line::{MAX_ONE_LINE_LEN, ONE_LINE_BUFFER_SIZE};
 pub use self::parser::{
     Cause, Expected, Fault, parse, parse_looked, parse_nanos, parse_std, parse_with,

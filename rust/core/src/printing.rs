@@ -7,8 +7,8 @@
 //!
 //! A function that writes begins after the first `at` bytes of the buffer, and returns where its part ends.
 
-use crate::format::{Format, Style};
-use crate::unit::{Printed, TimeUnit, UNITS};
+use crate::format::{Format, Style, Units};
+use crate::unit::{PRINTED, Printed, TimeUnit, UNITS};
 use core::time::Duration;
 
 /// The length in bytes of the longest printed duration, except in the long style:
@@ -58,8 +58,7 @@ pub const STYLED_BUFFER_SIZE: usize = 144;
 /// The text is the lexicographically greatest breakdown, with only these units and at most so many
 /// parts, that is not above the duration. If all its counts are 0, the text is the zero: `0` and
 /// the smallest unit's name, or the second's name if that unit is shorter than a second. Every
-/// duration prints as the zero if the largest unit is shorter than the smallest, or if there are no
-/// parts.
+/// duration prints as the zero if there are no units, which is `0s`, or no parts.
 ///
 /// The text has at most `MAX_PRINTED_LEN` bytes, in the long style `MAX_LONG_LEN`; bytes after it
 /// may change too. Allocates nothing and cannot fail.
@@ -74,7 +73,7 @@ pub const STYLED_BUFFER_SIZE: usize = 144;
 /// assert_eq!(write_within(&build, two_parts, &mut buffer), "3min 13s");
 /// let hours = Format::whole().smallest(TimeUnit::Hour);
 /// assert_eq!(write_within(&build, hours, &mut buffer), "0h");
-/// assert_eq!(write_within(&build, hours.largest(TimeUnit::Minute), &mut buffer), "0h");
+/// assert_eq!(write_within(&build, hours.largest(TimeUnit::Minute), &mut buffer), "0s");
 /// let long = two_parts.style(Style::Long);
 /// assert_eq!(write_within(&build, long, &mut buffer), "3 minutes 13 seconds");
 /// ```
@@ -191,9 +190,19 @@ fn put_part(buffer: &mut [u8], at: usize, count: u64, row: &Printed, style: Styl
     put_name_in(buffer, end, row, count == 1, style)
 }
 
-/// Writes at most `most` parts of so many nanoseconds in these units.
+/// The row of the longest unit of a set, which is given by its bits, and the bits of the others.
+#[inline(always)]
+fn longest(bits: u32) -> Option<(&'static Printed, u32)> {
+    let rank = bits.trailing_zeros();
+    if rank as usize >= PRINTED.len() {
+        return None;
+    }
+    Some((&PRINTED[rank as usize], bits & !(1 << rank)))
+}
+
+/// Writes at most `most` parts of so many nanoseconds in the units of these rows.
 #[inline(never)]
-fn put_parts(
+fn put_all(
     buffer: &mut [u8],
     at: usize,
     rows: &[Printed],
@@ -219,6 +228,73 @@ fn put_parts(
         }
     }
     end
+}
+
+/// Writes such parts in the units of a set: over its bits, since it may lack many units.
+#[inline(never)]
+fn put_chosen(
+    buffer: &mut [u8],
+    at: usize,
+    set: Units,
+    most: usize,
+    nanos: u64,
+    style: Style,
+) -> usize {
+    let mut end = at;
+    let mut left = most;
+    let mut rest = nanos;
+    let mut bits = u32::from(set.bits());
+    while let Some((first, others)) = longest(bits) {
+        bits = others;
+        if first.nanos <= rest {
+            if left == 0 {
+                return end;
+            }
+            let (count, after) = first.division(rest);
+            end = put_part(buffer, end, count, first, style);
+            left -= 1;
+            rest = after;
+            if rest == 0 {
+                return end;
+            }
+        }
+    }
+    end
+}
+
+/// The rows of the units in which so many nanoseconds can be printed. Most durations are below a day, and have no longer
+/// units to look for.
+#[inline(always)]
+fn rows_for(nanos: u64) -> &'static [Printed] {
+    if nanos < TimeUnit::Day.nanos() {
+        return &PRINTED[TimeUnit::Hour.rank()..];
+    }
+    &PRINTED
+}
+
+/// The set, without longer units for a duration below a day.
+#[inline(always)]
+fn set_for(nanos: u64, set: Units) -> Units {
+    if nanos < TimeUnit::Day.nanos() {
+        return set.up_to(TimeUnit::Hour);
+    }
+    set
+}
+
+/// Writes such parts in the units of a set. All units take less time.
+#[inline(always)]
+fn put_parts(
+    buffer: &mut [u8],
+    at: usize,
+    set: Units,
+    most: usize,
+    nanos: u64,
+    style: Style,
+) -> usize {
+    if set == Units::ALL {
+        return put_all(buffer, at, rows_for(nanos), most, nanos, style);
+    }
+    put_chosen(buffer, at, set_for(nanos, set), most, nanos, style)
 }
 
 /// Writes a part and a space after it, which stay only if the count is not 0: without a branch, since nobody can foresee
@@ -261,8 +337,8 @@ fn put_first(buffer: &mut [u8], count: u128, row: &Printed, style: Style) -> usi
 
 /// Writes the parts of 2^64 nanoseconds or more, into which each unit goes, and leaves less than that.
 #[inline(never)]
-fn put_long(buffer: &mut [u8], rows: &[Printed], most: usize, nanos: u128, style: Style) -> usize {
-    let [row, shorter @ ..] = rows else {
+fn put_long(buffer: &mut [u8], set: Units, most: usize, nanos: u128, style: Style) -> usize {
+    let Some((row, _)) = longest(u32::from(set.bits())) else {
         return 0;
     };
     if most == 0 {
@@ -270,8 +346,7 @@ fn put_long(buffer: &mut [u8], rows: &[Printed], most: usize, nanos: u128, style
     }
     let length = u128::from(row.nanos);
     let end = put_first(buffer, nanos / length, row, style);
-    let rest = (nanos % length) as u64;
-    put_parts(buffer, end, shorter, most - 1, rest, style)
+    put_parts(buffer, end, set, most - 1, (nanos % length) as u64, style)
 }
 
 #[inline(always)]
@@ -285,21 +360,13 @@ fn put_within(buffer: &mut [u8], format: Format, d: Duration) -> usize {
     }
     let nanos = d.as_nanos();
     match u64::try_from(nanos) {
-        Ok(small) => {
-            let units = format.units_for(small);
-            put_parts(buffer, 0, units, format.parts, small, format.style)
-        }
-        Err(_) => put_long(buffer, format.units(), format.parts, nanos, format.style),
+        Ok(small) => put_parts(buffer, 0, format.units, format.parts, small, format.style),
+        Err(_) => put_long(buffer, format.units, format.parts, nanos, format.style),
     }
 }
 
 #[inline(always)]
-fn put_zero(buffer: &mut [u8], smallest: TimeUnit, style: Style) -> usize {
-    let unit = if smallest.nanos() < TimeUnit::Second.nanos() {
-        TimeUnit::Second
-    } else {
-        smallest
-    };
+fn put_zero(buffer: &mut [u8], unit: TimeUnit, style: Style) -> usize {
     let end = put_digit(buffer, 0, 0);
     put_name_in(buffer, end, unit.printed(), false, style)
 }
@@ -308,7 +375,7 @@ fn put_zero(buffer: &mut [u8], smallest: TimeUnit, style: Style) -> usize {
 fn fill(d: Duration, format: Format, buffer: &mut [u8]) -> usize {
     let end = put_within(buffer, format, d);
     if end == 0 {
-        return put_zero(buffer, format.smallest, format.style);
+        return put_zero(buffer, format.zero_unit(), format.style);
     }
     end
 }

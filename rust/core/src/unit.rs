@@ -109,7 +109,7 @@ impl TimeUnit {
 
     /// How many units are longer.
     #[inline(always)]
-    pub(crate) fn rank(self) -> usize {
+    pub(crate) const fn rank(self) -> usize {
         self as usize
     }
 

@@ -1,5 +1,6 @@
 -- With all units and as many parts as there are units, the counts are those of the breakdown.
 use Rattle.duration_str.proofs.Common.{AllParts, ap, arith, counts_of, counts_within, Format, length, List, printed_counts, refl, sym, text_within, unit_lengths, whole_format, [], ℕ, ◌∙◌, ◌∷◌, ◌≡◌, ◌≤◌}
+use Rattle.duration_str.specs.Limits.{chosen, is_in}
 use Rattle.duration_str.proofs.LawProofs.GreatestBreakdown.{greatest_breakdown_holds}
 use Rattle.duration_str.proofs.LawProofs.GreatestWithin.{greatest_within, one_greatest_within}
 use Rattle.duration_str.proofs.Printer.PrintingLemmas.{counts_are}
@@ -10,6 +11,7 @@ all_counts [] most nanos h = refl
 all_counts (l ∷ lengths) most nanos h = grind (arith, all_counts lengths)
 
 pub all_parts_holds : AllParts
+unfolding chosen is_in
 all_parts_holds style parts nanos text enough =
     let format : Format = record whole_format { parts = parts; style = style } in
     let same = all_counts unit_lengths parts nanos enough in (

@@ -1,7 +1,8 @@
 -- What is printed within limits is the greatest duration whose own breakdown keeps within them.
-use Rattle.duration_str.proofs.Common.{Format, IsGreatestBreakdown, IsReadWith, List, NeverMore, Option, Options, TimeUnit, Year, [], ap, arith, counts_of, counts_within, div-eq_of_lt-le, if◌then◌else◌, le-div_iff_mul-le, le-mul_of_pos_right, length, lengths_within, map, map-append, nanos_of, nat_lt, part_count, refl, rules, subst, sym, terminal_of, text_within, units, units_down_to, units_from, units_within, weighted_sum, zero-div, zero_unit, ℕ, ◌%◌, ◌*◌, ◌++◌, ◌+◌, ◌/◌, ◌<◌, ◌^◌, ◌∙◌, ◌∷◌, ◌≡◌, ◌≤◌}
+use Rattle.duration_str.proofs.Common.{Format, IsGreatestBreakdown, IsReadWith, List, NeverMore, Option, Options, TimeUnit, Year, [], ap, arith, counts_of, counts_within, div-eq_of_lt-le, le-div_iff_mul-le, le-mul_of_pos_right, length, lengths_within, map, map-append, nanos_of, nat_lt, part_count, refl, rules, subst, sym, terminal_of, text_within, units, units_within, weighted_sum, zero-div, zero_unit, ℕ, ◌%◌, ◌*◌, ◌++◌, ◌+◌, ◌/◌, ◌<◌, ◌^◌, ◌∙◌, ◌∷◌, ◌≡◌, ◌≤◌, last_unit, shorter_units}
+use Rattle.std.specs.Prelude.{filter}
 use Rattle.duration_str.proofs.LawProofs.GreatestBreakdown.{breakdown_of, EndInOne, one_greatest}
-use Rattle.duration_str.proofs.LawProofs.GreatestWithin.{ArePositive, greatest_within, left_whole, lengths_positive, one_greatest_within, within_each, within_few, within_sum}
+use Rattle.duration_str.proofs.LawProofs.GreatestWithin.{ArePositive, greatest_within, left_whole, lengths_positive, one_greatest_within, some_length, within_each, within_few, within_sum}
 use Rattle.duration_str.proofs.Printer.PrintingLemmas.{all_spelled, EachBelow, kept, lexemes, or_zero, parts_kept, sum_kept, sum_or_zero, terminals, terminals_kept, terminals_or_zero, units_plus, units_sentence}
 use Rattle.duration_str.proofs.Sentences.AnswerLemmas.{sum_read}
 
@@ -58,18 +59,24 @@ most_within (l ∷ lengths) more most between nanos h up few whole =
 
 -- ---- The units
 
--- the units after those down to the smallest
-abbrev after : TimeUnit → List TimeUnit → List TimeUnit
-after smallest [] = []
-after smallest (u ∷ us) = if nat_lt (nanos_of u) (nanos_of smallest) then u ∷ us else after smallest us
+abbrev EndsIn : TimeUnit → Type 0
+EndsIn smallest = EndInOne (nanos_of smallest ∷ map nanos_of (filter (λ u. nat_lt (nanos_of u) (nanos_of smallest)) units))
 
-then_after : (smallest : TimeUnit) (us : List TimeUnit) → us ≡ units_down_to smallest us ++ after smallest us
-then_after smallest [] = refl
-then_after smallest (u ∷ us) = search (rules, then_after smallest us)
+ends_each : (smallest : TimeUnit) → EndsIn smallest
+ends_each Year = omega arith
+ends_each u = omega arith
 
-from_end_in_one : (l : TimeUnit) → EndInOne (map nanos_of (units_from l units))
-from_end_in_one Year = omega arith
-from_end_in_one l = omega arith
+-- The units with all that are shorter end with the nanosecond.
+end_in_one : (us : List TimeUnit) (u : TimeUnit) (lengths : List ℕ) → EndInOne (nanos_of (last_unit u us) ∷ lengths)
+    → EndInOne (nanos_of u ∷ map nanos_of us ++ lengths)
+end_in_one [] u lengths h = h
+end_in_one (v ∷ us) u lengths h = (some_length u, end_in_one us v lengths h)
+
+with_shorter : (us : List TimeUnit) → EndInOne (map nanos_of (us ++ shorter_units us))
+with_shorter [] = omega arith
+with_shorter (u ∷ us) =
+    rw (map-append nanos_of us (shorter_units (u ∷ us)))
+    (end_in_one us u (map nanos_of (shorter_units (u ∷ us))) (ends_each (last_unit u us)))
 
 -- ---- Reading
 
@@ -86,7 +93,7 @@ reads : (default_unit : Option TimeUnit) (o : Options) (format : Format) (counts
     → IsReadWith default_unit o text (weighted_sum (lengths_within format) counts)
 reads default_unit o format counts text each small same =
     let us = units_within format in
-    let zero = zero_unit format.smallest in
+    let zero = zero_unit us in
     let ps = kept us counts in
     let below = each_below (lengths_within format) counts (lengths_positive us) each small in
     let are : map (terminal_of o) (lexemes format.style (or_zero zero ps)) ≡ terminals (or_zero zero ps) =
@@ -102,15 +109,15 @@ reads default_unit o format counts text each small same =
 pub never_more_holds : NeverMore
 never_more_holds format nanos text p =
     let lengths : List ℕ = lengths_within format in
-    let more : List ℕ = map nanos_of (after format.smallest (units_from format.largest units)) in
-    let whole : List ℕ = map nanos_of (units_from format.largest units) in
+    let us = units_within format in
+    let more : List ℕ = map nanos_of (shorter_units us) in
+    let whole : List ℕ = map nanos_of (us ++ shorter_units us) in
     let counts : List ℕ = counts_within lengths format.parts nanos in
     let positive : ArePositive lengths = lengths_positive (units_within format) in
     let each = within_each lengths format.parts nanos in
     let same : text ≡ text_within format counts =
     p.2 ∙ ap (text_within format) (one_greatest_within format nanos p.0 p.1) in
-    let split : whole ≡ lengths ++ more =
-    ap (map nanos_of) (then_after format.smallest (units_from format.largest units)) ∙ map-append _ _ _ in
+    let split : whole ≡ lengths ++ more = map-append nanos_of us (shorter_units us) in
     let most : ℕ = shown lengths format.parts nanos in
     let own : counts_of whole most ≡ counts ++ counts_of more 0 =
     ap (λ ls. counts_of ls most) split ∙ own_counts lengths more format.parts nanos positive in (
@@ -127,7 +134,7 @@ never_more_holds format nanos text p =
           counts ++ counts_of more 0,
           record {
             breakdown = subst (λ cs. IsGreatestBreakdown whole most cs) own
-                (breakdown_of whole most (from_end_in_one format.largest));
+                (breakdown_of whole most (with_shorter us));
             few = rw (no_more_parts counts more) (within_few lengths format.parts nanos);
             whole = sum_of_front lengths counts (counts_of more 0) each;
           },
@@ -135,7 +142,7 @@ never_more_holds format nanos text p =
         greatest = λ between others above up w.
             let are : others ≡ counts_of (lengths ++ more) between =
             one_greatest whole between others (counts_of whole between) w.breakdown
-            (breakdown_of whole between (from_end_in_one format.largest)) ∙ ap (λ ls. counts_of ls between) split in
+            (breakdown_of whole between (with_shorter us)) ∙ ap (λ ls. counts_of ls between) split in
             let few = rw are at w.few in
             let sum = rw are at w.whole in
             omega (arith, above, most_within lengths more format.parts between nanos positive up few sum);

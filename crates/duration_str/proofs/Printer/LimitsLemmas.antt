@@ -1,6 +1,9 @@
 -- The steps of printing within limits, and the most bytes that it takes.
-use Rattle.duration_str.proofs.Common.{add_assoc, All, append_assoc, ap, arith, between, byte_len, cases_Bool, chars, chars_from_encodes, counts_within, decimal, div-le_self, drop, drop_more, encode_utf8_all, Format, inl, inr, IsPrintedWithin, IsUtf8, le-div_iff_mul-le, leb, leb-true, length, length-append, lengths_within, List, ltb, ltb-true, map, most_len, nanos_of, nat_tests, part_bytes, Printed, printed_row, rank_of, refl, row_of, rules, Short, slice_index_or, Style, sym, take, take-append-add, text_within, TimeUnit, units, units_in, units_within, with_counts, with_gap, with_part, Year, zero-div, zero_unit, [], ℕ, ◌%◌, ◌*◌, ◌++◌, ◌+◌, ◌-◌, ◌∙◌, ◌/◌, ◌<◌, ◌==◌, ◌^◌, ◌∷◌, ◌≡◌, ◌≤◌, Bool, common_steps, Day, Hour, list_all, Month, Quarter, true, units_down_to, units_from, Week}
-use Rattle.duration_str.proofs.Characters.UnitLemmas.{all_units, Each, each_unit, length_name, length_part, name_len}
+use Rattle.duration_str.proofs.Common.{add_assoc, All, append_assoc, ap, arith, between, byte_len, cases_Bool, chars, chars_from_encodes, counts_within, decimal, div-le_self, drop, drop_more, encode_utf8_all, Format, inl, inr, IsPrintedWithin, IsUtf8, le-div_iff_mul-le, leb, leb-true, length, length-append, lengths_within, List, ltb, ltb-true, map, most_len, nanos_of, nat_tests, part_bytes, Printed, printed_row, rank_of, refl, row_of, rules, slice_index_or, Style, sym, take, take-append-add, text_within, TimeUnit, units, units_in, units_within, with_counts, with_gap, with_part, Year, zero-div, zero_unit, [], ℕ, ◌%◌, ◌*◌, ◌++◌, ◌+◌, ◌-◌, ◌∙◌, ◌/◌, ◌<◌, ◌==◌, ◌^◌, ◌∷◌, ◌≡◌, ◌≤◌, Bool, Day, Hour, list_all, true, and_parts, with_parts, Units}
+use Rattle.duration_str.proofs.Printer.SetLemmas.{chosen_in, chosen_none, chosen_out, hours_chosen}
+use Rattle.duration_str.specs.Limits.{chosen, is_in, up_to}
+use Rattle.std.specs.Prelude.{max}
+use Rattle.duration_str.proofs.Characters.UnitLemmas.{all_units, each_unit, length_name, length_part, name_len}
 use Rattle.duration_str.proofs.Printer.DigitLemmas.{length_smaller}
 use Rattle.duration_str.proofs.Printer.PrintedBytesLemmas.{AreShort, ended, ended_parts, IsUtf8-joined, no_gap}
 use Rattle.duration_str.proofs.LawProofs.GreatestWithin.{below_length, greatest_within, some_length}
@@ -9,68 +12,55 @@ use borrow.Rule.Slice.PartMut.{mid_of, put_mid}
 use Rattle.std.proofs.lemmas.List.{drop-map, take-append-le, take-map}
 use Rattle.std.proofs.lemmas.List.Elements.{All-cons, All-drop, All-nil, All-take}
 
--- ---- The units
+-- ---- Units of a day or longer
 
-slice_each : (parts : ℕ) (style : Style) (l : TimeUnit)
-    → Each (λ s. mid_of (rank_of l) (rank_of s + 1 - rank_of l) units
-    ≡ units_within (record { largest = l; smallest = s; parts = parts; style = style })) units
-slice_each parts style Year = assumption
-slice_each parts style l = assumption
-
-pub slice_within : (format : Format)
-    → mid_of (rank_of format.largest) (rank_of format.smallest + 1 - rank_of format.largest) units ≡ units_within format
-slice_within format =
-    each_unit (λ s. mid_of (rank_of format.largest) (rank_of s + 1 - rank_of format.largest) units
-    ≡ units_within (record { largest = format.largest; smallest = s; parts = format.parts; style = format.style }))
-    (slice_each format.parts format.style format.largest) format.smallest
-
-pub none_within : (format : Format) → rank_of format.smallest < rank_of format.largest → [] ≡ units_within format
-none_within format h =
-    let none : rank_of format.smallest + 1 - rank_of format.largest ≡ 0 = omega arith in
-    rw none at (slice_within format)
-
--- ---- The units below a day
-
--- the units of these limits that are a day or longer
-abbrev days : TimeUnit → TimeUnit → List TimeUnit
-days l s = units_down_to s (units_from l (take 5 units))
-
-split_each : (parts : ℕ) (style : Style) (l : TimeUnit) → rank_of l < 5
-    → Each (λ s. units_within (record { largest = l; smallest = s; parts = parts; style = style })
-    ≡ days l s ++ units_within (record { largest = Hour; smallest = s; parts = parts; style = style })) units
-split_each parts style Year h = assumption
-split_each parts style Quarter h = assumption
-split_each parts style Month h = assumption
-split_each parts style Week h = assumption
-split_each parts style Day h = assumption
-split_each parts style l h = absurd (omega arith)
+pub unit_skipped : (style : Style) (u : TimeUnit) (us : List TimeUnit) (bytes : List ℕ) (most nanos : ℕ)
+    → nanos < nanos_of u → with_parts style bytes us most nanos ≡ with_parts style bytes (u ∷ us) most nanos
+unit_skipped style u us bytes most nanos long = search rules
 
 abbrev is_days : TimeUnit → Bool
 is_days u = leb (nanos_of Day) (nanos_of u)
 
-all_days : (l s : TimeUnit) → list_all is_days (days l s) ≡ true
-all_days l s = search rules
-
 -- Units that are longer than the duration print nothing.
 without_days : (style : Style) (longer shorter : List TimeUnit) (bytes : List ℕ) (most nanos : ℕ)
     → list_all is_days longer ≡ true → nanos < nanos_of Day
-    → with_counts style bytes shorter (counts_within (map nanos_of shorter) most nanos)
-    ≡ with_counts style bytes (longer ++ shorter) (counts_within (map nanos_of (longer ++ shorter)) most nanos)
+    → with_parts style bytes shorter most nanos ≡ with_parts style bytes (longer ++ shorter) most nanos
 without_days style [] shorter bytes most nanos long h = refl
 without_days style (u ∷ longer) shorter bytes most nanos long h =
-    search (rules, without_days style longer shorter bytes most nanos)
+    let parts = and_parts (is_days u) (list_all is_days longer) long in
+    let more : nanos < nanos_of u = omega (arith, leb-true (nanos_of Day) (nanos_of u) parts.0) in
+    without_days style longer shorter bytes most nanos parts.1 h
+    ∙ unit_skipped style u (longer ++ shorter) bytes most nanos more
 
-pub below_day : (format : Format) (bytes : List ℕ) (nanos : ℕ) → rank_of format.largest < 5 → nanos < nanos_of Day
-    → with_counts format.style bytes (units_within (record format { largest = Hour }))
-    (counts_within (lengths_within (record format { largest = Hour })) format.parts nanos)
-    ≡ with_counts format.style bytes (units_within format) (counts_within (lengths_within format) format.parts nanos)
-below_day format bytes nanos longer h =
-    let split : units_within format
-    ≡ days format.largest format.smallest ++ units_within (record format { largest = Hour }) =
-    each_unit (λ s. units_within (record format { smallest = s })
-    ≡ days format.largest s ++ units_within (record format { largest = Hour; smallest = s }))
-    (split_each format.parts format.style format.largest longer) format.smallest in
-    grind (arith, common_steps, without_days, all_days)
+pub below_day : (style : Style) (bytes : List ℕ) (most nanos : ℕ) → nanos < nanos_of Day
+    → with_parts style bytes (drop 5 units) most nanos ≡ with_parts style bytes units most nanos
+below_day style bytes most nanos h = without_days style (take 5 units) (drop 5 units) bytes most nanos refl h
+
+-- The units of a set begin with those of a day or longer.
+days_chosen : (set : Units) (us : List TimeUnit) → list_all is_days us ≡ true
+    → list_all is_days (chosen set us) ≡ true
+days_chosen set [] long = rw (chosen_none set)
+days_chosen set (u ∷ us) long =
+    let parts = and_parts (is_days u) (list_all is_days us) long in
+    elim (cases_Bool (is_in set u)) [
+      | inl inside ↦ rw (chosen_in set u us inside, parts.0) (days_chosen set us parts.1)
+      | inr out ↦ rw (chosen_out set u us out) (days_chosen set us parts.1)
+    ]
+
+chosen-append : (set : Units) (a b : List TimeUnit) → chosen set (a ++ b) ≡ chosen set a ++ chosen set b
+chosen-append set [] b = rw (chosen_none set)
+chosen-append set (u ∷ a) b = elim (cases_Bool (is_in set u)) [
+  | inl inside ↦ rw (chosen_in set u (a ++ b) inside, chosen_in set u a inside, chosen-append set a b)
+  | inr out ↦ rw (chosen_out set u (a ++ b) out, chosen_out set u a out, chosen-append set a b)
+]
+
+pub chosen_below_day : (style : Style) (set : Units) (bytes : List ℕ) (most nanos : ℕ) → nanos < nanos_of Day
+    → with_parts style bytes (chosen (up_to Hour set) units) most nanos
+    ≡ with_parts style bytes (chosen set units) most nanos
+chosen_below_day style set bytes most nanos h =
+    rw (hours_chosen set, chosen-append set (take 5 units) (drop 5 units))
+    (without_days style (chosen set (take 5 units)) (chosen set (drop 5 units)) bytes most nanos
+    (days_chosen set (take 5 units) refl) h)
 
 -- ---- The parts
 
@@ -162,14 +152,24 @@ parts_fit style (u ∷ us) limit bytes most nanos h small = elim (cases_Bool (mo
       ]
 ]
 
--- the most bytes for any duration
-abbrev bytes_within : Style → TimeUnit → TimeUnit → ℕ
-bytes_within style l s =
-    most_bytes style (2 ^ 64 * 10 ^ 9) (units_within (record { largest = l; smallest = s; parts = 0; style = Short }))
+-- the most bytes of any of these units
+abbrev worst : Style → ℕ → List TimeUnit → ℕ
+worst style limit [] = 0
+worst style limit (u ∷ us) =
+    max (worst style limit us)
+    (length (decimal ((limit - 1) / nanos_of u)) + name_len style u + length (between style) + worst style (nanos_of u) us)
 
-each_fits : (style : Style) (l s : TimeUnit) → bytes_within style l s ≤ most_len style + length (between style)
+chosen_most : (style : Style) (set : Units) (limit : ℕ) (us : List TimeUnit)
+    → most_bytes style limit (chosen set us) ≤ worst style limit us
+chosen_most style set limit [] = rw (chosen_none set) (omega arith)
+chosen_most style set limit (u ∷ us) = elim (cases_Bool (is_in set u)) [
+  | inl inside ↦ rw (chosen_in set u us inside) (omega (arith, chosen_most style set (nanos_of u) us))
+  | inr out ↦ rw (chosen_out set u us out) (omega (arith, chosen_most style set limit us))
+]
+
+worst_fits : (style : Style) → worst style (2 ^ 64 * 10 ^ 9) units ≤ most_len style + length (between style)
 unfolding digits
-each_fits style l s = search (rules, leb-true)
+worst_fits style = search (rules, leb-true)
 
 -- The bytes fit if they do with what stands between two parts.
 less_gap : (style : Style) (bytes : List ℕ) (most : ℕ) → length (with_gap style bytes) ≤ most + length (between style)
@@ -186,7 +186,8 @@ within_fits format nanos h =
       arith,
       none,
       parts_fit style (units_within format) (2 ^ 64 * 10 ^ 9) [] format.parts nanos h (omega arith),
-      each_fits style format.largest format.smallest,
+      chosen_most style format.units (2 ^ 64 * 10 ^ 9) units,
+      worst_fits style,
     ))
 
 -- ---- The text
@@ -196,7 +197,7 @@ within_short [] most nanos h = tt
 within_short (l ∷ lengths) most nanos h = search (rules, within_short lengths)
 
 pub within_ended : (format : Format) (nanos : ℕ) → nanos < 10 ^ 64
-    → ended (part_bytes format.style 0 (zero_unit format.smallest))
+    → ended (part_bytes format.style 0 (zero_unit (units_within format)))
     (with_counts format.style [] (units_within format) (counts_within (lengths_within format) format.parts nanos))
     ≡ encode_utf8_all (text_within format (counts_within (lengths_within format) format.parts nanos))
 within_ended format nanos h = search (rules, ended_parts, within_short)
@@ -222,7 +223,7 @@ beyond = record { unit = Year; nanos = 0; reciprocal = 0; letters = []; width = 
 abbrev IsRight : Printed → Type 0
 IsRight row = row ≡ printed_row row.unit
 
-rows_right : (us : List TimeUnit) → All IsRight (map printed_row us)
+pub rows_right : (us : List TimeUnit) → All IsRight (map printed_row us)
 rows_right [] = All-nil IsRight
 rows_right (u ∷ us) = All-cons IsRight (printed_row u) (map printed_row us) refl (rows_right us)
 
@@ -231,6 +232,9 @@ part_right a k = All-take IsRight k _ (All-drop IsRight a _ (rows_right units))
 
 pub part_units : (a k : ℕ) (rows : List Printed) → units_in (mid_of a k rows) ≡ mid_of a k (units_in rows)
 part_units a k rows = search (rules, drop-map, take-map)
+
+pub later_right : (a : ℕ) → All IsRight (drop a (map printed_row units))
+later_right a = All-drop IsRight a _ (rows_right units)
 
 -- The row at a position, those from there on, and its length.
 pub row_from : (rows : List Printed) (at : ℕ) → at < length rows → All IsRight rows
@@ -280,3 +284,16 @@ name_spaced at k bytes u inside =
     rw add_assoc
     (take_part at k (width + 1) bytes (printed_row u).letters inside (omega (arith, letters_len u, name_short u))
     ∙ rw (name_space u, append_assoc))
+
+-- The first unit, which goes into the duration.
+pub first_taken : (style : Style) (u : TimeUnit) (us : List TimeUnit) (bytes : List ℕ) (most nanos : ℕ) → 1 ≤ most
+    → nanos_of u ≤ nanos
+    → with_parts style (with_part style bytes u (nanos / nanos_of u)) (u ∷ us) (most - 1) (nanos % nanos_of u)
+    ≡ with_parts style bytes (u ∷ us) most nanos
+first_taken style u us bytes most nanos left h =
+    sym (unit_skipped style u us (with_part style bytes u (nanos / nanos_of u)) (most - 1) (nanos % nanos_of u)
+    (omega (arith, some_length u)))
+    ∙ search rules
+
+pub each_short : (u : TimeUnit) → nanos_of u < 2 ^ 64
+each_short u = ltb-true (nanos_of u) (2 ^ 64) (all_units (λ v. ltb (nanos_of v) (2 ^ 64)) refl u)

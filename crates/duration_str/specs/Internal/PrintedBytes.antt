@@ -1,11 +1,13 @@
 -- The printed bytes, built unit by unit.
-use Rattle.std.specs.Prelude.{ℕ, Bool, List, [], ◌∷◌, ◌++◌, if◌then◌else◌, ◌==◌, decimal, encode_utf8_all}
+use Rattle.std.specs.Prelude.{ℕ, Bool, List, [], ◌∷◌, ◌++◌, if◌then◌else◌, ◌==◌, decimal, encode_utf8_all, map}
 unfoldable pub use Rattle.std.specs.Fmt.{digits}
 use Rattle.duration_str.specs.declared.unit.TimeUnit.{TimeUnit}
 use Rattle.duration_str.specs.declared.format.Style.{Style}
 use Rattle.duration_str.specs.declared.format.Style.TheVariants.{Compact}
 use Rattle.duration_str.specs.Text.{Bytes, Characters}
 use Rattle.duration_str.specs.Printing.{before_name, name_in}
+use Rattle.duration_str.specs.Units.{nanos_of}
+use Rattle.duration_str.specs.Limits.{counts_within}
 
 -- the bytes followed by what stands between two parts, unless they are empty
 abbrev pub with_gap : Style → Bytes → Bytes
@@ -29,3 +31,7 @@ with_part style bytes u n = if n == 0 then bytes else with_gap style bytes ++ pa
 abbrev pub with_counts : Style → Bytes → List TimeUnit → List ℕ → Bytes
 with_counts style bytes (u ∷ us) (n ∷ counts) = with_counts style (with_part style bytes u n) us counts
 with_counts style bytes _ _ = bytes
+
+-- the bytes followed by at most so many parts of a duration in these units
+abbrev pub with_parts : Style → Bytes → List TimeUnit → ℕ → ℕ → Bytes
+with_parts style bytes us most nanos = with_counts style bytes us (counts_within (map nanos_of us) most nanos)

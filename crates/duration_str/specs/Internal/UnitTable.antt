@@ -1,18 +1,15 @@
 -- The code's tables: of units, of names by their packed numbers, and of near words.
-use Rattle.std.specs.Prelude.{All, Bool, List, Option, bytes_eq, count_by, encode_utf8_all, length, map, nat_lt, not, take, [], ℕ, ◌&&◌, ◌++◌, ◌-◌, ◌/◌, ◌==◌, ◌^◌, ◌∷◌, ◌≡◌}
+use Rattle.std.specs.Prelude.{All, Bool, List, Option, bytes_eq, encode_utf8_all, length, map, not, take, [], ℕ, ◌&&◌, ◌++◌, ◌-◌, ◌/◌, ◌==◌, ◌^◌, ◌∷◌, ◌≡◌}
 use Rattle.std.specs.Char.{is_ascii_whitespace, to_ascii_lowercase}
 use Rattle.std.specs.List.{find, list_any, suffix_len}
 use Rattle.duration_str.specs.declared.unit.Printed.{Printed}
 use Rattle.duration_str.specs.declared.unit.TimeUnit.{TimeUnit}
 use Rattle.duration_str.specs.Text.{Bytes, Characters}
+use Rattle.duration_str.specs.Limits.{chosen}
 use Rattle.duration_str.specs.Units.{nanos_of, row_of, units}
 use Rattle.duration_str.specs.Options.{off}
 use Rattle.duration_str.specs.OneLine.{is_among, small_words}
 use Rattle.duration_str.specs.Internal.Positions.{packed_number}
-
--- how many units are longer
-abbrev pub rank_of : TimeUnit → ℕ
-rank_of u = count_by (λ v. nat_lt (nanos_of u) (nanos_of v)) units
 
 -- what is printed of a unit
 abbrev pub printed_row : TimeUnit → Printed
@@ -27,6 +24,10 @@ printed_row u = record {
 -- the units of these rows
 abbrev pub units_in : List Printed → List TimeUnit
 units_in rows = map (λ row. row.unit) rows
+
+-- the units of a set, given by its bits
+abbrev pub units_of : ℕ → List TimeUnit
+units_of bits = chosen (record { bits = bits }) units
 
 -- Each row is that of its unit.
 abbrev pub AreRight : List Printed → Type 0

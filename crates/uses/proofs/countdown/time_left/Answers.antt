@@ -1,8 +1,14 @@
-use Rattle.duration_str.proofs.Common.{arith, as_nanos, cases_lt, chars, inl, inr, IsMostWithin, IsPrintedWithin, List, off, ℕ}
+use Rattle.duration_str.proofs.Common.{map, nanos_of, refl, shorter_units, unit_lengths, units_within, ◌++◌, ◌≡◌, arith, as_nanos, cases_lt, chars, inl, inr, IsMostWithin, IsPrintedWithin, List, off, ℕ}
 use Rattle.uses.specs.Countdown.{coarse}
+use Rattle.duration_str.specs.Limits.{chosen, is_in}
 use Rattle.uses.proofs.countdown.time_left.Goals as goal
 use Rattle.duration_str.specs.declared.unit.TimeUnit.TheVariants.{Second}
 use Rattle.std.proofs.Common.{Some}
+
+-- With all shorter ones its units are all.
+all_lengths : map nanos_of (units_within coarse ++ shorter_units (units_within coarse)) ≡ unit_lengths
+unfolding chosen is_in
+all_lengths = refl
 
 pub returns : goal.returns
 returns c =
@@ -15,7 +21,7 @@ returns c =
       law.0,
       record {
         never_more = most.never_more;
-        few = (most.own.0, most.own.1.breakdown, most.own.1.few);
+        few = (most.own.0, rw all_lengths at most.own.1.breakdown, most.own.1.few);
         exact = λ counts keeps. elim (cases_lt law.0 left) [
           | inl less ↦ absurd (most.greatest left counts less (omega arith) keeps)
           | inr up ↦ omega (arith, most.never_more)
