@@ -463,8 +463,6 @@ pub record Classes : Type 0 where
   pub widths : map width (
       0x7F ∷ 0x80 ∷ 0x7FF ∷ 0x800 ∷ 0xD7FF ∷ 0xD800 ∷ 0xDFFF ∷ 0xE000 ∷ 0xFFFF ∷ 0x10000 ∷ 0x110000 ∷ [])
       ≡ 1 ∷ 2 ∷ 2 ∷ 3 ∷ 3 ∷ 4 ∷ 4 ∷ 3 ∷ 3 ∷ 4 ∷ 4 ∷ []
-  pub unit_alone : unit_alone
-      ≡ record { number = false; unit_word = true; operator = false; text_end = false }
 
 pub classes : Classes
 classes = assumption
