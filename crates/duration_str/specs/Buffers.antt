@@ -1,12 +1,8 @@
 -- Bytes at the start of a buffer.
-use Rattle.std.specs.Prelude.{◌≡◌, ℕ, ◌<◌, length, take, Option, Some, None, IsNone}
+use Rattle.std.specs.Prelude.{◌≡◌, ℕ, ◌<◌, length, take, Option, Some, None}
 use Rattle.duration_str.specs.Text.{Bytes}
 
 -- `Some end`: the buffer starts with the bytes, which end at `end`. `None`: the buffer is shorter than the bytes.
 abbrev pub IsInFront : Bytes → Option ℕ → Bytes → Type 0
 IsInFront bytes (Some end) buffer = (end ≡ length bytes) × (take end buffer ≡ bytes)
 IsInFront bytes None buffer = length buffer < length bytes
-
--- The same, and with `None` the buffer is unchanged.
-abbrev pub IsWritten : Bytes → Bytes → Option ℕ → Bytes → Type 0
-IsWritten bytes old end new = IsInFront bytes end new × (IsNone end → new ≡ old)

@@ -5,3 +5,4 @@ pub mod Positions
 pub mod Steps
 pub mod Rest
 pub mod PrintedBytes
+pub mod Writing

@@ -2,7 +2,8 @@
 ghost use Rattle.std.specs.Prelude.{◌≡◌, ◌≤◌, ◌-◌, ◌^◌, ◌++◌, ◌<◌, None, Some, IfSome, IfNone, IsUtf8, length, take, replicate, decimal, encode_utf8_all};
 ghost use Rattle.std.specs.Fmt.{DisplaysOnOk, DisplaysStyledOnOk};
 ghost use Rattle.std.specs.Str.{IsCharBoundary};
-ghost use Rattle.duration_str.specs.Buffers.{IsInFront, IsWritten};
+ghost use Rattle.duration_str.specs.Buffers.{IsInFront};
+ghost use Rattle.duration_str.specs.Internal.Writing.{IsWritten};
 ghost use Rattle.duration_str.specs.Messages.{byte_text, caret_text, chars_before, message_of, line_of, laid_out};
 
 use crate::fault::Fault;
