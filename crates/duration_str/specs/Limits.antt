@@ -113,7 +113,7 @@ abbrev pub most_len : Style → ℕ
 most_len Long = MAX_LONG_LEN
 most_len style = MAX_PRINTED_LEN
 
--- how often each length goes into what the longer ones leave, for the first `parts` of which that is not 0
+-- the counts by quotient and remainder, of which the first `parts` that are not 0 are kept
 abbrev pub counts_within : List ℕ → ℕ → ℕ → List ℕ
 counts_within [] parts nanos = []
 counts_within (l ∷ lengths) parts nanos =

@@ -12,7 +12,7 @@ use Rattle.duration_str.specs.Grammar.{Terminal, terminal_by, IsSentence, Spells
 use Rattle.duration_str.specs.Value.{Term, Evaluates, terms_by, value_of, or_else, evaluation_fault}
 use Rattle.duration_str.specs.Reading.{first_fault, running_fault}
 
--- The table before the quarter was added, when that was no unit. It does not change with today's table.
+-- The table of units before the quarter was added. It does not change with today's table.
 abbrev pub older_row_of : TimeUnit → Option UnitRow
 older_row_of Year = Some (record { nanos = 31_536_000_000_000_000; printed = codes "y"; names = codes "y" ∷ codes "year" ∷ codes "years" ∷ []; chinese = codes "年" ∷ [] })
 older_row_of Quarter = None
@@ -58,7 +58,8 @@ pub record WasRead (o : Options) (text : Characters) (nanos : ℕ) : Type 0 wher
   pub evaluates : Evaluates (older_terms o lexemes)
   pub value : value_of (older_terms o lexemes) ≡ Some nanos
 
--- the fault of these terms: under `no_calc` the first in adding them, otherwise that of the first, then of evaluation
+-- the fault of these terms: under `no_calc` the first fault in adding them; otherwise the first term's, or else the
+-- evaluation's
 abbrev pub sentence_fault : Bool → List Term → Option Cause
 sentence_fault no_calc terms =
     if no_calc then running_fault [] terms else or_else (first_fault terms) (evaluation_fault terms)

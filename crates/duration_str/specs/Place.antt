@@ -25,7 +25,8 @@ pub record IsFront (default_unit : Option TimeUnit) (no_calc : Bool) (terminals 
   pub longest : (n : ℕ) → n ≤ length terminals → BeginsSentence default_unit no_calc (take n terminals)
       → n ≤ length front
 
--- A kind is expected exactly if the front with some terminal of it begins a sentence; the end, if the front is one.
+-- A kind is expected exactly if the front, followed by some terminal of this kind, begins a sentence. The end is
+-- expected if the front is a sentence.
 pub record CanFollow (default_unit : Option TimeUnit) (no_calc : Bool) (front : List Terminal) (expected : Expected)
     : Type 0 where
   pub number_expected : IsTrue expected.number

@@ -126,7 +126,7 @@ pub fn deserialize_duration<'de, T: DeserializeDuration<'de>>(
     T::deserialize_duration(value)
 }
 
-/// What `deserialize_duration` returns for a `SignedDuration`.
+/// Returns what `deserialize_duration` returns for a `SignedDuration`.
 ///
 /// ```text
 /// deserialize_duration_chrono(&json!(in alloc; "1min+30")?) // Ok(SignedDuration::from_secs(90))
@@ -137,7 +137,7 @@ pub fn deserialize_duration_chrono<'de>(value: &'de Value) -> Result<SignedDurat
     SignedDuration::deserialize_duration(value)
 }
 
-/// What `deserialize_duration_chrono` returns.
+/// Returns what `deserialize_duration_chrono` returns.
 ///
 /// ```text
 /// deserialize_duration_time(&json!(in alloc; "1min+30")?) // Ok(SignedDuration::from_secs(90))
@@ -148,7 +148,7 @@ pub fn deserialize_duration_time<'de>(value: &'de Value) -> Result<SignedDuratio
     deserialize_duration_chrono(value)
 }
 
-/// What `deserialize_duration` returns for an `Option<Duration>`.
+/// Returns what `deserialize_duration` returns for an `Option<Duration>`.
 ///
 /// ```text
 /// config.get("keep_alive").map_or(Ok(None), deserialize_option_duration) // a field that may be missing
@@ -159,7 +159,7 @@ pub fn deserialize_option_duration<'de>(value: &'de Value) -> Result<Option<Dura
     Option::<Duration>::deserialize_duration(value)
 }
 
-/// What `deserialize_duration` returns for an `Option<SignedDuration>`.
+/// Returns what `deserialize_duration` returns for an `Option<SignedDuration>`.
 ///
 /// ```text
 /// deserialize_option_duration_chrono(&Value::Null) // Ok(None)
@@ -172,7 +172,7 @@ pub fn deserialize_option_duration_chrono<'de>(
     Option::<SignedDuration>::deserialize_duration(value)
 }
 
-/// What `deserialize_option_duration_chrono` returns.
+/// Returns what `deserialize_option_duration_chrono` returns.
 ///
 /// ```text
 /// deserialize_option_duration_time(&Value::Null) // Ok(None)

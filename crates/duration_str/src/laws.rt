@@ -118,7 +118,7 @@ pub fn never_more()
 {}
 
 /// The name that a fault's line advises for a word is read as the unit that people mean by the word, and the word as no
-/// unit, under any options. So whoever is told to write `min` for `mins` can't have `mins` read by other options.
+/// unit, under any options. So if an error advises `min` for `mins`, no choice of options reads `mins`.
 #[tactic(auto, using(crate::proofs::LawProofs::NearWords::near_words_hold))]
 pub fn near_words()
     ensures { NearWords }

@@ -1,7 +1,7 @@
 //! A fault in one line: what is wrong, at which column, and what stands there.
 //!
-//! A function that writes returns where its part ends, and `None` if there is no room: so none needs a bound on what
-//! stands before its part, and that all fits is shown once, of the whole line.
+//! A function that writes returns where its part ends, and `None` if there is no room. So no contract bounds what stands
+//! before a part. That everything fits is shown once, for the whole line.
 ghost use Rattle.std.specs.Prelude.{◌≡◌, ◌≤◌, ◌++◌, ◌-◌, ◌&&◌, ◌==◌, not, slice_index, length, take, map, encode_utf8_all, IsTrue, ◌||◌, None, if◌then◌else◌};
 ghost use Rattle.std.specs.Char.{to_ascii_lowercase};
 ghost use Rattle.std.specs.Char.Escape.{escape_default};

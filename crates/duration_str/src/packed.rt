@@ -1,4 +1,5 @@
-//! The letters of units' names, packed into one number, to base 40, and the unit that such a number names.
+//! The letters of units' names, packed into one number, and the unit that such a number names. The letters are digits to
+//! the base 40. Case is ignored.
 ghost use Rattle.std.specs.Prelude.{◌≡◌, ◌+◌, ◌*◌, ◌%◌, ◌^◌, ◌&&◌, ◌||◌, ◌==◌, true, if◌then◌else◌, Some};
 ghost use Rattle.std.specs.Char.{is_ascii_alphabetic};
 ghost use Rattle.std.specs.Str.{chars};

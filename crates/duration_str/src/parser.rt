@@ -37,7 +37,7 @@ pub fn parse(input: &str) -> Result<Duration, Fault<'_>>
     parse_with(input, Options::off())
 }
 
-/// What `parse` returns.
+/// Returns what `parse` returns.
 ///
 /// # Errors
 ///
@@ -173,10 +173,10 @@ fn nanos_chosen(input: &str, o: Options, default_unit: Option<TimeUnit>) -> Resu
     read_text(input, o, default_unit).0
 }
 
-/// What `parse_with` returns, and how many times a character of the text was looked at.
+/// Returns what `parse_with` returns, and how many times a character of the text was looked at.
 ///
-/// There are at most as many looks as characters; reading again what was cut off is no look. All characters of an
-/// accepted text are looked at, and at least those before the place of a syntax fault.
+/// There are at most as many looks as characters; reading again what was already cut off is not counted. All characters
+/// of an accepted text are looked at, and at least those before the place of a syntax fault.
 ///
 /// ```text
 /// parse_looked("3m 13s", Options::off()) // (Ok(Duration::from_secs(193)), 6)

@@ -43,7 +43,7 @@ pub fn parse_chrono(input: &str) -> Result<SignedDuration, Fault<'_>>
     Ok(to_signed(length))
 }
 
-/// What `parse_chrono` returns.
+/// Returns what `parse_chrono` returns.
 ///
 /// ```text
 /// parse_time("1h+30s") // Ok(SignedDuration::from_secs(3_630))

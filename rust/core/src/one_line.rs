@@ -1,8 +1,8 @@
 // Made by tools/erase of crates/duration_str/src/one_line.rt.
 //! A fault in one line: what is wrong, at which column, and what stands there.
 //!
-//! A function that writes returns where its part ends, and `None` if there is no room: so none needs a bound on what
-//! stands before its part, and that all fits is shown once, of the whole line.
+//! A function that writes returns where its part ends, and `None` if there is no room. So no contract bounds what stands
+//! before a part. That everything fits is shown once, for the whole line.
 
 use crate::cause::{Cause, Expected};
 use crate::fault::Fault;

@@ -1,5 +1,6 @@
 // Made by tools/erase of crates/duration_str/src/packed.rt.
-//! The letters of units' names, packed into one number, to base 40, and the unit that such a number names.
+//! The letters of units' names, packed into one number, and the unit that such a number names. The letters are digits to
+//! the base 40. Case is ignored.
 
 use crate::options::Options;
 use crate::unit::TimeUnit;

@@ -2,8 +2,8 @@
 //! Durations printed for people, such as `3min 13s 29ms`: whole, or within limits and in a style.
 //!
 //! The text has the greatest possible count of the largest unit, then the greatest count of the next in what is left,
-//! and so on down to the smallest unit, until there are so many parts. Counts of 0 are left out, and what is left then
-//! is too. The duration 0 is `0s`.
+//! and so on down to the smallest unit, until there are so many parts. Counts of 0 are left out, and so is what remains
+//! at the end. The duration 0 is `0s`.
 //!
 //! A function that writes begins after the first `at` bytes of the buffer, and returns where its part ends.
 
@@ -335,7 +335,7 @@ fn put_first(buffer: &mut [u8], count: u128, row: &Printed, style: Style) -> usi
     put_name_in(buffer, end, row, count == 1, style)
 }
 
-/// Writes the parts of 2^64 nanoseconds or more, into which each unit goes, and leaves less than that.
+/// Writes the parts of 2^64 nanoseconds or more: the first one leaves less than that.
 #[inline(never)]
 fn put_long(buffer: &mut [u8], set: Units, most: usize, nanos: u128, style: Style) -> usize {
     let Some((row, _)) = longest(u32::from(set.bits())) else {

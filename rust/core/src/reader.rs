@@ -6,15 +6,15 @@ use crate::operator::CondUnit;
 use crate::token::{TokenStart, Tokens};
 use crate::unit::TimeUnit;
 
-/// The later terms: the operator between them with their total, `None` without any, or their first fault.
+/// The later terms: the operator between them and their total; `None` if there are none; or their first fault.
 type Later = Result<Option<(CondUnit, u64)>, Cause>;
 
 /// The value of the tokens in nanoseconds, or the cause of their refusal.
 ///
 /// The later terms are combined first, by the operator before the second term, and the first term is combined with
-/// their total at the end. Under `no_calc` the first term is the beginning of that total. The first fault of a later
-/// term stands at once under `no_calc`; else it takes the total's place, and the syntax is read to its end, whose fault
-/// precedes it.
+/// their total at the end. Under `no_calc` the first term is the beginning of that total, and the first fault of a later
+/// term is answered at once. Otherwise it is kept in place of the total while the rest is read, since a syntax fault
+/// there comes first.
 #[inline(always)]
 pub(crate) fn read(
     tokens: &mut Tokens<'_>,
@@ -52,7 +52,7 @@ fn expect_number(tokens: &mut Tokens<'_>) -> Result<(), Cause> {
     Err(Cause::syntax(tokens.place(), Expected::at_start()))
 }
 
-/// Reads the unit after a number: the default unit if an operator or the end follows, which is not taken.
+/// Reads the unit after a number. If an operator or the end follows, the unit is the default unit, and nothing is taken.
 #[inline(always)]
 fn read_unit(
     tokens: &mut Tokens<'_>,
