@@ -697,7 +697,7 @@ def one_line(text, answer):
             return f"step of over 584 years in {quote(text)}"
         case "overflow":
             seconds = (
-                " (a number without a unit is in seconds)"
+                " (write the number's unit, such as ns)"
                 if text.strip(BLANKS + DIGITS) == ""
                 else ""
             )

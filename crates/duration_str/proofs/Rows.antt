@@ -335,8 +335,8 @@ pub record Lines : Type 0 where
   pub line-too_large : one_line_of (codes "  18446744073709551616s") (NumberTooLarge (Some 0))
       ≡ codes "number of 2^64 or more in \"  18446744073709551616s\""
   pub line-overflow : one_line_of (codes "600y") (Overflow (Some 0)) ≡ codes "duration of over 584 years in \"600y\""
-  pub line-seconds : one_line_of (codes " 1700000000000000000") (Overflow (Some 0))
-      ≡ codes "duration of over 584 years in \" 1700000000000000000\" (a number without a unit is in seconds)"
+  pub line-number_alone : one_line_of (codes " 1700000000000000000") (Overflow (Some 0))
+      ≡ codes "duration of over 584 years in \" 1700000000000000000\" (write the number's unit, such as ns)"
   pub line-step : one_line_of (codes "1ns*20000000000") (Overflow None)
       ≡ codes "step of over 584 years in \"1ns*20000000000\""
   pub line-mixed : one_line_of (codes "2*1h 30m") (Mixed Star Plus) ≡ codes "sum and product mixed in \"2*1h 30m\""

@@ -207,7 +207,7 @@ abbrev pub overflow_line : Bytes → Bytes
 overflow_line text =
     if list_any (λ b. b == 42) text then text_line (codes "step of over 584 years") text []
     else if list_all (λ b. is_digit b || is_blank b) text
-    then text_line (codes "duration of over 584 years") text (codes " (a number without a unit is in seconds)")
+    then text_line (codes "duration of over 584 years") text (codes " (write the number's unit, such as ns)")
     else text_line (codes "duration of over 584 years") text []
 
 -- the bytes of the line, given those of the text that was read

@@ -104,7 +104,7 @@ fn put_overflow(buffer: &mut [u8], text: &str) -> Option<usize> {
     if text.as_bytes().contains(&b'*') {
         put_text_line(buffer, "step of over 584 years", text, "")
     } else if is_number(text.as_bytes()) {
-        let help = " (a number without a unit is in seconds)";
+        let help = " (write the number's unit, such as ns)";
         put_text_line(buffer, "duration of over 584 years", text, help)
     } else {
         put_text_line(buffer, "duration of over 584 years", text, "")
