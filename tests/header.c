@@ -143,41 +143,56 @@ static void check_null_texts(void) {
     expect(answer.cause == DURATION_STR_CAUSE_EMPTY, "its answer");
 }
 
-/* Prints within limits over a buffer of marks. */
-static bool is_printed(
-    uint64_t secs, uint32_t nanos, const uint32_t *limits, uint32_t style, const char *wanted) {
+/* Whether a duration is printed so, in these units, parts and style, over a buffer of marks. */
+static bool is_printed(uint64_t secs, uint32_t nanos, uint32_t units, uint32_t parts,
+    uint32_t style, const char *wanted) {
     char printed[DURATION_STR_STYLED_BUFFER_SIZE];
     memset(printed, '#', sizeof printed);
-    return is_written(printed,
-        duration_str_format_styled(secs, nanos, limits[0], limits[1], limits[2], style, printed),
-        wanted);
+    return is_written(
+        printed, duration_str_format_styled(secs, nanos, units, parts, style, printed), wanted);
 }
 
 static void check_styles(void) {
-    const uint32_t year = DURATION_STR_UNIT_YEAR, day = DURATION_STR_UNIT_DAY,
-                   second = DURATION_STR_UNIT_SECOND;
-    const uint32_t nanosecond = DURATION_STR_UNIT_NANOSECOND, after = nanosecond + 1;
-    const uint32_t two[] = {year, nanosecond, 2}, all[] = {year, nanosecond, 256},
-                   seconds[] = {second, second, 9};
-    const uint32_t days[] = {year, day, 2}, no_largest[] = {after, nanosecond, 2},
-                   no_smallest[] = {year, after, 2};
-    expect(is_printed(5401, 0, two, DURATION_STR_STYLE_LONG, "1 hour 30 minutes"), "a long style");
-    expect(is_printed(5401, 0, all, DURATION_STR_STYLE_COMPACT, "1h30min1s"), "a compact style");
-    expect(is_printed(193, 29000000, all, DURATION_STR_STYLE_SHORT, "3min 13s 29ms"),
-        "more parts than units");
-    expect(is_printed(4295057357, 5, seconds, DURATION_STR_STYLE_SHORT, "4295057357s"),
-        "seconds of 33 bits");
-    expect(is_printed(193, 29000000, days, DURATION_STR_STYLE_SHORT, "0d"), "no days");
-    expect(is_printed(193, 29000000, no_largest, DURATION_STR_STYLE_SHORT, ""), "no largest unit");
+    const uint32_t all = DURATION_STR_UNITS_ALL, style = DURATION_STR_STYLE_SHORT;
     expect(
-        is_printed(193, 29000000, no_smallest, DURATION_STR_STYLE_SHORT, ""), "no smallest unit");
-    expect(is_printed(193, 1000000000, two, DURATION_STR_STYLE_SHORT, ""),
-        "nanoseconds that are a second");
-    expect(is_printed(5401, 0, two, 3, "") && is_printed(5401, 0, two, 256, ""), "styles above 2");
-    const uint32_t wrapped[] = {256 + year, nanosecond, 2}, other[] = {year, 256 + nanosecond, 2};
-    expect(is_printed(5401, 0, wrapped, DURATION_STR_STYLE_SHORT, "") &&
-               is_printed(5401, 0, other, 0, ""),
-        "units above 255");
+        is_printed(5401, 0, all, 2, DURATION_STR_STYLE_LONG, "1 hour 30 minutes"), "a long style");
+    expect(
+        is_printed(5401, 0, all, 256, DURATION_STR_STYLE_COMPACT, "1h30min1s"), "a compact style");
+    expect(is_printed(193, 29000000, all, 256, style, "3min 13s 29ms"), "more parts than units");
+    expect(is_printed(193, 1000000000, all, 2, style, ""), "nanoseconds that are a second");
+    expect(is_printed(5401, 0, all, 2, 3, "") && is_printed(5401, 0, all, 2, 256, ""),
+        "styles above 2");
+}
+
+static void check_units(void) {
+    const uint32_t all = DURATION_STR_UNITS_ALL, style = DURATION_STR_STYLE_SHORT;
+    const uint32_t year = DURATION_STR_UNIT_YEAR, day = DURATION_STR_UNIT_DAY,
+                   second = DURATION_STR_UNIT_SECOND, nanosecond = DURATION_STR_UNIT_NANOSECOND;
+    const uint32_t years_and_days =
+        DURATION_STR_UNITS(DURATION_STR_UNIT_DAY) | DURATION_STR_UNITS(DURATION_STR_UNIT_YEAR);
+    const uint32_t usual = all & ~DURATION_STR_UNITS(DURATION_STR_UNIT_QUARTER) &
+                           ~DURATION_STR_UNITS(DURATION_STR_UNIT_WEEK);
+    expect(is_printed(400 * 86400, 0, years_and_days, 2, style, "1y 35d"), "years and days");
+    expect(is_printed(180 * 86400, 0, usual, 11, style, "6mon"), "no quarters and weeks");
+    expect(is_printed(4295057357, 5, DURATION_STR_UNITS(second), 9, style, "4295057357s"),
+        "seconds of 33 bits");
+    expect(is_printed(193, 0, DURATION_STR_UNITS_BETWEEN(year, day), 2, style, "0d"), "no days");
+    expect(is_printed(0, 5, DURATION_STR_UNITS(DURATION_STR_UNIT_MILLISECOND), 2, style, "0s"),
+        "no milliseconds");
+    expect(is_printed(193, 0, 0, 2, style, "0s"), "no units");
+    expect(is_printed(193, 0, all + 1, 2, style, "") &&
+               is_printed(193, 0, DURATION_STR_UNITS(nanosecond + 1), 2, style, "") &&
+               is_printed(193, 0, all | 1u << 16, 2, style, "") &&
+               is_printed(193, 0, 1u << 31, 2, style, ""),
+        "a unit above the last one");
+    for (uint32_t largest = year; largest <= nanosecond; largest++)
+        for (uint32_t smallest = year; smallest <= nanosecond; smallest++) {
+            uint32_t between = 0;
+            for (uint32_t unit = largest; unit <= smallest; unit++)
+                between |= DURATION_STR_UNITS(unit);
+            expect(DURATION_STR_UNITS_BETWEEN(largest, smallest) == between, "units between two");
+        }
+    expect(DURATION_STR_UNITS_BETWEEN(year, nanosecond) == all, "all units");
 }
 
 static void check_one_line(void) {
@@ -213,6 +228,7 @@ int main(void) {
     check_refusals();
     check_plain_calls();
     check_styles();
+    check_units();
     check_one_line();
     check_null_texts();
     return wrong;

@@ -154,6 +154,17 @@ enum duration_str_unit {
     DURATION_STR_UNIT_NANOSECOND = 10
 };
 
+/* All units, as a set. A set of units is a `uint32_t` with a bit for each. */
+#define DURATION_STR_UNITS_ALL UINT32_C(0x7FF)
+
+/* The set of one unit of `enum duration_str_unit`. Sets are joined by `|`. */
+#define DURATION_STR_UNITS(unit) (UINT32_C(1) << (unit))
+
+/* The set of the units from the largest to the smallest. It is empty, which is
+ * 0, if the largest is shorter than the smallest. */
+#define DURATION_STR_UNITS_BETWEEN(largest, smallest) \
+    (((UINT32_C(2) << (smallest)) - 1) & (UINT32_MAX << (largest)))
+
 /* How a duration is printed. */
 enum duration_str_style {
     DURATION_STR_STYLE_SHORT = 0,   /* `1h 30min` */
@@ -204,33 +215,21 @@ size_t duration_str_format(
  * `buffer`, which has DURATION_STR_STYLED_BUFFER_SIZE bytes. Returns the length
  * of the text, at most DURATION_STR_MAX_STYLED_LEN.
  *
- * `style` is one of `enum duration_str_style`. `largest` and `smallest` are
- * each one of `enum duration_str_unit`. The text has only units from `largest`
- * to `smallest`, and at most `parts` parts. It is the lexicographically
- * greatest breakdown of this kind that is not above the duration: 90,061
- * seconds in two parts, from days to seconds, are `1d 1h`.
+ * `style` is one of `enum duration_str_style`. The text has only units of the
+ * set `units`, and at most `parts` parts. It is the lexicographically greatest
+ * breakdown of this kind that is not above the duration: 90,061 seconds in two
+ * parts are `1d 1h`, and 180 days in all units without the quarter and the week
+ * are `6mon`.
  *
- * If all counts are 0, the text is `0` and the name of the smallest unit, or of
- * the second if the smallest unit is shorter than a second: `0h`, `0s`,
- * `0 seconds`. It is this text for every duration if `parts` is 0, and `0s` if
- * `largest` is shorter than `smallest`.
+ * If all counts are 0, the text is `0` and the name of the smallest unit in the
+ * set, or of the second if that unit is shorter, even if the set has no second:
+ * `0h` for hours, and `0s` for milliseconds. It is this text for every duration
+ * if `parts` is 0, and `0s` if the set is empty.
  *
  * Returns 0, and the text is empty, if `nanos` is 1,000,000,000 or more, if
- * `style` is above 2, or if a unit's number is above 10. */
-DURATION_STR_NONNULL(7)
-size_t duration_str_format_styled(
-    uint64_t secs, uint32_t nanos, uint32_t largest, uint32_t smallest,
-    uint32_t parts, uint32_t style,
-    char buffer[DURATION_STR_AT_LEAST DURATION_STR_STYLED_BUFFER_SIZE]);
-
-/* Prints as duration_str_format_styled does, but in the units of a set, which
- * is a number with the bit `1 << unit` for each unit of `enum
- * duration_str_unit`, so 0x7FF is all of them: 180 days without the bits of
- * the quarter and the week are `6mon`. The zero of an empty set is `0s`.
- *
- * Returns 0, and the text is empty, also if `units` is above 0x7FF. */
+ * `style` is above 2, or if `units` is above DURATION_STR_UNITS_ALL. */
 DURATION_STR_NONNULL(6)
-size_t duration_str_format_units(
+size_t duration_str_format_styled(
     uint64_t secs, uint32_t nanos, uint32_t units, uint32_t parts,
     uint32_t style,
     char buffer[DURATION_STR_AT_LEAST DURATION_STR_STYLED_BUFFER_SIZE]);
