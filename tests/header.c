@@ -89,6 +89,29 @@ static void check_options(void) {
         "no unit that is missing");
 }
 
+static void check_default_units(void) {
+    static const char *const units[] = {
+        "1y", "1q", "1mon", "1w", "1d", "1h", "1m", "1s", "1ms", "1us", "1ns"};
+    const uint32_t no_calc = DURATION_STR_OPTION_NO_CALC,
+                   after_unit = DURATION_STR_EXPECTED_NUMBER | DURATION_STR_EXPECTED_END;
+    for (uint32_t unit = 0; unit <= DURATION_STR_UNIT_NANOSECOND; unit++)
+        expect(read_with("1", DURATION_STR_OPTION_DEFAULT_UNIT(unit)).nanos ==
+                   read_with(units[unit], 0).nanos,
+            "a number without a unit");
+    const uint32_t millisecond = DURATION_STR_OPTION_DEFAULT_UNIT(DURATION_STR_UNIT_MILLISECOND);
+    expect(read_with("1s 500", millisecond).nanos == 1500000000u, "a second and milliseconds");
+    expect(is_syntax(read_with("90s*2", millisecond), 3, after_unit, 1), "a factor");
+    expect(read_with("1M 500", millisecond | DURATION_STR_OPTION_LOWERCASE).place == 1,
+        "a default unit beside another option");
+    expect(is_unknown(millisecond & ~no_calc), "a default unit beside operators");
+    expect(is_unknown(millisecond | DURATION_STR_OPTION_REQUIRE_UNIT),
+        "a default unit where a unit is required");
+    expect(is_unknown(DURATION_STR_OPTION_DEFAULT_UNIT(DURATION_STR_UNIT_NANOSECOND + 1)) &&
+               is_unknown(DURATION_STR_OPTION_DEFAULT_UNIT(14)) &&
+               is_unknown(DURATION_STR_OPTION_DEFAULT_UNIT(15)),
+        "a default unit above the last unit");
+}
+
 static void check_refusals(void) {
     expect(is_syntax(read_with("1m+", 0), 3, DURATION_STR_EXPECTED_NUMBER, 0),
         "the end after an operator");
@@ -225,6 +248,7 @@ static void check_one_line(void) {
 int main(void) {
     expect(duration_str_version() == DURATION_STR_VERSION_NUMBER, "the version of the library");
     check_options();
+    check_default_units();
     check_refusals();
     check_plain_calls();
     check_styles();

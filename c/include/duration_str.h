@@ -93,11 +93,21 @@ enum duration_str_option {
     DURATION_STR_OPTION_LOWERCASE = 2,
     /* the Chinese names of the units are read too */
     DURATION_STR_OPTION_CN_UNIT = 4,
-    /* a number without a unit is refused, as in `90` and `1h 30`; if the text
-     * has no other fault, the cause is DURATION_STR_CAUSE_SYNTAX, and the place
-     * is right where the first unit is missing */
+    /* after a number only a unit can stand, so that `90` and `1h 30` are
+     * refused; without this option such a number counts seconds */
     DURATION_STR_OPTION_REQUIRE_UNIT = 8
 };
+
+/* The option by which a number without a unit counts this unit, one of
+ * `enum duration_str_unit`, and not seconds: with milliseconds `1500` and
+ * `1s 500` are 1.5 seconds.
+ *
+ * It includes DURATION_STR_OPTION_NO_CALC, since a factor counts this unit too:
+ * with milliseconds `90s*2` would be 180 ms. Without that bit it is an unknown
+ * option, and so it is beside DURATION_STR_OPTION_REQUIRE_UNIT, and with a
+ * number that no unit has. */
+#define DURATION_STR_OPTION_DEFAULT_UNIT(unit) \
+    (DURATION_STR_OPTION_NO_CALC | ((unit) + UINT32_C(1)) << 16)
 
 /* Why a text is refused. */
 enum duration_str_cause {
