@@ -37,9 +37,10 @@
 //! # Ok::<(), humantime::DurationError>(())
 //! ```
 use crate::Fault;
+use crate::default_unit::parse_with_default_unit;
 use crate::formatted::pad;
 use crate::human_duration::written_as_text;
-use crate::parser::{CASE_SENSITIVE, parse_with_default_unit};
+use crate::parser::CASE_SENSITIVE;
 use alloc::string::{String, ToString};
 use alloc::vec::Vec;
 use core::fmt;

@@ -16,7 +16,8 @@
 //!
 //! - Use [`parse_duration`] for most texts. Its [`DurationError`] owns the text, so it can go
 //!   through `?`, threads and chains of errors.
-//! - Use [`parse_with_units`] to refuse `90` and `1h 30`, which the other calls read as seconds.
+//! - Use [`parse_with_units`] to refuse `90` and `1h 30`, which most calls read as seconds.
+//! - Use [`parse_in`] if your program's numbers count another unit, such as milliseconds.
 //! - Use [`parse_with`] to set options, or if nothing may be allocated: its [`Fault`] borrows the
 //!   text.
 //! - [`parse`], [`parse_std`] (which is the same) and the calls for `chrono` and `time` are those
@@ -177,6 +178,7 @@ extern crate alloc;
 
 #[cfg(feature = "chrono")]
 pub mod dates;
+mod default_unit;
 mod derror;
 mod error;
 mod fault;
@@ -193,7 +195,6 @@ pub mod humantime_serde;
 mod parser;
 #[cfg(feature = "serde")]
 mod serde_texts;
-mod with_units;
 
 // The list of this crate's functions would begin with these, so the documentation has them in their
 // module alone.
@@ -203,6 +204,7 @@ pub use dates::{
     after_naive_date, after_naive_date_time, before_naive_date, before_naive_date_time,
     moment_after, moment_before,
 };
+pub use default_unit::{parse_in, parse_with_default_unit, parse_with_units};
 pub use derror::{DError, DResult};
 #[doc(inline)]
 pub use duration_str_core::{
@@ -223,7 +225,7 @@ pub use human_format::HumanFormat;
 pub use parser::parse_chrono;
 #[cfg(feature = "time")]
 pub use parser::parse_time;
-pub use parser::{parse, parse_with_default_unit, parse_duration, parse_std, parse_with};
+pub use parser::{parse, parse_duration, parse_std, parse_with};
 #[cfg(feature = "serde")]
 #[allow(deprecated)]
 pub use serde_texts::{DeserializeDuration, deserialize_duration, deserialize_option_duration};
@@ -233,4 +235,3 @@ pub use serde_texts::{deserialize_duration_chrono, deserialize_option_duration_c
 #[cfg(all(feature = "serde", feature = "time"))]
 #[allow(deprecated)]
 pub use serde_texts::{deserialize_duration_time, deserialize_option_duration_time};
-pub use with_units::parse_with_units;

@@ -3,7 +3,7 @@ use crate::error::DurationError;
 use crate::fault::Fault;
 use alloc::string::String;
 use core::time::Duration;
-use duration_str_core::{self as proved, Options, TimeUnit};
+use duration_str_core::{self as proved, Options};
 
 /// Reads a text under these options. If the text is refused, the fault says why and where.
 ///
@@ -22,38 +22,6 @@ use duration_str_core::{self as proved, Options, TimeUnit};
 #[inline]
 pub fn parse_with(input: &str, options: Options) -> Result<Duration, Fault<'_>> {
     match proved::parse_with(input, options) {
-        Ok(duration) => Ok(duration),
-        Err(fault) => Err(Fault::new(fault, options)),
-    }
-}
-
-/// Reads a text under these options, where a number without a unit counts `default_unit`, or is refused if
-/// that is `None`.
-///
-/// The other calls read `90` as seconds, but `parse_with_units`, which refuses it. Programs whose
-/// numbers are milliseconds know no operators: take `no_calc`, since a factor is a length, too.
-///
-/// # Errors
-///
-/// Returns the [`Fault`] if the text is refused.
-///
-/// ```
-/// use duration_str::{Options, TimeUnit, parse_with_default_unit};
-/// use std::time::Duration;
-///
-/// let no_calc = Options { no_calc: true, ..Options::off() };
-/// let read = |text| parse_with_default_unit(text, no_calc, Some(TimeUnit::MilliSecond));
-/// assert_eq!(read("1500"), Ok(Duration::from_millis(1_500)));
-/// assert_eq!(read("1s 500ms"), read("1500"));
-/// assert_eq!(parse_with_default_unit("1h 30", no_calc, None).unwrap_err().place(), Some(5));
-/// ```
-#[inline]
-pub fn parse_with_default_unit(
-    input: &str,
-    options: Options,
-    default_unit: Option<TimeUnit>,
-) -> Result<Duration, Fault<'_>> {
-    match proved::parse_with_default_unit(input, options, default_unit) {
         Ok(duration) => Ok(duration),
         Err(fault) => Err(Fault::new(fault, options)),
     }

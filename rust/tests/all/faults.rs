@@ -1,7 +1,8 @@
 //! Texts that are refused, and what their faults tell.
 use crate::{FEATURES, Refused, options_of, vectors};
 use duration_str::{
-    Cause, DError, Expected, Fault, Options, parse, parse_duration, parse_with, parse_with_units,
+    Cause, DError, Expected, Fault, Options, TimeUnit, parse, parse_duration, parse_in, parse_with,
+    parse_with_default_unit, parse_with_units,
 };
 use duration_str_core as proved;
 use std::error::Error;
@@ -212,11 +213,34 @@ fn requires_units() {
         assert_eq!(error.report(), format!("{text}\n{spaces}^\n{line}"));
     }
     // What lacks no unit up to its fault is refused for the same.
-    for text in ["", "600y", "1s+2s*3s", "1s x", "-5", "99999999999999999999h 5"] {
+    for text in [
+        "",
+        "600y",
+        "1s+2s*3s",
+        "1s x",
+        "-5",
+        "99999999999999999999h 5",
+    ] {
         let (error, same) = (
             parse_with_units(text).unwrap_err(),
             parse_duration(text).unwrap_err(),
         );
         assert_eq!(error, same);
+    }
+}
+
+/// The options of the calls that take none. Only the feature that adds names affects them.
+const ADDITIONS: Options = Options {
+    cn_unit: cfg!(feature = "cn_unit"),
+    ..Options::off()
+};
+
+#[test]
+fn refuses_in_another_unit() {
+    let no_calc = ADDITIONS.with_no_calc();
+    for text in ["90s*2", "1500 5", "", "1x"] {
+        let unit = TimeUnit::MilliSecond;
+        let fault = parse_with_default_unit(text, no_calc, Some(unit)).unwrap_err();
+        assert_eq!(parse_in(text, unit), Err(fault.into_owned()));
     }
 }

@@ -1,5 +1,5 @@
 //! The lengths of years and months in the module `humantime`.
-use duration_str::{Cause, Expected, Options, humantime::parse_duration, parse_with};
+use duration_str::{Cause, Expected, Options, humantime::parse_duration, parse_with_default_unit};
 use proptest::prelude::*;
 use std::time::Duration;
 
@@ -220,14 +220,11 @@ proptest! {
 
     #[test]
     fn reads_other_units_as_elsewhere(text in "[0-9dhmsnwea .+*]{0,9}") {
-        let others = parse_with(&text, Options::off().with_lowercase());
-        match (parse_duration(&text), others) {
-            (Ok(read), others) => prop_assert_eq!(others, Ok(read)),
-            (Err(read), Err(refused)) => {
-                let cause = read.cause();
-                prop_assert!(cause == refused.cause() || lacks_unit(cause), "{:?}", cause);
-            }
-            (Err(read), Ok(_)) => prop_assert!(read.to_string().starts_with("expected a unit at")),
+        let options = Options::off().with_lowercase();
+        match (parse_duration(&text), parse_with_default_unit(&text, options, None)) {
+            (Ok(read), wanted) => prop_assert_eq!(wanted, Ok(read)),
+            (Err(read), Err(wanted)) => prop_assert_eq!(read.cause(), wanted.cause(), "{}", text),
+            (Err(read), Ok(_)) => prop_assert!(false, "{}: {:?}", text, read),
         }
     }
 }

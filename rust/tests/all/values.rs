@@ -1,6 +1,6 @@
 //! Texts that are read, and their values.
 use crate::{FEATURES, Group, choices, options_of, vectors};
-use duration_str::{Options, parse, parse_std, parse_with};
+use duration_str::{Options, TimeUnit, parse, parse_in, parse_std, parse_with};
 use duration_str_core as proved;
 use std::time::Duration;
 
@@ -49,6 +49,22 @@ fn reads_the_vectors_and_refuses_them_under_the_other_options() {
             );
         }
     }
+}
+
+/// The call for a program whose numbers have another unit. It knows no operators.
+#[test]
+fn reads_in_another_unit() {
+    for unit in TimeUnit::ALL {
+        let wanted = Ok(Duration::from_nanos(5 * unit.nanos()));
+        assert_eq!(parse_in("5", *unit), wanted, "{unit}");
+        assert_eq!(parse_in("1+2", *unit).unwrap_err().place(), Some(1));
+    }
+    assert_eq!(
+        parse_in("1M 500", TimeUnit::MilliSecond),
+        Ok(Duration::from_millis(60_500))
+    );
+    let is_read = parse_in("1\u{5206}", TimeUnit::MilliSecond).is_ok();
+    assert_eq!(is_read, cfg!(feature = "cn_unit"));
 }
 
 /// The macro `duration!`.

@@ -1,0 +1,91 @@
+//! Reading, where a number without a unit counts another unit than the second, or is refused.
+use crate::error::DurationError;
+use crate::fault::Fault;
+use crate::parser::ADDITIONS;
+use core::time::Duration;
+use duration_str_core::{self as proved, Options, TimeUnit};
+
+/// Reads a text under these options. A number without a unit counts the default unit; with `None`
+/// it is refused.
+///
+/// A factor is a number too, so it also counts that unit. Programs whose numbers are milliseconds
+/// have no operators: set `no_calc` for them, or use [`parse_in`], which does.
+///
+/// # Errors
+///
+/// Returns the [`Fault`] if the text is refused.
+///
+/// ```
+/// use duration_str::{Options, TimeUnit, parse_with_default_unit};
+/// use std::time::Duration;
+///
+/// let no_calc = Options { no_calc: true, ..Options::off() };
+/// let in_millis = |text| parse_with_default_unit(text, no_calc, Some(TimeUnit::MilliSecond));
+/// assert_eq!(in_millis("1500"), Ok(Duration::from_millis(1_500)));
+/// assert_eq!(in_millis("1s 500"), Ok(Duration::from_millis(1_500)));
+/// assert_eq!(in_millis("90s*2").unwrap_err().place(), Some(3));
+/// assert_eq!(parse_with_default_unit("1h 30", no_calc, None).unwrap_err().place(), Some(5));
+///
+/// // Not 3 minutes: 90 seconds times 2 milliseconds
+/// let product = parse_with_default_unit("90s*2", Options::off(), Some(TimeUnit::MilliSecond));
+/// assert_eq!(product, Ok(Duration::from_millis(180)));
+/// ```
+#[inline]
+pub fn parse_with_default_unit(
+    input: &str,
+    options: Options,
+    default_unit: Option<TimeUnit>,
+) -> Result<Duration, Fault<'_>> {
+    match proved::parse_with_default_unit(input, options, default_unit) {
+        Ok(duration) => Ok(duration),
+        Err(fault) => Err(Fault::new(fault, options)),
+    }
+}
+
+/// Reads a text as [`parse_duration`](crate::parse_duration) does, but a number without a unit
+/// counts this unit, and `+` and `*` are not read.
+///
+/// This is for texts that used to be plain numbers, such as milliseconds in a configuration file.
+///
+/// # Errors
+///
+/// Returns why the text is refused, with a copy of the text.
+///
+/// ```
+/// use duration_str::{DurationError, TimeUnit, parse_in};
+/// use std::time::Duration;
+///
+/// let timeout = |text| parse_in(text, TimeUnit::MilliSecond);
+/// assert_eq!(timeout("1500")?, Duration::from_millis(1_500));
+/// assert_eq!(timeout("2h")?, Duration::from_secs(7_200));
+/// let refusal = timeout("90s*2").unwrap_err();
+/// assert!(refusal.to_string().ends_with(r#"at column 4, found "*""#));
+/// # Ok::<(), DurationError>(())
+/// ```
+pub fn parse_in(input: &str, default_unit: TimeUnit) -> Result<Duration, DurationError> {
+    parse_with_default_unit(input, ADDITIONS.with_no_calc(), Some(default_unit))
+        .map_err(Fault::into_owned)
+}
+
+/// Reads a text as [`parse_duration`](crate::parse_duration) does, but refuses a number without a
+/// unit.
+///
+/// The other calls read `90` and `1h 30` as seconds, which may not be what was meant. In clap,
+/// write `value_parser = duration_str::parse_with_units`. For serde, the module `human` has an
+/// example.
+///
+/// # Errors
+///
+/// Returns why the text is refused, with a copy of the text.
+///
+/// ```
+/// use duration_str::{DurationError, parse_with_units};
+///
+/// assert_eq!(parse_with_units("1h 30m")?.as_secs(), 5_400);
+/// let refusal = parse_with_units("1h 30").unwrap_err();
+/// assert_eq!(refusal.to_string(), "expected a unit at column 6, found the end");
+/// # Ok::<(), DurationError>(())
+/// ```
+pub fn parse_with_units(input: &str) -> Result<Duration, DurationError> {
+    parse_with_default_unit(input, ADDITIONS, None).map_err(Fault::into_owned)
+}
