@@ -71,8 +71,8 @@ pub fn parse_in(input: &str, default_unit: TimeUnit) -> Result<Duration, Duratio
 /// unit.
 ///
 /// The other calls read `90` and `1h 30` as seconds, which may not be what was meant. In clap,
-/// write `value_parser = duration_str::parse_with_units`. For serde, the module `human` has an
-/// example.
+/// write `value_parser = duration_str::parse_with_units`. For serde, use the module
+/// `human_with_units`.
 ///
 /// # Errors
 ///

@@ -39,30 +39,32 @@
 //! # Ok::<(), serde_json::Error>(())
 //! ```
 //!
-//! To use another call or options, write a function of two lines for `deserialize_with`:
+//! [`human_with_units`](crate::human_with_units) refuses a number without a unit. To use another
+//! call or options, write a function of two lines for `deserialize_with`:
 //!
 //! ```
-//! use duration_str::parse_with_units;
+//! use duration_str::{TimeUnit, parse_in};
 //! use serde::{Deserialize, Deserializer, de::Error};
 //! use std::time::Duration;
 //!
-//! fn with_units<'de, D: Deserializer<'de>>(deserializer: D) -> Result<Duration, D::Error> {
+//! fn in_millis<'de, D: Deserializer<'de>>(deserializer: D) -> Result<Duration, D::Error> {
 //!     let text = String::deserialize(deserializer)?;
-//!     parse_with_units(&text)
+//!     parse_in(&text, TimeUnit::MilliSecond)
 //!         .map_err(|error| D::Error::custom(format_args!("invalid duration: {error}")))
 //! }
 //!
 //! #[derive(Deserialize)]
 //! struct Settings {
-//!     #[serde(deserialize_with = "with_units")]
+//!     #[serde(deserialize_with = "in_millis")]
 //!     timeout: Duration,
 //! }
 //!
-//! let settings: Settings = serde_json::from_str(r#"{ "timeout": "1m 30s" }"#)?;
-//! assert_eq!(settings.timeout, Duration::from_secs(90));
-//! assert!(serde_json::from_str::<Settings>(r#"{ "timeout": "90" }"#).is_err());
+//! let settings: Settings = serde_json::from_str(r#"{ "timeout": "1500" }"#)?;
+//! assert_eq!(settings.timeout, Duration::from_millis(1_500));
+//! assert!(serde_json::from_str::<Settings>(r#"{ "timeout": "90s*2" }"#).is_err());
 //! # Ok::<(), serde_json::Error>(())
 //! ```
+use crate::default_unit::parse_with_default_unit;
 use crate::human_duration::HumanDuration;
 use crate::human_format::Sealed;
 use crate::humantime;
@@ -77,8 +79,8 @@ use core::time::Duration;
 use serde::de::{self, Deserialize, Deserializer, Unexpected, Visitor};
 use serde::ser::{self, Serialize, Serializer};
 
-/// The types of the fields that this module and [`human_or_seconds`](crate::human_or_seconds) write
-/// and read.
+/// The types of the fields that this module, [`human_with_units`](crate::human_with_units) and
+/// [`human_or_seconds`](crate::human_or_seconds) write and read.
 ///
 /// A map needs no `with`:
 ///
@@ -102,7 +104,7 @@ pub trait HumanText: Sealed + Sized {
         serializer: S,
     ) -> Result<S::Ok, S::Error>;
 
-    /// Reads a text, also whole seconds, or what humantime reads, as `HOW` says.
+    /// Reads a field in the way that `HOW` says.
     #[doc(hidden)]
     fn deserialize_human<'de, D: Deserializer<'de>, const HOW: u8>(
         deserializer: D,
@@ -147,10 +149,12 @@ pub fn deserialize<'de, T: HumanText, D: Deserializer<'de>>(
     T::deserialize_human::<D, TEXT>(deserializer)
 }
 
-/// How fields are read and written: as texts, also read as whole seconds, or as by humantime.
+/// How fields are read and written: as texts, read with required units, also read as whole seconds,
+/// or as by humantime.
 pub(crate) const TEXT: u8 = 0;
-pub(crate) const SECONDS: u8 = 1;
-pub(crate) const STRICT: u8 = 2;
+pub(crate) const WITH_UNITS: u8 = 1;
+pub(crate) const SECONDS: u8 = 2;
+pub(crate) const STRICT: u8 = 3;
 
 /// A text, or its bytes, is read as a duration, and where `HOW` says so a whole number as seconds.
 struct Text<T, const HOW: u8>(PhantomData<T>);
@@ -184,10 +188,10 @@ impl<T: Length, const HOW: u8> Visitor<'_> for Text<T, HOW> {
     }
 
     fn visit_str<E: de::Error>(self, text: &str) -> Result<T, E> {
-        let read = if HOW == STRICT {
-            humantime::read(text)
-        } else {
-            parse_with(text, ADDITIONS)
+        let read = match HOW {
+            WITH_UNITS => parse_with_default_unit(text, ADDITIONS, None),
+            STRICT => humantime::read(text),
+            _ => parse_with(text, ADDITIONS),
         };
         // Before the line stands what it is about, since the format adds its own line and column to
         // it.

@@ -40,8 +40,9 @@
 //!
 //! # Configuration files
 //!
-//! The module `human` is for fields that serde writes and reads as text. `human_or_seconds` also
-//! reads a number of seconds, such as `timeout = 30`.
+//! The module `human` is for fields that serde writes and reads as text. `human_with_units` refuses
+//! a number without a unit, such as `"90"`. `human_or_seconds` also reads a number of seconds, such
+//! as `timeout = 30`.
 //!
 #![cfg_attr(feature = "serde", doc = "```")]
 #![cfg_attr(not(feature = "serde"), doc = "```ignore")]
@@ -189,6 +190,8 @@ mod human_duration;
 mod human_format;
 #[cfg(feature = "serde")]
 pub mod human_or_seconds;
+#[cfg(feature = "serde")]
+pub mod human_with_units;
 pub mod humantime;
 #[cfg(feature = "serde")]
 pub mod humantime_serde;

@@ -60,20 +60,23 @@ fn reads_whatever_another_crate_takes_away() {
     for (text, _, is_read) in TEXTS {
         assert_eq!(parse_duration(text).is_ok(), is_read, "{text}");
         assert_eq!(text.parse::<HumanDuration>().is_ok(), is_read, "{text}");
-        // The last number has no unit.
-        let has_units = text != "1m+1";
         assert_eq!(
             parse_with_units(text).is_ok(),
-            is_read && has_units,
+            is_read && has_units(text),
             "{text}"
         );
     }
 }
 
+/// Whether each number of the text has its unit.
+fn has_units(text: &str) -> bool {
+    text != "1m+1"
+}
+
 #[test]
 #[cfg(feature = "serde")]
 fn reads_fields_whatever_another_crate_takes_away() {
-    use duration_str::{deserialize_duration, human, human_or_seconds};
+    use duration_str::{deserialize_duration, human, human_or_seconds, human_with_units};
     use serde_json::json;
     use std::time::Duration;
     for (text, is_read_by_the_older, is_read) in TEXTS {
@@ -81,9 +84,11 @@ fn reads_fields_whatever_another_crate_takes_away() {
         let optional: Result<Option<Duration>, _> = deserialize_duration(json!(text));
         let of_human: Result<Duration, _> = human::deserialize(json!(text));
         let with_numbers: Result<Duration, _> = human_or_seconds::deserialize(json!(text));
+        let with_units: Result<Duration, _> = human_with_units::deserialize(json!(text));
         let older = [older.is_ok(), optional.is_ok()];
         assert_eq!(older, [is_read_by_the_older; 2], "{text}");
         let others = [of_human.is_ok(), with_numbers.is_ok()];
         assert_eq!(others, [is_read; 2], "{text}");
+        assert_eq!(with_units.is_ok(), is_read && has_units(text), "{text}");
     }
 }

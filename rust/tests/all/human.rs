@@ -1,8 +1,8 @@
 //! Durations as text, which serde writes and reads.
 use duration_str::human::{self, HumanText};
 use duration_str::{
-    HumanDuration, Style, TimeUnit, UnknownStyle, UnknownUnit, human_or_seconds, humantime_serde,
-    parse_duration,
+    HumanDuration, Style, TimeUnit, UnknownStyle, UnknownUnit, human_or_seconds, human_with_units,
+    humantime_serde, parse_duration,
 };
 use serde::de::value::{
     BytesDeserializer, Error, F64Deserializer, I64Deserializer, U64Deserializer,
@@ -258,6 +258,45 @@ fn writes_nothing_that_it_refuses() {
         )),
         negative
     );
+}
+
+/// Where each number must have its unit.
+#[derive(Debug, Serialize, Deserialize, PartialEq)]
+struct WithUnits {
+    #[serde(with = "duration_str::human_with_units")]
+    timeout: Duration,
+    #[serde(default, with = "duration_str::human_with_units")]
+    keep_alive: Option<Duration>,
+    #[serde(default, with = "duration_str::human_with_units")]
+    pauses: Vec<Duration>,
+}
+
+#[test]
+fn requires_units_in_fields() {
+    let minute = Duration::from_secs(60);
+    let wanted = WithUnits {
+        timeout: minute,
+        keep_alive: Some(minute),
+        pauses: vec![minute],
+    };
+    let written = json!({ "timeout": "1min", "keep_alive": "1min", "pauses": ["1min"] });
+    assert_eq!(to_value(&wanted).unwrap(), written);
+    assert_eq!(from_value::<WithUnits>(written).unwrap(), wanted);
+    let short: WithUnits = from_value(json!({ "timeout": "1m" })).unwrap();
+    assert_eq!((short.keep_alive, short.pauses), (None, vec![]));
+    for refused in [
+        json!({ "timeout": "90" }),
+        json!({ "timeout": "1m", "keep_alive": "90" }),
+        json!({ "timeout": "1m", "pauses": ["1m", "90"] }),
+    ] {
+        let refusal = from_value::<WithUnits>(refused).unwrap_err().to_string();
+        let line = "invalid duration: expected a unit at column 3, found the end";
+        assert_eq!(refusal, line);
+    }
+    // A text is asked for, so a number in YAML is one without a unit.
+    let number: Result<Duration, _> = human_with_units::deserialize(Untyped("90"));
+    assert!(number.is_err());
+    assert!(human_with_units::deserialize::<Duration, _>(json!(90)).is_err());
 }
 
 /// What is read of a value of a format, in one way by a field of each type.

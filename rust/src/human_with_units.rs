@@ -1,0 +1,54 @@
+//! For `#[serde(with = "duration_str::human_with_units")]`: like [`human`], but a number without a
+//! unit is refused, as in `"90"` and `"1h 30"`. Another program's file may mean it in milliseconds.
+//!
+//! [`parse_with_units`](crate::parse_with_units) reads the texts. The fields have the same types as
+//! those of [`human`], and are written as there.
+//!
+//! Needs the feature `serde`.
+//!
+//! ```
+//! use serde::{Deserialize, Serialize};
+//! use std::time::Duration;
+//!
+//! #[derive(Debug, Serialize, Deserialize)]
+//! struct Settings {
+//!     #[serde(with = "duration_str::human_with_units")]
+//!     timeout: Duration,
+//!     #[serde(default, with = "duration_str::human_with_units")]
+//!     keep_alive: Option<Duration>,
+//! }
+//!
+//! let settings: Settings = serde_json::from_str(r#"{ "timeout": "90s" }"#)?;
+//! assert_eq!((settings.timeout, settings.keep_alive), (Duration::from_secs(90), None));
+//! let refusal = serde_json::from_str::<Settings>(r#"{ "timeout": "90" }"#).unwrap_err();
+//! let line = "invalid duration: expected a unit at column 3, found the end";
+//! assert!(refusal.to_string().starts_with(line));
+//! # Ok::<(), serde_json::Error>(())
+//! ```
+use crate::human::{self, HumanText};
+use serde::de::Deserializer;
+
+#[doc(no_inline)]
+pub use human::serialize;
+
+/// Reads durations, which must be texts in which each number has its unit.
+///
+/// # Errors
+///
+/// Returns the format's error, also if a text is refused.
+///
+/// ```
+/// use duration_str::human_with_units;
+/// use serde_json::json;
+/// use std::time::Duration;
+///
+/// let minute: Duration = human_with_units::deserialize(json!("1m"))?;
+/// assert_eq!(minute, Duration::from_secs(60));
+/// assert!(human_with_units::deserialize::<Duration, _>(json!("60")).is_err());
+/// # Ok::<(), serde_json::Error>(())
+/// ```
+pub fn deserialize<'de, T: HumanText, D: Deserializer<'de>>(
+    deserializer: D,
+) -> Result<T, D::Error> {
+    T::deserialize_human::<D, { human::WITH_UNITS }>(deserializer)
+}
