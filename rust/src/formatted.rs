@@ -29,9 +29,12 @@ use duration_str_core::{Format, STYLED_BUFFER_SIZE, Style, TimeUnit, write_withi
 /// next unit in what is left, and so on down to the smallest unit, until there are so many parts.
 /// Counts of 0 are left out. What is left at the end is left out too.
 ///
+/// The calls that choose units each take units out. So their order doesn't matter, and none brings
+/// a unit back.
+///
 /// If all counts are 0, the text is `0` and the smallest unit's name, or `0s` if that unit is
-/// shorter than a second. The text is also this if there are no parts. It is `0s`, whatever the
-/// duration, if there are no units.
+/// shorter than a second, even if no seconds are printed. The text is also this if there are no
+/// parts. It is `0s`, whatever the duration, if there are no units.
 ///
 /// Width and fill pad the text. A precision is ignored.
 ///

@@ -90,6 +90,7 @@
 //! assert_eq!(uptime.parts(2).to_string(), "1w 4d");
 //! let long = uptime.largest(TimeUnit::Day).parts(2).style(Style::Long);
 //! assert_eq!(long.to_string(), "11 days 13 hours");
+//! assert_eq!(uptime.only(&[TimeUnit::Day, TimeUnit::Minute]).to_string(), "11d 826min");
 //! ```
 //!
 //! For durations of `chrono` and `time`, [`HumanFormat::formatted`] does the same. [`write_within`]

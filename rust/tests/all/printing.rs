@@ -1,8 +1,8 @@
 //! Printed durations.
 use crate::{Printed, vectors};
 use duration_str::{
-    Format, HumanDuration, HumanFormat, Options, Style, TimeUnit, format_duration, parse_with,
-    write_human, write_within,
+    Format, FormattedDuration, HumanDuration, HumanFormat, Options, Style, TimeUnit,
+    format_duration, parse_with, write_human, write_within,
 };
 #[cfg(any(feature = "chrono", feature = "time"))]
 use proptest::prelude::*;
@@ -21,6 +21,35 @@ fn length_of(text: &str) -> Duration {
 
 fn unit(name: &str) -> TimeUnit {
     TimeUnit::from_word(name, Options::off()).unwrap()
+}
+
+/// Each call takes units out, so their order doesn't matter, and none brings a unit back.
+#[test]
+fn takes_units_out_in_any_order() {
+    const USUAL: FormattedDuration = format_duration(Duration::from_secs(500 * 86_400 + 3_661))
+        .only(&[
+            TimeUnit::Hour,
+            TimeUnit::Month,
+            TimeUnit::Year,
+            TimeUnit::Day,
+        ])
+        .without(TimeUnit::Month);
+    assert_eq!(USUAL.to_string(), "1y 135d 1h");
+    let other = format_duration(*USUAL.get_ref())
+        .without(TimeUnit::Month)
+        .without(TimeUnit::Month)
+        .only(TimeUnit::ALL)
+        .only(&[
+            TimeUnit::Year,
+            TimeUnit::Month,
+            TimeUnit::Day,
+            TimeUnit::Hour,
+        ]);
+    assert_eq!(other, USUAL);
+    let days = USUAL.largest(TimeUnit::Day).largest(TimeUnit::Year);
+    assert_eq!(days.to_string(), "500d 1h");
+    assert_eq!(days.smallest(TimeUnit::Day).to_string(), "500d");
+    assert_eq!(days.smallest(TimeUnit::Month).to_string(), "0s");
 }
 
 #[test]
