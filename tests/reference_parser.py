@@ -152,8 +152,8 @@ def terminal_of(token, options):
 # ---- Sentences
 
 
-# `default_unit` is the length of the unit of a bare number, one without a unit; None where each number must
-# have its unit.
+# `default_unit` is the length of the unit that a number without a unit has, or None if each number
+# must have its unit.
 
 
 def is_sentence(kinds, options, default_unit=SECOND):
@@ -309,7 +309,9 @@ def syntax_fault(text, front, options, default_unit):
     ends = is_sentence(list(front.kinds()), options, default_unit)
     if front.next is None and ends:
         return None
-    expected = {kind for kind in KINDS if begins_sentence((*front.kinds(), kind), options, default_unit)}
+    expected = {
+        kind for kind in KINDS if begins_sentence((*front.kinds(), kind), options, default_unit)
+    }
     place, found = front.next or (len(text), "")
     return Answer(
         "syntax",
@@ -385,8 +387,8 @@ def evaluation_fault(terms):
 
 
 def first_term_fault(front, default_unit):
-    """The fault of the first term, where that stands: with its unit, or, a bare number, before an
-    operator or the end.
+    """The fault of the first term, where that stands: with its unit, or, if it may lack one, before
+    an operator or the end.
     """
     kinds = front.kinds()
     if (
@@ -401,8 +403,8 @@ def first_term_fault(front, default_unit):
 
 
 def standing_fault(front, default_unit):
-    """Under `no_calc`: the first fault of the terms that stand: with their unit, or, the last one,
-    a bare number, before the end.
+    """Under `no_calc`: the first fault of the terms that stand: with their unit, or, if the last
+    one may lack its unit, before the end.
     """
     kinds = front.kinds()
     terms = terms_of(front.terminals, default_unit)
@@ -435,19 +437,29 @@ def answer_of(text, options, default_unit=SECOND):
 def computed_answer(text, options, default_unit):
     if not text:
         return Answer("empty")
+    # The grammar doesn't tell one default unit from another.
+    front, fault = parsed(text, options, None if default_unit is None else SECOND)
+    early_fault = standing_fault if options.no_calc else first_term_fault
+    if refusal := early_fault(front, default_unit) or fault:
+        return refusal
+    terms = terms_of(front.terminals, default_unit)
+    return (None if options.no_calc else evaluation_fault(terms)) or Answer(
+        "read", value=value_of(terms)
+    )
+
+
+@functools.lru_cache(1 << 16)
+def parsed(text, options, default_unit):
+    """The front of a text, and its syntax fault, or None if the front is a sentence, which then
+    spells the text.
+    """
     front = front_of(text, options, default_unit)
     spelled = sentences(text, options, default_unit)
     assert len(spelled) <= 1, text
     fault = syntax_fault(text, front, options, default_unit)
     assert (fault is None) == bool(spelled), text
-    early = standing_fault(front, default_unit) if options.no_calc else first_term_fault(front, default_unit)
-    if early or fault:
-        return early or fault
-    assert spelled[0] == front.terminals, text
-    terms = terms_of(spelled[0], default_unit)
-    return (None if options.no_calc else evaluation_fault(terms)) or Answer(
-        "read", value=value_of(terms)
-    )
+    assert fault or spelled[0] == front.terminals, text
+    return front, fault
 
 
 def prepare(text):
