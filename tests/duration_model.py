@@ -67,14 +67,17 @@ def printed(nanos, options):
         return number_in(
             nanos, options["to"], options.get("decimals"), options.get("round", "down")
         )
-    lengths = [unit.length for unit in reference.UNITS]
-    largest, smallest = (
-        lengths.index(LENGTHS[options.get(*each)])
-        for each in (("largest", "y"), ("smallest", "ns"))
-    )
     return reference.print_within(
-        nanos, largest, smallest, options.get("parts", 11), options.get("style", "short")
+        nanos, units_of(options), options.get("parts", 11), options.get("style", "short")
     )
+
+
+def units_of(options):
+    """The units in which durations are printed for people."""
+    smallest, largest = (
+        LENGTHS[options.get(*each)] for each in (("smallest", "ns"), ("largest", "y"))
+    )
+    return [unit for unit in reference.UNITS if smallest <= unit.length <= largest]
 
 
 def read_number(text, options):
@@ -193,8 +196,7 @@ def is_wrong(options, texts):
         or "delimiter" in names
         and "field" not in names
     )
-    order = LENGTHS[options.get("largest", "y")] < LENGTHS[options.get("smallest", "ns")]
-    return bool(numbers or fields or order or "header" in names and texts)
+    return bool(numbers or fields or not units_of(options) or "header" in names and texts)
 
 
 class Commands(Texts):

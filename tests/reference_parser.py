@@ -79,9 +79,12 @@ CHOICES = [
     for choice in itertools.product((False, True), repeat=len(Options._fields))
 ]
 
-# Every choice of limits for a printed duration: the places in UNITS of the largest and the smallest
-# unit, and how many parts at most, up to one more than there are units.
-LIMITS = list(itertools.product(range(len(UNITS)), range(len(UNITS)), range(len(UNITS) + 2)))
+# The sets of units, each with its units in order, by their numbers for C: the sum of 2^n for each
+# unit that stands at the place n in UNITS.
+SETS = [
+    tuple(unit for place, unit in enumerate(UNITS) if bits >> place & 1)
+    for bits in range(2 ** len(UNITS))
+]
 
 
 class Terminal(typing.NamedTuple):
@@ -533,18 +536,15 @@ def print_part(count, unit, style):
     return f"{count} {one if count == 1 else many}" if style == "long" else f"{count}{unit.printed}"
 
 
-def print_within(nanos, largest, smallest, parts, style="short"):
-    """What a duration prints as in the units from one place in UNITS to another, in at most so many
-    parts and in one of the styles short, compact and long.
+def print_within(nanos, units, parts, style="short"):
+    """What a duration prints as in some of UNITS, which are in order, in at most so many parts and
+    in one of the styles short, compact and long.
     """
-    units = UNITS[largest : smallest + 1]
     counts = counts_within(nanos, tuple(unit.length for unit in units), parts)
     printed_parts = [print_part(count, unit, style) for count, unit in zip(counts, units) if count]
-    zero = (
-        UNITS[smallest]
-        if UNITS[smallest].length > SECOND
-        else next(unit for unit in UNITS if unit.length == SECOND)
-    )
+    zero = next(unit for unit in UNITS if unit.length == SECOND)
+    if units and units[-1].length > SECOND:
+        zero = units[-1]
     return ("" if style == "compact" else " ").join(printed_parts) or print_part(0, zero, style)
 
 

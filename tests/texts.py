@@ -158,6 +158,11 @@ class Texts:
         secs = self.random.randrange(2 ** self.random.randint(1, 64))
         return secs, self.choice((0, 1, 999_999_999, self.random.randrange(SECOND)))
 
+    def printed(self):
+        """A duration, the number of a set of units, and how many parts at most."""
+        bits = self.random.randrange(2 ** len(UNITS))
+        return self.duration(), bits, self.random.randrange(len(UNITS) + 2)
+
 
 def write_for_fuzzer(folder, texts):
     (folder / "seeds").mkdir(parents=True, exist_ok=True)
