@@ -69,7 +69,8 @@ pub fn read<'a>(bytes: &'a [u8], choices: &Choices) -> Result<(&'a str, u64), Re
     };
     let is_unit_required = choices.require_unit || choices.from.is_some();
     let default_unit = (!is_unit_required).then_some(TimeUnit::Second);
-    Ok((text, parse_with_default_unit(text, options, default_unit)?.as_nanos() as u64))
+    let duration = parse_with_default_unit(text, options, default_unit)?;
+    Ok((text, duration.as_nanos() as u64))
 }
 
 /// A text without blanks that is a bare number of this unit, such as `12.5`, `.5` or `1.2e-05`, and

@@ -147,6 +147,32 @@ fn prints_numbers() {
     }
 }
 
+/// The faults are those of a grammar in which each number has a unit, also under other options.
+#[test]
+fn requires_units() {
+    for (text, line) in [
+        ("90 -", "expected a unit at column 4, found \"-\""),
+        ("1h 30 + 5x", "expected a unit at column 7, found \"+\""),
+        ("1 + 2x", "expected a unit at column 3, found \"+\""),
+        (
+            "99999999999999999999",
+            "expected a unit at column 21, found the end",
+        ),
+    ] {
+        for more in [&[][..], &["--lowercase"], &["--cn-unit"]] {
+            let words = [&["--require-unit"], more, &[text]].concat();
+            let errors = format!("duration: argument 1: {line}\n");
+            assert_eq!(run(&words, b""), (1, "".into(), errors));
+        }
+    }
+    assert_eq!(answer(&["--require-unit", "--cn-unit", "1分"]), "1min\n");
+    let errors = "duration: argument 1: expected a unit at column 4, found \"-\"\n";
+    assert_eq!(
+        run(&["--from", "s", "90 -"], b""),
+        (1, "".into(), errors.into())
+    );
+}
+
 #[test]
 fn takes_bare_numbers_as_a_unit() {
     let rows: [(&[&str], &str); 10] = [
