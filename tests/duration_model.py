@@ -37,7 +37,8 @@ VALUES = (
     )
 )
 WRONG_WORDS = """--to= --to=mins --to=年 --from=secs --largest=mo --smallest=5s --style=Long --round=half --decimals=10
---parts=0 --parts=256 --parts=two --field=0 --field=65536 --field=-1 -dab -dé --header= --header=x --none -x""".split()
+--units= --units=y, --units=y,mins --units=年 --parts=0 --parts=256 --parts=two --field=0
+--field=65536 --field=-1 -dab -dé --header= --header=x --none -x""".split()
 Refused = collections.namedtuple("Refused", "message column found", defaults=(None, None))
 Said = collections.namedtuple("Said", "output errors status")
 quoted = json.JSONEncoder(ensure_ascii=False).encode
@@ -77,7 +78,12 @@ def units_of(options):
     smallest, largest = (
         LENGTHS[options.get(*each)] for each in (("smallest", "ns"), ("largest", "y"))
     )
-    return [unit for unit in reference.UNITS if smallest <= unit.length <= largest]
+    chosen = {LENGTHS[name] for name in options.get("units", ",".join(LENGTHS)).split(",")}
+    return [
+        unit
+        for unit in reference.UNITS
+        if smallest <= unit.length <= largest and unit.length in chosen
+    ]
 
 
 def read_number(text, options):
@@ -186,7 +192,7 @@ def is_wrong(options, texts):
     """Whether these options can't stand together, or beside texts."""
     names = set(options)
     numbers = (
-        names & {"style", "parts", "largest", "smallest"}
+        names & {"style", "parts", "units", "largest", "smallest"}
         if "to" in names
         else names & {"decimals", "round"}
     )
@@ -217,6 +223,11 @@ class Commands(Texts):
             ),
             [],
         )
+
+    def value(self, name):
+        if name == "units":
+            return ",".join(self.random.choices(list(LENGTHS), k=self.random.randint(1, 6)))
+        return self.choice(VALUES[name])
 
     def bare_number(self):
         decimals = "0" * self.choice((0, 0, 9, 18)) + str(
@@ -272,8 +283,8 @@ class Commands(Texts):
         """A command's options, texts and input; of one in ten the options may be wrong."""
         likely = {"to": 60, "from": 40, "round": 40, "decimals": 40, "quiet": 4, "json": 12}
         options = {
-            name: self.choice(values)
-            for name, values in VALUES.items()
+            name: self.value(name)
+            for name in (*VALUES, "units")
             if self.chance(likely.get(name, 20))
         }
         data = self.data(options)

@@ -80,12 +80,8 @@ impl Run<'_> {
     /// Answers each argument, or without any each line of standard input.
     fn all(&mut self) -> io::Result<()> {
         if let Some(shell) = self.choices.completions {
-            clap_complete::generate(
-                shell,
-                &mut options::with_words(),
-                "duration",
-                &mut self.output,
-            );
+            self.output
+                .write_all(options::completions(shell).as_bytes())?;
         } else if self.choices.texts.is_empty() {
             let input = file(io::stdin()).map_err(of_input)?;
             self.lines(BufReader::with_capacity(1 << 16, input))?;

@@ -4,7 +4,7 @@ use clap::error::ErrorKind;
 use clap::{Command, CommandFactory, Parser, ValueEnum, value_parser};
 use clap_complete::Shell;
 use duration_str::{
-    Format, STYLED_BUFFER_SIZE, Style, TimeUnit, UnknownUnit, parse_duration, write_within,
+    Format, STYLED_BUFFER_SIZE, Style, TimeUnit, Units, UnknownUnit, parse_duration, write_within,
 };
 use std::ffi::{OsStr, OsString};
 use std::os::unix::ffi::OsStrExt;
@@ -12,7 +12,7 @@ use std::time::Duration;
 
 /// What says how to print for people. clap doesn't miss an option that is required and can't stand
 /// beside these.
-const SHAPES: [&str; 4] = ["style", "parts", "largest", "smallest"];
+const SHAPES: [&str; 5] = ["style", "parts", "units", "largest", "smallest"];
 
 /// Read durations such as 1h 30m, and print them for people or as numbers
 #[derive(Parser)]
@@ -50,6 +50,9 @@ pub struct Choices {
     #[arg(long, value_name = "N", default_value = "11",
         value_parser = value_parser!(u8).range(1..))]
     parts: u8,
+    /// Use only these units, such as y,mon,d, in any order [default: all]
+    #[arg(long, value_name = "UNITS", value_parser = list_of_units)]
+    units: Option<UnitList>,
     /// Use no unit longer than this one
     #[arg(long, value_name = "UNIT", default_value = "y", value_parser = unit)]
     largest: TimeUnit,
@@ -90,6 +93,10 @@ pub struct Choices {
     pub completions: Option<Shell>,
 }
 
+/// The units of a list, in its order.
+#[derive(Clone)]
+struct UnitList(Vec<TimeUnit>);
+
 #[derive(Clone, Copy, ValueEnum)]
 pub enum Round {
     Down,
@@ -104,34 +111,43 @@ The status is 0 if all texts were read, 1 if one was refused, and 2 for an error
 Examples:
   $ sleep \"$(duration --to s '1m 30s')\"
   $ duration --from s --parts 2 93784.5  # 1d 2h
+  $ duration --units y,mon,d 500d  # 1y 4mon 15d
   $ duration -d, --field 2 --header --to s <jobs.csv";
 
 impl Choices {
     /// Those of the command line, or what is to be said in place of answers.
     pub fn of(words: impl Iterator<Item = OsString>) -> Result<Choices, clap::Error> {
         let choices = Choices::try_parse_from(words.map(escape))?;
-        if choices.largest < choices.smallest {
-            return Err(clap::Error::raw(
-                ErrorKind::ArgumentConflict,
-                "--largest is shorter than --smallest\n",
-            ));
+        if choices.format().units != Units::NONE {
+            return Ok(choices);
         }
-        Ok(choices)
+        let told = if choices.largest < choices.smallest {
+            "--largest is shorter than --smallest\n"
+        } else {
+            "--units has none from --largest to --smallest\n"
+        };
+        Err(clap::Error::raw(ErrorKind::ArgumentConflict, told))
+    }
+
+    /// How to print for people.
+    fn format(&self) -> Format {
+        let format = Format::whole()
+            .largest(self.largest)
+            .smallest(self.smallest)
+            .parts(self.parts.into())
+            .style(self.style);
+        match &self.units {
+            Some(UnitList(units)) => format.only(units),
+            None => format,
+        }
     }
 
     pub fn printed(&self, nanos: u64) -> String {
         if let Some(unit) = self.to {
             return in_unit(nanos, unit, self.decimals, self.round);
         }
-        let parts = Format::whole().parts(self.parts.into());
-        let within = parts.largest(self.largest).smallest(self.smallest);
         let mut buffer = [0; STYLED_BUFFER_SIZE];
-        write_within(
-            &Duration::from_nanos(nanos),
-            within.style(self.style),
-            &mut buffer,
-        )
-        .to_string()
+        write_within(&Duration::from_nanos(nanos), self.format(), &mut buffer).to_string()
     }
 }
 
@@ -175,14 +191,56 @@ fn unit(word: &str) -> Result<TimeUnit, String> {
     })
 }
 
-/// The command, in which options of units list their words, for completions.
-pub fn with_words() -> Command {
-    let units = ["y", "q", "mon", "w", "d", "h", "min", "s", "ms", "us", "ns"];
-    let of_unit =
-        |command: Command, name| command.mut_arg(name, |option| option.value_parser(units));
-    ["to", "from", "largest", "smallest"]
-        .into_iter()
-        .fold(Choices::command(), of_unit)
+/// The units that words between commas name. The help for another word names it.
+fn list_of_units(words: &str) -> Result<UnitList, String> {
+    let units = words
+        .split(',')
+        .map(|word| unit(word).map_err(|help| format!("{word:?}: {help}")));
+    units.collect::<Result<_, _>>().map(UnitList)
+}
+
+/// What completions offer for a unit.
+const WORDS: [&str; 11] = ["y", "q", "mon", "w", "d", "h", "min", "s", "ms", "us", "ns"];
+
+/// The completions for a shell.
+pub fn completions(shell: Shell) -> String {
+    let complete = |command: Command, name, words: &'static [&str]| {
+        let words = PossibleValuesParser::new(words);
+        command.mut_arg(name, |option| option.value_parser(words))
+    };
+    let mut command = complete(Choices::command(), "units", &["LIST"]);
+    for name in ["to", "from", "largest", "smallest"] {
+        command = complete(command, name, &WORDS);
+    }
+    let mut script = Vec::new();
+    clap_complete::generate(shell, &mut command, "duration", &mut script);
+    with_list(
+        shell,
+        &String::from_utf8(script).expect("a script is UTF-8"),
+    )
+}
+
+/// A script of clap, which knows no lists. In place of its one word `LIST` stands what completes
+/// each word of a list of units.
+fn with_list(shell: Shell, script: &str) -> String {
+    match shell {
+        Shell::Fish => {
+            let (before, after) = script.split_once("LIST").expect("clap writes the word");
+            let (before, _) = before.rsplit_once('"').expect("it is in quotation marks");
+            let (_, after) = after.split_once('"').expect("they are two");
+            let words = WORDS.join(",");
+            format!(r#"{before}"(__fish_complete_list , 'string split , {words}')"{after}"#)
+        }
+        Shell::Zsh => {
+            let words = WORDS.join(" ");
+            script.replace("(LIST)", &format!("_sequence compadd - {words}"))
+        }
+        _ => {
+            // Each word after all that is before it
+            let words = WORDS.map(|word| format!(r#"${{cur%"${{cur##*,}}"}}{word}"#));
+            script.replace("LIST", &words.join(" "))
+        }
+    }
 }
 
 /// What no word has, before one that begins as a number below zero, so that clap takes it for no

@@ -147,6 +147,26 @@ fn prints_numbers() {
     }
 }
 
+#[test]
+fn prints_in_chosen_units() {
+    for (words, wanted) in [
+        ("y,mon,d 500d", "1y 4mon 15d"),
+        ("d,years,Month 500d", "1y 4mon 15d"),
+        ("y,d,y,d 400d", "1y 35d"),
+        ("mon,d --parts 1 119d", "3mon"),
+        ("d,h --largest h --style long 500d", "12000 hours"),
+        ("us,µs 1999ns", "1µs"),
+        ("y,d 23h", "0d"),
+        ("ms 999us", "0s"),
+        ("y --units h 1d", "24h"),
+    ] {
+        let words: Vec<&str> = ["--units"].into_iter().chain(words.split(' ')).collect();
+        assert_eq!(answer(&words), format!("{wanted}\n"), "{words:?}");
+    }
+    let object = answer(&["--units=s,min", "--json", "1h 5s"]);
+    assert!(object.ends_with("\"printed\":\"60min 5s\"}\n"), "{object}");
+}
+
 /// The faults are those of a grammar in which each number has a unit, also under other options.
 #[test]
 fn requires_units() {
@@ -352,7 +372,9 @@ fn refuses_wrong_usage() {
         --to s --decimals 10 1h|--parts 0 1h|--style none 1h|--largest s --smallest h 1h|-d, 1h|--field 1 -d ,, 1h|\
         --field 1 -d ä 1h|--field 0 1h|--json --field 1 1h|--json --header|--completions elvish|--completions bash 1h|\
         --from x 1|--header 1|--header -- 1h|--round up 1h|--to s --round x 1h|\
-        --decimals 2 --parts 1 1h|--round up --style long 1h|--json -d, 1h";
+        --decimals 2 --parts 1 1h|--round up --style long 1h|--json -d, 1h|\
+        --units  1h|--units y, 1h|--units y;d 1h|--units y,年 1h|--units y,mon --largest w 1h|\
+        --to s --units y 1h";
     for words in WRONG.split('|') {
         let words: Vec<&str> = words.split(' ').collect();
         let (status, output, errors) = run(&words, b"");
@@ -367,6 +389,18 @@ fn refuses_wrong_usage() {
         (
             ["--from", "foo", "1h"],
             "Invalid value 'foo' for '--from <UNIT>': no unit",
+        ),
+        (
+            ["--units", "y,mins", "1h"],
+            "Invalid value 'y,mins' for '--units <UNITS>': \"mins\": did you mean \"min\"?",
+        ),
+        (
+            ["--units=y", "--smallest=y", "--largest=d"],
+            "--largest is shorter than --smallest",
+        ),
+        (
+            ["--units=y,mon", "--largest=w", "1h"],
+            "--units has none from --largest to --smallest",
         ),
         (
             ["--parts", "-1", "1h"],
@@ -555,16 +589,32 @@ fn tells_of_itself() {
     let help = answer(&["--help"]);
     assert_eq!(help, answer(&["-h"]));
     assert!(help.lines().all(|line| line.len() <= 80));
-    for shell in ["bash", "fish", "zsh"] {
-        assert!(answer(&["--completions", shell]).contains("smallest"));
+    for (shell, list) in [
+        ("bash", "##*,"),
+        (
+            "fish",
+            "-f -a \"(__fish_complete_list , 'string split , y,q,mon,w,d,h,min,s,ms,us,ns')\"\n",
+        ),
+        ("zsh", ":UNITS:_sequence compadd - y q mon "),
+    ] {
+        let script = answer(&["--completions", shell]);
+        assert!(script.contains("smallest") && script.contains(list) && !script.contains("LIST"));
     }
 }
 
 #[test]
 fn completes_in_bash() {
-    let words = "for words in --sma '--to m' '--style l' '--round u'; do
-        COMP_WORDS=(duration $words) COMP_CWORD=$((${#COMP_WORDS[@]} - 1)); _duration duration; echo ${COMPREPLY[@]}; done";
+    let words = "
+        lists=('--units m' '--units y,m' '--units y,d,n')
+        for words in --sma '--to m' '--style l' '--round u' \"${lists[@]}\"; do
+            COMP_WORDS=(duration $words) COMP_CWORD=$((${#COMP_WORDS[@]} - 1))
+            _duration duration
+            echo ${COMPREPLY[@]}
+        done";
     let script = answer(&["--completions", "bash"]) + words;
     let ended = Command::new("bash").args(["-c", &script, "--"]).output();
-    assert_eq!(ended.unwrap().stdout, b"--smallest\nmon min ms\nlong\nup\n");
+    assert_eq!(
+        ended.unwrap().stdout,
+        b"--smallest\nmon min ms\nlong\nup\nmon min ms\ny,mon y,min y,ms\ny,d,ns\n"
+    );
 }
