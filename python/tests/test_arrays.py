@@ -132,6 +132,13 @@ class Reading(unittest.TestCase):
         one = "numpy.timedelta64(1000000000,'ns') numpy.timedelta64('NaT','ns') None numpy.timedelta64('NaT','ns')"
         self.assertEqual(told.stdout, f"{[SECOND, *[-(2**63)] * 5]} False\n{one}\n")
 
+    def test_counts_the_default_unit(self):
+        read = to_timedelta(pandas.Series(["1500", "1s 500", None]), default_unit="ms")
+        self.assertEqual(numbers(read), [1_500_000_000, 1_500_000_000, None])
+        self.assertEqual(to_timedelta("2", default_unit="d"), pandas.Timedelta(2, "D"))
+        coerced = to_timedelta(["2*3"], default_unit="ms", errors="coerce")
+        self.assertEqual(numbers(coerced), [None])
+
     def test_refuses_what_timedelta64_lacks(self):
         most = 2**63 - 1
         self.assertEqual(numbers(to_timedelta([f"{most}ns"])), [most])

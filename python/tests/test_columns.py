@@ -120,6 +120,13 @@ class Columns(unittest.TestCase):
             parse_many(12)
         self.assertEqual(parse_many(["1M"], no_calc=2).tolist(), [60 * SECOND])
 
+    def test_counts_the_default_unit(self):
+        nanos, refused = parse_many(["1500", "2s", "2*3"], default_unit="ms", errors="coerce")
+        self.assertEqual(nanos.tolist(), [1_500_000_000, 2 * SECOND, 0])
+        self.assertEqual(refused.tolist(), [2])
+        buffers = buffers_of([b"1500", b"2s"])
+        self.assertEqual(parse_buffers(*buffers, default_unit="ms"), nanos[:2])
+
     def test_refuses_lone_surrogates(self):
         texts = ["1s", "\ud800", "1\udc00s", "\ud83d\ude00", "1µs"]
         wanted = (array("Q", [SECOND, 0, 0, 0, 1000]), array("Q", [1, 2, 3]))

@@ -47,7 +47,8 @@ class Documentation(unittest.TestCase):
                 f"{option}=False" for option in [*VECTORS["options"], "require_unit"]
             )
             self.assertEqual(
-                f"(text, /, *, {options})", str(inspect.signature(getattr(duration_str, name)))
+                f"(text, /, *, {options}, default_unit='s')",
+                str(inspect.signature(getattr(duration_str, name))),
             )
 
     def test_fits_a_terminal(self):

@@ -48,6 +48,13 @@ class Lines(unittest.TestCase):
         self.assertNotIn("0x", repr(duration_str.Duration))
         self.assertEqual(pickle.loads(pickle.dumps(duration_str.Duration)), duration_str.Duration)
 
+    def test_is_another_type_by_other_options(self):
+        field = duration_str.DurationField
+        self.assertEqual(field(default_unit="ms"), field(default_unit="ms"))
+        self.assertEqual(len({field(), field(), field(default_unit="ms")}), 2)
+        self.assertNotEqual(duration_str.Duration, duration_str.DurationWithUnits)
+        self.assertIn("default_unit='ms'", repr(field(default_unit="ms")))
+
     def test_argparse(self):
         self.assertEqual(run("job.py", "--timeout", "1m"), (0, "0:01:00\n", ""))
         self.assertEqual(run("job.py"), (0, "0:00:30\n", ""))
@@ -69,6 +76,7 @@ class Lines(unittest.TestCase):
             parser.parse_args(["--timeout", "1%x"])
         for option, text in [("no_calc", "1m+1"), ("lowercase", "1M"), ("require_unit", "90")]:
             self.assertRaises(argparse.ArgumentTypeError, DurationType(**{option: True}), text)
+        self.assertEqual(DurationType(default_unit="min")("1"), MINUTE)
 
     @unittest.skipUnless(has("click"), "Click is missing")
     def test_click(self):
@@ -88,6 +96,9 @@ class Lines(unittest.TestCase):
         self.assertEqual(repr(DURATION), "DURATION")
         for option, text in [("no_calc", "1m+1"), ("lowercase", "1M"), ("require_unit", "90")]:
             self.assertRaises(click.BadParameter, DurationParamType(**{option: True}), text)
+        self.assertEqual(DurationParamType(default_unit="min")("1"), MINUTE)
+        for words in ({"default_unit": "mins"}, {"default_unit": "ms", "require_unit": True}):
+            self.assertRaisesRegex(ValueError, "default_unit", DurationParamType, **words)
         with self.assertRaisesRegex(click.BadParameter, "'1分': unknown unit"):
             DURATION("1分")
 
@@ -139,13 +150,29 @@ class Models(unittest.TestCase):
         )
         for text, line in [
             ("90", "expected a unit at column 3, found the end"),
-            ("1h 30 + 5x", "expected a unit at column 7, found \"\\+\""),
+            ("1h 30 + 5x", 'expected a unit at column 7, found "\\+"'),
             ("", "empty text"),
             ("9" * 99_999, "expected a unit at column 100000, found the end"),
             ("9" * 99_999 + "s", "number of"),
         ]:
             with self.assertRaisesRegex(self.pydantic.ValidationError, line):
                 adapter.validate_python(text)
+
+    def test_chooses_how_a_type_reads(self):
+        field = duration_str.DurationField(default_unit="ms")
+        adapter = self.pydantic.TypeAdapter(typing.Annotated[datetime.timedelta, field])
+        self.assertEqual(adapter.validate_python("60000"), MINUTE)
+        self.assertEqual(adapter.dump_json(adapter.validate_python("1h 500")), b'"1h 500ms"')
+        with self.assertRaisesRegex(self.pydantic.ValidationError, r"at column 4, found \"\*\""):
+            adapter.validate_python("90s*2")
+        for option, text in [("no_calc", "1m+1"), ("lowercase", "1M"), ("require_unit", "90")]:
+            field = duration_str.DurationField(**{option: True})
+            adapter = self.pydantic.TypeAdapter(typing.Annotated[datetime.timedelta, field])
+            with self.assertRaises(self.pydantic.ValidationError):
+                adapter.validate_python(text)
+        field = duration_str.DurationField(cn_unit=True)
+        adapter = self.pydantic.TypeAdapter(typing.Annotated[datetime.timedelta, field])
+        self.assertEqual(adapter.validate_python("1分"), MINUTE)
 
     def test_writes_the_printed_text(self):
         job = self.model(timeout=90 * MINUTE)

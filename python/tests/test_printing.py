@@ -2,9 +2,11 @@
 
 import datetime
 import random
+import re
+import typing
 import unittest
 
-from duration_str import DurationError, format, format_many, parse, parse_ns
+from duration_str import DurationError, Unit, format, format_many, parse, parse_ns
 from tests.vectors import VECTORS
 
 SECOND = 10**9
@@ -75,6 +77,11 @@ class Printing(unittest.TestCase):
         for words, printed in rows:
             self.assertEqual(format(193_029_000_000, **words), printed)
 
+    def test_knows_units_by_each_name_that_is_read(self):
+        for name in typing.get_args(Unit):
+            for word in (name, name.upper().replace("Μ", "µ")):
+                self.assertEqual(format(parse_ns(f"3{word}"), smallest=word, largest=word)[0], "3")
+
     def test_wants_known_limits(self):
         names = "one of y, q, mon, w, d, h, min, s, ms, µs or us, ns, not "
         rows = [
@@ -100,9 +107,26 @@ class Printing(unittest.TestCase):
             ({"parts": value}, TypeError, "parts must be a whole number")
             for value in (1.0, 1.5, "2", None, True)
         ]
-        for unit in ["m", "days", "", "S", "μs", "y "]:
+        for unit in [
+            "",
+            "mins",
+            "年",
+            "μs",
+            "y ",
+            " y",
+            "1",
+            "0s",
+            "h 0s",
+            "\ud800",
+            "y\0",
+            "s" * 15,
+        ]:
             rows += [
-                ({"largest": unit}, ValueError, f"^largest must be {names}{unit!r}$"),
+                (
+                    {"largest": unit},
+                    ValueError,
+                    f"^largest must be {names}{re.escape(repr(unit))}$",
+                ),
                 ({"smallest": unit}, ValueError, names),
             ]
         rows += [

@@ -2,11 +2,25 @@
 
 import concurrent.futures
 import datetime
+import itertools
 import random
+import typing
 import unittest
+from array import array
 
 import duration_str
-from duration_str import DurationError, DurationTypeError, parse, parse_ns, parse_seconds
+import duration_str.argparse
+from duration_str import (
+    DurationError,
+    DurationTypeError,
+    Unit,
+    parse,
+    parse_buffers,
+    parse_many,
+    parse_ns,
+    parse_seconds,
+    to_timedelta,
+)
 from tests.vectors import OPTIONS, values_under
 
 
@@ -38,6 +52,46 @@ class Reading(unittest.TestCase):
         self.assertEqual(parse("1h 30m", require_unit=True), datetime.timedelta(minutes=90))
         with self.assertRaisesRegex(DurationError, "^expected a unit at column 3, found the end$"):
             parse("90", require_unit=True)
+
+    def test_counts_the_default_unit(self):
+        for name in typing.get_args(Unit):
+            self.assertEqual(parse_ns("3", default_unit=name), parse_ns(f"3{name}"))
+        self.assertEqual(parse("1s 500", default_unit="ms"), datetime.timedelta(seconds=1.5))
+        self.assertEqual(parse_seconds("1500", default_unit="ms", lowercase=True), 1.5)
+        # A factor would count milliseconds too.
+        with self.assertRaisesRegex(DurationError, r"at column 4, found \"\*\"$"):
+            parse_ns("90s*2", default_unit="ms")
+        self.assertEqual(parse_ns("90s*2", default_unit="s"), 180 * 10**9)
+        with self.assertRaises(DurationError):
+            parse_ns("90s*2", default_unit="s", no_calc=True)
+
+    def test_wants_one_default_unit(self):
+        names = "one of y, q, mon, w, d, h, min, s, ms, µs or us, ns, not "
+        rows = [
+            ({"default_unit": name}, ValueError, f"^default_unit must be {names}{name!r}$")
+            for name in ("", "mins", "年", "m 0s")
+        ]
+        rows += [({"default_unit": unit}, TypeError, names) for unit in (None, 8, b"s")]
+        both = {"require_unit": True, "default_unit": "ms"}
+        rows += [(both, ValueError, "^default_unit must be 's' if require_unit is on$")]
+        calls = [lambda **words: parse("1s", **words), lambda **words: parse_ns("1s", **words)]
+        calls += [lambda **words: parse_seconds("1s", **words), duration_str.DurationField]
+        calls += [duration_str.argparse.DurationType]
+        for errors in ("raise", "coerce"):
+            calls += [
+                lambda errors=errors, **words: parse_many(["1s"], errors=errors, **words),
+                lambda errors=errors, **words: to_timedelta(None, errors=errors, **words),
+                lambda errors=errors, **words: parse_buffers(
+                    b"", array("q"), errors=errors, **words
+                ),
+            ]
+        for (words, error, told), call in itertools.product(rows, calls):
+            with self.subTest(call=call, **words):
+                with self.assertRaisesRegex(error, told) as raised:
+                    call(**words)
+                self.assertNotIsInstance(raised.exception, DurationError)
+        self.assertEqual(parse_ns("1s", require_unit=True, default_unit="s"), 10**9)
+        self.assertEqual(parse_ns("1s", require_unit=False, default_unit="ms"), 10**9)
 
     def test_rounds_seconds_to_the_nearest_float(self):
         self.assertEqual(parse_seconds("1h 30m"), 5400.0)

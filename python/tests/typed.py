@@ -4,15 +4,16 @@ has to be refused.
 
 import datetime
 from array import array
-from typing import assert_type
+from typing import Annotated, assert_type
 
 import duration_str
 import numpy
-from duration_str.argparse import DURATION
+from duration_str.argparse import DURATION, DurationType
 from duration_str.click import DURATION as OPTION
 from numpy.typing import NDArray
 
 assert_type(DURATION("1m"), datetime.timedelta)
+assert_type(DurationType(default_unit="ms")("1500"), datetime.timedelta)
 assert_type(OPTION.convert("1m", None, None), datetime.timedelta)
 
 
@@ -31,10 +32,13 @@ assert_type(duration_str.format(5, parts=2, largest="d", smallest="us"), str)
 unit: duration_str.Unit = "h"
 style: duration_str.Style = "long"
 assert_type(duration_str.format(5, largest=unit, style=style), str)
-duration_str.format(5, largest="m")  # type: ignore[arg-type]
+assert_type(duration_str.parse("1500", default_unit="ms"), datetime.timedelta)
+assert_type(duration_str.parse_many(["1500"], default_unit="ms"), "array[int]")
+duration_str.parse("1500", default_unit="mins")  # type: ignore[arg-type]
+duration_str.format(5, largest="mins")  # type: ignore[arg-type]
 duration_str.format(5, style="words")  # type: ignore[arg-type]
 duration_str.format(5, parts=1.5)  # type: ignore[arg-type]
-duration_str.format_many([5], smallest="sec")  # type: ignore[arg-type]
+duration_str.format_many([5], smallest="secs")  # type: ignore[arg-type]
 duration_str.format("1m")  # type: ignore[arg-type]
 duration_str.format(1.5)  # type: ignore[arg-type]
 duration_str.format(None)  # type: ignore[arg-type]
@@ -47,6 +51,7 @@ duration_str.parse_many(["1m"], errors="ignore")  # type: ignore[call-overload]
 assert_type(duration_str.to_timedelta(["1m"]), "NDArray[numpy.timedelta64]")
 duration_str.to_timedelta(["1m"], errors="ignore")  # type: ignore[call-overload]
 timeout: duration_str.Duration = datetime.timedelta(1)
+pause: Annotated[datetime.timedelta, duration_str.DurationField(default_unit="ms")] = timeout
 try:
     duration_str.parse("1x")
 except duration_str.DurationError as error:

@@ -59,8 +59,9 @@ For other packages:
   duration_str.argparse.DURATION  a type of argparse's arguments
 
 In a model of pydantic a field may have the type `Duration`, or
-`DurationWithUnits`, which refuses a number without a unit. These are only
-annotations: `parse` makes a value.
+`DurationWithUnits`, which refuses a number without a unit. `DurationField`
+gives options to such a type. These are only annotations: `parse` makes a
+value.
 """
 # The table of units above is made by tests/repository --write.
 
@@ -68,7 +69,7 @@ from __future__ import annotations
 
 from ._arrays import format_many, to_timedelta
 from ._columns import parse_buffers, parse_many
-from ._models import Duration, DurationWithUnits
+from ._models import Duration, DurationField, DurationWithUnits
 from ._native import format as format
 from ._native import parse, parse_ns, parse_seconds
 from ._texts import Cause, DurationError, DurationTypeError, Expected, Style, Unit
@@ -77,6 +78,7 @@ __all__ = [
     "Cause",
     "Duration",
     "DurationError",
+    "DurationField",
     "DurationTypeError",
     "DurationWithUnits",
     "Expected",

@@ -9,7 +9,7 @@ from typing import TYPE_CHECKING, Any, overload
 
 from . import _native
 from ._columns import Errors, raises_errors, values_of, zeros
-from ._texts import DurationTypeError, Style, Unit, nanos_a_step, nanos_of, option_bits
+from ._texts import DurationTypeError, Style, Unit, nanos_a_step, nanos_of
 
 if TYPE_CHECKING:
     import numpy
@@ -119,6 +119,7 @@ def to_timedelta(
     lowercase: bool = ...,
     cn_unit: bool = ...,
     require_unit: bool = ...,
+    default_unit: Unit = ...,
 ) -> None:
     ...
 
@@ -132,6 +133,7 @@ def to_timedelta(
     lowercase: bool = ...,
     cn_unit: bool = ...,
     require_unit: bool = ...,
+    default_unit: Unit = ...,
 ) -> NDArray[numpy.timedelta64]:
     ...
 
@@ -145,6 +147,7 @@ def to_timedelta(
     lowercase: bool = ...,
     cn_unit: bool = ...,
     require_unit: bool = ...,
+    default_unit: Unit = ...,
 ) -> Any:
     ...
 
@@ -157,6 +160,7 @@ def to_timedelta(
     lowercase: bool = False,
     cn_unit: bool = False,
     require_unit: bool = False,
+    default_unit: Unit = "s",
 ) -> Any:
     """Reads texts as timedelta64[ns], like `pandas.to_timedelta`. It needs
     NumPy, but not pandas. The options are those of `parse_ns`.
@@ -177,7 +181,14 @@ def to_timedelta(
     even if a text before it is refused. With `errors="coerce"` all of these
     become NaT.
     """
-    raises, options = raises_errors(errors), option_bits(no_calc, lowercase, cn_unit, require_unit)
+    raises = raises_errors(errors)
+    options = _native.option_bits(
+        no_calc=no_calc,
+        lowercase=lowercase,
+        cn_unit=cn_unit,
+        require_unit=require_unit,
+        default_unit=default_unit,
+    )
     if values is None:
         return None
     import numpy

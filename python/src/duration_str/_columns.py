@@ -7,7 +7,7 @@ from collections.abc import Iterable
 from typing import Any, Literal, overload
 
 from . import _native
-from ._texts import option_bits
+from ._texts import Unit
 
 #: What to do with a refused value
 Errors = Literal["raise", "coerce"]
@@ -47,6 +47,7 @@ def parse_many(
     lowercase: bool = ...,
     cn_unit: bool = ...,
     require_unit: bool = ...,
+    default_unit: Unit = ...,
 ) -> array[int]:
     ...
 
@@ -60,6 +61,7 @@ def parse_many(
     lowercase: bool = ...,
     cn_unit: bool = ...,
     require_unit: bool = ...,
+    default_unit: Unit = ...,
 ) -> tuple[array[int], array[int]]:
     ...
 
@@ -72,6 +74,7 @@ def parse_many(
     lowercase: bool = False,
     cn_unit: bool = False,
     require_unit: bool = False,
+    default_unit: Unit = "s",
 ) -> array[int] | tuple[array[int], array[int]]:
     """Reads texts, any iterable of str, and returns their values in
     nanoseconds as an `array('Q')`. The options are those of `parse_ns`.
@@ -88,11 +91,17 @@ def parse_many(
     >>> duration_str.parse_many(["1s", "soon", None], errors="coerce")
     (array('Q', [1000000000, 0, 0]), array('Q', [1, 2]))
     """
-    raises, given = raises_errors(errors), values_of(texts)
-    nanos = zeros(len(given))
-    refused = _native.read_list(
-        given, nanos, option_bits(no_calc, lowercase, cn_unit, require_unit), raises, 0, None
+    raises = raises_errors(errors)
+    options = _native.option_bits(
+        no_calc=no_calc,
+        lowercase=lowercase,
+        cn_unit=cn_unit,
+        require_unit=require_unit,
+        default_unit=default_unit,
     )
+    given = values_of(texts)
+    nanos = zeros(len(given))
+    refused = _native.read_list(given, nanos, options, raises, 0, None)
     return nanos if raises else (nanos, array("Q", refused))
 
 
@@ -106,6 +115,7 @@ def parse_buffers(
     lowercase: bool = ...,
     cn_unit: bool = ...,
     require_unit: bool = ...,
+    default_unit: Unit = ...,
 ) -> array[int]:
     ...
 
@@ -120,6 +130,7 @@ def parse_buffers(
     lowercase: bool = ...,
     cn_unit: bool = ...,
     require_unit: bool = ...,
+    default_unit: Unit = ...,
 ) -> tuple[array[int], array[int]]:
     ...
 
@@ -133,6 +144,7 @@ def parse_buffers(
     lowercase: bool = False,
     cn_unit: bool = False,
     require_unit: bool = False,
+    default_unit: Unit = "s",
 ) -> array[int] | tuple[array[int], array[int]]:
     """Reads texts like `parse_many`, but from a buffer with UTF-8. Text `k`
     is `data[offsets[k] : offsets[k + 1]]`, so there is one offset more than
@@ -153,9 +165,14 @@ def parse_buffers(
     array('Q', [1000000000, 120000000000])
     """
     raises = raises_errors(errors)
+    options = _native.option_bits(
+        no_calc=no_calc,
+        lowercase=lowercase,
+        cn_unit=cn_unit,
+        require_unit=require_unit,
+        default_unit=default_unit,
+    )
     with memoryview(offsets) as row:
         nanos = zeros(max(0, len(row) - 1))
-        refused = _native.read_buffers(
-            data, row, nanos, option_bits(no_calc, lowercase, cn_unit, require_unit), raises
-        )
+        refused = _native.read_buffers(data, row, nanos, options, raises)
     return nanos if raises else (nanos, array("Q", refused))

@@ -3,28 +3,16 @@
 from __future__ import annotations
 
 import datetime
-from collections.abc import Callable
 from contextlib import suppress
 from importlib import import_module
 from typing import Annotated, Any
 
-from ._native import format, parse
-from ._texts import DurationError
+from ._native import format, option_bits, parse
+from ._texts import DurationError, Options, Unit
 
 
-def duration(value: Any) -> Any:
-    """The value of a text, or a timedelta as it is. Raises pydantic's own errors. Where a field may
-    have other types, too, pydantic's errors name this function.
-    """
-    return _read(value, False)
-
-
-def duration_with_units(value: Any) -> Any:
-    """The same, but a number without a unit is refused."""
-    return _read(value, True)
-
-
-def _read(value: Any, require_unit: bool) -> Any:
+def _read(value: Any, options: Options) -> Any:
+    """The value of a text, or a timedelta as it is. Raises pydantic's own errors."""
     core = import_module("pydantic_core")
     if isinstance(value, datetime.timedelta):
         if value < datetime.timedelta(0):
@@ -33,7 +21,7 @@ def _read(value: Any, require_unit: bool) -> Any:
     if not isinstance(value, str):
         raise core.PydanticKnownError("string_type")
     try:
-        return parse(value, require_unit=require_unit)
+        return parse(value, **options)
     except DurationError as error:
         told = {
             "cause": error.cause.name,
@@ -67,25 +55,57 @@ class _Shown(dict[str, Any]):
         super().__setitem__(key, value)
 
 
-class _Texts:
-    """How pydantic reads, by this function, and writes a timedelta as a text."""
+class DurationField:
+    """How pydantic 2 reads a timedelta from a text, under these options, and
+    writes it as a text. It stands in `Annotated`.
 
-    def __init__(self, name: str, read: Callable[[Any], Any]) -> None:
-        self._name, self._read = name, read
+    >>> from datetime import timedelta
+    >>> from typing import Annotated
+    >>> in_millis = duration_str.DurationField(default_unit="ms")
+    >>> Milliseconds = Annotated[timedelta, in_millis]
+    """
+
+    def __init__(
+        self,
+        *,
+        no_calc: bool = False,
+        lowercase: bool = False,
+        cn_unit: bool = False,
+        require_unit: bool = False,
+        default_unit: Unit = "s",
+    ) -> None:
+        self._options: Options = {
+            "no_calc": no_calc,
+            "lowercase": lowercase,
+            "cn_unit": cn_unit,
+            "require_unit": require_unit,
+            "default_unit": default_unit,
+        }
+        # Raises if there is no such unit, or if no unit can be missing.
+        option_bits(**self._options)
 
     def __repr__(self) -> str:
-        return f"duration_str.{self._name}"
+        options = ", ".join(f"{name}={value!r}" for name, value in self._options.items())
+        return f"duration_str.DurationField({options})"
 
-    def __reduce__(self) -> str:
-        return f"_{self._name}"
+    def __eq__(self, other: object) -> bool:
+        return isinstance(other, DurationField) and self._options == other._options
+
+    def __hash__(self) -> int:
+        return hash(tuple(self._options.values()))
 
     def __get_pydantic_core_schema__(self, source: Any, handler: Any) -> Any:
         schema: Any = import_module("pydantic_core.core_schema")
         write = schema.plain_serializer_function_ser_schema(
             _print, return_schema=schema.str_schema(), when_used="json"
         )
+
+        # Where a field may have other types, too, pydantic's errors name this function.
+        def duration(value: Any) -> Any:
+            return _read(value, self._options)
+
         return schema.no_info_before_validator_function(
-            self._read, handler(datetime.timedelta), serialization=write
+            duration, handler(datetime.timedelta), serialization=write
         )
 
     def __get_pydantic_json_schema__(self, schema: Any, handler: Any) -> Any:
@@ -96,11 +116,8 @@ class _Texts:
         )
 
 
-_Duration, _DurationWithUnits = _Texts("Duration", duration), _Texts(
-    "DurationWithUnits", duration_with_units
-)
-Duration = Annotated[datetime.timedelta, _Duration]
+Duration = Annotated[datetime.timedelta, DurationField()]
 """A timedelta in a model of pydantic 2. A text is read, and a timedelta is kept. The JSON has the
 printed text. `gt`, `ge`, `lt` and `le` of a `Field` are timedeltas."""
-DurationWithUnits = Annotated[datetime.timedelta, _DurationWithUnits]
+DurationWithUnits = Annotated[datetime.timedelta, DurationField(require_unit=True)]
 """The same, but a number without a unit is refused, as in `90` and `1h 30`."""

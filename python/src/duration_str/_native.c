@@ -10,17 +10,17 @@
 
 #define SECOND 1000000000u
 
-/* What the module keeps of Python: the names of the options, in the order of their bits; of what
- * limits printing; of a timedelta's parts; and what it makes and calls. */
+/* What the module keeps of Python: the names of the options, those that are bits in the order of
+ * these; of what limits printing; of a timedelta's parts; and what it makes and calls. */
 enum kept {
     NO_CALC,
     LOWERCASE,
     CN_UNIT,
     REQUIRE_UNIT,
-    OPTIONS,
-    LARGEST = OPTIONS,
-    SMALLEST,
+    DEFAULT_UNIT,
     PARTS,
+    LARGEST,
+    SMALLEST,
     STYLE,
     DAYS,
     SECONDS,
@@ -35,7 +35,7 @@ enum kept {
 };
 /* Those before ERROR, in their order */
 static const char *const kept_names[] = {"no_calc", "lowercase", "cn_unit", "require_unit",
-    "largest", "smallest", "parts", "style", "days", "seconds", "microseconds"};
+    "default_unit", "parts", "largest", "smallest", "style", "days", "seconds", "microseconds"};
 
 /* timedelta64's NaT, and the days that it can have whatever else is added. */
 #define MISSING ((uint64_t)INT64_MIN)
@@ -137,16 +137,15 @@ static int read_str(struct state *state, PyObject *given, uint32_t options, uint
     return -1;
 }
 
-/* The place of a keyword of a call among some names that are kept, or -1 with an error. */
-static int place_of(
-    struct state *state, const char *call, PyObject *keyword, int first, int count) {
+/* Which of the names from the first to the last is a keyword of a call, or -1 with an error. */
+static int name_of(struct state *state, const char *call, PyObject *keyword, int first, int last) {
     /* Almost always it is the same str. */
-    for (int place = 0; place < count; place++)
-        if (keyword == state->kept[first + place])
-            return place;
-    for (int place = 0; place < count; place++)
-        if (!PyUnicode_Compare(keyword, state->kept[first + place]))
-            return place;
+    for (int name = first; name <= last; name++)
+        if (keyword == state->kept[name])
+            return name;
+    for (int name = first; name <= last; name++)
+        if (!PyUnicode_Compare(keyword, state->kept[name]))
+            return name;
     PyErr_Format(PyExc_TypeError, "%s() got an unexpected keyword argument %R", call, keyword);
     return -1;
 }
@@ -159,28 +158,122 @@ static bool has_one(const char *call, Py_ssize_t count) {
     return count == 1;
 }
 
+/* The names of the units as they are printed, in Latin-1, and as errors list them; and of the
+ * styles */
+/* Those of units are made by tests/repository --write. */
+static const char *const unit_names[] = {
+    "y", "q", "mon", "w", "d", "h", "min", "s", "ms", "\xb5s", "ns"};
+static const char listed_units[] = "y, q, mon, w, d, h, min, s, ms, \xc2\xb5s or us, ns";
+static const char *const style_names[] = {"short", "compact", "long"};
+
+/* The place of a name among some, or -1. */
+static int place_among(PyObject *name, const char *const *names, int count) {
+    for (int place = 0; PyUnicode_Check(name) && place < count; place++)
+        if (!PyUnicode_CompareWithASCIIString(name, names[place]))
+            return place;
+    return -1;
+}
+
+/* Raises that what is given by a keyword is none of the names that are listed. */
+static void raise_name(PyObject *name, const char *keyword, const char *listed) {
+    PyErr_Format(PyUnicode_Check(name) ? PyExc_ValueError : PyExc_TypeError,
+        "%s must be one of %s, not %R", keyword, listed, name);
+}
+
+/* The number of the unit of which the library reads one with this name, or -1. */
+static int unit_read(PyObject *name) {
+    char text[16] = "1";
+    Py_ssize_t length;
+    struct duration_str_answer named, one;
+    const char *bytes = PyUnicode_AsUTF8AndSize(name, &length);
+    if (!bytes)
+        PyErr_Clear();
+    if (!bytes || (size_t)length >= sizeof text)
+        return -1;
+    /* A blank or a digit would make another text of it than one number and its unit. */
+    for (Py_ssize_t at = 0; at < length; at++)
+        if (strchr(" \t\r\n0123456789", bytes[at]))
+            return -1;
+    memcpy(text + 1, bytes, (size_t)length);
+    const uint32_t options = DURATION_STR_OPTION_NO_CALC | DURATION_STR_OPTION_REQUIRE_UNIT;
+    if (!duration_str_parse_with(text, (size_t)length + 1, options, &named))
+        return -1;
+    for (int unit = 0; unit <= DURATION_STR_UNIT_NANOSECOND; unit++)
+        if (duration_str_parse_with("1", 1, DURATION_STR_OPTION_DEFAULT_UNIT(unit), &one) &&
+            one.nanos == named.nanos)
+            return unit;
+    return -1;
+}
+
+/* The number of a unit by each name that is read. Returns -1 with an error. */
+static int unit_of(PyObject *name, const char *keyword) {
+    int unit = place_among(name, unit_names, DURATION_STR_UNIT_NANOSECOND + 1);
+    if (unit < 0 && PyUnicode_Check(name))
+        unit = unit_read(name);
+    if (unit < 0)
+        raise_name(name, keyword, listed_units);
+    return unit;
+}
+
+/* Takes the value of an option's keyword, a bit or the default unit. Returns -1 with an error. */
+static int take_option(struct state *state, const char *call, PyObject *keyword, PyObject *value,
+    uint32_t *options, int *default_unit) {
+    const int option = name_of(state, call, keyword, NO_CALC, DEFAULT_UNIT);
+    if (option < 0)
+        return -1;
+    if (option == DEFAULT_UNIT) {
+        *default_unit = unit_of(value, "default_unit");
+        return *default_unit < 0 ? -1 : 0;
+    }
+    const int is_on = value == Py_True ? 1 : value == Py_False ? 0 : PyObject_IsTrue(value);
+    if (is_on < 0)
+        return -1;
+    *options |= (uint32_t)is_on << option;
+    return 0;
+}
+
+/* Takes the options that a call has by keywords. Returns -1 with an error. */
+static int take_options(struct state *state, const char *call, PyObject *const *values,
+    PyObject *keywords, uint32_t *options) {
+    const Py_ssize_t words = keywords ? PyTuple_Size(keywords) : 0;
+    int default_unit = DURATION_STR_UNIT_SECOND;
+    *options = 0;
+    for (Py_ssize_t at = 0; at < words; at++)
+        if (take_option(
+                state, call, PyTuple_GetItem(keywords, at), values[at], options, &default_unit))
+            return -1;
+    /* The second is the default unit by itself, and beside operators. */
+    if (default_unit == DURATION_STR_UNIT_SECOND)
+        return 0;
+    if (*options & DURATION_STR_OPTION_REQUIRE_UNIT) {
+        PyErr_SetString(PyExc_ValueError, "default_unit must be 's' if require_unit is on");
+        return -1;
+    }
+    *options |= DURATION_STR_OPTION_DEFAULT_UNIT(default_unit);
+    return 0;
+}
+
 /* Reads the text of a call, whose arguments METH_FASTCALL | METH_KEYWORDS gives. Returns -1 with an
  * error if it is refused. */
 static int read_call(struct state *state, const char *call, PyObject *const *arguments,
     Py_ssize_t count, PyObject *keywords, uint64_t *nanos) {
-    uint32_t options = 0;
-    if (!has_one(call, count))
+    uint32_t options;
+    if (!has_one(call, count) || take_options(state, call, arguments + 1, keywords, &options))
         return -1;
-    const Py_ssize_t words = keywords ? PyTuple_Size(keywords) : 0;
-    for (Py_ssize_t at = 0; at < words; at++) {
-        const int option = place_of(state, call, PyTuple_GetItem(keywords, at), NO_CALC, OPTIONS);
-        PyObject *value = arguments[count + at];
-        if (option < 0)
-            return -1;
-        const int is_on = value == Py_True ? 1 : value == Py_False ? 0 : PyObject_IsTrue(value);
-        if (is_on < 0)
-            return -1;
-        options |= (uint32_t)is_on << option;
-    }
     if (PyUnicode_Check(arguments[0]))
         return read_str(state, arguments[0], options, nanos, true, -1) == 1 ? 0 : -1;
     raise_type_error(state, arguments[0], -1);
     return -1;
+}
+
+/* option_bits(*, no_calc, lowercase, cn_unit, require_unit, default_unit): the options as read_list
+ * and read_buffers take them */
+static PyObject *option_bits(
+    PyObject *self, PyObject *const *arguments, Py_ssize_t count, PyObject *keywords) {
+    uint32_t options;
+    if (take_options(PyModule_GetState(self), "option_bits", arguments + count, keywords, &options))
+        return NULL;
+    return PyLong_FromUnsignedLong(options);
 }
 
 static PyObject *parse_ns(
@@ -216,42 +309,16 @@ static PyObject *parse_seconds(
     return seconds;
 }
 
-/* The limits within which durations are printed, and how. */
+/* How durations are printed. */
 struct limits {
-    uint32_t units[2]; /* the largest and the smallest */
+    uint32_t units; /* a set */
     uint32_t parts;
     uint32_t style;
 };
 
 /* All units, as many parts as there are units, and the short style */
-static const struct limits no_limits = {{DURATION_STR_UNIT_YEAR, DURATION_STR_UNIT_NANOSECOND},
-    DURATION_STR_UNIT_NANOSECOND + 1, DURATION_STR_STYLE_SHORT};
-
-/* The names of the units as they are printed, in Latin-1, and of the styles */
-/* Made by tests/repository --write. */
-static const char *const unit_names[] = {
-    "y", "q", "mon", "w", "d", "h", "min", "s", "ms", "\xb5s", "ns"};
-static const char *const style_names[] = {"short", "compact", "long"};
-
-/* The place of a name among some. Returns -1 with an error. */
-static int place_among(
-    PyObject *name, const char *const *names, int count, const char *keyword, const char *told) {
-    for (int place = 0; PyUnicode_Check(name) && place < count; place++)
-        if (!PyUnicode_CompareWithASCIIString(name, names[place]))
-            return place;
-    PyErr_Format(PyUnicode_Check(name) ? PyExc_ValueError : PyExc_TypeError,
-        "%s must be one of %s, not %R", keyword, told, name);
-    return -1;
-}
-
-/* The number of a unit by its name. Returns -1 with an error. */
-static int unit_of(PyObject *name, const char *keyword) {
-    if (PyUnicode_Check(name) && !PyUnicode_CompareWithASCIIString(name, "us"))
-        return DURATION_STR_UNIT_MICROSECOND;
-    /* Made by tests/repository --write. */
-    const char *told = "y, q, mon, w, d, h, min, s, ms, \xc2\xb5s or us, ns";
-    return place_among(name, unit_names, DURATION_STR_UNIT_NANOSECOND + 1, keyword, told);
-}
+static const struct limits no_limits = {
+    DURATION_STR_UNITS_ALL, DURATION_STR_UNIT_NANOSECOND + 1, DURATION_STR_STYLE_SHORT};
 
 /* Takes a count of parts. Returns -1 with an error. */
 static int take_parts(PyObject *value, uint32_t *parts) {
@@ -273,34 +340,47 @@ static int take_parts(PyObject *value, uint32_t *parts) {
     return 0;
 }
 
-/* Takes the value of a keyword. Returns -1 with an error. */
-static int take_limit(
-    struct state *state, PyObject *keyword, PyObject *value, struct limits *limits) {
-    const int limit = place_of(state, "format", keyword, LARGEST, STYLE + 1 - LARGEST);
-    if (limit < 0)
-        return -1;
-    if (LARGEST + limit == PARTS)
+/* Takes a style by its name. Returns -1 with an error. */
+static int take_style(PyObject *name, uint32_t *style) {
+    const int place = place_among(name, style_names, DURATION_STR_STYLE_LONG + 1);
+    if (place < 0)
+        raise_name(name, "style", "short, compact, long");
+    *style = (uint32_t)place;
+    return place < 0 ? -1 : 0;
+}
+
+/* Takes the value of a keyword into the limits, or a unit by the number of its keyword. Returns -1
+ * with an error. */
+static int take_limit(struct state *state, PyObject *keyword, PyObject *value,
+    struct limits *limits, int *largest, int *smallest) {
+    const int limit = name_of(state, "format", keyword, PARTS, STYLE);
+    switch (limit) {
+    case PARTS:
         return take_parts(value, &limits->parts);
-    if (LARGEST + limit == STYLE) {
-        const int style = place_among(
-            value, style_names, DURATION_STR_STYLE_LONG + 1, "style", "short, compact, long");
-        limits->style = (uint32_t)style;
-        return style < 0 ? -1 : 0;
+    case LARGEST:
+        *largest = unit_of(value, "largest");
+        return *largest < 0 ? -1 : 0;
+    case SMALLEST:
+        *smallest = unit_of(value, "smallest");
+        return *smallest < 0 ? -1 : 0;
+    case STYLE:
+        return take_style(value, &limits->style);
     }
-    const int unit = unit_of(value, limit ? "smallest" : "largest");
-    limits->units[limit] = (uint32_t)unit;
-    return unit < 0 ? -1 : 0;
+    return -1;
 }
 
 /* Takes the limits that a call has by keywords. Returns -1 with an error. */
 static int take_limits(
     struct state *state, PyObject *const *values, PyObject *keywords, struct limits *limits) {
     const Py_ssize_t words = keywords ? PyTuple_Size(keywords) : 0;
+    int largest = DURATION_STR_UNIT_YEAR, smallest = DURATION_STR_UNIT_NANOSECOND;
     *limits = no_limits;
     for (Py_ssize_t at = 0; at < words; at++)
-        if (take_limit(state, PyTuple_GetItem(keywords, at), values[at], limits))
+        if (take_limit(
+                state, PyTuple_GetItem(keywords, at), values[at], limits, &largest, &smallest))
             return -1;
-    if (limits->units[0] <= limits->units[1])
+    limits->units &= DURATION_STR_UNITS_BETWEEN(largest, smallest);
+    if (limits->units)
         return 0;
     PyErr_SetString(PyExc_ValueError, "largest must not be a shorter unit than smallest");
     return -1;
@@ -312,8 +392,8 @@ static PyObject *text_of(uint64_t secs, uint32_t nanos, const struct limits *lim
     const bool is_whole = !memcmp(limits, &no_limits, sizeof *limits);
     const size_t length = is_whole && secs < UINT64_MAX / SECOND
                               ? duration_str_format(secs * SECOND + nanos, buffer)
-                              : duration_str_format_styled(secs, nanos, limits->units[0],
-                                    limits->units[1], limits->parts, limits->style, buffer);
+                              : duration_str_format_styled(secs, nanos, limits->units,
+                                    limits->parts, limits->style, buffer);
     return PyUnicode_FromStringAndSize(buffer, (Py_ssize_t)length);
 }
 
@@ -394,7 +474,7 @@ static PyObject *limits(
     struct limits limits;
     if (take_limits(PyModule_GetState(self), arguments + count, keywords, &limits))
         return NULL;
-    return Py_BuildValue("(IIII)", limits.units[0], limits.units[1], limits.parts, limits.style);
+    return Py_BuildValue("(III)", limits.units, limits.parts, limits.style);
 }
 
 /* After so many values of a column other threads may run, and a signal may end the call. It takes
@@ -414,8 +494,8 @@ static int end_turn(void) {
 static PyObject *format_list(PyObject *self, PyObject *arguments) {
     PyObject *values, *function, *texts;
     struct limits limits;
-    if (!PyArg_ParseTuple(arguments, "O!OO!(IIII)", &PyList_Type, &values, &function, &PyList_Type,
-            &texts, &limits.units[0], &limits.units[1], &limits.parts, &limits.style))
+    if (!PyArg_ParseTuple(arguments, "O!OO!(III)", &PyList_Type, &values, &function, &PyList_Type,
+            &texts, &limits.units, &limits.parts, &limits.style))
         return NULL;
     for (Py_ssize_t at = 0; at < PyList_Size(values); at++) {
         PyObject *value = Py_NewRef(PyList_GetItem(values, at));
@@ -694,7 +774,7 @@ static PyObject *read_buffers(PyObject *self, PyObject *arguments) {
 
 #define OPTIONS_DOC                                                                                \
     "($module, text, /, *, no_calc=False, lowercase=False, cn_unit=False, "                        \
-    "require_unit=False)\n--\n\n"
+    "require_unit=False, default_unit='s')\n--\n\n"
 PyDoc_STRVAR(parse_ns_doc,
     "parse_ns" OPTIONS_DOC "Returns the value of a text in nanoseconds.\n\n"
     "The options are off by default:\n\n"
@@ -703,8 +783,13 @@ PyDoc_STRVAR(parse_ns_doc,
     "                capitals are read as small letters\n"
     "  cn_unit       the Chinese names of the units are read too\n"
     "  require_unit  a number without a unit is refused\n\n"
+    "A number without a unit counts the `default_unit`, by any name that is read. If\n"
+    "this is not the second, `+` and `*` are not read, since a factor counts it too.\n\n"
     "Raises DurationError if the text is refused, and DurationTypeError if it is\n"
-    "not a str.");
+    "not a str. Raises ValueError if no unit has the name, or if a unit is required\n"
+    "and `default_unit` is not the second.\n\n"
+    ">>> duration_str.parse_ns('1500', default_unit='ms')\n"
+    "1500000000");
 PyDoc_STRVAR(parse_doc,
     "parse" OPTIONS_DOC
     "Returns the value of a text as a timedelta, rounded down to microseconds.\n\n"
@@ -718,15 +803,16 @@ PyDoc_STRVAR(format_doc,
     "Prints a duration: an int of nanoseconds, or a timedelta, also NumPy's.\n\n"
     "  parts     at most so many parts\n"
     "  largest   the largest unit: `y`, `q`, `mon`, `w`, `d`, `h`, `min`, `s`,\n"
-    "            `ms`, `\xc2\xb5s` or `us`, or `ns`\n"
+    "            `ms`, `\xc2\xb5s` or `us`, `ns`, or another name that is read\n"
     "  smallest  the smallest unit\n"
     "  style     `short` (`1h 30min`), `compact` (`1h30min`) or `long`\n"
     "            (`1 hour 30 minutes`)\n\n"
     "The rest is left out, so the text never shows more than the duration. If all\n"
     "counts are 0, it is `0` and the smallest unit, or `0s`.\n\n"
-    "Raises ValueError if the duration is negative, if `parts` is 0, or if the\n"
-    "largest unit is shorter than the smallest; OverflowError if the duration is\n"
-    "2**64 seconds or more; TypeError if it is neither an int nor a timedelta.\n\n"
+    "Raises ValueError if the duration is negative, if `parts` is 0, if no unit has\n"
+    "a name, or if the largest unit is shorter than the smallest; OverflowError if\n"
+    "the duration is 2**64 seconds or more; TypeError if it is neither an int nor a\n"
+    "timedelta.\n\n"
     ">>> duration_str.format(193_029_000_000, parts=2)\n"
     "'3min 13s'\n"
     ">>> duration_str.format(193_029_000_000, style='long')\n"
@@ -738,6 +824,7 @@ static PyMethodDef methods[] = {
     {"parse", FAST(parse), parse_doc},
     {"parse_seconds", FAST(parse_seconds), parse_seconds_doc},
     {"format", FAST(format), format_doc},
+    {"option_bits", FAST(option_bits), NULL},
     {"limits", FAST(limits), NULL},
     {"format_list", format_list, METH_VARARGS, NULL},
     {"read_list", read_list, METH_VARARGS, NULL},

@@ -21,6 +21,7 @@ def parse_ns(
     lowercase: bool = False,
     cn_unit: bool = False,
     require_unit: bool = False,
+    default_unit: Unit = "s",
 ) -> int: ...
 def parse(
     text: str,
@@ -30,6 +31,7 @@ def parse(
     lowercase: bool = False,
     cn_unit: bool = False,
     require_unit: bool = False,
+    default_unit: Unit = "s",
 ) -> timedelta: ...
 def parse_seconds(
     text: str,
@@ -39,6 +41,7 @@ def parse_seconds(
     lowercase: bool = False,
     cn_unit: bool = False,
     require_unit: bool = False,
+    default_unit: Unit = "s",
 ) -> float: ...
 def format(
     value: int | timedelta | NumpyDuration,
@@ -49,14 +52,15 @@ def format(
     smallest: Unit = "ns",
     style: Style = "short",
 ) -> str: ...
-def limits(
-    *, parts: int, largest: Unit, smallest: Unit, style: Style
-) -> tuple[int, int, int, int]: ...
+def option_bits(
+    *, no_calc: bool, lowercase: bool, cn_unit: bool, require_unit: bool, default_unit: Unit
+) -> int: ...
+def limits(*, parts: int, largest: Unit, smallest: Unit, style: Style) -> tuple[int, int, int]: ...
 def format_list(
     values: list[Any],
     function: Callable[[Any], int | None],
     texts: list[str | None],
-    limits: tuple[int, int, int, int],
+    limits: tuple[int, int, int],
     /,
 ) -> None: ...
 def read_list(

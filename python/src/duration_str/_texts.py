@@ -8,14 +8,33 @@ import datetime
 import enum
 import sys
 from importlib import import_module
-from typing import Any, Literal
+from typing import Any, Literal, TypedDict
 
+#: A unit by one of its names
 # Made by tests/repository --write.
-#: A unit by its printed name; `us` is the same as `µs`
-Unit = Literal["y", "q", "mon", "w", "d", "h", "min", "s", "ms", "µs", "us", "ns"]
+# fmt: off
+Unit = Literal[
+    "y", "year", "years", "q", "quarter", "quarters", "mon", "month", "months", "w", "week",
+    "weeks", "d", "day", "days", "h", "hr", "hour", "hours", "m", "min", "minute", "minutes", "s",
+    "sec", "second", "seconds", "ms", "msec", "millisecond", "milliseconds", "µs", "µsec",
+    "µsecond", "us", "usec", "usecond", "microsecond", "microseconds", "ns", "nsec", "nanosecond",
+    "nanoseconds"
+]
+# fmt: on
 
 #: How a duration is printed: `1h 30min`, `1h30min`, `1 hour 30 minutes`
 Style = Literal["short", "compact", "long"]
+
+
+class Options(TypedDict):
+    """How a text is read."""
+
+    no_calc: bool
+    lowercase: bool
+    cn_unit: bool
+    require_unit: bool
+    default_unit: Unit
+
 
 #: The units of timedelta64 that have a length in nanoseconds
 _NANOS = {"W": 604_800 * 10**9, "D": 86_400 * 10**9, "h": 3_600 * 10**9, "m": 60 * 10**9}
@@ -115,13 +134,6 @@ class DurationError(ValueError):
 
     def __reduce__(self) -> tuple[type[DurationError], tuple[object, ...], dict[str, object]]:
         return type(self), (str(self), self.text, self.cause), self.__dict__
-
-
-def option_bits(no_calc: bool, lowercase: bool, cn_unit: bool, require_unit: bool) -> int:
-    """The options as the library takes them."""
-    return sum(
-        bool(is_on) << bit for bit, is_on in enumerate((no_calc, lowercase, cn_unit, require_unit))
-    )
 
 
 def nanos_a_step(dtype: Any) -> int:

@@ -10,8 +10,8 @@ from typing import Any
 
 import click
 
-from ._native import parse
-from ._texts import DurationError
+from ._native import option_bits, parse
+from ._texts import DurationError, Options, Unit
 
 
 class DurationParamType(click.ParamType):
@@ -27,13 +27,17 @@ class DurationParamType(click.ParamType):
         lowercase: bool = False,
         cn_unit: bool = False,
         require_unit: bool = False,
+        default_unit: Unit = "s",
     ) -> None:
-        self._options = {
+        self._options: Options = {
             "no_calc": no_calc,
             "lowercase": lowercase,
             "cn_unit": cn_unit,
             "require_unit": require_unit,
+            "default_unit": default_unit,
         }
+        # Raises if there is no such unit, or if no unit can be missing.
+        option_bits(**self._options)
 
     def __repr__(self) -> str:
         return "DURATION"
