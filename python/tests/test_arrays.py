@@ -325,6 +325,8 @@ class Printing(unittest.TestCase):
         self.assertEqual(format_many(values).tolist(), printed)
         self.assertEqual(format_many(values.reshape(2, 3)).tolist(), [printed[:3], printed[3:]])
         self.assertEqual(format_many(values.astype(">m8[ns]")).tolist(), printed)
+        days = [format(nanos, units=["d"]) for nanos in self.NANOS]
+        self.assertEqual(format_many(values[:-1], units=["d"]).tolist(), days)
         self.assertEqual(format_many(values[::-1]).tolist(), printed[::-1])
         series = pandas.Series(values, index=list("abcdef"), name="wait")
         wanted = pandas.Series(printed, index=series.index, name="wait", dtype=object)

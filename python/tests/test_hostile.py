@@ -216,6 +216,11 @@ class Hostile(unittest.TestCase):
         with self.assertRaisesRegex(TypeError, "^at index 1: .* not Odd$"):
             format_many([SECOND, Odd(), SECOND])
 
+    def test_takes_units_from_any_iterable(self):
+        self.assertEqual(format(SECOND, units=[Named("ms")], largest=Named("ms")), "1000ms")
+        for units, error in [((1 // 0 for _ in "y"), ZeroDivisionError), ([Odd()], TypeError)]:
+            self.assertRaises(error, format, SECOND, units=units)
+
     def test_reads_what_changes_while_it_is_read(self):
         for change in [list.clear, list.pop]:
             values, nanos = ["1s", Odd(), "1s"], array("Q", bytes(24))

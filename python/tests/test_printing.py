@@ -74,13 +74,33 @@ class Printing(unittest.TestCase):
             ({"parts": 10**30}, "3min 13s 29ms"),
         ]
         rows.append(({"parts": 2**32 + 1}, "3min 13s 29ms"))
+        rows.append(({"units": ("s", "ms")}, "193s 29ms"))
         for words, printed in rows:
             self.assertEqual(format(193_029_000_000, **words), printed)
+
+    def test_prints_in_chosen_units(self):
+        days = 86_400 * SECOND
+        for nanos, words, printed in [
+            (500 * days, {"units": ("y", "mon", "d")}, "1y 4mon 15d"),
+            (500 * days, {"units": ["d", "y", "mon", "d"]}, "1y 4mon 15d"),
+            (500 * days, {"units": {"years", "Days"}}, "1y 135d"),
+            (500 * days, {"units": (name for name in ("y", "d")), "parts": 1}, "1y"),
+            (500 * days, {"units": dict.fromkeys("dy"), "largest": "d"}, "500d"),
+            (500 * days, {"units": None}, "1y 1q 1mon 2w"),
+            (1999, {"units": ["us"]}, "1µs"),
+            (1999, {"units": ["µsecond"], "style": "long"}, "1 microsecond"),
+            (999, {"units": ["ms"]}, "0s"),
+            (1, {"units": ["y", "h"]}, "0h"),
+        ]:
+            with self.subTest(**words):
+                self.assertEqual(format(nanos, **words), printed)
+        units = (name for name in ("min", "s"))
+        self.assertEqual(format_many([3_601 * SECOND] * 2, units=units), ["60min 1s"] * 2)
 
     def test_knows_units_by_each_name_that_is_read(self):
         for name in typing.get_args(Unit):
             for word in (name, name.upper().replace("Μ", "µ")):
-                self.assertEqual(format(parse_ns(f"3{word}"), smallest=word, largest=word)[0], "3")
+                self.assertEqual(format(parse_ns(f"3{word}"), units=[word], largest=word)[0], "3")
 
     def test_wants_known_limits(self):
         names = "one of y, q, mon, w, d, h, min, s, ms, µs or us, ns, not "
@@ -120,6 +140,7 @@ class Printing(unittest.TestCase):
             "\ud800",
             "y\0",
             "s" * 15,
+            "s" * 999,
         ]:
             rows += [
                 (
@@ -128,10 +149,20 @@ class Printing(unittest.TestCase):
                     f"^largest must be {names}{re.escape(repr(unit))}$",
                 ),
                 ({"smallest": unit}, ValueError, names),
+                ({"units": ["y", unit]}, ValueError, f"^each of units must be {names}"),
+            ]
+        for unit in (None, 4, b"d"):
+            rows += [
+                ({"largest": unit}, TypeError, f"^largest must be {names}"),
+                ({"units": [unit]}, TypeError, f"^each of units must be {names}"),
             ]
         rows += [
-            ({"largest": unit}, TypeError, f"^largest must be {names}") for unit in (None, 4, b"d")
+            ({"units": units}, TypeError, f"^units must be a list of units, not {units!r}$")
+            for units in ("yd", "d", "", 4)
         ]
+        rows += [({"units": units}, ValueError, "^units must not be empty$") for units in ([], {})]
+        limits = {"units": ("y", "mon"), "largest": "w"}
+        rows += [(limits, ValueError, "^units must have one from largest to smallest$")]
         for limits, error, told in rows:
             for call in [lambda: format(5, **limits), lambda: format_many([], **limits)]:
                 with self.subTest(**limits):

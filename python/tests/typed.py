@@ -32,9 +32,12 @@ assert_type(duration_str.format(5, parts=2, largest="d", smallest="us"), str)
 unit: duration_str.Unit = "h"
 style: duration_str.Style = "long"
 assert_type(duration_str.format(5, largest=unit, style=style), str)
+assert_type(duration_str.format(5, units=["years", "d"]), str)
 assert_type(duration_str.parse("1500", default_unit="ms"), datetime.timedelta)
 assert_type(duration_str.parse_many(["1500"], default_unit="ms"), "array[int]")
 duration_str.parse("1500", default_unit="mins")  # type: ignore[arg-type]
+duration_str.format(5, units=["mins"])  # type: ignore[list-item]
+duration_str.format(5, units=5)  # type: ignore[arg-type]
 duration_str.format(5, largest="mins")  # type: ignore[arg-type]
 duration_str.format(5, style="words")  # type: ignore[arg-type]
 duration_str.format(5, parts=1.5)  # type: ignore[arg-type]

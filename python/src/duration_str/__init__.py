@@ -41,7 +41,8 @@ To read a text:
 
 To print an int of nanoseconds or a timedelta:
 
-format(value, /, *, parts=11, largest="y", smallest="ns", style="short")
+format(value, /, *, parts=11, units=None, largest="y", smallest="ns",
+       style="short")
 
 `format` is not in `__all__`, so `from duration_str import *` doesn't hide
 the builtin function. `Unit` and `Style` are the types of its options.

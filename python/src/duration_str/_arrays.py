@@ -4,6 +4,7 @@ from __future__ import annotations
 
 import datetime
 import sys
+from collections.abc import Iterable
 from functools import partial
 from typing import TYPE_CHECKING, Any, overload
 
@@ -213,6 +214,7 @@ def format_many(
     values: Any,
     *,
     parts: int = 11,
+    units: Iterable[Unit] | None = None,
     largest: Unit = "y",
     smallest: Unit = "ns",
     style: Style = "short",
@@ -232,7 +234,9 @@ def format_many(
     >>> duration_str.format_many([90 * 10**9, None], largest="s")
     ['90s', None]
     """
-    limits = _native.limits(parts=parts, largest=largest, smallest=smallest, style=style)
+    limits = _native.limits(
+        parts=parts, units=units, largest=largest, smallest=smallest, style=style
+    )
     given = _durations(values) if hasattr(values, "__array__") else list(values)
     texts: list[str | None] = []
     try:

@@ -19,6 +19,7 @@ enum kept {
     REQUIRE_UNIT,
     DEFAULT_UNIT,
     PARTS,
+    UNITS,
     LARGEST,
     SMALLEST,
     STYLE,
@@ -35,7 +36,8 @@ enum kept {
 };
 /* Those before ERROR, in their order */
 static const char *const kept_names[] = {"no_calc", "lowercase", "cn_unit", "require_unit",
-    "default_unit", "parts", "largest", "smallest", "style", "days", "seconds", "microseconds"};
+    "default_unit", "parts", "units", "largest", "smallest", "style", "days", "seconds",
+    "microseconds"};
 
 /* timedelta64's NaT, and the days that it can have whatever else is added. */
 #define MISSING ((uint64_t)INT64_MIN)
@@ -349,6 +351,34 @@ static int take_style(PyObject *name, uint32_t *style) {
     return place < 0 ? -1 : 0;
 }
 
+/* Takes a set of units, or all of them for None. Returns -1 with an error. */
+static int take_units(PyObject *value, uint32_t *units) {
+    if (Py_IsNone(value))
+        return 0;
+    PyObject *names = PyUnicode_Check(value) ? NULL : PyObject_GetIter(value), *name;
+    if (!names) {
+        PyErr_Format(PyExc_TypeError, "units must be a list of units, not %R", value);
+        return -1;
+    }
+    uint32_t chosen = 0;
+    while ((name = PyIter_Next(names))) {
+        const int unit = unit_of(name, "each of units");
+        Py_DECREF(name);
+        if (unit < 0)
+            break;
+        chosen |= DURATION_STR_UNITS(unit);
+    }
+    Py_DECREF(names);
+    if (PyErr_Occurred())
+        return -1;
+    if (!chosen) {
+        PyErr_SetString(PyExc_ValueError, "units must not be empty");
+        return -1;
+    }
+    *units = chosen;
+    return 0;
+}
+
 /* Takes the value of a keyword into the limits, or a unit by the number of its keyword. Returns -1
  * with an error. */
 static int take_limit(struct state *state, PyObject *keyword, PyObject *value,
@@ -357,6 +387,8 @@ static int take_limit(struct state *state, PyObject *keyword, PyObject *value,
     switch (limit) {
     case PARTS:
         return take_parts(value, &limits->parts);
+    case UNITS:
+        return take_units(value, &limits->units);
     case LARGEST:
         *largest = unit_of(value, "largest");
         return *largest < 0 ? -1 : 0;
@@ -382,7 +414,9 @@ static int take_limits(
     limits->units &= DURATION_STR_UNITS_BETWEEN(largest, smallest);
     if (limits->units)
         return 0;
-    PyErr_SetString(PyExc_ValueError, "largest must not be a shorter unit than smallest");
+    PyErr_SetString(PyExc_ValueError, largest > smallest
+                                          ? "largest must not be a shorter unit than smallest"
+                                          : "units must have one from largest to smallest");
     return -1;
 }
 
@@ -468,7 +502,7 @@ static PyObject *format(
     return text_of_value(state, arguments[0], state->kept[NANOS_OF], &limits);
 }
 
-/* limits(*, parts, largest, smallest, style): the limits as format_list takes them */
+/* limits(*, parts, units, largest, smallest, style): the limits as format_list takes them */
 static PyObject *limits(
     PyObject *self, PyObject *const *arguments, Py_ssize_t count, PyObject *keywords) {
     struct limits limits;
@@ -799,24 +833,29 @@ PyDoc_STRVAR(parse_seconds_doc,
     "Returns the value of a text in seconds, rounded to the nearest float.\n\n"
     "`parse_ns` is exact; it has the same options and errors.");
 PyDoc_STRVAR(format_doc,
-    "format($module, value, /, *, parts=11, largest='y', smallest='ns', style='short')\n--\n\n"
+    "format($module, value, /, *, parts=11, units=None, largest='y', smallest='ns', style='short')"
+    "\n--\n\n"
     "Prints a duration: an int of nanoseconds, or a timedelta, also NumPy's.\n\n"
     "  parts     at most so many parts\n"
+    "  units     only these units, such as `('y', 'mon', 'd')`, in any order\n"
     "  largest   the largest unit: `y`, `q`, `mon`, `w`, `d`, `h`, `min`, `s`,\n"
     "            `ms`, `\xc2\xb5s` or `us`, `ns`, or another name that is read\n"
     "  smallest  the smallest unit\n"
     "  style     `short` (`1h 30min`), `compact` (`1h30min`) or `long`\n"
     "            (`1 hour 30 minutes`)\n\n"
     "The rest is left out, so the text never shows more than the duration. If all\n"
-    "counts are 0, it is `0` and the smallest unit, or `0s`.\n\n"
+    "counts are 0, it is `0` and the smallest unit, or `0s`, as for milliseconds\n"
+    "alone.\n\n"
     "Raises ValueError if the duration is negative, if `parts` is 0, if no unit has\n"
-    "a name, or if the largest unit is shorter than the smallest; OverflowError if\n"
-    "the duration is 2**64 seconds or more; TypeError if it is neither an int nor a\n"
-    "timedelta.\n\n"
+    "a name, or if no units are left; OverflowError if the duration is 2**64 seconds\n"
+    "or more; TypeError if it is neither an int nor a timedelta, or if `units` is a\n"
+    "text.\n\n"
     ">>> duration_str.format(193_029_000_000, parts=2)\n"
     "'3min 13s'\n"
     ">>> duration_str.format(193_029_000_000, style='long')\n"
-    "'3 minutes 13 seconds 29 milliseconds'");
+    "'3 minutes 13 seconds 29 milliseconds'\n"
+    ">>> duration_str.format(500 * 86_400 * 10**9, units=('y', 'mon', 'd'))\n"
+    "'1y 4mon 15d'");
 
 #define FAST(call) (PyCFunction)(void (*)(void)) call, METH_FASTCALL | METH_KEYWORDS
 static PyMethodDef methods[] = {

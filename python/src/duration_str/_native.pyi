@@ -1,5 +1,5 @@
 from array import array
-from collections.abc import Callable
+from collections.abc import Callable, Iterable
 from datetime import timedelta
 from typing import Any, Protocol, type_check_only
 
@@ -48,6 +48,7 @@ def format(
     /,
     *,
     parts: int = 11,
+    units: Iterable[Unit] | None = None,
     largest: Unit = "y",
     smallest: Unit = "ns",
     style: Style = "short",
@@ -55,7 +56,9 @@ def format(
 def option_bits(
     *, no_calc: bool, lowercase: bool, cn_unit: bool, require_unit: bool, default_unit: Unit
 ) -> int: ...
-def limits(*, parts: int, largest: Unit, smallest: Unit, style: Style) -> tuple[int, int, int]: ...
+def limits(
+    *, parts: int, units: Iterable[Unit] | None, largest: Unit, smallest: Unit, style: Style
+) -> tuple[int, int, int]: ...
 def format_list(
     values: list[Any],
     function: Callable[[Any], int | None],
