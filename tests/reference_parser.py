@@ -43,6 +43,9 @@ UNITS = (
     Unit(1, "ns", "ns nsec nanosecond nanoseconds", "纳秒"),
 )
 
+# The places of the units there, by each name.
+PLACES = {name: place for place, unit in enumerate(UNITS) for name in unit.names.split()}
+
 # The line of a syntax fault where a unit could stand, and the most bytes that a printed duration
 # has.
 UNIT_LINE = 'expected ["y", "q", "mon", "w", "d", "h", "m", "s", "ms", "µs", "us", "ns"]'
@@ -78,6 +81,36 @@ CHOICES = [
     Options(*choice[::-1])
     for choice in itertools.product((False, True), repeat=len(Options._fields))
 ]
+
+
+class Choice(typing.NamedTuple):
+    """How a text is read: a choice of options, and the default unit, or None if a unit is
+    required.
+    """
+
+    options: Options = Options()
+    default_unit: typing.Optional[Unit] = UNITS[PLACES["s"]]
+
+    @classmethod
+    def named(cls, names):
+        """The choice that a row of rust/vectors.json names."""
+        options = Options(*(name in names for name in Options._fields))
+        if "require_unit" in names:
+            return cls(options, None)
+        given = dict(name.split("=") for name in names if "=" in name)
+        return cls(options, UNITS[PLACES[given.get("default_unit", "s")]])
+
+    def words(self):
+        """The names that make this choice."""
+        if self.default_unit is None:
+            return [*self.options.words(), "require_unit"]
+        if self.default_unit.length == SECOND:
+            return self.options.words()
+        return [*self.options.words(), f"default_unit={self.default_unit.printed}"]
+
+    def answer(self, text):
+        return answer_of(text, self.options, self.default_unit and self.default_unit.length)
+
 
 # The sets of units, each with its units in order, by their numbers for C: the sum of 2^n for each
 # unit that stands at the place n in UNITS.
@@ -465,16 +498,16 @@ def parsed(text, options, default_unit):
     return front, fault
 
 
-def prepare(text):
-    """Computes the answers for bytes under all choices, which are kept for a while: together that
+def prepare(text, choices):
+    """Computes the answers for bytes under some choices, which are kept for a while: together that
     takes less time.
     """
     try:
         text = text.decode()
     except UnicodeDecodeError:
         return
-    for options in CHOICES:
-        answer_of(text, options)
+    for choice in choices:
+        choice.answer(text)
 
 
 def quotients(nanos, lengths, chosen):
@@ -731,7 +764,7 @@ def one_line(text, answer):
     return expected_in_line(answer.expected) + column + found + (f" ({told})" if told else "")
 
 
-def output_of(line, options, told=message):
+def output_of(line, choice, told=message):
     """What the program writes for a line of bytes, without the line feed at its end, and whether
     the line is accepted. Of a refusal it writes what is told.
     """
@@ -739,7 +772,7 @@ def output_of(line, options, told=message):
         text = line.decode()
     except UnicodeDecodeError:
         return b"not UTF-8", False
-    answer = answer_of(text, options)
+    answer = choice.answer(text)
     if answer.cause != "read":
         return told(text, answer).encode(), False
     human = print_whole(answer.value)

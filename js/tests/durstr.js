@@ -1,6 +1,6 @@
 // node durstr.js [OPTION..]: does over the package what the program durstr does, but for a refused
-// line, of which it writes the package's message. The status is 0 if all lines are read, and 1 if
-// some are refused.
+// line, of which it writes the package's message. An option may also be `require_unit` or a default
+// unit as `default_unit=ms`. The status is 0 if all lines are read, and 1 if some are refused.
 import { readFileSync, writeFileSync } from "node:fs";
 
 import { formatNs, tryParseNs } from "duration-str";

@@ -7,11 +7,16 @@ export const VECTORS = JSON.parse(
 );
 
 /**
- * The options of which those with these names are on; they are named as in C and on command lines.
+ * The options with these names, which are those in C and on command lines. A name is that of an
+ * option that is on, or a default unit as `default_unit=ms`.
  */
 export function optionsOf(names) {
     const camel = (name) => name.replace(/_(.)/, (_, letter) => letter.toUpperCase());
-    return Object.fromEntries(VECTORS.options.map((name) => [camel(name), names.includes(name)]));
+    const given = names.map((name) => name.split("="));
+    return Object.fromEntries([
+        ...VECTORS.options.map((name) => [camel(name), false]),
+        ...given.map(([name, value = true]) => [camel(name), value]),
+    ]);
 }
 
 /** All choices of the options, each as the names of those that are on. */

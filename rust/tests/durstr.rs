@@ -1,8 +1,9 @@
-//! Does over the crate what the program durstr does, for tests/compare. The status is 0 if all
-//! lines are read, and 1 if some are refused.
+//! Does over the crate what the program durstr does, for tests/compare. Further words are
+//! `require_unit` and another default unit, such as `default_unit=ms`. The status is 0 if all lines
+//! are read, and 1 if some are refused.
 #![forbid(unsafe_code)]
 
-use duration_str::{Options, format_duration, parse_with};
+use duration_str::{Options, TimeUnit, format_duration, parse_with_default_unit};
 use std::io::Read;
 use std::process::ExitCode;
 
@@ -13,13 +14,21 @@ fn main() -> ExitCode {
         lowercase: is_on("lowercase"),
         cn_unit: is_on("cn_unit"),
     };
+    let mut words = std::env::args();
+    let named = words.find_map(|word| word.strip_prefix("default_unit=").map(String::from));
+    let default_unit = match named {
+        _ if is_on("require_unit") => None,
+        Some(name) => Some(name.parse().expect("a unit")),
+        None => Some(TimeUnit::Second),
+    };
     let mut input = Vec::new();
     std::io::stdin().read_to_end(&mut input).expect("an input");
     let mut refusals = 0;
     for line in input.split_inclusive(|byte| *byte == b'\n') {
         let line = line.strip_suffix(b"\n").unwrap_or(line);
         let answer = match std::str::from_utf8(line) {
-            Ok(text) => parse_with(text, options).map_err(|fault| fault.to_string()),
+            Ok(text) => parse_with_default_unit(text, options, default_unit)
+                .map_err(|fault| fault.to_string()),
             Err(_) => Err(String::from("not UTF-8")),
         };
         match answer {
