@@ -25,6 +25,12 @@ export const CHOICES = VECTORS.options.reduce(
     [[]],
 );
 
+/** The choices for the vectors of this group, each with its required or another default unit. */
+export function choicesFor({ on }) {
+    const unit = on.filter((name) => !VECTORS.options.includes(name));
+    return CHOICES.map((names) => [...names, ...unit]);
+}
+
 /** Whether the vectors of this group hold under the options with these names. */
 export function holds({ on, off }, names) {
     return on.every((name) => names.includes(name)) && !off.some((name) => names.includes(name));

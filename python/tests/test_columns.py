@@ -42,9 +42,9 @@ class Columns(unittest.TestCase):
 
     def test_raises_what_the_text_alone_raises(self):
         for options, rows in value_columns():
-            accepted = [text for text, value in rows if value is not None]
+            accepted = [text for text, value in rows if value is not None][:3]
             for text in {text for text, value in rows if value is None}:
-                column = [*accepted[:3], text, "x"]
+                column = [*accepted, text, "x"]
                 alone = error_of(parse_ns, text, **options)
                 for call, arguments in [
                     (parse_many, [column]),
@@ -52,7 +52,7 @@ class Columns(unittest.TestCase):
                 ]:
                     with self.subTest(text=text, call=call, **options):
                         error = error_of(call, *arguments, **options)
-                        line = f"at index 3: {alone}"
+                        line = f"at index {len(accepted)}: {alone}"
                         self.assertEqual(
                             (str(error), error.report),
                             (line, alone.report.replace(str(alone), line)),
@@ -60,7 +60,7 @@ class Columns(unittest.TestCase):
                         self.assertEqual(
                             {**vars(error), "index": None, "report": alone.report}, vars(alone)
                         )
-                        self.assertEqual(error.index, 3)
+                        self.assertEqual(error.index, len(accepted))
                         again = pickle.loads(pickle.dumps(error))
                         self.assertEqual((str(again), vars(again)), (str(error), vars(error)))
 

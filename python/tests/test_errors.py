@@ -9,7 +9,7 @@ import unittest
 
 from duration_str import Cause, DurationError, Expected, parse_ns
 from tests import vectors
-from tests.vectors import OPTIONS, VECTORS
+from tests.vectors import CHOICES, VECTORS, words_of
 
 
 error_of = functools.partial(vectors.error_of, parse_ns)
@@ -23,7 +23,7 @@ class Errors(unittest.TestCase):
     def test_tells_what_is_wrong(self):
         for text, names, cause, place, found, expected, line, spaces in VECTORS["refused"]:
             with self.subTest(text=text):
-                error = error_of(text, **dict.fromkeys(names, True))
+                error = error_of(text, **words_of(names))
                 self.assertIsInstance(error, ValueError)
                 pos = place and len(text.encode()[:place].decode())
                 self.assertEqual(
@@ -51,7 +51,7 @@ class Errors(unittest.TestCase):
     def test_refuses_lone_surrogates(self):
         rows = [("\ud800", 0), ("1s\udfff", 2), ("\udc801s", 0), ("1\ud83ds", 1)]
         for text, place in rows:
-            for options in OPTIONS:
+            for options in map(words_of, CHOICES):
                 with self.subTest(text=text, **options):
                     error = error_of(text, **options)
                     self.assertIs(error.cause, Cause.NOT_TEXT)

@@ -21,7 +21,7 @@ from duration_str import (
     parse_seconds,
     to_timedelta,
 )
-from tests.vectors import OPTIONS, values_under
+from tests.vectors import CHOICES, values_under, words_of
 
 
 def value_of(text, options):
@@ -33,8 +33,9 @@ def value_of(text, options):
 
 class Reading(unittest.TestCase):
     def test_reads_the_vectors(self):
-        for options in OPTIONS:
-            for text, value in values_under(options):
+        for names in CHOICES:
+            options = words_of(names)
+            for text, value in values_under(names):
                 with self.subTest(text=text, **options):
                     self.assertEqual(value_of(text, options), value)
 

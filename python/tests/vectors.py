@@ -12,28 +12,44 @@ from duration_str import DurationError
 FOLDERS = pathlib.Path(__file__).parents[1:3]
 FILE = next(file for folder in FOLDERS if (file := folder / "rust/vectors.json").exists())
 VECTORS = json.loads(FILE.read_text(encoding="utf-8"))
-CHOICES = itertools.product((False, True), repeat=len(VECTORS["options"]))
-OPTIONS = [dict(zip(VECTORS["options"], choice)) for choice in CHOICES]
 
 
-def values_under(options):
-    """The vectors' texts, with their values in nanoseconds, or None if they are refused under these
-    options.
+def words_of(names):
+    """The options that these names are, as a call takes them by its keywords. A name is
+    `default_unit=ms`, or that of an option that is on.
     """
+    words = {name: True for name in names if "=" not in name}
+    return words | dict(name.split("=") for name in names if "=" in name)
+
+
+# All choices of the options, and of a required or another default unit as rows have it.
+NAMES = [name for group in VECTORS["values"] for name in group["on"]]
+UNITS = sorted({name for name in NAMES if name not in VECTORS["options"]})
+CHOICES = itertools.product((False, True), repeat=len(VECTORS["options"]))
+CHOICES = [[*itertools.compress(VECTORS["options"], choice)] for choice in CHOICES]
+CHOICES = [[*names, *unit] for names in CHOICES for unit in ([], *([unit] for unit in UNITS))]
+
+
+def values_under(names):
+    """The vectors' texts for a choice, with their values in nanoseconds, or None if they are
+    refused.
+    """
+    unit = {*names} & {*UNITS}
     for group in VECTORS["values"]:
-        is_read = all(options[name] for name in group["on"]) and not any(
-            options[name] for name in group["off"]
-        )
+        if unit != {*group["on"]} & {*UNITS}:
+            continue
+        is_read = {*group["on"]} <= {*names} and not {*group["off"]} & {*names}
         for secs, nanos, texts in group["rows"]:
             yield from ((text, secs * 10**9 + nanos if is_read else None) for text in texts)
 
 
 def value_columns():
-    """For each choice of options the vectors' texts, also those that are refused under it alone."""
-    for options in OPTIONS:
-        on = {name for name, is_on in options.items() if is_on}
-        refused = [(text, None) for text, names, *_ in VECTORS["refused"] if on == {*names}]
-        yield options, [*values_under(options), *refused]
+    """For each choice the options and the vectors' texts, also those that are refused under it
+    alone.
+    """
+    for names in CHOICES:
+        refused = [(text, None) for text, on, *_ in VECTORS["refused"] if {*on} == {*names}]
+        yield words_of(names), [*values_under(names), *refused]
 
 
 def refused_positions(values):

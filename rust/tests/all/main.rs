@@ -13,17 +13,32 @@ mod owned;
 mod printing;
 mod values;
 
-use duration_str::{Options, humantime};
+use duration_str::{Options, TimeUnit, humantime};
 use serde::Deserialize;
+
+fn has(names: &[String], name: &str) -> bool {
+    names.iter().any(|each| each == name)
+}
 
 /// Options of which those with these names are on.
 fn options_of(names: &[String]) -> Options {
-    let has = |name: &str| names.iter().any(|each| each == name);
     Options {
-        no_calc: has("no_calc"),
-        lowercase: has("lowercase"),
-        cn_unit: has("cn_unit"),
+        no_calc: has(names, "no_calc"),
+        lowercase: has(names, "lowercase"),
+        cn_unit: has(names, "cn_unit"),
     }
+}
+
+/// The default unit under the options with these names: the second, unless one of them names
+/// another or requires a unit.
+fn default_unit_of(names: &[String]) -> Option<TimeUnit> {
+    if has(names, "require_unit") {
+        return None;
+    }
+    let named = names
+        .iter()
+        .find_map(|name| name.strip_prefix("default_unit="));
+    Some(named.map_or(TimeUnit::Second, |name| name.parse().unwrap()))
 }
 
 /// All choices of options, each as the names of those that are on.
@@ -47,7 +62,8 @@ const FEATURES: Options = Options {
 /// the tests of all packages read.
 #[derive(Deserialize)]
 struct Vectors {
-    /// The names of the options.
+    /// The names of the options of which each choice is tried. A row may also name `require_unit`
+    /// or a default unit, such as `default_unit=ms`.
     options: Vec<String>,
     values: Vec<Group>,
     printed: Vec<Printed>,

@@ -1,6 +1,8 @@
 //! Texts that are read, and their values.
-use crate::{FEATURES, Group, choices, options_of, vectors};
-use duration_str::{Options, TimeUnit, parse, parse_in, parse_std, parse_with};
+use crate::{FEATURES, Group, choices, default_unit_of, has, options_of, vectors};
+use duration_str::{
+    Options, TimeUnit, parse, parse_in, parse_std, parse_with, parse_with_default_unit,
+};
 use duration_str_core as proved;
 use std::time::Duration;
 
@@ -20,28 +22,44 @@ fn answers(text: &str) -> Vec<Result<Duration, String>> {
 
 /// Under these options each text of the group is read as its row's value, or refused.
 fn check(group: &Group, options: Options, is_read: bool) {
+    let default_unit = default_unit_of(&group.on);
     for (secs, nanos, texts) in &group.rows {
         for text in texts {
-            let answer = parse_with(text, options);
+            let answer = parse_with_default_unit(text, options, default_unit);
             let wanted = is_read.then_some(Duration::new(*secs, *nanos));
-            assert_eq!(answer.ok(), wanted, "{text:?} under {options:?}");
-            if options == FEATURES {
-                let wanted = proved::parse_with(text, options).map_err(|fault| fault.to_string());
-                assert!(
-                    answers(text).iter().all(|answer| *answer == wanted),
-                    "{text:?}: {:?}",
-                    answers(text)
-                );
+            assert_eq!(
+                answer.ok(),
+                wanted,
+                "{text:?} under {options:?}, {default_unit:?}"
+            );
+            if default_unit == Some(TimeUnit::Second) {
+                check_seconds(text, options);
             }
         }
     }
 }
 
+/// Where a number without a unit counts seconds, the calls that take no default unit answer as the
+/// one that does, and those without options under the features.
+fn check_seconds(text: &str, options: Options) {
+    let wanted = parse_with_default_unit(text, options, Some(TimeUnit::Second));
+    assert_eq!(parse_with(text, options), wanted, "{text:?}");
+    if options == FEATURES {
+        let wanted = proved::parse_with(text, options).map_err(|fault| fault.to_string());
+        assert!(
+            answers(text).iter().all(|answer| *answer == wanted),
+            "{text:?}: {:?}",
+            answers(text)
+        );
+    }
+}
+
 #[test]
 fn reads_the_vectors_and_refuses_them_under_the_other_options() {
+    let vectors = vectors();
     for names in choices() {
-        for group in &vectors().values {
-            let is_on = |name| names.contains(name);
+        for group in &vectors.values {
+            let is_on = |name: &String| names.contains(name) || !has(&vectors.options, name);
             check(
                 group,
                 options_of(&names),
