@@ -8,6 +8,19 @@ import { VECTORS } from "./vectors.js";
 const NAMES = ["y", "q", "mon", "w", "d", "h", "min", "s", "ms", "µs", "ns"];
 const DAY = 86_400_000_000_000n;
 
+test("prints the vectors in the units that are chosen", () => {
+    for (const [text, units, parts, short, long] of VECTORS.printed_in) {
+        if (!tryParseNs(text).ok) continue;
+        for (const [style, printed] of [
+            ["short", short], ["compact", short.replaceAll(" ", "")], ["long", long],
+        ]) {
+            const print = () => formatNs(parseNs(text), { units, parts, style });
+            if (parts === 0 || units.length === 0) assert.throws(print, RangeError);
+            else assert.equal(print(), printed);
+        }
+    }
+});
+
 test("prints the vectors, and refuses limits that contradict each other", () => {
     for (const [text, largest, smallest, parts, short, long] of VECTORS.printed) {
         if (!tryParseNs(text).ok) continue;

@@ -13,11 +13,16 @@ SECOND = 10**9
 UNITS = ["y", "q", "mon", "w", "d", "h", "min", "s", "ms", "µs", "ns"]
 
 
+def length_of(text):
+    """The nanoseconds of a text, which may be too long to be read."""
+    secs, is_long, nanos = text.removesuffix(" ns").partition(" s ")
+    return int(secs) * SECOND + int(nanos) if is_long else parse_ns(text)
+
+
 class Printing(unittest.TestCase):
     def test_prints_the_vectors(self):
         for text, largest, smallest, parts, short, long in VECTORS["printed"]:
-            secs, is_long, nanos = text.removesuffix(" ns").partition(" s ")
-            value = int(secs) * SECOND + int(nanos) if is_long else parse_ns(text)
+            value = length_of(text)
             for style, printed in [
                 ("short", short),
                 ("compact", short.replace(" ", "")),
@@ -39,6 +44,22 @@ class Printing(unittest.TestCase):
                     if (largest, smallest, parts, style) == ("y", "ns", 11, "short"):
                         self.assertEqual(format(value), printed)
         self.assertRaises(OverflowError, format, 2**64 * SECOND)
+
+    def test_prints_the_vectors_in_chosen_units(self):
+        for text, units, parts, short, long in VECTORS["printed_in"]:
+            value = length_of(text)
+            for style, printed in [
+                ("short", short),
+                ("compact", short.replace(" ", "")),
+                ("long", long),
+            ]:
+                words = {"units": units, "parts": parts, "style": style}
+                with self.subTest(text=text, **words):
+                    if parts == 0 or not units:
+                        self.assertRaises(ValueError, format, value, **words)
+                    else:
+                        self.assertEqual(format(value, **words), printed)
+                        self.assertEqual(format_many([value], **words), [printed])
 
     def test_prints_a_timedelta(self):
         for value in [

@@ -67,6 +67,7 @@ struct Vectors {
     options: Vec<String>,
     values: Vec<Group>,
     printed: Vec<Printed>,
+    printed_in: Vec<PrintedIn>,
     /// Texts that are refused, with all that is told of them.
     refused: Vec<Refused>,
 }
@@ -98,6 +99,10 @@ struct Refused(
 /// unit, how many parts at most; and the printed text, in the short and in the long style.
 #[derive(Deserialize)]
 struct Printed(String, String, String, usize, String, String);
+
+/// The same with the names of the units in which the duration is printed, in any order.
+#[derive(Deserialize)]
+struct PrintedIn(String, Vec<String>, usize, String, String);
 
 fn vectors() -> Vectors {
     serde_json::from_str(include_str!("../../vectors.json"))

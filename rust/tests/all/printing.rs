@@ -1,5 +1,5 @@
 //! Printed durations.
-use crate::{Printed, vectors};
+use crate::{Printed, PrintedIn, vectors};
 use duration_str::{
     Format, FormattedDuration, HumanDuration, HumanFormat, Options, Style, TimeUnit,
     format_duration, parse_with, write_human, write_within,
@@ -21,6 +21,37 @@ fn length_of(text: &str) -> Duration {
 
 fn unit(name: &str) -> TimeUnit {
     TimeUnit::from_word(name, Options::off()).unwrap()
+}
+
+#[test]
+fn prints_the_vectors_in_chosen_units() {
+    for PrintedIn(text, names, parts, short, long) in vectors().printed_in {
+        let length = length_of(&text);
+        let units: Vec<TimeUnit> = names.iter().map(|name| unit(name)).collect();
+        let compact = short.replace(' ', "");
+        for (style, printed) in [
+            (Style::Short, &short),
+            (Style::Compact, &compact),
+            (Style::Long, &long),
+        ] {
+            let format = Format::whole().style(style).only(&units).parts(parts);
+            let written = write_within(&length, format, &mut [0xff; 144]).to_string();
+            assert_eq!(written, *printed, "{text} in {names:?}");
+            let human = HumanDuration(length);
+            let others = TimeUnit::ALL.iter().filter(|unit| !units.contains(unit));
+            let without = others.fold(human.parts(parts), |human, unit| human.without(*unit));
+            for other in [
+                format_duration(length)
+                    .parts(parts)
+                    .style(style)
+                    .only(&units),
+                human.only(&units).style(style).parts(parts),
+                without.style(style),
+            ] {
+                assert_eq!(other.to_string(), *printed, "{text} in {names:?}");
+            }
+        }
+    }
 }
 
 /// Each call takes units out, so their order doesn't matter, and none brings a unit back.
