@@ -168,6 +168,19 @@ static void count(struct duration_str_answer answer) {
 #define count(answer) ((void)0)
 #endif
 
+/* The default unit matters to numbers without a unit alone, and that of the second is as none. */
+static void check_default_units(struct text text, const struct duration_str_answer *answers) {
+    const struct duration_str_answer required =
+        answers[DURATION_STR_OPTION_NO_CALC | DURATION_STR_OPTION_REQUIRE_UNIT];
+    for (uint32_t unit = 0; unit <= DURATION_STR_UNIT_NANOSECOND; unit++) {
+        struct duration_str_answer answer = read_with(text, DURATION_STR_OPTION_DEFAULT_UNIT(unit));
+        count(answer);
+        HOLDS(required.cause != DURATION_STR_CAUSE_READ || are_equal(answer, required));
+        HOLDS(unit != DURATION_STR_UNIT_SECOND ||
+              are_equal(answer, answers[DURATION_STR_OPTION_NO_CALC]));
+    }
+}
+
 static void check(struct text text) {
     const struct duration_str_answer unknown = {.cause = DURATION_STR_CAUSE_UNKNOWN_OPTION};
     struct duration_str_answer answers[CHOICES];
@@ -183,6 +196,7 @@ static void check(struct text text) {
         check_report(text, options, answer);
     }
     check_plain(text, answers[0]);
+    check_default_units(text, answers);
 }
 
 int LLVMFuzzerTestOneInput(const uint8_t *data, size_t size) {
