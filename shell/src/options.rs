@@ -200,6 +200,7 @@ fn list_of_units(words: &str) -> Result<UnitList, String> {
 }
 
 /// What completions offer for a unit.
+// Made by tests/repository --write.
 const WORDS: [&str; 11] = ["y", "q", "mon", "w", "d", "h", "min", "s", "ms", "us", "ns"];
 
 /// The completions for a shell.
