@@ -1,6 +1,10 @@
 // Durations as people write them, read and printed by a proved library. The library is a module of
 // WebAssembly (compiled.js), or JavaScript made from that module (plain.js): `instance` is one of
 // the two. index.d.ts documents the exports.
+//
+// A page may have changed the prototypes of arrays and of objects. So no method of an array is
+// called here, lists are gone over by their indexes, tables of names and descriptions of properties
+// inherit nothing, and a field is defined before anything is assigned to it.
 import { instance } from "instance";
 
 /** The bytes by which a memory grows. */
@@ -29,8 +33,8 @@ const PARTS = [
 ];
 /** The styles, in the order of `enum duration_str_style`. */
 const STYLES = ["short", "compact", "long"];
-/** The options of reading, in the order of their bits in `enum duration_str_option`. */
-const OPTIONS = ["noCalc", "lowercase", "cnUnit", "requireUnit"];
+/** The options of reading, with their bits in `enum duration_str_option`. */
+const OPTIONS = { __proto__: null, noCalc: 1, lowercase: 2, cnUnit: 4, requireUnit: 8 };
 
 /** The size of the buffer that the module writes to, which is enough for all that it writes. */
 const WRITTEN_SIZE = 867;
@@ -90,13 +94,18 @@ function reserve(length) {
 
 let decoder;
 
-const percentCode = (byte) => `%${byte.toString(16).padStart(2, "0")}`;
-
-/** The text of these bytes of UTF-8. jsdom has no decoder, but it has the URI functions. */
-function decode(bytes) {
-    if (typeof TextDecoder === "undefined") {
-        return decodeURIComponent(Array.from(bytes, percentCode).join(""));
+/** Does what `decode` does where there is no decoder, as in jsdom, which has the URI functions. */
+function decodeEscaped(bytes) {
+    let escaped = "";
+    for (let place = 0; place < bytes.length; place++) {
+        escaped += `%${bytes[place].toString(16).padStart(2, "0")}`;
     }
+    return decodeURIComponent(escaped);
+}
+
+/** The text of these bytes of UTF-8. */
+function decode(bytes) {
+    if (typeof TextDecoder === "undefined") return decodeEscaped(bytes);
     decoder ??= new TextDecoder("utf-8", { ignoreBOM: true });
     return decoder.decode(bytes);
 }
@@ -109,7 +118,7 @@ function output(length) {
         codes[place] = written[place];
         if (codes[place] > 0x7f) return decode(written.subarray(0, length));
     }
-    return String.fromCharCode(...codes);
+    return String.fromCharCode.apply(null, codes);
 }
 
 // ---- Texts into the memory
@@ -153,10 +162,23 @@ function write(text) {
 
 /** What is wrong with a text. The report's last line is the message. */
 class Fault {
+    code;
+    text;
+    index;
+    byte;
+    found;
+    expected;
+    message;
     #report;
 
-    constructor(cause, report) {
-        Object.assign(this, cause, { message: report.slice(report.lastIndexOf("\n") + 1) });
+    constructor({ code, text, index, byte, found, expected }, report) {
+        this.code = code;
+        this.text = text;
+        this.index = index;
+        this.byte = byte;
+        this.found = found;
+        this.expected = expected;
+        this.message = report.slice(report.lastIndexOf("\n") + 1);
         this.#report = report;
     }
 
@@ -187,6 +209,30 @@ export class DurationError extends Error {
         return this.#report;
     }
 
+    get code() {
+        return this.cause.code;
+    }
+
+    get text() {
+        return this.cause.text;
+    }
+
+    get index() {
+        return this.cause.index;
+    }
+
+    get byte() {
+        return this.cause.byte;
+    }
+
+    get found() {
+        return this.cause.found;
+    }
+
+    get expected() {
+        return this.cause.expected;
+    }
+
     toJSON() {
         return { name: this.name, message: this.message, ...this.cause };
     }
@@ -194,13 +240,8 @@ export class DurationError extends Error {
 
 // A plain assignment would throw where the prototype of errors is frozen.
 Object.defineProperty(DurationError.prototype, "name", {
-    value: "DurationError", writable: true, configurable: true,
+    __proto__: null, value: "DurationError", writable: true, configurable: true,
 });
-for (const field of ["code", "text", "index", "byte", "found", "expected"]) {
-    Object.defineProperty(DurationError.prototype, field, {
-        get() { return this.cause[field]; }, configurable: true,
-    });
-}
 
 /** What could stand at the place, from the bits of `enum duration_str_expected`. */
 function expectedOf(bits) {
@@ -235,9 +276,24 @@ function loneSurrogateAt(text, index) {
     return new Fault(cause, `not UTF-8: a lone surrogate at index ${index}`);
 }
 
-// ---- Options
+// ---- Lists
 
-const isOwn = Object.prototype.hasOwnProperty;
+/** The index of a name in a list; -1 if it isn't there. */
+function indexIn(names, name) {
+    for (let index = 0; index < names.length; index++) {
+        if (names[index] === name) return index;
+    }
+    return -1;
+}
+
+/** The names in one line, with commas between them. */
+function listed(names) {
+    let line = names[0];
+    for (let index = 1; index < names.length; index++) line += `, ${names[index]}`;
+    return line;
+}
+
+// ---- Options
 
 function typeOf(value) {
     if (value === null) return "null";
@@ -249,7 +305,8 @@ function isPlain(options) {
     if (typeof options !== "object" || options === null) return false;
     const prototype = Object.getPrototypeOf(options);
     if (prototype === Object.prototype || prototype === null) return true;
-    return Object.getPrototypeOf(prototype) === null && isOwn.call(prototype, "isPrototypeOf");
+    return Object.getPrototypeOf(prototype) === null
+        && Object.getOwnPropertyDescriptor(prototype, "isPrototypeOf") !== undefined;
 }
 
 function checkPlain(options, hint = "") {
@@ -266,12 +323,13 @@ function bitsOf(options) {
     // `map` passes the index as the second argument.
     checkPlain(options, ": write (text) => parse(text)");
     let bits = 0;
-    for (const name of Object.keys(options)) {
-        const bit = OPTIONS.indexOf(name);
+    const names = Object.keys(options);
+    for (let index = 0; index < names.length; index++) {
+        const name = names[index];
+        if (!(name in OPTIONS)) throw unknown(name);
         const value = options[name];
-        if (bit < 0) throw unknown(name);
         if (value === true) {
-            bits |= 1 << bit;
+            bits |= OPTIONS[name];
         } else if (value !== false && value !== undefined) {
             throw new TypeError(`the option ${name} must be a boolean, not ${typeOf(value)}`);
         }
@@ -284,9 +342,9 @@ function numberOf(option, name, names) {
     if (typeof name !== "string") {
         throw new TypeError(`the option ${option} must be a string, not ${typeOf(name)}`);
     }
-    const number = names.indexOf(name === "us" ? "µs" : name);
+    const number = indexIn(names, name === "us" ? "µs" : name);
     if (number >= 0) return number;
-    throw new RangeError(`the option ${option} must be one of ${names.join(", ")}, not ${name}`);
+    throw new RangeError(`the option ${option} must be one of ${listed(names)}, not ${name}`);
 }
 
 /** How many parts are printed at most. There are no more than units. */
@@ -301,15 +359,19 @@ function countOf(parts) {
 }
 
 /** What is chosen where nothing is, for printing and for counting parts. */
-const PRINTED_WHOLE = { largest: "y", smallest: "ns", parts: Infinity, style: "short" };
-const COUNTED_WHOLE = { largest: "d", smallest: "ns", parts: Infinity };
+const PRINTED_WHOLE = {
+    __proto__: null, largest: "y", smallest: "ns", parts: Infinity, style: "short",
+};
+const COUNTED_WHOLE = { __proto__: null, largest: "d", smallest: "ns", parts: Infinity };
 
 /** The options of printing or of counting, with the units as numbers. `defaults` has all names. */
 function limitsOf(options, defaults) {
     checkPlain(options);
     let { largest, smallest, parts, style } = defaults;
-    for (const name of Object.keys(options)) {
-        if (!isOwn.call(defaults, name)) throw unknown(name);
+    const names = Object.keys(options);
+    for (let index = 0; index < names.length; index++) {
+        const name = names[index];
+        if (!(name in defaults)) throw unknown(name);
         const value = options[name];
         if (value === undefined) continue;
         if (name === "largest") largest = value;
@@ -427,9 +489,9 @@ function print(options) {
     const second = typeof total === "number" ? SECOND : BigInt(SECOND);
     const nanos = total % second;
     const secs = Number((total - nanos) / second);
-    const [low, high] = [secs | 0, Math.trunc(secs / HALF)];
+    const high = Math.trunc(secs / HALF);
     const length = calls.duration_str_format_styled(
-        low, high, Number(nanos), largest, smallest, parts, styleNumber, WRITTEN,
+        secs | 0, high, Number(nanos), largest, smallest, parts, styleNumber, WRITTEN,
     );
     return output(length);
 }
@@ -461,8 +523,13 @@ let lengths;
 
 /** Asks the library for the lengths. */
 function askLengths() {
-    const bigints = UNITS.map((name) => parseNs(`1${name}`));
-    return { number: bigints.map(Number), bigint: bigints };
+    const asked = { number: [], bigint: [] };
+    for (let unit = 0; unit < UNITS.length; unit++) {
+        const length = parseNs(`1${UNITS[unit]}`);
+        asked.number[unit] = Number(length);
+        asked.bigint[unit] = length;
+    }
+    return asked;
 }
 
 /** The count as a number, which must hold it exactly. */
@@ -470,6 +537,13 @@ function exactly(count) {
     const number = Number(count);
     if (Number.isSafeInteger(number)) return number;
     throw new RangeError(`no number holds ${count} exactly: choose a larger unit`);
+}
+
+/** The counts with one more. To assign it is faster, but all objects may have a setter of its name. */
+function withCount(counts, name, count) {
+    if (name in counts) return { ...counts, [name]: count };
+    counts[name] = count;
+    return counts;
 }
 
 export function parts(value, options = {}) {
@@ -483,17 +557,17 @@ export function parts(value, options = {}) {
     if (!PARTS[largest] || !PARTS[smallest]) throw new RangeError("parts has no quarters");
     lengths ??= askLengths();
     const lengthOf = lengths[typeof rest];
-    const counts = {};
+    let counts = {};
     let room = most;
     for (let unit = largest; unit <= smallest && room > 0; unit++) {
         if (!PARTS[unit] || rest < lengthOf[unit]) continue;
         const under = rest % lengthOf[unit];
-        counts[PARTS[unit]] = exactly((rest - under) / lengthOf[unit]);
+        counts = withCount(counts, PARTS[unit], exactly((rest - under) / lengthOf[unit]));
         rest = under;
         room--;
     }
     if (room < most) return counts;
     // Nothing is left: 0 of the smallest unit, or of seconds where that is shorter.
-    const zero = Math.min(smallest, UNITS.indexOf("s"));
+    const zero = Math.min(smallest, indexIn(UNITS, "s"));
     return { [PARTS[zero]]: 0 };
 }

@@ -1,5 +1,9 @@
 // The library as JavaScript, which binaryen's wasm2js makes from its WebAssembly module, for places
 // where WebAssembly is missing or refused.
-import * as made from "duration_str.js";
+import {
+    __heap_base, duration_str_format, duration_str_format_styled, duration_str_report, memory,
+} from "duration_str.js";
 
-export const instance = () => made;
+export const instance = () => (
+    { __heap_base, duration_str_format, duration_str_format_styled, duration_str_report, memory }
+);

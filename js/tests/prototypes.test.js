@@ -1,0 +1,119 @@
+// What a page has done to the prototypes of arrays and objects, before or after the package is
+// there, changes no answer. The calls are made in a realm of their own, and compared with those of
+// an untouched one.
+import assert from "node:assert/strict";
+import { readFileSync } from "node:fs";
+import test from "node:test";
+import { createContext, runInContext } from "node:vm";
+
+const NAMES = [
+    "noCalc", "cnUnit", "largest", "smallest", "parts", "style", "other",
+    "code", "text", "index", "byte", "found", "expected", "message", "report", "cause", "name",
+    "ok", "fault", "days", "hours", "minutes", "seconds", "number", "bigint", "us", "ns",
+    "ignoreBOM", "fatal",
+];
+/** The names in descriptions of properties. binaryen's code describes some when it is loaded, so
+ * the plain package needs that these are changed later. */
+const DESCRIPTIVE = ["get", "set", "value", "writable", "enumerable", "configurable"];
+
+const methods = (type) => `for (const name of Reflect.ownKeys(${type}.prototype)) {
+    if (typeof ${type}.prototype[name] === "function") ${type}.prototype[name] = () => "changed";
+}`;
+const CHANGES = {
+    "methods of arrays": methods("Array"),
+    "the iterator of arrays": "Array.prototype[Symbol.iterator] = function* () { yield 65; };",
+    "methods of objects": methods("Object"),
+    "values of every object": `for (const name of names) Object.prototype[name] = "changed";`,
+    "functions of every object": `for (const name of names) Object.prototype[name] = () => true;`,
+    "setters of every object": `for (const name of names) {
+        const property = { __proto__: null, get: () => "changed", set() {}, configurable: true };
+        Object.defineProperty(Object.prototype, name, property);
+    }`,
+};
+const CALLS = [
+    "format(5445001)",
+    'format(90061000, { largest: "h", parts: 2, style: "long" })',
+    'format(5400000, { largest: "µs", smallest: "us", style: undefined })',
+    'format(1, { largest: "days" })',
+    "format(1, { other: 1 })",
+    "formatNs(1n)",
+    'parse("1h")',
+    'parse("1分", { cnUnit: true, noCalc: false })',
+    'parse("1m+2", { noCalc: true })',
+    'parse("1分", {})',
+    'parse("1h", { other: true })',
+    'parse("1h", Object.create({ noCalc: true }))',
+    'parse("1h", [])',
+    'parse("1h ".repeat(50))',
+    'tryParse("5 mins")',
+    'tryParse("1µs 😀x")',
+    'tryParse("1s \\ud800")',
+    'tryParse("600y").fault.report',
+    'parseNs("1m 3-5")',
+    "parts(5445001)",
+    'parts(400n * 86400000000000n, { largest: "mon", parts: 2 })',
+    "parts(0n)",
+    'parts(1, { largest: "q" })',
+    'parts(1, { style: "long" })',
+    "fieldsOf(() => parse('1m 3-5'))",
+];
+/** An error's fields, and what its `toJSON` gives. */
+const FIELDS = `function fieldsOf(call) {
+    try {
+        call();
+    } catch (error) {
+        const { name, code, text, index, byte, found, expected, report } = error;
+        return { name, code, text, index, byte, found, expected, report, json: error.toJSON() };
+    }
+}`;
+
+/** A realm in which this runs before the package is there, and that after it, with these names and
+ * others. */
+function realm(file, before, after, names, others) {
+    const source = readFileSync(new URL(`../dist/${file}`, import.meta.url), "utf8");
+    const context = createContext({ module: {}, names, ...others });
+    runInContext(before, context);
+    runInContext(source, context);
+    Object.assign(context, context.module.exports);
+    runInContext(after, context);
+    return context;
+}
+
+/** What a value of another realm has itself. */
+function own(value) {
+    if (typeof value !== "object" || value === null) return value;
+    return Object.fromEntries(Object.entries(value).map(([name, each]) => [name, own(each)]));
+}
+
+/** What a call returns or throws in a realm. */
+function told(call, context) {
+    try {
+        return own(runInContext(call, context));
+    } catch (error) {
+        const cause = Object.hasOwn(error, "cause") ? own(error.cause) : null;
+        return { name: error.name, message: error.message, cause };
+    }
+}
+
+/** Compares a realm that is changed before or after the package is there with an untouched one. */
+function same(file, before, after, names) {
+    for (const others of [{}, { TextEncoder, TextDecoder }]) {
+        const touched = realm(file, before, after, names, others);
+        const untouched = realm(file, "", "", [], others);
+        runInContext(FIELDS, touched);
+        runInContext(FIELDS, untouched);
+        for (const call of CALLS) {
+            assert.deepEqual(told(call, touched), told(call, untouched), call);
+        }
+    }
+}
+
+for (const file of ["duration-str.cjs", "plain.cjs"]) {
+    for (const [what, change] of Object.entries(CHANGES)) {
+        test(`${file} answers alike where a page has changed ${what}`, () => {
+            const all = [...NAMES, ...DESCRIPTIVE];
+            same(file, "", change, all);
+            same(file, change, "", file === "plain.cjs" ? NAMES : all);
+        });
+    }
+}
