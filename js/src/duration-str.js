@@ -42,6 +42,8 @@ const WRITTEN_SIZE = 867;
  * UTF-16 units of a text to read, and so many bytes of what is written. */
 const SHORT_TEXT = 40;
 const SHORT_WRITTEN = 28;
+/** Node shows a text of up to so many UTF-16 units with an error. */
+const SHOWN_LENGTH = 80;
 
 export const version = VERSION;
 
@@ -191,6 +193,14 @@ class Fault {
     }
 }
 
+/** Puts a longer text of this name behind a getter. Node shows an error that nobody catches with up
+ * to 10,000 characters of each text in its cause, and calls no getter. */
+function hideLong(cause, name) {
+    const text = cause[name];
+    if (text === null || text.length <= SHOWN_LENGTH) return;
+    Object.defineProperty(cause, name, { __proto__: null, get: () => text });
+}
+
 /** A refused text. All about the fault but its message is in `cause`, since a structured clone of
  * an error keeps no other field. */
 export class DurationError extends Error {
@@ -201,6 +211,8 @@ export class DurationError extends Error {
             throw new TypeError("a DurationError is made of a fault, as tryParse returns it");
         }
         const { message, ...cause } = fault;
+        hideLong(cause, "text");
+        hideLong(cause, "found");
         super(message, { cause });
         this.#report = fault.report;
     }

@@ -1,10 +1,13 @@
 import assert from "node:assert/strict";
+import { spawnSync } from "node:child_process";
 import test from "node:test";
+import { fileURLToPath } from "node:url";
 import { inspect } from "node:util";
 
 import { DurationError, parseNs, tryParseNs, tryParse } from "duration-str";
 import { CHOICES, optionsOf, VECTORS } from "./vectors.js";
 
+const HERE = fileURLToPath(new URL(".", import.meta.url));
 const NOTHING = { number: false, unit: false, operator: false, end: false };
 
 /** The error by which a text is refused. */
@@ -140,6 +143,22 @@ test("is made of a fault alone, and shown with its message once", () => {
         [shown.split("text: '1x 2-'").length, shown.split("unknown unit").length],
         [2, 2],
     );
+});
+
+test("is shown without a long text where nobody catches it", () => {
+    const program = `import { parse } from "duration-str"; parse("1h " + "x".repeat(20_000));`;
+    const words = ["--input-type=module", "--eval", program];
+    const { stderr } = spawnSync(process.execPath, words, { cwd: HERE, encoding: "utf8" });
+    assert.ok(stderr.length < 2_000, `${stderr.length} characters`);
+    assert.match(stderr, /^DurationError: expected a number, .*, found "x{40}"\.\.\.$/m);
+    for (const field of ["text", "found"]) {
+        const [shown, hidden] = [80, 81].map((length) => errorOf("x".repeat(length)));
+        assert.ok(inspect(shown).includes(`${field}: '${"x".repeat(80)}'`), field);
+        assert.ok(inspect(hidden).includes(`${field}: [Getter]`), field);
+        for (const each of [hidden, hidden.toJSON(), structuredClone(hidden).cause]) {
+            assert.equal(each[field], "x".repeat(81));
+        }
+    }
 });
 
 test("survives a structured clone and JSON, with all that is wrong", () => {
