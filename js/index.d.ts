@@ -29,12 +29,31 @@ export interface Options {
     requireUnit?: boolean | undefined;
 }
 
-/** The units by their printed names, the longest first. `us` is the same as `µs`. */
+/**
+ * The names of the units, with a line for each unit, the longest first. They are those that a text
+ * may have without options, so where no types are checked, capitals are taken too.
+ */
 // Made by tests/repository --write.
-export type Unit = "y" | "q" | "mon" | "w" | "d" | "h" | "min" | "s" | "ms" | "µs" | "us" | "ns";
+export type Unit =
+    | "y" | "year" | "years"
+    | "q" | "quarter" | "quarters"
+    | "mon" | "month" | "months"
+    | "w" | "week" | "weeks"
+    | "d" | "day" | "days"
+    | "h" | "hr" | "hour" | "hours"
+    | "m" | "min" | "minute" | "minutes"
+    | "s" | "sec" | "second" | "seconds"
+    | "ms" | "msec" | "millisecond" | "milliseconds"
+    | "µs" | "µsec" | "µsecond" | "us" | "usec" | "usecond" | "microsecond" | "microseconds"
+    | "ns" | "nsec" | "nanosecond" | "nanoseconds";
 
 /** Limits for what is counted. Only a plain object's own properties count. */
 interface Counted<Name extends Unit> {
+    /**
+     * Only these units, in any order. A unit that is named twice counts once. With `["y", "d"]`,
+     * 400 days are `1y 35d`. With `largest` or `smallest`, it is the units that both leave.
+     */
+    units?: readonly Name[] | undefined;
     /**
      * At most so many parts. `Infinity` is all of them. The rest is left out, and nothing is
      * rounded up.
@@ -42,14 +61,15 @@ interface Counted<Name extends Unit> {
     parts?: number | undefined;
     /** The largest unit. With `d`, 120 days are `120d`. */
     largest?: Name | undefined;
-    /**
-     * The smallest unit. If nothing is left, it is 0 of this unit, or 0 seconds if this unit is
-     * shorter than a second.
-     */
+    /** The smallest unit. With `min`, 90 seconds are `1min`. */
     smallest?: Name | undefined;
 }
 
-/** How much of a duration is printed, and how. By default it is all, from `y` to `ns`. */
+/**
+ * How much of a duration is printed, and how. By default it is all, from `y` to `ns`. If nothing is
+ * left, it is 0 of the smallest unit, or `0s` if that unit is shorter than a second, even if the
+ * seconds are left out.
+ */
 export interface Limits extends Counted<Unit> {
     /**
      * `short`, the default, is `1h 30min`; `compact` is `1h30min`; `long` is `1 hour 30 minutes`.
@@ -57,8 +77,11 @@ export interface Limits extends Counted<Unit> {
     style?: "short" | "compact" | "long" | undefined;
 }
 
-/** What `parts` counts. By default it is all, from days to nanoseconds. */
-export type PartLimits = Counted<Exclude<Unit, "q">>;
+/**
+ * What `parts` counts. By default it is all, from days to nanoseconds. Longer units are counted if
+ * they are among the `units`, or if the `largest` is longer than a day.
+ */
+export type PartLimits = Counted<Exclude<Unit, "q" | "quarter" | "quarters">>;
 
 /**
  * The parts of a duration that are not 0. `Intl.DurationFormat` and `Temporal.Duration.from` take
@@ -222,7 +245,8 @@ export function tryParseNs(text: string, options?: Options): Result<bigint>;
  * nanosecond: `format(1.005)` is `1ms 5µs`.
  *
  * @throws RangeError if the number is negative, 2^64 nanoseconds or more, NaN or infinite; if there
- * is no such unit, style or count of parts; or if the largest unit is shorter than the smallest
+ * is no such unit, style or count of parts; if the largest unit is shorter than the smallest; or if
+ * `units` is empty, or has no unit between these two
  * @throws TypeError if it is not a number, or if an option is unknown or of another type
  */
 export function format(milliseconds: number, options?: Limits): string;
@@ -238,7 +262,7 @@ export function formatNs(nanoseconds: bigint, options?: Limits): string;
 /**
  * Returns the parts of a duration as numbers: `parts(5_400_000)` is `{ hours: 1, minutes: 30 }`.
  * The duration is a number of milliseconds or a bigint of nanoseconds. Quarters are not counted.
- * Those of 0 are `{ seconds: 0 }`.
+ * Those of 0 are `{ seconds: 0 }`, or 0 of the smallest unit if that is longer than a second.
  *
  * ```js
  * new Intl.DurationFormat("en").format(parts(parse("1h 30m"))); // 1 hr, 30 min

@@ -17,6 +17,7 @@ const SECOND = 1_000_000_000;
 /** All durations are below this many nanoseconds. */
 const LIMIT = 1n << 64n;
 const LONE_SURROGATE = /\p{Surrogate}/u;
+const LETTERS = /^\p{L}+$/u;
 
 /** The codes of refusals, in the order of `enum duration_str_cause` in the library's header. */
 const CODES = [
@@ -31,6 +32,10 @@ const PARTS = [
     "years", null, "months", "weeks", "days", "hours", "minutes",
     "seconds", "milliseconds", "microseconds", "nanoseconds",
 ];
+/** A set of units is a number with the bit `1 << unit` for each. These are all, and those that
+ * `parts` counts. */
+const ALL_UNITS = (1 << UNITS.length) - 1;
+const COUNTED_UNITS = ALL_UNITS & ~(1 << indexIn(PARTS, null));
 /** The styles, in the order of `enum duration_str_style`. */
 const STYLES = ["short", "compact", "long"];
 /** The options of reading, with their bits in `enum duration_str_option`. */
@@ -305,6 +310,22 @@ function listed(names) {
     return line;
 }
 
+// ---- The lengths of units
+
+/** The lengths of all units in nanoseconds, as numbers and as bigints. */
+let lengths;
+
+/** Asks the library for the lengths. */
+function askLengths() {
+    const asked = { number: [], bigint: [] };
+    for (let unit = 0; unit < UNITS.length; unit++) {
+        const length = parseNs(`1${UNITS[unit]}`);
+        asked.number[unit] = Number(length);
+        asked.bigint[unit] = length;
+    }
+    return asked;
+}
+
 // ---- Options
 
 function typeOf(value) {
@@ -329,6 +350,26 @@ function checkPlain(options, hint = "") {
 
 const unknown = (name) => new TypeError(`unknown option: ${name}`);
 
+/** The number of the unit that the library reads this name as; -1 if there is none. */
+function unitRead(name) {
+    if (!LETTERS.test(name) || faultIn(`1${name}`)) return -1;
+    const length = nanoseconds();
+    lengths ??= askLengths();
+    return indexIn(lengths.bigint, length);
+}
+
+/** The number of the unit that has this name in a text that is read with all options off. `what` is
+ * the option that has the name. */
+function unitOf(what, name) {
+    if (typeof name !== "string") {
+        throw new TypeError(`${what} must be a string, not ${typeOf(name)}`);
+    }
+    const printed = indexIn(UNITS, name);
+    const unit = printed < 0 ? unitRead(name) : printed;
+    if (unit >= 0) return unit;
+    throw new RangeError(`${what} must be one of ${listed(UNITS)}, not ${name}`);
+}
+
 /** The bits of the options that are on. */
 function bitsOf(options) {
     if (options === undefined) return 0;
@@ -338,9 +379,10 @@ function bitsOf(options) {
     const names = Object.keys(options);
     for (let index = 0; index < names.length; index++) {
         const name = names[index];
-        if (!(name in OPTIONS)) throw unknown(name);
         const value = options[name];
-        if (value === true) {
+        if (!(name in OPTIONS)) {
+            throw unknown(name);
+        } else if (value === true) {
             bits |= OPTIONS[name];
         } else if (value !== false && value !== undefined) {
             throw new TypeError(`the option ${name} must be a boolean, not ${typeOf(value)}`);
@@ -349,14 +391,27 @@ function bitsOf(options) {
     return bits;
 }
 
-/** The number of a name in this list, which an option chooses from. */
-function numberOf(option, name, names) {
+/** The number of a style by its name. */
+function styleOf(name) {
     if (typeof name !== "string") {
-        throw new TypeError(`the option ${option} must be a string, not ${typeOf(name)}`);
+        throw new TypeError(`the option style must be a string, not ${typeOf(name)}`);
     }
-    const number = indexIn(names, name === "us" ? "µs" : name);
+    const number = indexIn(STYLES, name);
     if (number >= 0) return number;
-    throw new RangeError(`the option ${option} must be one of ${listed(names)}, not ${name}`);
+    throw new RangeError(`the option style must be one of ${listed(STYLES)}, not ${name}`);
+}
+
+/** The set of the units that a list names. */
+function unitsOf(names) {
+    if (!Array.isArray(names)) {
+        throw new TypeError(`the option units must be an array, not ${typeOf(names)}`);
+    }
+    if (names.length === 0) throw new RangeError("the option units must name a unit");
+    let units = 0;
+    for (let index = 0; index < names.length; index++) {
+        units |= 1 << unitOf("a unit of the option units", names[index]);
+    }
+    return units;
 }
 
 /** How many parts are printed at most. There are no more than units. */
@@ -370,34 +425,50 @@ function countOf(parts) {
     return Math.min(parts, UNITS.length);
 }
 
-/** What is chosen where nothing is, for printing and for counting parts. */
+/** The options of printing and of counting, and what they are where nothing is chosen. */
 const PRINTED_WHOLE = {
-    __proto__: null, largest: "y", smallest: "ns", parts: Infinity, style: "short",
+    __proto__: null, units: undefined, largest: undefined, smallest: "ns", parts: Infinity,
+    style: "short",
 };
-const COUNTED_WHOLE = { __proto__: null, largest: "d", smallest: "ns", parts: Infinity };
+const COUNTED_WHOLE = {
+    __proto__: null, units: undefined, largest: undefined, smallest: "ns", parts: Infinity,
+};
 
-/** The options of printing or of counting, with the units as numbers. `defaults` has all names. */
-function limitsOf(options, defaults) {
+/** The options of printing or of counting, of which `whole` has all names. */
+function limitsOf(options, whole) {
     checkPlain(options);
-    let { largest, smallest, parts, style } = defaults;
+    let { units, largest, smallest, parts, style } = whole;
     const names = Object.keys(options);
     for (let index = 0; index < names.length; index++) {
         const name = names[index];
-        if (!(name in defaults)) throw unknown(name);
+        if (!(name in whole)) throw unknown(name);
         const value = options[name];
         if (value === undefined) continue;
-        if (name === "largest") largest = value;
+        if (name === "units") units = value;
+        else if (name === "largest") largest = value;
         else if (name === "smallest") smallest = value;
         else if (name === "parts") parts = value;
         else style = value;
     }
-    const first = numberOf("largest", largest, UNITS);
-    const last = numberOf("smallest", smallest, UNITS);
+    return { units, largest, smallest, parts, style };
+}
+
+/** The set of those of all units that the limits leave, and the set of those that they name. The
+ * largest is `longest` where no units are listed and no largest is chosen. */
+function unitsLeft({ units, largest, smallest }, all, longest) {
+    const wanted = units === undefined ? all : unitsOf(units);
+    if (largest === undefined) largest = units === undefined ? longest : "y";
+    const first = unitOf("the option largest", largest);
+    const last = unitOf("the option smallest", smallest);
     if (first > last) {
         const why = `the largest unit, ${largest}, is shorter than the smallest, ${smallest}`;
         throw new RangeError(why);
     }
-    return { largest: first, smallest: last, parts: countOf(parts), style };
+    const left = wanted & (2 << last) - (1 << first);
+    if (left === 0) {
+        throw new RangeError(`the option units has no unit from ${largest} to ${smallest}`);
+    }
+    return { left, named: wanted | 1 << first | 1 << last };
 }
 
 // ---- The duration in the memory, at ANSWER
@@ -496,14 +567,16 @@ function print(options) {
     }
     // This comes before the options are looked at: one may have a getter that calls this package.
     const total = count();
-    const { largest, smallest, parts, style } = limitsOf(options, PRINTED_WHOLE);
-    const styleNumber = numberOf("style", style, STYLES);
+    const limits = limitsOf(options, PRINTED_WHOLE);
+    const { left } = unitsLeft(limits, ALL_UNITS, "y");
+    const parts = countOf(limits.parts);
+    const style = styleOf(limits.style);
     const second = typeof total === "number" ? SECOND : BigInt(SECOND);
     const nanos = total % second;
     const secs = Number((total - nanos) / second);
     const high = Math.trunc(secs / HALF);
     const length = calls.duration_str_format_styled(
-        secs | 0, high, Number(nanos), largest, smallest, parts, styleNumber, WRITTEN,
+        secs | 0, high, Number(nanos), left, parts, style, WRITTEN,
     );
     return output(length);
 }
@@ -530,20 +603,6 @@ export function format(milliseconds, options) {
 
 // ---- Counting parts
 
-/** The lengths of all units in nanoseconds, as numbers and as bigints. */
-let lengths;
-
-/** Asks the library for the lengths. */
-function askLengths() {
-    const asked = { number: [], bigint: [] };
-    for (let unit = 0; unit < UNITS.length; unit++) {
-        const length = parseNs(`1${UNITS[unit]}`);
-        asked.number[unit] = Number(length);
-        asked.bigint[unit] = length;
-    }
-    return asked;
-}
-
 /** The count as a number, which must hold it exactly. */
 function exactly(count) {
     const number = Number(count);
@@ -565,14 +624,16 @@ export function parts(value, options = {}) {
     }
     put(value);
     let rest = count();
-    const { largest, smallest, parts: most } = limitsOf(options, COUNTED_WHOLE);
-    if (!PARTS[largest] || !PARTS[smallest]) throw new RangeError("parts has no quarters");
+    const limits = limitsOf(options, COUNTED_WHOLE);
+    const { left, named } = unitsLeft(limits, COUNTED_UNITS, "d");
+    if (named & ~COUNTED_UNITS) throw new RangeError("parts has no quarters");
+    const most = countOf(limits.parts);
     lengths ??= askLengths();
     const lengthOf = lengths[typeof rest];
     let counts = {};
     let room = most;
-    for (let unit = largest; unit <= smallest && room > 0; unit++) {
-        if (!PARTS[unit] || rest < lengthOf[unit]) continue;
+    for (let unit = 0; unit < UNITS.length && room > 0; unit++) {
+        if ((left >> unit & 1) === 0 || rest < lengthOf[unit]) continue;
         const under = rest % lengthOf[unit];
         counts = withCount(counts, PARTS[unit], exactly((rest - under) / lengthOf[unit]));
         rest = under;
@@ -580,6 +641,6 @@ export function parts(value, options = {}) {
     }
     if (room < most) return counts;
     // Nothing is left: 0 of the smallest unit, or of seconds where that is shorter.
-    const zero = Math.min(smallest, indexIn(UNITS, "s"));
+    const zero = Math.min(31 - Math.clz32(left), indexIn(UNITS, "s"));
     return { [PARTS[zero]]: 0 };
 }

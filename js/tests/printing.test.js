@@ -1,4 +1,5 @@
 import assert from "node:assert/strict";
+import { readFileSync } from "node:fs";
 import test from "node:test";
 
 import { formatNs, format, parseNs, parse, parts, tryParseNs } from "duration-str";
@@ -6,6 +7,10 @@ import { VECTORS } from "./vectors.js";
 
 /** The printed names of the units, the longest first. */
 const NAMES = ["y", "q", "mon", "w", "d", "h", "min", "s", "ms", "µs", "ns"];
+/** All names of each unit, as the types have them. */
+const TYPES = readFileSync(new URL("../index.d.ts", import.meta.url), "utf8");
+const ALL_NAMES = /type Unit =([^;]*);/.exec(TYPES)[1].trim().split("\n")
+    .map((line) => Array.from(line.matchAll(/"(.*?)"/g), ([, name]) => name));
 const DAY = 86_400_000_000_000n;
 
 test("prints the vectors in the units that are chosen", () => {
@@ -49,13 +54,56 @@ test("prints the vectors, and refuses limits that contradict each other", () => 
     assert.equal(format(90_061_001, { parts: Infinity }), "1d 1h 1min 1s 1ms");
 });
 
+test("prints in the units that are chosen", () => {
+    const rows = [
+        [180n * DAY, { units: ["y", "mon", "d"] }, "6mon"],
+        [400n * DAY, { units: ["y", "d"] }, "1y 35d"],
+        [400n * DAY, { units: ["d", "y", "days", "d"] }, "1y 35d"],
+        [119n * DAY, { units: ["mon", "d"], parts: 1 }, "3mon"],
+        [119n * DAY, { units: ["mon", "d"], style: "long" }, "3 months 29 days"],
+        [90_061_000_000_000n, { units: ["h"] }, "25h"],
+        [1_001_999n, { units: ["us", "ms", "µs"] }, "1ms 1µs"],
+        [90_061_000_000_000n, { units: ["w", "h", "s"], largest: "d" }, "25h 61s"],
+        [90_061_000_000_000n, { units: ["w", "h", "s"], smallest: "min" }, "25h"],
+        [0n, { units: ["y", "d"] }, "0d"],
+        [0n, { units: ["y", "d"], largest: "mon", style: "long" }, "0 days"],
+        // A zero has no shorter unit than a second, even if the seconds are left out.
+        [999n, { units: ["d", "µs"] }, "0s"],
+        [1n, { units: ["ns"] }, "1ns"],
+        [2n ** 64n - 1n, { units: NAMES }, "584y 3q 2mon 1w 3d 23h 34min 33s 709ms 551µs 615ns"],
+        [
+            90_000_000_000n,
+            { units: undefined, smallest: undefined, parts: undefined, style: undefined },
+            "1min 30s",
+        ],
+    ];
+    for (const [value, options, printed] of rows) assert.equal(formatNs(value, options), printed);
+});
+
+test("takes each name that is read for its unit", () => {
+    assert.equal(ALL_NAMES.length, NAMES.length);
+    for (const [place, names] of ALL_NAMES.entries()) {
+        const printed = NAMES[place];
+        const capitals = names.map((name) => name.toUpperCase().replace("\u039c", "µ"));
+        for (const name of [...names, ...capitals]) {
+            const value = parseNs(`1${name}`);
+            for (const options of [{ units: [name] }, { largest: name, smallest: name }]) {
+                assert.equal(formatNs(value, options), `1${printed}`, name);
+            }
+        }
+    }
+});
+
 test("refuses limits that there are not", () => {
     const names = NAMES.join(", ");
+    const noUnit = (name) => new RangeError(
+        `a unit of the option units must be one of ${names}, not ${name}`,
+    );
     const style = "the option style must be one of short, compact, long, not";
     const rows = [
         [
-            { largest: "days" },
-            new RangeError(`the option largest must be one of ${names}, not days`),
+            { largest: "fortnights" },
+            new RangeError(`the option largest must be one of ${names}, not fortnights`),
         ],
         [
             { smallest: "\u03bcs" },
@@ -82,7 +130,27 @@ test("refuses limits that there are not", () => {
         [{ style: "wide" }, new RangeError(`${style} wide`)],
         [{ style: 1 }, new TypeError("the option style must be a string, not number")],
         [{ parts: "2" }, new TypeError("the option parts must be a number, not string")],
-        [{ units: 2 }, new TypeError("unknown option: units")],
+        // What makes another text of the unit's name than a term with this unit
+        ...["x", "", "d 6d", "1d", " d", "d*1d", "分", "__proto__"].map(
+            (name) => [{ units: ["d", name] }, noUnit(name)],
+        ),
+        [{ units: "yd" }, new TypeError("the option units must be an array, not string")],
+        [{ units: null }, new TypeError("the option units must be an array, not null")],
+        [
+            { units: new Set(["d"]) },
+            new TypeError("the option units must be an array, not object"),
+        ],
+        [{ units: [5] }, new TypeError("a unit of the option units must be a string, not number")],
+        [
+            { units: ["d", , "h"] },
+            new TypeError("a unit of the option units must be a string, not undefined"),
+        ],
+        [{ units: [] }, new RangeError("the option units must name a unit")],
+        [
+            { units: ["y", "s"], largest: "d", smallest: "h" },
+            new RangeError("the option units has no unit from d to h"),
+        ],
+        [{ unit: "d" }, new TypeError("unknown option: unit")],
         [0, new TypeError("the options must be a plain object, not number")],
     ];
     for (const [options, error] of rows) {
@@ -117,6 +185,12 @@ test("counts the parts", () => {
         [400n * DAY, { largest: "mon" }, { months: 13, weeks: 1, days: 3 }],
         [400n * DAY, { largest: "mon", parts: 2 }, { months: 13, weeks: 1 }],
         [400n * DAY, { largest: "mon", parts: Infinity }, { months: 13, weeks: 1, days: 3 }],
+        [400n * DAY, { units: ["y", "d"] }, { years: 1, days: 35 }],
+        [400n * DAY, { units: ["days", "years"], largest: "d" }, { days: 400 }],
+        [400n * DAY, { units: ["y", "mon", "d"], parts: 1 }, { years: 1 }],
+        [400n * DAY, { units: undefined }, { days: 400 }],
+        [5n, { units: ["d", "mon"] }, { days: 0 }],
+        [5n, { units: ["µs", "d"] }, { seconds: 0 }],
         [2n ** 53n - 1n, { largest: "ns" }, { nanoseconds: Number.MAX_SAFE_INTEGER }],
     ];
     for (const [value, limits, counted] of rows) assert.deepEqual(parts(value, limits), counted);
@@ -126,6 +200,8 @@ test("counts the parts", () => {
     );
     for (const limits of [
         { largest: "q" }, { largest: "y", smallest: "q" }, { smallest: "w" }, { parts: 0 },
+        { units: ["q", "d"] }, { largest: "quarter" }, { units: [] }, { units: ["x"] },
+        { units: ["y"], largest: "d" },
     ]) {
         assert.throws(() => parts(1n, limits), RangeError);
     }

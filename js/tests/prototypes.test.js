@@ -7,7 +7,7 @@ import test from "node:test";
 import { createContext, runInContext } from "node:vm";
 
 const NAMES = [
-    "noCalc", "cnUnit", "largest", "smallest", "parts", "style", "other",
+    "noCalc", "cnUnit", "units", "largest", "smallest", "parts", "style", "other",
     "code", "text", "index", "byte", "found", "expected", "message", "report", "cause", "name",
     "ok", "fault", "days", "hours", "minutes", "seconds", "number", "bigint", "us", "ns",
     "ignoreBOM", "fatal",
@@ -36,6 +36,9 @@ const CALLS = [
     'format(5400000, { largest: "µs", smallest: "us", style: undefined })',
     'format(1, { largest: "days" })',
     "format(1, { other: 1 })",
+    'format(34560000000, { units: ["days", "Y"], style: "compact" })',
+    'format(1, { units: ["d", "x"] })',
+    'format(1, { units: ["y"], largest: "d" })',
     "formatNs(1n)",
     'parse("1h")',
     'parse("1分", { cnUnit: true, noCalc: false })',
@@ -54,6 +57,7 @@ const CALLS = [
     "parts(5445001)",
     'parts(400n * 86400000000000n, { largest: "mon", parts: 2 })',
     "parts(0n)",
+    'parts(34560000000, { units: ["days", "y"] })',
     'parts(1, { largest: "q" })',
     'parts(1, { style: "long" })',
     "fieldsOf(() => parse('1m 3-5'))",

@@ -12,8 +12,9 @@ const texts: string[] = [
     formatNs(nanoseconds),
     format(milliseconds),
     formatNs(1n, { parts: 2, largest: "d", smallest: "us", style: "long" }),
+    format(milliseconds, { units: ["y", "days"] as const }),
 ];
-const counted: Parts = parts(nanoseconds, { largest: "y" });
+const counted: Parts = parts(nanoseconds, { largest: "y", units: ["years", "d"] });
 const hours: number = counted.hours ?? 0;
 
 try {
@@ -53,13 +54,19 @@ formatNs(milliseconds);
 // @ts-expect-error: no number
 format(nanoseconds);
 // @ts-expect-error: no unit
-formatNs(1n, { largest: "days" });
+formatNs(1n, { largest: "fortnights" });
+// @ts-expect-error: no unit
+formatNs(1n, { units: ["d", "fortnights"] });
+// @ts-expect-error: no list
+formatNs(1n, { units: "d" });
 // @ts-expect-error: no option
-format(1, { units: 2 });
+format(1, { unit: "d" });
 // @ts-expect-error: no style
 formatNs(1n, { style: "wide" });
 // @ts-expect-error: quarters are not counted
 parts(1n, { largest: "q" });
+// @ts-expect-error: nor if they are chosen
+parts(1n, { units: ["quarters"] });
 // @ts-expect-error: nobody else makes one
 new DurationError("1x");
 // @ts-expect-error: a bigint is no number
