@@ -5,13 +5,14 @@
  *
  * A text is one term or several. A term is a number and a unit. Terms are joined by `+` or by `*`;
  * terms that follow one another are added. A product multiplies its terms in seconds. A number
- * without a unit counts seconds, and must be last or before an operator. Blanks may be anywhere
- * except inside a number or a unit. Numbers are below 2^64, and values below 2^64 nanoseconds.
+ * without a unit counts seconds, unless an option says otherwise, and must be last or before an
+ * operator. Blanks may be anywhere except inside a number or a unit. Numbers are below 2^64, and
+ * values below 2^64 nanoseconds.
  */
 
 /**
- * Options for reading, all off by default. Only a plain object's own properties count; other names
- * are a `TypeError`.
+ * Options for reading. Without any, all are off, and the default unit is the second. Only a plain
+ * object's own properties count; other names are a `TypeError`.
  */
 export interface Options {
     /** `+` and `*` are not read; terms are added one by one. */
@@ -24,9 +25,15 @@ export interface Options {
     cnUnit?: boolean | undefined;
     /**
      * A number without a unit is refused, as in `90` and `1h 30`. Without this option, it counts
-     * seconds.
+     * the default unit.
      */
     requireUnit?: boolean | undefined;
+    /**
+     * The default unit, which a number without a unit counts. With `ms`, `1500` is 1.5 seconds, and
+     * so is `1s 500`. A factor is a number, too: `90s*2` would be 90 seconds times 2 milliseconds.
+     * So a default unit other than the second turns `noCalc` on, and contradicts `requireUnit`.
+     */
+    defaultUnit?: Unit | undefined;
 }
 
 /**
@@ -213,7 +220,8 @@ export declare const version: string;
  * ```
  *
  * @throws DurationError if the text is refused
- * @throws TypeError if `text` is not a string, or if an option is unknown or not a boolean
+ * @throws TypeError if `text` is not a string, or if an option is unknown or of another type
+ * @throws RangeError if no unit has the name of the default unit, or if a unit is also required
  * @throws Error if WebAssembly is missing or refused, as every call does; the message says what to
  * do, and the `cause` is what the engine threw. The next call tries again.
  */
@@ -222,7 +230,7 @@ export function parse(text: string, options?: Options): number;
 /**
  * Returns what `parse` returns, or what is wrong with the text. It makes no error and no stack.
  *
- * @throws TypeError if `text` is not a string, or if an option is unknown or not a boolean
+ * @throws TypeError, RangeError as `parse` does
  */
 export function tryParse(text: string, options?: Options): Result;
 
@@ -230,7 +238,7 @@ export function tryParse(text: string, options?: Options): Result;
  * Returns the exact value of a text in nanoseconds: `parseNs("3m + 13s + 29ms")` is
  * `193029000000n`.
  *
- * @throws DurationError, TypeError as `parse` does
+ * @throws DurationError, TypeError, RangeError as `parse` does
  */
 export function parseNs(text: string, options?: Options): bigint;
 

@@ -38,8 +38,10 @@ const ALL_UNITS = (1 << UNITS.length) - 1;
 const COUNTED_UNITS = ALL_UNITS & ~(1 << indexIn(PARTS, null));
 /** The styles, in the order of `enum duration_str_style`. */
 const STYLES = ["short", "compact", "long"];
-/** The options of reading, with their bits in `enum duration_str_option`. */
+/** The options of reading that are on or off, with their bits in `enum duration_str_option`. */
 const OPTIONS = { __proto__: null, noCalc: 1, lowercase: 2, cnUnit: 4, requireUnit: 8 };
+/** From this bit on, the options have the default unit's number plus 1; 0 is the second. */
+const DEFAULT_UNIT = 16;
 
 /** The size of the buffer that the module writes to, which is enough for all that it writes. */
 const WRITTEN_SIZE = 867;
@@ -370,7 +372,15 @@ function unitOf(what, name) {
     throw new RangeError(`${what} must be one of ${listed(UNITS)}, not ${name}`);
 }
 
-/** The bits of the options that are on. */
+/** The bits of a default unit, which are none for the second. Another unit turns `noCalc` on, since
+ * a factor without a unit counts it, too. */
+function defaultUnitBits(name) {
+    if (name === undefined) return 0;
+    const unit = unitOf("the option defaultUnit", name);
+    return UNITS[unit] === "s" ? 0 : OPTIONS.noCalc | (unit + 1) << DEFAULT_UNIT;
+}
+
+/** The bits of the options that are on, and of the default unit. */
 function bitsOf(options) {
     if (options === undefined) return 0;
     // `map` passes the index as the second argument.
@@ -380,13 +390,18 @@ function bitsOf(options) {
     for (let index = 0; index < names.length; index++) {
         const name = names[index];
         const value = options[name];
-        if (!(name in OPTIONS)) {
+        if (name === "defaultUnit") {
+            bits |= defaultUnitBits(value);
+        } else if (!(name in OPTIONS)) {
             throw unknown(name);
         } else if (value === true) {
             bits |= OPTIONS[name];
         } else if (value !== false && value !== undefined) {
             throw new TypeError(`the option ${name} must be a boolean, not ${typeOf(value)}`);
         }
+    }
+    if (bits & OPTIONS.requireUnit && bits >> DEFAULT_UNIT) {
+        throw new RangeError("the options requireUnit and defaultUnit contradict each other");
     }
     return bits;
 }
@@ -610,7 +625,8 @@ function exactly(count) {
     throw new RangeError(`no number holds ${count} exactly: choose a larger unit`);
 }
 
-/** The counts with one more. To assign it is faster, but all objects may have a setter of its name. */
+/** The counts with one more. To assign it is faster, but all objects may have a setter of its name.
+ */
 function withCount(counts, name, count) {
     if (name in counts) return { ...counts, [name]: count };
     counts[name] = count;

@@ -7,7 +7,7 @@ import test from "node:test";
 import { createContext, runInContext } from "node:vm";
 
 const NAMES = [
-    "noCalc", "cnUnit", "units", "largest", "smallest", "parts", "style", "other",
+    "noCalc", "cnUnit", "defaultUnit", "units", "largest", "smallest", "parts", "style", "other",
     "code", "text", "index", "byte", "found", "expected", "message", "report", "cause", "name",
     "ok", "fault", "days", "hours", "minutes", "seconds", "number", "bigint", "us", "ns",
     "ignoreBOM", "fatal",
@@ -47,6 +47,8 @@ const CALLS = [
     'parse("1h", { other: true })',
     'parse("1h", Object.create({ noCalc: true }))',
     'parse("1h", [])',
+    'parse("1500", { defaultUnit: "milliseconds" })',
+    'parse("1500", { defaultUnit: "fortnight" })',
     'parse("1h ".repeat(50))',
     'tryParse("5 mins")',
     'tryParse("1µs 😀x")',

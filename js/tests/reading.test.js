@@ -76,6 +76,61 @@ test("takes no option from Object.prototype, and minds none there", () => {
     }
 });
 
+test("counts the default unit where a number has none", () => {
+    const rows = [
+        ["1500", "ms", 1500],
+        ["1s 500", "ms", 1500],
+        ["1h 30", "milliseconds", 3_600_030],
+        ["2h", "ms", 7_200_000],
+        ["1", "y", 31_536_000_000],
+        ["1", "us", 0.001],
+        ["1", "µs", 0.001],
+        ["18446744073709", "ms", 18_446_744_073_709],
+        // The second is also the default unit where none is chosen, and leaves operators.
+        ["2*3", "s", 6000],
+        ["2*3", undefined, 6000],
+    ];
+    for (const [text, defaultUnit, value] of rows) {
+        assert.equal(parse(text, { defaultUnit }), value, text);
+        assert.deepEqual(tryParseNs(text, { defaultUnit }).value, parseNs(text, { defaultUnit }));
+        if (defaultUnit !== undefined) {
+            const options = { defaultUnit: defaultUnit.toUpperCase().replace("\u039c", "µ") };
+            assert.equal(parse(text, { ...options, requireUnit: false }), value, text);
+        }
+    }
+    for (const options of [{ defaultUnit: "ms" }, { noCalc: false, defaultUnit: "ms" }]) {
+        const { fault } = tryParse("90s*2", options);
+        assert.deepEqual([fault.code, fault.index, fault.found], ["SYNTAX", 3, "*"]);
+    }
+    assert.equal(tryParse("18446744073710", { defaultUnit: "ms" }).fault.code, "OVERFLOW");
+    assert.equal(parse("1分 500", { cnUnit: true, defaultUnit: "ms" }), 60_500);
+    assert.equal(parse("1s", { requireUnit: true, defaultUnit: "s" }), 1000);
+});
+
+test("refuses a default unit that there is not, or beside a required one", () => {
+    const names = "y, q, mon, w, d, h, min, s, ms, µs, ns";
+    const message = "the options requireUnit and defaultUnit contradict each other";
+    const rows = [
+        ...["fortnight", "", "1ms", "ms ", "d 6d", "毫秒", "toString"].map((name) => [
+            { cnUnit: true, defaultUnit: name },
+            new RangeError(`the option defaultUnit must be one of ${names}, not ${name}`),
+        ]),
+        [{ requireUnit: true, defaultUnit: "ms" }, new RangeError(message)],
+        [{ defaultUnit: "y", requireUnit: true }, new RangeError(message)],
+        [{ defaultUnit: 5 }, new TypeError("the option defaultUnit must be a string, not number")],
+        [{ defaultUnit: null }, new TypeError("the option defaultUnit must be a string, not null")],
+        [
+            { defaultUnit: ["ms"] },
+            new TypeError("the option defaultUnit must be a string, not array"),
+        ],
+    ];
+    for (const [options, error] of rows) {
+        for (const call of [parse, parseNs, tryParse, tryParseNs]) {
+            assert.throws(() => call("1s", options), error);
+        }
+    }
+});
+
 test("refuses what is no option", () => {
     const rows = [
         [{ no_calc: true }, "unknown option: no_calc"],

@@ -6,6 +6,7 @@ import {
 } from "duration-str";
 
 const options: Options = { noCalc: true, lowercase: false, cnUnit: undefined, requireUnit: true };
+const inMilliseconds: Options = { defaultUnit: "ms" };
 const nanoseconds: bigint = parseNs("2h 37m", options);
 const milliseconds: number = parse("1m 30s", {});
 const texts: string[] = [
@@ -47,6 +48,8 @@ parseNs(1);
 parseNs("1s", { no_calc: true });
 // @ts-expect-error: no boolean
 parseNs("1s", { noCalc: 1 });
+// @ts-expect-error: no unit
+parseNs("1", { defaultUnit: "fortnight" });
 // @ts-expect-error: an index is no options
 ["1s"].map(parseNs);
 // @ts-expect-error: no bigint
@@ -78,4 +81,4 @@ const fault: Fault | undefined = result.fault;
 const lines: string[] = [result.fault?.message ?? "", version];
 const inMs: number | undefined = tryParse("1s").value;
 
-void [hours, wrong, read, fault, lines, inMs];
+void [inMilliseconds, hours, wrong, read, fault, lines, inMs];
