@@ -3,7 +3,7 @@
 import { formatNs, tryParseNs } from "../js/dist/duration-str.js";
 import { clean, converted } from "./conversions.js";
 import { say } from "./sentences.js";
-import { LONG, terms, UNITS, unitOf } from "./units.js";
+import { defaultUnitOf, LONG, terms, UNITS, unitOf } from "./units.js";
 import { inWords } from "./values.js";
 
 /** Days and months of a date, as the names that `cn_unit` adds */
@@ -24,9 +24,9 @@ function optionsToTry(options, text) {
     return tried.map((each) => ({ ...options, ...each }));
 }
 
-/** For a unit, how many of the next smaller one it has, and what to write for that one: nothing for
- * seconds, which a number without a unit is. People leave it out at the end, as in `1h 30`. */
-const LEFT_OUT = { d: [24n, "h"], h: [60n, "m"], m: [60n, ""] };
+/** For a unit, how many of the next smaller one it has, and what to write for that one. People
+ * leave it out at the end, as in `1h 30`. */
+const LEFT_OUT = { d: [24n, "h"], h: [60n, "m"], m: [60n, "s"] };
 
 /** A sum with the unit that is left out at its end; null if it isn't certain which that is. */
 function complete(text, options) {
@@ -37,7 +37,8 @@ function complete(text, options) {
     if (last.unit) return text;
     const [limit, name] = LEFT_OUT[unitOf(before.unit)?.names[0]] ?? [0n];
     if (BigInt(last.number) >= limit) return null;
-    return text.trimEnd().replace(/(?<=\p{L})(?=[0-9]+$)/u, " ") + name;
+    const added = defaultUnitOf(options)?.names[0] === name ? "" : name;
+    return text.trimEnd().replace(/(?<=\p{L})(?=[0-9]+$)/u, " ") + added;
 }
 
 /** A text as it is offered, with its meaning in words; no offer of null or of a refused text. */
@@ -101,7 +102,8 @@ export function notesOn(text, value, options) {
     const month = monthIn(sum);
     const minutes = month ?? found.find(({ unit }) => unit === "M");
     const sentences = [];
-    if (bare) sentences.push(say`${bare.number} has no unit: seconds.`);
+    const [unit] = bare ? defaultUnitOf(options).names.slice(-1) : [];
+    if (bare) sentences.push(say`${bare.number} has no unit: ${[unit]}.`);
     if (minutes) sentences.push(say`${minutes.unit} is minutes; months are ${"mon"}.`);
     sentences.push(...inDays(value));
     if (!bare && !month) return { sentences, offers: [] };

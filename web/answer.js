@@ -2,7 +2,9 @@
 // Of several lines, it is each line's value or fault.
 import { formatNs, tryParseNs } from "../js/dist/duration-str.js";
 import { notesOn, offersFor, sentence } from "./advice.js";
-import { choose, chosenLimits, chosenOptions, switches } from "./choices.js";
+import {
+    changedOptions, choose, chosenLimits, chosenOptions, switches,
+} from "./choices.js";
 import { LANGUAGES } from "./code.js";
 import { elsewhere } from "./elsewhere.js";
 import { AROUND, button, element, make, MOST_LINES, parts, text, write } from "./elements.js";
@@ -70,8 +72,8 @@ function showMarks(marked) {
 
 /** In words, the options that differ from those that are chosen. */
 function changesTo(options) {
-    const changed = Object.entries(switches).filter(([name, box]) => box.checked !== options[name]);
-    return changed.map(([, box]) => `${box.dataset.switched}, `).join("");
+    const changed = changedOptions(options).map((name) => switches[name].dataset.switched);
+    return changed.map((words) => `${words}, `).join("");
 }
 
 /** A button that puts the offer in place of the text, or of the part that starts and ends there. */

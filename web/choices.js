@@ -7,6 +7,12 @@ const boxes = Array.from(document.querySelectorAll("[data-switched]"));
 /** The boxes of the options, by the names of these in JavaScript. */
 export const switches = Object.fromEntries(boxes.map((box) => [camel(box.id), box]));
 
+/** The choice for a number without a unit: a unit's printed name, or this. */
+export const defaultUnit = element("default_unit");
+export const REFUSED = "refused";
+/** The printed name of the default unit if none is chosen. */
+export const SECOND = "s";
+
 export const printing = {
     style: element("style"),
     largest: element("largest"),
@@ -31,14 +37,31 @@ export function agree(changed) {
     other.value = changed.value;
 }
 
+/** What is chosen of the options; `noCalc` is on only if its own box turns it on. */
 export function chosenOptions() {
-    const chosen = Object.entries(switches).map(([name, box]) => [name, box.checked]);
-    return Object.fromEntries(chosen);
+    const chosen = Object.entries(switches)
+        .map(([name, box]) => [name, box.checked && !box.disabled]);
+    const options = Object.fromEntries(chosen);
+    if (defaultUnit.value === REFUSED) return { ...options, requireUnit: true };
+    if (defaultUnit.value === SECOND) return options;
+    return { ...options, defaultUnit: defaultUnit.value };
+}
+
+/** Another default unit than the second turns `no_calc` on, and its box can't be pressed. */
+export function showNoCalc() {
+    const isTurnedOn = ![REFUSED, SECOND].includes(defaultUnit.value);
+    if (isTurnedOn === switches.noCalc.disabled) return;
+    switches.noCalc.disabled = isTurnedOn;
+    switches.noCalc.checked = isTurnedOn;
+}
+
+/** The names of the options that have boxes and differ from those that are chosen. */
+export function changedOptions(options) {
+    const chosen = chosenOptions();
+    return Object.keys(switches).filter((name) => chosen[name] !== options[name]);
 }
 
 /** Switches to these options as pressing their boxes does. */
 export function choose(options) {
-    for (const [name, box] of Object.entries(switches)) {
-        if (box.checked !== options[name]) box.click();
-    }
+    for (const name of changedOptions(options)) switches[name].click();
 }

@@ -1,61 +1,73 @@
 // Programs that read and print the text, in each language. Text that is read has no character that
 // JSON and one of the languages escape differently.
 import { format, formatNs, parse, parseNs } from "../js/dist/duration-str.js";
-import { switches } from "./choices.js";
-import { UNITS } from "./units.js";
+import { terms, UNITS } from "./units.js";
 
-const namesOf = (options) => Object.keys(switches).filter((name) => options[name]);
+/** The names of the options that are on, but for the default unit, in JavaScript and elsewhere. */
+const namesOf = (options) => Object.keys(options).filter((name) => options[name] === true);
+const idOf = (name) => name.replace(/[A-Z]/g, (letter) => `_${letter.toLowerCase()}`);
+const idsOf = (options) => namesOf(options).map(idOf);
 const capital = (word) => word.replace(/^./, (letter) => letter.toUpperCase());
 /** The name of a unit in words, by its printed name. */
 const wordOf = (unit) => UNITS.find(({ printed }) => printed === unit).names.at(-2);
+
+/** Rust's name of a unit. */
+function rustUnit(printed) {
+    return `TimeUnit::${capital(wordOf(printed)).replace(/(?<=[io])sec/, "Sec")}`;
+}
 
 /** Rust's call for a limit. */
 function rustLimit([name, value]) {
     if (name === "parts") return `.parts(${value})`;
     if (name === "style") return `.style(Style::${capital(value)})`;
-    return `.${name}(TimeUnit::${capital(wordOf(value)).replace(/(?<=[io])sec/, "Sec")})`;
+    return `.${name}(${rustUnit(value)})`;
 }
 
-/** Rust's call that reads the text, and what it imports; null if the crate has no call with these
- * options. */
-function rustReading(text, options) {
+/** Rust's call that reads the text. */
+function rustReading(text, { requireUnit, defaultUnit, ...options }) {
     const literal = JSON.stringify(text);
     const names = namesOf(options);
-    if (!options.requireUnit) {
-        const fields = names.map((name) => `${switches[name].id}: true, `).join("");
-        const taken = fields ? `Options { ${fields}..Options::off() }` : "Options::off()";
-        return { call: `parse_with(${literal}, ${taken})`, imports: ["parse_with", "Options"] };
-    }
-    if (names.length > 1) return null;
-    return { call: `parse_with_units(${literal})`, imports: ["parse_with_units"] };
+    const isPlain = names.length === 0;
+    if (requireUnit && isPlain) return `parse_with_units(${literal})`;
+    if (defaultUnit && isPlain) return `parse_in(${literal}, ${rustUnit(defaultUnit)})`;
+    // A factor without a unit would count the default unit, too.
+    if (defaultUnit) names.unshift("noCalc");
+    const fields = names.map((name) => `${idOf(name)}: true, `).join("");
+    const taken = fields ? `Options { ${fields}..Options::off() }` : "Options::off()";
+    if (!requireUnit && !defaultUnit) return `parse_with(${literal}, ${taken})`;
+    const unit = requireUnit ? "None" : `Some(${rustUnit(defaultUnit)})`;
+    return `parse_with_default_unit(${literal}, ${taken}, ${unit})`;
 }
 
 function rust(text, options, limits) {
     const reading = rustReading(text, options);
-    if (!reading) return "";
-    const calls = Object.entries(limits).map(rustLimit).join("");
-    const types = ["Style", "TimeUnit"].filter((name) => calls.includes(name));
-    const imports = ["format_duration", ...reading.imports, ...types].join(", ");
+    const printing = Object.entries(limits).map(rustLimit).join("");
+    const isUsed = (name) => `${reading}${printing}`.includes(`${name}::`);
+    const types = ["Options", "Style", "TimeUnit"].filter(isUsed);
+    const imports = ["format_duration", reading.split("(", 1), ...types].join(", ");
     return [
         `use duration_str::{${imports}};`,
         "",
-        `let duration = ${reading.call}?;`,
-        `let text = format_duration(duration)${calls}.to_string();`,
+        `let duration = ${reading}?;`,
+        `let text = format_duration(duration)${printing}.to_string();`,
     ].join("\n");
 }
+
+const keywords = (limits) => Object.entries(limits)
+    .map(([name, value]) => `, ${name}=${JSON.stringify(value)}`).join("");
 
 /** A `timedelta` counts microseconds, so a text with others is read as nanoseconds. */
 function python(text, options, limits) {
     const isWhole = parseNs(text, options) % 1_000n === 0n;
     const [name, call] = isWhole ? ["duration", "parse"] : ["nanoseconds", "parse_ns"];
-    const taken = namesOf(options).map((name) => `, ${switches[name].id}=True`);
-    const printed = Object.entries(limits)
-        .map(([name, value]) => `, ${name}=${JSON.stringify(value)}`);
+    const { defaultUnit: default_unit } = options;
+    const taken = idsOf(options).map((id) => `, ${id}=True`).join("")
+        + keywords(default_unit ? { default_unit } : {});
     return [
         "import duration_str",
         "",
-        `${name} = duration_str.${call}(${JSON.stringify(text)}${taken.join("")})`,
-        `text = duration_str.format(${name}${printed.join("")})`,
+        `${name} = duration_str.${call}(${JSON.stringify(text)}${taken})`,
+        `text = duration_str.format(${name}${keywords(limits)})`,
     ].join("\n");
 }
 
@@ -68,7 +80,7 @@ function argument(properties) {
 
 /** A number of milliseconds may lack the last nanoseconds, so such a text is read as a bigint. */
 function javascript(text, options, limits) {
-    const taken = Object.fromEntries(namesOf(options).map((name) => [name, true]));
+    const taken = Object.fromEntries(Object.entries(options).filter(([, value]) => value));
     const isExact = format(parse(text, options)) === formatNs(parseNs(text, options));
     const [name, ns] = isExact ? ["milliseconds", ""] : ["nanoseconds", "Ns"];
     return [
@@ -79,6 +91,9 @@ function javascript(text, options, limits) {
     ].join("\n");
 }
 
+/** C's name of a unit. */
+const cUnit = (printed) => `DURATION_STR_UNIT_${wordOf(printed).toUpperCase()}`;
+
 /** C's call that prints the answer. */
 function cPrintCall(limits) {
     if (Object.keys(limits).length === 0) {
@@ -88,12 +103,11 @@ function cPrintCall(limits) {
         ];
     }
     const { largest = "y", smallest = "ns", parts = UNITS.length, style = "short" } = limits;
-    const constantOf = (unit) => `DURATION_STR_UNIT_${wordOf(unit).toUpperCase()}`;
     return [
         "char buffer[DURATION_STR_STYLED_BUFFER_SIZE];",
         "duration_str_format_styled(",
         "    answer.nanos / 1000000000, answer.nanos % 1000000000,",
-        `    ${constantOf(largest)}, ${constantOf(smallest)},`,
+        `    ${cUnit(largest)}, ${cUnit(smallest)},`,
         `    ${parts}, DURATION_STR_STYLE_${style.toUpperCase()}, buffer);`,
     ];
 }
@@ -107,8 +121,9 @@ function cLiteral(text) {
 }
 
 function c(text, options, limits) {
-    const ids = namesOf(options).map((name) => switches[name].id);
-    const bits = ids.map((id) => `DURATION_STR_OPTION_${id.toUpperCase()}`);
+    const bits = idsOf(options).map((id) => `DURATION_STR_OPTION_${id.toUpperCase()}`);
+    const { defaultUnit } = options;
+    if (defaultUnit) bits.push(`DURATION_STR_OPTION_DEFAULT_UNIT(${cUnit(defaultUnit)})`);
     return [
         "#include <duration_str.h>",
         "",
@@ -120,16 +135,21 @@ function c(text, options, limits) {
     ].join("\n");
 }
 
-/** `durstr` reads lines and prints durations whole. `duration` can do more, but lacks `no_calc`. */
+/** `durstr` reads lines and prints durations whole. `duration` can do more, but it lacks `no_calc`,
+ * and has a default unit for a single number alone. */
 function shell(text, options, limits) {
     if (/\p{C}/u.test(text)) return "";
-    const names = namesOf(options).map((name) => switches[name].id);
+    const { requireUnit, defaultUnit } = options;
+    const names = idsOf(options);
     const chosen = Object.entries(limits);
-    if (!options.requireUnit && chosen.length === 0) {
+    if (!requireUnit && !defaultUnit && chosen.length === 0) {
         return ["printf '%s\\n'", `'${text}'`, "| durstr", ...names].join(" ");
     }
-    if (options.noCalc) return "";
+    const counts = Array.from(terms(text, options));
+    const isSum = counts.length > 1 && counts.some(({ unit }) => !unit);
+    if (options.noCalc || defaultUnit && isSum) return "";
     const taken = names.map((name) => `--${name.replace("_", "-")}`);
+    if (defaultUnit) taken.push(`--from ${defaultUnit}`);
     const printed = chosen.map(([name, value]) => `--${name} ${value}`);
     return ["duration", ...taken, ...printed, "--", `'${text}'`].join(" ");
 }

@@ -2,7 +2,7 @@
 // use with two meanings has two readings. One that means nothing, or no duration, has no reading
 // but a sentence.
 import { tryParseNs } from "../js/dist/duration-str.js";
-import { terms, UNITS, unitOf } from "./units.js";
+import { defaultUnitOf, terms, UNITS, unitOf } from "./units.js";
 import { say } from "./sentences.js";
 
 /** Durations are below this many nanoseconds. */
@@ -174,8 +174,9 @@ function afterKey(text, options, around) {
     if (!bare && !words.includes(":")) return meaning(text, meant.readings, without(key ?? word));
     const unit = /(?:[._-]|[a-z](?=[A-Z]))([A-Za-z]+)$/.exec(key ?? word)?.[1];
     if (unit && unitName(unit)) return meaning(text, [], say`Write the unit after the number.`);
-    if (/^[0-9]+$/.test(words)) {
-        return meaning(text, [], say`Write ${words} alone: without a unit it is seconds.`);
+    const counted = defaultUnitOf(options)?.names.at(-1);
+    if (counted && /^[0-9]+$/.test(words)) {
+        return meaning(text, [], say`Write ${words} alone: without a unit it is ${[counted]}.`);
     }
     return meaning(text, [], say`${bare?.number ?? words} has no unit.`);
 }

@@ -1,19 +1,31 @@
 // The link. It holds the text, the options and how the duration is printed:
-// `#text=1h%2030m&no_calc&style=long`.
-import { agree, chosenLimits, printing, switches, WHOLE } from "./choices.js";
+// `#text=1h%2030&lowercase&default_unit=ms&style=long`, or `require_unit` for the default unit.
+import {
+    agree, chosenLimits, defaultUnit, printing, REFUSED, SECOND, showNoCalc, switches, WHOLE,
+} from "./choices.js";
 import { element, shorten, text } from "./elements.js";
 import { LONG } from "./units.js";
 
 const boxes = Object.values(switches);
+const lists = { ...printing, default_unit: defaultUnit };
+
+/** The word for a number without a unit; none if it counts seconds. */
+function defaultUnitWords() {
+    if (defaultUnit.value === SECOND) return [];
+    if (defaultUnit.value === REFUSED) return ["require_unit"];
+    return [`default_unit=${encodeURIComponent(defaultUnit.value)}`];
+}
 
 /** Writes the text and what is chosen into the address, and returns that. */
 export function writeLink() {
     let note = "";
     try {
-        const chosen = boxes.filter((box) => box.checked).map((box) => box.id);
+        const isChosen = (box) => box.checked && !box.disabled;
+        const chosen = boxes.filter(isChosen).map((box) => box.id);
         const limits = Object.entries(chosenLimits())
             .map(([name, value]) => `${name}=${encodeURIComponent(value)}`);
-        const words = [`text=${encodeURIComponent(text.value)}`, ...chosen, ...limits];
+        const options = [...chosen, ...defaultUnitWords()];
+        const words = [`text=${encodeURIComponent(text.value)}`, ...options, ...limits];
         if (text.value.length > LONG) note = "This text is too long for the address.";
         else history.replaceState(null, "", `#${words.join("&")}`);
     } catch (error) {
@@ -25,10 +37,10 @@ export function writeLink() {
     return location.href;
 }
 
-/** Whether there is this choice of how a duration is printed. */
+/** Whether there is this choice in one of the lists. */
 function isChoice(id, value) {
-    if (!Object.hasOwn(printing, id)) return false;
-    return Array.from(printing[id].options, (one) => one.value).includes(value);
+    if (!Object.hasOwn(lists, id)) return false;
+    return Array.from(lists[id].options, (one) => one.value).includes(value);
 }
 
 /** Takes a word of the link, and returns whether it is known. */
@@ -38,7 +50,8 @@ function take(word) {
     if (box && rest.length === 0) return box.checked = true;
     const value = decodeURIComponent(rest.join("="));
     if (id === "text") text.value = value;
-    else if (isChoice(id, value)) printing[id].value = value;
+    else if (word === "require_unit") defaultUnit.value = REFUSED;
+    else if (isChoice(id, value)) lists[id].value = value;
     else return false;
     return true;
 }
@@ -48,6 +61,7 @@ function take(word) {
 export function readLink() {
     for (const box of boxes) box.checked = false;
     for (const [name, box] of Object.entries(printing)) box.value = WHOLE[name];
+    defaultUnit.value = SECOND;
     text.value = "";
     const unknown = location.hash.slice(1).split("&").filter(Boolean).filter((word) => {
         try {
@@ -58,6 +72,7 @@ export function readLink() {
         }
     });
     agree(printing.largest);
+    showNoCalc();
     return unknown;
 }
 

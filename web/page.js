@@ -1,7 +1,10 @@
 // The page's behaviour: what is typed, pressed and chosen.
 import { tryParseNs } from "../js/dist/duration-str.js";
 import { copied, showAnswer } from "./answer.js";
-import { agree, choose, chosenOptions, printing, switches, WHOLE } from "./choices.js";
+import {
+    agree, choose, chosenOptions, defaultUnit, printing, REFUSED, SECOND, showNoCalc, switches,
+    WHOLE,
+} from "./choices.js";
 import { LANGUAGES } from "./code.js";
 import { button, element, make, text, write } from "./elements.js";
 import { readLink, showUnknown, writeLink } from "./link.js";
@@ -68,6 +71,17 @@ function showExamples() {
     roam(element("examples"));
 }
 
+/** The choices for a number without a unit. */
+function showDefaultUnits() {
+    const units = UNITS.map(({ names, printed }) => new Option(names.at(-1), printed));
+    defaultUnit.replaceChildren(...units, new Option(REFUSED, REFUSED));
+    defaultUnit.value = SECOND;
+    defaultUnit.addEventListener("change", () => {
+        showNoCalc();
+        read();
+    });
+}
+
 /** The choices of how a duration is printed. */
 function showPrinting() {
     for (const one of [printing.largest, printing.smallest]) {
@@ -128,6 +142,7 @@ function open() {
 
 showUnits();
 showExamples();
+showDefaultUnits();
 showPrinting();
 for (const one of document.querySelectorAll("[data-copies]")) {
     one.addEventListener("click", () => copy(one.dataset.copies));

@@ -37,6 +37,11 @@ export function unitOf(word) {
     return UNITS.find(({ names, chinese }) => names.includes(name) || chinese.includes(name));
 }
 
+/** The unit that a number without one counts under these options; null if it is refused. */
+export function defaultUnitOf({ requireUnit, defaultUnit = "s" }) {
+    return requireUnit ? null : unitOf(defaultUnit);
+}
+
 /** The terms of a text that is read, or of the part before its fault: the operator before each, the
  * term as it is written, its number and its unit's name. */
 export function* terms(text, { cnUnit }) {

@@ -1,6 +1,6 @@
 // Values in words, as decimals, in ISO 8601 and term by term.
 import { parseNs, parts } from "../js/dist/duration-str.js";
-import { terms, UNITS, unitOf } from "./units.js";
+import { defaultUnitOf, terms, UNITS, unitOf } from "./units.js";
 
 const [MINUTE, SECOND] = ["m", "s"].map((name) => unitOf(name).nanos);
 /** So many terms are shown. */
@@ -20,8 +20,10 @@ function countInWords(number, unit) {
 
 /** A sum that is read, in words: `1 hour 30 minutes`. */
 export function inWords(text, options) {
-    const counts = Array.from(terms(text, options));
-    return counts.map(({ number, unit }) => countInWords(number, unitOf(unit ?? "s"))).join(" ");
+    const counts = Array.from(terms(text, options), ({ number, unit }) => {
+        return countInWords(number, unit ? unitOf(unit) : defaultUnitOf(options));
+    });
+    return counts.join(" ");
 }
 
 /** A count of nanoseconds in units of this length, exactly: `193.029`. */

@@ -22,9 +22,11 @@ const OPTIONS = {
 };
 const NONE = optionsOf([]);
 
+/** The options with these names, of which one may be `default_unit=ms`. */
 function optionsOf(names) {
     const pairs = Object.entries(OPTIONS).map(([name, id]) => [name, names.includes(id)]);
-    return Object.fromEntries(pairs);
+    const [, defaultUnit] = /default_unit=(\S+)/.exec(names.join(" ")) ?? [];
+    return { ...Object.fromEntries(pairs), defaultUnit };
 }
 
 /** The nanoseconds in a decimal number of seconds. */
@@ -57,8 +59,10 @@ test("shows a text term by term", () => {
 });
 
 test("has notes on texts that are read", () => {
-    for (const [text, notes] of TEXTS.notes) {
-        assert.deepEqual(notesOn(text, parseNs(text), NONE).sentences.map(wordsOf), notes, text);
+    for (const [text, names, notes] of TEXTS.notes) {
+        const options = optionsOf(names);
+        const { sentences } = notesOn(text, parseNs(text, options), options);
+        assert.deepEqual(sentences.map(wordsOf), notes, text);
     }
 });
 

@@ -31,6 +31,7 @@ from selenium import webdriver  # noqa: E402
 from selenium.webdriver.chrome.service import Service  # noqa: E402
 from selenium.webdriver.common.by import By  # noqa: E402
 from selenium.webdriver.common.keys import Keys  # noqa: E402
+from selenium.webdriver.support.ui import Select  # noqa: E402
 
 TEXTS = json.loads((HERE / "texts.json").read_text(encoding="utf-8"))
 SCHEMES = ("light", "dark")
@@ -38,14 +39,14 @@ SCHEMES = ("light", "dark")
 # link
 PAUSE = 0.8
 # How many bytes the page may have
-LARGEST = 105_000
+LARGEST = 107_000
 # What the keyboard of a phone of 375 by 667 pixels leaves free
 FREE = 300
 PICTURES = ROOT / "docs/images"
 PICTURE_WIDTH = 640
 PICTURE_MARGIN = 12
-# The reference parser reads without units; rows with this option say what is expected.
-OPTIONS = (*reference_parser.Options._fields, "require_unit")
+# The options that have boxes. Rows may also have `require_unit` or, say, `default_unit=ms`.
+OPTIONS = reference_parser.Options._fields
 
 MEGABYTE = 1 << 20
 # Texts of 1 MiB, and what is printed of them, or None; 349,525 s are 4 d 1 h 5 min 25 s.
@@ -117,12 +118,20 @@ class Page:
         self.find("text").send_keys(text)
 
     def choose(self, *names):
+        Select(self.find("default_unit")).select_by_value(default_unit_in(names))
         for name in OPTIONS:
-            if self.find(name).is_selected() != (name in names):
-                self.find(name).click()
+            box = self.find(name)
+            if box.is_enabled() and box.is_selected() != (name in names):
+                box.click()
 
     def chosen(self):
-        return [name for name in OPTIONS if self.find(name).is_selected()]
+        names = [name for name in OPTIONS if self.is_chosen(name)]
+        unit = self.find("default_unit").get_property("value")
+        words = {"s": [], "refused": ["require_unit"]}
+        return names + words.get(unit, [f"default_unit={unit}"])
+
+    def is_chosen(self, name):
+        return self.find(name).is_enabled() and self.find(name).is_selected()
 
     def click(self, selector):
         self.driver.find_element(By.CSS_SELECTOR, selector).click()
@@ -151,10 +160,16 @@ class Page:
         )
 
 
-def answer_to(text, *options):
-    return reference_parser.answer_of(
-        text, reference_parser.Options(**dict.fromkeys(options, True))
-    )
+def default_unit_in(names):
+    """The choice for a number without a unit that is among these names of options."""
+    if "require_unit" in names:
+        return "refused"
+    return next((name.split("=")[1] for name in names if "=" in name), "s")
+
+
+def answer_to(text, *names):
+    options = reference_parser.Options(**{name: True for name in names if name in OPTIONS})
+    return reference_parser.answer_of(text, options)
 
 
 def line_of(text, *options):
@@ -182,7 +197,8 @@ def try_values(page):
     for count, last in ((20, "together"), (21, "and more terms")):
         page.put("1s " * count)
         page.same(f"the last row of {count} terms", last, page.words("#terms th")[-1])
-    for text, notes in TEXTS["notes"]:
+    for text, options, notes in TEXTS["notes"]:
+        page.choose(*options)
         page.put(text)
         page.same(f"the notes on {text}", notes, page.words("#notes p"))
 
@@ -389,18 +405,47 @@ def try_code(page):
                 any(line.endswith(end) for line in page.text_of(name).splitlines()),
             )
     page.choose("no_calc", "require_unit")
-    page.same(
-        "no call of Rust and no program has both options",
-        [None, None],
-        [page.text_of("rust"), page.text_of("shell")],
-    )
+    page.same("no program has both options", None, page.text_of("shell"))
     page.choose("cn_unit", "require_unit")
     page.same(
         "the shell's line with both options",
         "duration --cn-unit --require-unit -- '1h 30m'",
         page.text_of("shell"),
     )
+    call = 'parse_with_default_unit("1h 30m", Options { cn_unit: true, ..Options::off() }, None)?;'
+    page.same("Rust's call with both options", True, call in page.text_of("rust"))
+    page.choose("default_unit=ms")
+    page.put("1500")
+    taken = {
+        "rust": (
+            "use duration_str::{format_duration, parse_in, TimeUnit};",
+            'parse_in("1500", TimeUnit::MilliSecond)?;',
+        ),
+        "python": ('duration_str.parse("1500", default_unit="ms")',),
+        "javascript": ('parse("1500", { defaultUnit: "ms" });',),
+        "c": ("1, DURATION_STR_OPTION_DEFAULT_UNIT(DURATION_STR_UNIT_MILLISECOND), &answer);",),
+        "shell": ("duration --from ms -- '1500'",),
+    }
+    for name, ends in taken.items():
+        for end in ends:
+            page.same(
+                f"{end} in {name}",
+                True,
+                any(line.endswith(end) for line in page.text_of(name).splitlines()),
+            )
+    page.put("1s 500")
+    page.same("no program reads a sum in a unit", None, page.text_of("shell"))
+    page.put("1s 500ms")
+    page.same("but one with units", "duration --from ms -- '1s 500ms'", page.text_of("shell"))
+    page.choose("lowercase", "default_unit=µs")
+    call = (
+        'parse_with_default_unit("1s 500ms", Options { no_calc: true, lowercase: true, '
+        "..Options::off() }, Some(TimeUnit::MicroSecond))?;"
+    )
+    page.same("Rust's call with another option", True, call in page.text_of("rust"))
+    page.same("no_calc is turned on", [True, False], no_calc_box(page))
     page.choose()
+    page.same("no_calc is not turned on", [False, True], no_calc_box(page))
     for text in ("1h", "\t1m\n", "2 * 5 µs"):
         page.put(text)
         call = ast.parse(page.text_of("python")).body[1].value
@@ -428,6 +473,12 @@ def try_code(page):
         [None, None, True],
         [page.text_of("rust"), page.text_of("how"), page.text_of("no-code") is not None],
     )
+
+
+def no_calc_box(page):
+    """Whether its box is selected, and whether it can be pressed."""
+    box = page.find("no_calc")
+    return [box.is_selected(), box.is_enabled()]
 
 
 def try_printing(page):
@@ -586,6 +637,12 @@ def try_link(page):
         "This text is too long for the address.",
         page.text_of("link-note"),
     )
+    for names in (["require_unit"], ["lowercase", "default_unit=ms"], ["no_calc"]):
+        page.open("#text=1h&" + "&".join(names))
+        page.type("1h")
+        time.sleep(PAUSE)
+        link = page.run("return location.hash")
+        page.same(f"the link of {names}", ["#text=1h&" + "&".join(names), names], [link, page.chosen()])
     page.open("#text=1h&no_calc&style=long")
     page.run("location.hash = 'cn_unit'")
     time.sleep(PAUSE)
@@ -650,7 +707,7 @@ def try_keyboard(page):
     wanted = wanted[wanted.index("text") + 1 :]
     page.same("reached by the tab key", wanted, [page.key(Keys.TAB) for _ in wanted])
     page.click("#text")
-    names = [*OPTIONS, "1h 30m1 hour 30 minutes", "1m 30s1 minute 30 seconds"]
+    names = [*OPTIONS, "default_unit", "1h 30m1 hour 30 minutes", "1m 30s1 minute 30 seconds"]
     page.same("what follows the text", names, [page.key(Keys.TAB) for _ in names])
     page.same("after the enter key", "text", page.key(Keys.ENTER))
     page.same("taken by the keyboard", "1m 30s", page.text())
