@@ -72,8 +72,8 @@ export function sentence(text, code, options) {
 }
 
 /** A sentence with the days of a duration that is printed in years, quarters or months. */
-function inDays(value) {
-    const printed = formatNs(value);
+function inDays(value, limits) {
+    const printed = formatNs(value, { ...limits, style: "short" });
     const isPrinted = ({ names: [name] }) => new RegExp(`[0-9]${name}\\b`).test(printed);
     const units = UNITS.slice(0, 3).filter(isPrinted);
     if (units.length === 0) return [];
@@ -94,8 +94,8 @@ function inMonths(sum, month) {
     return sum.map((term) => `${term.operator} ${words(term)}`.trim()).join(" ");
 }
 
-/** What is said of a text that is read, and what is offered beside it. */
-export function notesOn(text, value, options) {
+/** What is said of a text that is read and printed in this way, and what is offered beside it. */
+export function notesOn(text, value, options, limits) {
     const found = Array.from(terms(text, options));
     const sum = found[1]?.operator === "*" ? [] : found;
     const bare = sum.find(({ number, unit }) => !unit && !/^0+$/.test(number));
@@ -105,7 +105,7 @@ export function notesOn(text, value, options) {
     const [unit] = bare ? defaultUnitOf(options).names.slice(-1) : [];
     if (bare) sentences.push(say`${bare.number} has no unit: ${[unit]}.`);
     if (minutes) sentences.push(say`${minutes.unit} is minutes; months are ${"mon"}.`);
-    sentences.push(...inDays(value));
+    sentences.push(...inDays(value, limits));
     if (!bare && !month) return { sentences, offers: [] };
     const meant = complete(month ? inMonths(sum, month) : text, options);
     const offers = offer(meant, options).filter((each) => each.value !== value);

@@ -97,7 +97,7 @@ function showOffers(offers) {
 function remarksOn({ words, value, fault }) {
     const said = fault ? [sentence(words, fault.code, chosenOptions()) ?? lineOf(fault)] : [];
     if (words.length > LONG) return { sentences: said, offers: [] };
-    if (!fault) return notesOn(words, value, chosenOptions());
+    if (!fault) return notesOn(words, value, chosenOptions(), chosenLimits());
     return { sentences: said, offers: offersFor(words, chosenOptions()) };
 }
 

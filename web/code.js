@@ -20,6 +20,7 @@ function rustUnit(printed) {
 function rustLimit([name, value]) {
     if (name === "parts") return `.parts(${value})`;
     if (name === "style") return `.style(Style::${capital(value)})`;
+    if (name === "units") return `.only(&[${value.map(rustUnit).join(", ")}])`;
     return `.${name}(${rustUnit(value)})`;
 }
 
@@ -53,8 +54,15 @@ function rust(text, options, limits) {
     ].join("\n");
 }
 
-const keywords = (limits) => Object.entries(limits)
-    .map(([name, value]) => `, ${name}=${JSON.stringify(value)}`).join("");
+/** The names in quotation marks, with commas between them. */
+const quoted = (names) => names.map((name) => JSON.stringify(name)).join(", ");
+
+/** Python's last arguments. */
+function keywords(values) {
+    const literal = (value) => Array.isArray(value) ? `(${quoted(value)})` : JSON.stringify(value);
+    const words = Object.entries(values).map(([name, value]) => `, ${name}=${literal(value)}`);
+    return words.join("");
+}
 
 /** A `timedelta` counts microseconds, so a text with others is read as nanoseconds. */
 function python(text, options, limits) {
@@ -73,8 +81,8 @@ function python(text, options, limits) {
 
 /** JavaScript's last argument with these properties; none without any. */
 function argument(properties) {
-    const fields = Object.entries(properties)
-        .map(([name, value]) => `${name}: ${JSON.stringify(value)}`);
+    const literal = (value) => Array.isArray(value) ? `[${quoted(value)}]` : JSON.stringify(value);
+    const fields = Object.entries(properties).map(([name, value]) => `${name}: ${literal(value)}`);
     return fields.length > 0 ? `, { ${fields.join(", ")} }` : "";
 }
 
@@ -94,6 +102,13 @@ function javascript(text, options, limits) {
 /** C's name of a unit. */
 const cUnit = (printed) => `DURATION_STR_UNIT_${wordOf(printed).toUpperCase()}`;
 
+/** C's set of the units that are printed. */
+function cUnits({ units, largest = "y", smallest = "ns" }) {
+    if (units) return units.map((unit) => `DURATION_STR_UNITS(${cUnit(unit)})`).join(" |\n    ");
+    if (largest === "y" && smallest === "ns") return "DURATION_STR_UNITS_ALL";
+    return `DURATION_STR_UNITS_BETWEEN(${cUnit(largest)}, ${cUnit(smallest)})`;
+}
+
 /** C's call that prints the answer. */
 function cPrintCall(limits) {
     if (Object.keys(limits).length === 0) {
@@ -102,12 +117,12 @@ function cPrintCall(limits) {
             "duration_str_format(answer.nanos, buffer);",
         ];
     }
-    const { largest = "y", smallest = "ns", parts = UNITS.length, style = "short" } = limits;
+    const { parts = UNITS.length, style = "short" } = limits;
     return [
         "char buffer[DURATION_STR_STYLED_BUFFER_SIZE];",
         "duration_str_format_styled(",
         "    answer.nanos / 1000000000, answer.nanos % 1000000000,",
-        `    ${cUnit(largest)}, ${cUnit(smallest)},`,
+        `    ${cUnits(limits)},`,
         `    ${parts}, DURATION_STR_STYLE_${style.toUpperCase()}, buffer);`,
     ];
 }

@@ -1,13 +1,16 @@
 // The link. It holds the text, the options and how the duration is printed:
-// `#text=1h%2030&lowercase&default_unit=ms&style=long`, or `require_unit` for the default unit.
+// `#text=1h%2030&lowercase&default_unit=ms&style=long&units=y,d`, or `require_unit` for the default
+// unit.
 import {
-    agree, chosenLimits, defaultUnit, printing, REFUSED, SECOND, showNoCalc, switches, WHOLE,
+    agree, chooseUnits, chosenLimits, defaultUnit, limitUnits, printing, REFUSED, SECOND,
+    showNoCalc, switches, WHOLE,
 } from "./choices.js";
 import { element, shorten, text } from "./elements.js";
-import { LONG } from "./units.js";
+import { LONG, UNITS } from "./units.js";
 
 const boxes = Object.values(switches);
 const lists = { ...printing, default_unit: defaultUnit };
+const printedNames = UNITS.map(({ printed }) => printed);
 
 /** The word for a number without a unit; none if it counts seconds. */
 function defaultUnitWords() {
@@ -23,7 +26,7 @@ export function writeLink() {
         const isChosen = (box) => box.checked && !box.disabled;
         const chosen = boxes.filter(isChosen).map((box) => box.id);
         const limits = Object.entries(chosenLimits())
-            .map(([name, value]) => `${name}=${encodeURIComponent(value)}`);
+            .map(([name, value]) => `${name}=${[value].flat().map(encodeURIComponent)}`);
         const options = [...chosen, ...defaultUnitWords()];
         const words = [`text=${encodeURIComponent(text.value)}`, ...options, ...limits];
         if (text.value.length > LONG) note = "This text is too long for the address.";
@@ -43,12 +46,20 @@ function isChoice(id, value) {
     return Array.from(lists[id].options, (one) => one.value).includes(value);
 }
 
+/** Takes the units that are printed, and returns whether there are these. */
+function takeUnits(names) {
+    if (!names.every((name) => printedNames.includes(name))) return false;
+    chooseUnits(names);
+    return true;
+}
+
 /** Takes a word of the link, and returns whether it is known. */
 function take(word) {
     const [id, ...rest] = word.split("=");
     const box = boxes.find((each) => each.id === id);
     if (box && rest.length === 0) return box.checked = true;
     const value = decodeURIComponent(rest.join("="));
+    if (id === "units") return takeUnits(value.split(","));
     if (id === "text") text.value = value;
     else if (word === "require_unit") defaultUnit.value = REFUSED;
     else if (isChoice(id, value)) lists[id].value = value;
@@ -61,6 +72,7 @@ function take(word) {
 export function readLink() {
     for (const box of boxes) box.checked = false;
     for (const [name, box] of Object.entries(printing)) box.value = WHOLE[name];
+    chooseUnits(printedNames);
     defaultUnit.value = SECOND;
     text.value = "";
     const unknown = location.hash.slice(1).split("&").filter(Boolean).filter((word) => {
@@ -72,6 +84,7 @@ export function readLink() {
         }
     });
     agree(printing.largest);
+    limitUnits();
     showNoCalc();
     return unknown;
 }

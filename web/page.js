@@ -2,8 +2,8 @@
 import { tryParseNs } from "../js/dist/duration-str.js";
 import { copied, showAnswer } from "./answer.js";
 import {
-    agree, choose, chosenOptions, defaultUnit, printing, REFUSED, SECOND, showNoCalc, switches,
-    WHOLE,
+    agree, choose, chosenOptions, defaultUnit, limitUnits, printing, REFUSED, SECOND, showLimits,
+    showNoCalc, switches, unitBoxes, WHOLE,
 } from "./choices.js";
 import { LANGUAGES } from "./code.js";
 import { button, element, make, text, write } from "./elements.js";
@@ -94,6 +94,16 @@ function showPrinting() {
         box.value = WHOLE[name];
         box.addEventListener("change", () => {
             agree(box);
+            limitUnits();
+            read();
+        });
+    }
+    for (const box of unitBoxes) {
+        box.checked = true;
+        box.addEventListener("change", () => {
+            // The last one stays.
+            box.checked ||= unitBoxes.every((each) => !each.checked);
+            showLimits();
             read();
         });
     }

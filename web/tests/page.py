@@ -39,7 +39,7 @@ SCHEMES = ("light", "dark")
 # link
 PAUSE = 0.8
 # How many bytes the page may have
-LARGEST = 107_000
+LARGEST = 109_000
 # What the keyboard of a phone of 375 by 667 pixels leaves free
 FREE = 300
 PICTURES = ROOT / "docs/images"
@@ -503,7 +503,7 @@ def try_printing(page):
                 "rust": ".style(Style::Long).parts(2)",
                 "python": 'style="long", parts=2',
                 "c": "answer.nanos / 1000000000, answer.nanos % 1000000000,\n"
-                "    DURATION_STR_UNIT_YEAR, DURATION_STR_UNIT_NANOSECOND,\n    2, DURATION_STR_STYLE_LONG,",
+                "    DURATION_STR_UNITS_ALL,\n    2, DURATION_STR_STYLE_LONG, buffer);",
             },
         ),
         (
@@ -514,8 +514,22 @@ def try_printing(page):
                 "python": 'largest="h", smallest="min"',
                 "javascript": '{ largest: "h", smallest: "min" }',
                 "shell": "duration --largest h --smallest min -- '90061s 1ns'",
-                "c": "DURATION_STR_UNIT_HOUR, DURATION_STR_UNIT_MINUTE,\n"
+                "c": "    DURATION_STR_UNITS_BETWEEN("
+                "DURATION_STR_UNIT_HOUR, DURATION_STR_UNIT_MINUTE),\n"
                 f"    {len(reference_parser.UNITS)}, DURATION_STR_STYLE_SHORT,",
+            },
+        ),
+        (
+            {"parts": "3", "units": "d,min,ns"},
+            "1d 61min 1000000001ns",
+            {
+                "rust": ".parts(3).only(&[TimeUnit::Day, TimeUnit::Minute, TimeUnit::NanoSecond])",
+                "python": 'parts=3, units=("d", "min", "ns"))',
+                "javascript": '{ parts: 3, units: ["d", "min", "ns"] });',
+                "shell": "duration --parts 3 --units d,min,ns -- '90061s 1ns'",
+                "c": "    DURATION_STR_UNITS(DURATION_STR_UNIT_DAY) |\n"
+                "    DURATION_STR_UNITS(DURATION_STR_UNIT_MINUTE) |\n"
+                "    DURATION_STR_UNITS(DURATION_STR_UNIT_NANOSECOND),\n    3,",
             },
         ),
         (
@@ -525,7 +539,9 @@ def try_printing(page):
         ),
     ]
     for chosen, printed, code in rows:
-        limits = "".join(f"&{name}={urllib.parse.quote(value)}" for name, value in chosen.items())
+        limits = "".join(
+            f"&{name}={urllib.parse.quote(value, safe=',')}" for name, value in chosen.items()
+        )
         page.open("#text=90061s%201ns" + limits)
         page.same(f"printed by {chosen}", printed, page.text_of("printed"))
         for name, part in code.items():
@@ -548,6 +564,42 @@ def try_printing(page):
         "Not understood in the link: style=wide",
         page.text_of("link-note"),
     )
+
+
+def try_units_printed(page):
+    """The boxes of units and the two limits follow one another."""
+
+    def same(what, printed, units):
+        checked = page.words("#printed_units label:has(:checked)")
+        got = [page.text_of("printed"), checked, page.find("largest").get_property("value")]
+        page.same(what, [printed, units.split(), units.split()[0]], got)
+
+    def press(*units):
+        for unit in units:
+            page.click(f"#printed_units [value={unit}]")
+
+    page.open("#text=180d&units=y,mon,d")
+    same("units of the link", "6mon", "y mon d")
+    notes = ["That is 180d: a month has 30 days."]
+    page.same("the days of what is printed", notes, page.words("#notes p"))
+    press("mon", "y")
+    same("the last unit", "180d", "d")
+    press("d")
+    same("the last unit, which stays", "180d", "d")
+    press("q")
+    same("a longer unit", "1q 89d", "q d")
+    Select(page.find("largest")).select_by_visible_text("y")
+    same("a longer limit", "1q 89d", "y q d")
+    Select(page.find("smallest")).select_by_visible_text("s")
+    same("a shorter limit", "1q 89d", "y q d h min s")
+    Select(page.find("largest")).select_by_visible_text("mon")
+    same("a limit that wasn't chosen", "6mon", "mon d h min s")
+    Select(page.find("smallest")).select_by_visible_text("q")
+    same("a limit beyond the other", "1q", "q")
+    page.open("#text=1h&units=d,h&largest=h")
+    same("units and a limit", "1h", "h")
+    page.open("#text=1h")
+    same("no units in the link", "1h", "y q mon w d h min s ms µs ns")
 
 
 def literal_of_c(code):
@@ -642,7 +694,9 @@ def try_link(page):
         page.type("1h")
         time.sleep(PAUSE)
         link = page.run("return location.hash")
-        page.same(f"the link of {names}", ["#text=1h&" + "&".join(names), names], [link, page.chosen()])
+        page.same(
+            f"the link of {names}", ["#text=1h&" + "&".join(names), names], [link, page.chosen()]
+        )
     page.open("#text=1h&no_calc&style=long")
     page.run("location.hash = 'cn_unit'")
     time.sleep(PAUSE)
