@@ -1,5 +1,6 @@
-// What a text means to other programs. tests/elsewhere.test.js compares this with the programs.
-// Each reader returns nanoseconds, which may be negative, or null if the program refuses the text.
+// What a text means to other programs, each in one version; others may read it in another way.
+// tests/elsewhere.test.js compares this with the programs of these versions. Each reader returns
+// nanoseconds, which may be negative, or null if the program refuses the text.
 import { formatNs } from "../js/dist/duration-str.js";
 
 const MICROSECOND = 1_000n;
@@ -113,8 +114,10 @@ function systemd(text) {
     return sum;
 }
 
-/** humantime 2.4 also reads decimals and more names. */
-export const READERS = { "Go": go, "humantime 2.1": humantime, "ms": ms, "systemd": systemd };
+/** The readers, by the program and its version. */
+export const READERS = {
+    "Go 1.19": go, "humantime 2.1": humantime, "ms 2.1": ms, "systemd 252": systemd,
+};
 
 /** A value that another program reads, which may be longer than the library's, or negative. */
 function inWords(nanos) {

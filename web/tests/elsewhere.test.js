@@ -1,8 +1,8 @@
 // Compares what web/elsewhere.js says of texts with the programs themselves: Go, humantime, ms and
-// systemd, of which Debian has all. A program that is missing is skipped.
+// systemd, of which Debian has all. A program is skipped if it is missing, or of another version.
 import assert from "node:assert/strict";
 import { execFileSync, spawnSync } from "node:child_process";
-import { existsSync, mkdtempSync, readFileSync, rmSync, writeFileSync } from "node:fs";
+import { mkdtempSync, readFileSync, readdirSync, rmSync, writeFileSync } from "node:fs";
 import { createRequire } from "node:module";
 import { tmpdir } from "node:os";
 import { join } from "node:path";
@@ -29,7 +29,22 @@ const TEXTS = [...MEANT, ...PAGE_TEXTS.typed, ...MORE];
 const room = mkdtempSync(join(tmpdir(), "elsewhere-"));
 after(() => rmSync(room, { recursive: true }));
 
-const has = (tool) => spawnSync("which", [tool]).status === 0;
+/** The first group of the pattern in what a command writes; undefined if there is none. */
+function written(pattern, ...words) {
+    const { stdout } = spawnSync(words[0], words.slice(1), { encoding: "utf8" });
+    return pattern.exec(stdout ?? "")?.[1];
+}
+
+/** Tests a program if it is there in the version that READERS names. `found` is the version that is
+ * there, if any, and Debian has the program in this package. */
+function compare(program, found, debianPackage, answers) {
+    const name = Object.keys(READERS).find((each) => each.startsWith(`${program} `));
+    const wanted = name.slice(program.length + 1);
+    let skip = false;
+    if (!found) skip = `${debianPackage} is missing`;
+    else if (!`${found}.`.startsWith(`${wanted}.`)) skip = `${found} is here, and not ${wanted}`;
+    test(name, { skip }, () => same(name, answers()));
+}
 
 /** Compares each text's value with what the program says: nanoseconds, or null. */
 function same(name, answers) {
@@ -58,17 +73,14 @@ func main() {
     }
 }`;
 
-/** Skips a test unless the program is there. Debian has it in the package of this name. */
-const unless = (isThere, name) => isThere ? {} : { skip: `${name} is missing` };
-
-test("Go", unless(has("go"), "golang-go"), () => {
+compare("Go", written(/go([0-9.]+)/, "go", "version"), "golang-go", () => {
     writeFileSync(join(room, "main.go"), GO);
     const env = { ...process.env, GOCACHE: join(room, "cache") };
     execFileSync("go", ["build", "-o", join(room, "go"), join(room, "main.go")], { env });
-    same("Go", answersOf(join(room, "go")));
+    return answersOf(join(room, "go"));
 });
 
-const HUMANTIME = "/usr/share/cargo/registry/humantime-2.1.0/src/lib.rs";
+const CRATES = "/usr/share/cargo/registry";
 const RUST = `fn main() {
     for line in std::io::stdin().lines() {
         let line = line.unwrap();
@@ -81,28 +93,38 @@ const RUST = `fn main() {
     }
 }`;
 
-const hasHumantime = has("rustc") && existsSync(HUMANTIME);
-test("humantime", unless(hasHumantime, "librust-humantime-dev"), () => {
+/** The version of Debian's crate of humantime; undefined if there is none. */
+function humantimeVersion() {
+    try {
+        const crates = readdirSync(CRATES).map((name) => /^humantime-([0-9.]+)$/.exec(name)?.[1]);
+        return crates.find(Boolean);
+    } catch {
+        return undefined;
+    }
+}
+
+compare("humantime", humantimeVersion(), "librust-humantime-dev", () => {
     writeFileSync(join(room, "main.rs"), RUST);
     const words = ["--edition", "2021", "-Awarnings", "--out-dir", room];
     const compile = (...others) => execFileSync("rustc", [...words, ...others]);
-    compile("--crate-type", "rlib", "--crate-name", "humantime", HUMANTIME);
+    const source = join(CRATES, `humantime-${humantimeVersion()}`, "src/lib.rs");
+    compile("--crate-type", "rlib", "--crate-name", "humantime", source);
     compile("--extern", `humantime=${join(room, "libhumantime.rlib")}`, join(room, "main.rs"));
-    same("humantime 2.1", answersOf(join(room, "main")));
+    return answersOf(join(room, "main"));
 });
 
 const MS = "/usr/share/nodejs/ms";
-test("ms", unless(existsSync(MS), "node-ms"), () => {
+compare("ms", written(/"version": "([0-9.]+)"/, "cat", `${MS}/package.json`), "node-ms", () => {
     const read = createRequire(import.meta.url)(MS);
-    const answers = TEXTS.map((text) => {
+    return TEXTS.map((text) => {
         const value = text === "" ? undefined : read(text);
         return value === undefined ? null : BigInt(Math.round(value * 1e6));
     });
-    same("ms", answers);
 });
 
-test("systemd", unless(has("systemd-analyze"), "systemd"), () => {
-    const answers = TEXTS.map((text) => {
+const systemdVersion = written(/^systemd ([0-9]+)/, "systemd-analyze", "--version");
+compare("systemd", systemdVersion, "systemd", () => {
+    return TEXTS.map((text) => {
         const words = ["timespan", "--", text];
         const { stdout } = spawnSync("systemd-analyze", words, { encoding: "utf8" });
         const [, micros] = /s: ([0-9]+)$/m.exec(stdout) ?? [];
@@ -110,5 +132,4 @@ test("systemd", unless(has("systemd-analyze"), "systemd"), () => {
         const isLength = micros !== undefined && BigInt(micros) < 2n ** 64n - 1n;
         return isLength ? BigInt(micros) * 1_000n : null;
     });
-    same("systemd", answers);
 });
