@@ -1,6 +1,16 @@
-// Texts in other notations, each recognised as a whole, with their exact values. A text that people
-// use with two meanings has two readings. One that means nothing, or no duration, has no reading
-// but a sentence.
+// Texts in other notations, with their exact values. A notation gets in if all of this holds:
+//
+// - People write durations so: another program reads or prints it, a standard has it, or it is
+//   ordinary prose.
+// - It is recognised by the whole text, and not by a part of it.
+// - The text itself says what is meant. `10' 30"` is minutes and seconds; `5'` may be feet, so it is
+//   not in. No calendar is needed: `P1M` is not in, since months vary.
+// - If people use a text with two meanings, such as `1:30`, both are offered. A text with more
+//   meanings is not in.
+// - texts.json has texts in it with their values, and texts near it that mean something else.
+//
+// A notation that people type but that is not in has a row in REFUSED, with a sentence that says
+// why.
 import { tryParseNs } from "../js/dist/duration-str.js";
 import { defaultUnitOf, terms, UNITS, unitOf } from "./units.js";
 import { say } from "./sentences.js";
