@@ -1,5 +1,5 @@
-// What the page says of a refused text, and of one that many people would read in another way; and
-// what it offers instead, which are whole texts that the library reads.
+// What the page says and marks of a refused text, and says of one that many people would read in
+// another way; and what it offers instead, which are whole texts that the library reads.
 import { formatNs, tryParseNs } from "../js/dist/duration-str.js";
 import { clean, converted } from "./conversions.js";
 import { say } from "./sentences.js";
@@ -60,6 +60,20 @@ export function offersFor(text, options) {
     }
     const readings = converted(text, options)?.readings ?? [];
     return readings.flatMap(({ text: each }) => offer(complete(each, options), options));
+}
+
+/** The part of the text that a line's fault is about, from and to as indexes; none if the fault has
+ * no place. */
+export function markedParts({ words, start, fault }, options) {
+    if (!fault || fault.index === null) return [];
+    const { code, index, found } = fault;
+    const part = (from, length) => [{ from: start + from, to: start + from + length }];
+    if (code === "NOT_TEXT") return part(index, 1);
+    // A word of letters that no unit has is marked whole.
+    const word = /^\p{L}*/u.exec(words.slice(index))[0];
+    if (code === "SYNTAX") return part(index, Math.max(word.length, (found ?? "").length));
+    const [term] = terms(words, options);
+    return part(words.indexOf(term.words), term.words.length);
 }
 
 /** What the page says of a refused text; nothing if the library's line says it. */

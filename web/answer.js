@@ -1,15 +1,15 @@
 // The answer below the text: its value in all notations, or its fault and what is offered instead.
 // Of several lines, it is each line's value or fault.
 import { formatNs, tryParseNs } from "../js/dist/duration-str.js";
-import { notesOn, offersFor, sentence } from "./advice.js";
+import { markedParts, notesOn, offersFor, sentence } from "./advice.js";
 import {
     changedOptions, choose, chosenLimits, chosenOptions, switches,
 } from "./choices.js";
 import { LANGUAGES } from "./code.js";
 import { elsewhere } from "./elsewhere.js";
-import { AROUND, button, element, make, MOST_LINES, parts, text, write } from "./elements.js";
-import { lineOf } from "./sentences.js";
-import { LONG, terms } from "./units.js";
+import { button, element, make, MOST_LINES, parts, text, write } from "./elements.js";
+import { AROUND, lineOf } from "./sentences.js";
+import { LONG } from "./units.js";
 import { decimal, groupDigits, iso, seconds, termRows } from "./values.js";
 
 /** What a copy button copies, by the name of the element that shows it. */
@@ -21,20 +21,6 @@ function show(id, words, shown = words) {
 }
 
 // ---- Marks
-
-/** The part of the text that a line's fault is about, from and to as indexes; none if the fault has
- * no place. */
-function markedParts({ words, start, fault }) {
-    if (!fault || words === "" || fault.index === null) return [];
-    const { code, index, found } = fault;
-    const part = (from, length) => [{ from: start + from, to: start + from + length }];
-    if (code === "NOT_TEXT") return part(index, 1);
-    // A word of letters that no unit has is marked whole.
-    const word = /^\p{L}*/u.exec(words.slice(index))[0];
-    if (code === "SYNTAX") return part(index, Math.max(word.length, (found ?? "").length));
-    const [term] = terms(words, chosenOptions());
-    return part(words.indexOf(term.words), term.words.length);
-}
 
 /** Shows a text in the element, with a mark at each of these parts of it. */
 function markParts(target, shown, marked) {
@@ -223,7 +209,7 @@ export function showAnswer() {
     element("fault").hidden = !isOne || isRead;
     element("lines").hidden = isOne;
     text.setAttribute("aria-invalid", String(!isRead && text.value !== ""));
-    showMarks(lines.flatMap(markedParts));
+    showMarks(lines.flatMap((each) => markedParts(each, options)));
     showCode(isOne && isRead && text.value.length <= LONG);
     for (const id of ["sentence", "line"]) element(id).replaceChildren();
     if (!isOne || isRead) text.removeAttribute("aria-describedby");

@@ -1,20 +1,13 @@
 // The elements of the page. What is typed, or comes from the link, reaches them only as
 // `textContent` and `value`.
+import { shorten } from "./sentences.js";
 
 /** Of several lines at most so many are shown. */
 export const MOST_LINES = 200;
-/** How much of a long text is shown, or stands on each side of a fault, in UTF-16 units. */
-export const AROUND = 40;
 const CHINESE = /\p{Script=Han}/u;
 
 export const element = (id) => document.getElementById(id);
 export const text = element("text");
-
-/** This text, or its first 40 characters where it is longer. */
-export function shorten(found) {
-    const first = Array.from(found.slice(0, 2 * AROUND)).slice(0, AROUND).join("");
-    return first.length < found.length ? `${first}…` : first;
-}
 
 /** An element with this content, in Chinese where a Chinese name stands in it. */
 export function make(name, ...content) {

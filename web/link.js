@@ -5,7 +5,8 @@ import {
     agree, chooseUnits, chosenLimits, defaultUnit, limitUnits, printing, REFUSED, SECOND,
     showNoCalc, switches, WHOLE,
 } from "./choices.js";
-import { element, shorten, text } from "./elements.js";
+import { element, text } from "./elements.js";
+import { shorten } from "./sentences.js";
 import { LONG, UNITS } from "./units.js";
 
 const boxes = Object.values(switches);

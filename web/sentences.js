@@ -1,6 +1,15 @@
 // Sentences, which are lists of strings and of quoted texts. This module needs no browser, nor do
 // advice.js, conversions.js, units.js and values.js, which know what a text means.
 
+/** How much of a long text is shown, or stands on each side of a fault, in UTF-16 units. */
+export const AROUND = 40;
+
+/** This text, or its first 40 characters where it is longer. */
+export function shorten(found) {
+    const first = Array.from(found.slice(0, 2 * AROUND)).slice(0, AROUND).join("");
+    return first.length < found.length ? `${first}…` : first;
+}
+
 /** A sentence: say`A comma can't follow ${"1h"}.` quotes 1h. A list among the values stands as it
  * is. */
 export function say(strings, ...values) {

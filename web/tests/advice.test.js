@@ -6,7 +6,9 @@ import { readFileSync } from "node:fs";
 import test from "node:test";
 
 import { formatNs, parseNs, tryParseNs } from "../../js/dist/duration-str.js";
-import { notesOn, offersFor, sentence } from "../advice.js";
+import { markedParts, notesOn, offersFor, sentence } from "../advice.js";
+import { elsewhere } from "../elsewhere.js";
+import { lineOf, shorten } from "../sentences.js";
 import { decimal, groupDigits, iso, seconds, termRows } from "../values.js";
 
 const TEXTS = JSON.parse(readFileSync(new URL("texts.json", import.meta.url), "utf8"));
@@ -35,9 +37,9 @@ function nanosOf(decimalSeconds) {
     return BigInt(whole + fraction.padEnd(9, "0"));
 }
 
-/** A sentence as one string. */
+/** A sentence as one string, in which a long text is shortened. */
 function wordsOf(parts) {
-    return parts.map((part) => part.quoted ?? part).join("");
+    return parts.map((part) => part.quoted === undefined ? part : shorten(part.quoted)).join("");
 }
 
 function countWords(parts) {
@@ -56,6 +58,9 @@ test("shows a text term by term", () => {
     for (const [text, names, rows] of TEXTS.terms) {
         assert.deepEqual(termRows(text, optionsOf(names)).flat(), rows ?? [], text);
     }
+    for (const [count, last] of [[20, "together"], [21, "and more terms"]]) {
+        assert.equal(termRows("1s ".repeat(count), NONE).at(-1)[0], last);
+    }
 });
 
 test("has notes on texts that are read", () => {
@@ -67,6 +72,36 @@ test("has notes on texts that are read", () => {
     const limits = { units: ["y", "mon", "d"], style: "long" };
     const { sentences } = notesOn("180d", parseNs("180d"), NONE, limits);
     assert.deepEqual(sentences.map(wordsOf), ["That is 180d: a month has 30 days."]);
+});
+
+test("marks the fault, and has a sentence or the library's line", () => {
+    for (const [text, names, marked, words] of TEXTS.faults) {
+        const options = optionsOf(names);
+        const { fault } = tryParseNs(text, options);
+        const [part] = markedParts({ words: text, start: 0, fault }, options);
+        const mark = part && (text.slice(part.from, part.to) || "\u00a0");
+        assert.equal(mark ?? null, marked, text);
+        const said = sentence(text, fault.code, options);
+        if (words) assert.equal(wordsOf(said ?? lineOf(fault)), words, text);
+        else assert.ok(!said, `${text}: ${JSON.stringify(said)}`);
+    }
+});
+
+test("says what other programs read", () => {
+    for (const [text, rows] of TEXTS.elsewhere) {
+        const { value = null } = tryParseNs(text);
+        assert.deepEqual(elsewhere(text, value).flat(), rows, text);
+    }
+});
+
+test("offers a text with other options or units", () => {
+    for (const [text, names, words, said, remain] of TEXTS.switched) {
+        const options = optionsOf(names);
+        const { ok, value } = tryParseNs(text, options);
+        const [offer] = ok ? notesOn(text, value, options).offers : offersFor(text, options);
+        assert.deepEqual([offer.text, offer.options], [words, optionsOf(remain)], text);
+        assert.ok(said.endsWith(offer.meaning), text);
+    }
 });
 
 for (const [group, rows] of Object.entries(TEXTS.meant)) {
