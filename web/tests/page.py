@@ -59,6 +59,9 @@ LONG = [
     ("1m " + "<b>" * 349_524, None),
     (" " * (MEGABYTE - 1) + "x", None),
     (" " * MEGABYTE, None),
+    ("+" * MEGABYTE, None),
+    ("a=" * (MEGABYTE // 2), None),
+    ("分" * MEGABYTE, None),
     ("1m " + "1" * (MEGABYTE - 6) + "m .5", None),
 ]
 
