@@ -185,20 +185,12 @@ mod derror;
 mod error;
 mod fault;
 mod formatted;
-#[cfg(feature = "serde")]
-pub mod human;
 mod human_duration;
 mod human_format;
-#[cfg(feature = "serde")]
-pub mod human_or_seconds;
-#[cfg(feature = "serde")]
-pub mod human_with_units;
 pub mod humantime;
-#[cfg(feature = "serde")]
-pub mod humantime_serde;
 mod parser;
 #[cfg(feature = "serde")]
-mod serde_texts;
+mod serde;
 
 // The list of this crate's functions would begin with these, so the documentation has them in their
 // module alone.
@@ -216,6 +208,20 @@ pub use duration_str_core::{
     TimeUnit, Units, UnknownStyle, UnknownUnit, write_human, write_within,
 };
 // For the core's examples; here the buffers' sizes and `TimeUnit::ALL` say as much.
+#[cfg(feature = "serde")]
+#[allow(deprecated)]
+pub use self::serde::original::{
+    DeserializeDuration, deserialize_duration, deserialize_option_duration,
+};
+#[cfg(all(feature = "serde", feature = "chrono"))]
+#[allow(deprecated)]
+pub use self::serde::original::{deserialize_duration_chrono, deserialize_option_duration_chrono};
+#[cfg(all(feature = "serde", feature = "time"))]
+#[allow(deprecated)]
+pub use self::serde::original::{deserialize_duration_time, deserialize_option_duration_time};
+#[cfg(feature = "serde")]
+#[doc(inline)]
+pub use self::serde::{human, human_or_seconds, human_with_units, humantime_serde};
 #[doc(hidden)]
 pub use duration_str_core::{MAX_LONG_LEN, MAX_PRINTED_LEN, UNITS};
 #[cfg(feature = "macros")]
@@ -230,12 +236,3 @@ pub use parser::parse_chrono;
 #[cfg(feature = "time")]
 pub use parser::parse_time;
 pub use parser::{parse, parse_duration, parse_std, parse_with};
-#[cfg(feature = "serde")]
-#[allow(deprecated)]
-pub use serde_texts::{DeserializeDuration, deserialize_duration, deserialize_option_duration};
-#[cfg(all(feature = "serde", feature = "chrono"))]
-#[allow(deprecated)]
-pub use serde_texts::{deserialize_duration_chrono, deserialize_option_duration_chrono};
-#[cfg(all(feature = "serde", feature = "time"))]
-#[allow(deprecated)]
-pub use serde_texts::{deserialize_duration_time, deserialize_option_duration_time};

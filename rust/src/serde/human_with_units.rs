@@ -25,7 +25,7 @@
 //! assert!(refusal.to_string().starts_with(line));
 //! # Ok::<(), serde_json::Error>(())
 //! ```
-use crate::human::{self, HumanText};
+use crate::serde::human::{self, HumanText};
 use serde::de::Deserializer;
 
 #[doc(no_inline)]

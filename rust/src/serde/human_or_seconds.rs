@@ -27,7 +27,7 @@
 //! assert_eq!(text, r#"{"timeout":"1min 30s","keep_alive":"1h"}"#);
 //! # Ok::<(), serde_json::Error>(())
 //! ```
-use crate::human::{self, HumanText};
+use crate::serde::human::{self, HumanText};
 use serde::de::Deserializer;
 
 #[doc(no_inline)]

@@ -69,7 +69,7 @@ use crate::human_duration::HumanDuration;
 use crate::human_format::Sealed;
 use crate::humantime;
 use crate::parser::{ADDITIONS, parse_with};
-use crate::serde_texts::Length;
+use crate::serde::original::Length;
 use crate::{FORMAT_BUFFER_SIZE, write_human};
 use alloc::vec::Vec;
 use core::fmt;

@@ -26,7 +26,7 @@
 //! assert!(serde_json::from_str::<Config>(r#"{ "timeout": "90" }"#).is_err());
 //! # Ok::<(), serde_json::Error>(())
 //! ```
-use crate::human::{HumanText, STRICT};
+use crate::serde::human::{HumanText, STRICT};
 use serde::de::Deserializer;
 use serde::ser::Serializer;
 
