@@ -187,6 +187,26 @@ impl<T: Length, const HOW: u8> Visitor<'_> for Text<T, HOW> {
         }
     }
 
+    fn visit_u128<E: de::Error>(self, secs: u128) -> Result<T, E> {
+        match u64::try_from(secs) {
+            Ok(secs) => self.visit_u64(secs),
+            Err(_) => {
+                let number = Unexpected::Other("integer of 2^64 or more");
+                Err(E::invalid_value(number, &self))
+            }
+        }
+    }
+
+    fn visit_i128<E: de::Error>(self, secs: i128) -> Result<T, E> {
+        match u128::try_from(secs) {
+            Ok(secs) => self.visit_u128(secs),
+            Err(_) => {
+                let number = Unexpected::Other("negative integer");
+                Err(E::invalid_value(number, &self))
+            }
+        }
+    }
+
     fn visit_str<E: de::Error>(self, text: &str) -> Result<T, E> {
         let read = match HOW {
             WITH_UNITS => parse_with_default_unit(text, ADDITIONS, None),

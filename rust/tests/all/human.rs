@@ -5,7 +5,8 @@ use duration_str::{
     humantime_serde, parse_duration,
 };
 use serde::de::value::{
-    BytesDeserializer, Error, F64Deserializer, I64Deserializer, U64Deserializer,
+    BytesDeserializer, Error, F64Deserializer, I64Deserializer, I128Deserializer, U64Deserializer,
+    U128Deserializer,
 };
 use serde::de::{Deserializer, Error as _, Visitor};
 use serde::{Deserialize, Serialize, forward_to_deserialize_any};
@@ -310,6 +311,8 @@ fn reads_whole_seconds_and_texts() {
     // JSON and YAML tell of positive numbers without a sign, and TOML of all with one.
     assert_eq!(with_numbers(U64Deserializer::new(60)), minute);
     assert_eq!(with_numbers(I64Deserializer::new(60)), minute);
+    assert_eq!(with_numbers(U128Deserializer::new(60)), minute);
+    assert_eq!(with_numbers(I128Deserializer::new(60)), minute);
     assert_eq!(with_numbers(BytesDeserializer::new(b"1m")), minute);
     let longest = u64::MAX / 1_000_000_000;
     assert_eq!(
@@ -349,6 +352,14 @@ fn refuses_other_numbers_in_one_line() {
     assert_eq!(
         with_numbers(U64Deserializer::new(18_446_744_074)),
         refusal("value: integer `18446744074`")
+    );
+    assert_eq!(
+        with_numbers(U128Deserializer::new(1 << 64)),
+        refusal("value: integer of 2^64 or more")
+    );
+    assert_eq!(
+        with_numbers(I128Deserializer::new(-1)),
+        refusal("value: negative integer")
     );
     assert_eq!(
         with_numbers(F64Deserializer::new(1.5)),
