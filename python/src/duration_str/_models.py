@@ -7,8 +7,9 @@ from contextlib import suppress
 from importlib import import_module
 from typing import Annotated, Any
 
-from ._native import format, option_bits, parse
-from ._texts import DurationError, Options, Unit
+from ._native import format, parse
+from ._options import WithOptions
+from ._texts import DurationError, Options
 
 
 def _read(value: Any, options: Options) -> Any:
@@ -55,7 +56,7 @@ class _Shown(dict[str, Any]):
         super().__setitem__(key, value)
 
 
-class DurationField:
+class DurationField(WithOptions):
     """How pydantic 2 reads a timedelta from a text, under these options, and
     writes it as a text. It stands in `Annotated`.
 
@@ -64,25 +65,6 @@ class DurationField:
     >>> in_millis = duration_str.DurationField(default_unit="ms")
     >>> Milliseconds = Annotated[timedelta, in_millis]
     """
-
-    def __init__(
-        self,
-        *,
-        no_calc: bool = False,
-        lowercase: bool = False,
-        cn_unit: bool = False,
-        require_unit: bool = False,
-        default_unit: Unit = "s",
-    ) -> None:
-        self._options: Options = {
-            "no_calc": no_calc,
-            "lowercase": lowercase,
-            "cn_unit": cn_unit,
-            "require_unit": require_unit,
-            "default_unit": default_unit,
-        }
-        # Raises if there is no such unit, or if no unit can be missing.
-        option_bits(**self._options)
 
     def __repr__(self) -> str:
         options = ", ".join(f"{name}={value!r}" for name, value in self._options.items())

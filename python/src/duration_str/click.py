@@ -10,34 +10,16 @@ from typing import Any
 
 import click
 
-from ._native import option_bits, parse
-from ._texts import DurationError, Options, Unit
+from ._native import parse
+from ._options import WithOptions
+from ._texts import DurationError
 
 
-class DurationParamType(click.ParamType):
+class DurationParamType(WithOptions, click.ParamType):
     """Reads a timedelta from a text, under these options. For a refused text, Click shows the text
     and the error's line. A default may also be a timedelta."""
 
     name = "duration"
-
-    def __init__(
-        self,
-        *,
-        no_calc: bool = False,
-        lowercase: bool = False,
-        cn_unit: bool = False,
-        require_unit: bool = False,
-        default_unit: Unit = "s",
-    ) -> None:
-        self._options: Options = {
-            "no_calc": no_calc,
-            "lowercase": lowercase,
-            "cn_unit": cn_unit,
-            "require_unit": require_unit,
-            "default_unit": default_unit,
-        }
-        # Raises if there is no such unit, or if no unit can be missing.
-        option_bits(**self._options)
 
     def __repr__(self) -> str:
         return "DURATION"
