@@ -182,6 +182,14 @@ class Models(unittest.TestCase):
         self.assertEqual(self.model.model_validate_json(job.model_dump_json()), job)
         self.assertEqual(self.model.model_validate(job.model_dump()), job)
 
+    def test_writes_nothing_that_it_cannot_read_back(self):
+        longest = datetime.timedelta(microseconds=2**64 // 1000)
+        job = self.model(timeout=longest)
+        self.assertEqual(self.model.model_validate_json(job.model_dump_json()), job)
+        longer = self.model(timeout=longest + datetime.timedelta(microseconds=1))
+        with self.assertRaisesRegex(ValueError, "a duration of over 584 years can't be read back"):
+            longer.model_dump_json()
+
     def test_has_the_schema_of_its_json(self):
         for mode in ["validation", "serialization"]:
             schema = self.model.model_json_schema(mode=mode)

@@ -36,9 +36,17 @@ def _read(value: Any, options: Options) -> Any:
         raise core.PydanticCustomError("duration", str(error), context) from None
 
 
+_LONGEST = datetime.timedelta(microseconds=2**64 // 1000)
+
+
 def _print(value: Any) -> str:
-    """The text of a timedelta; a text, which a default that isn't validated may be, as it is."""
-    return value if isinstance(value, str) else format(value)
+    """The text of a timedelta; a text, which a default that isn't validated may be, as it is.
+    Raises a ValueError if the text couldn't be read back."""
+    if isinstance(value, str):
+        return value
+    if value > _LONGEST:
+        raise ValueError("a duration of over 584 years can't be read back")
+    return format(value)
 
 
 class _Shown(dict[str, Any]):
