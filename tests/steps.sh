@@ -15,10 +15,14 @@ trap clears EXIT
 export CARGO_INCREMENTAL=0 CARGO_PROFILE_DEV_DEBUG=0
 
 # runs WHAT WORDS..: runs the words as a step; the end of what they say, which $log has whole, is
-# shown where they fail
+# shown where they fail. After a minute it says what it is doing.
 runs() {
-    local started=$SECONDS
-    if "${@:2}" >"$log" 2>&1 </dev/null; then
+    local started=$SECONDS ended end
+    exec {end}> >(read -rt 60 || [ $? -le 128 ] || echo "$steps: $1: is still running")
+    "${@:2}" >"$log" 2>&1 </dev/null {end}>&-
+    ended=$?
+    exec {end}>&-
+    if [ "$ended" = 0 ]; then
         echo "$steps: $1: as expected ($((SECONDS - started)) s)"
     else
         tail -n 40 "$log"
