@@ -210,6 +210,11 @@ install: installable
 	put "$$libraries/libduration_str.a" $(libdir)/libduration_str.a
 	put "$$libraries/libduration_str.so" $(libdir)/$(soname)
 	ln -sf $(soname) "$$DESTDIR$(libdir)/libduration_str.so"
+	# Before the soname 2 the file was named by the version, so the next version's file took its place
+	# below the older soname's link. Programs crash by such a link, whose name its library lacks.
+	for link in "$$DESTDIR$(libdir)"/libduration_str.so.[0-9]*; do
+	    [ ! -L "$$link" ] || grep -aqF "$${link##*/}" "$$link" || rm -fv "$$link"
+	done
 	$(call filled,duration_str.pc,prefix,$(call up,$(libdir)/pkgconfig,$${pcfiledir})) |
 	    put_text $(libdir)/pkgconfig/duration_str.pc
 	$(foreach file,$(cmake_files),$(call filled,$(notdir $(file)),duration_str_prefix,$(cmake_up)) | \
@@ -247,11 +252,24 @@ install: installable
 uninstall: installable
 	@made=$$(cat "$$DESTDIR$(folders)" 2>/dev/null || true)
 	for file in $(installed) $(folders); do rm -fv "$$DESTDIR$$file"; done
-	# Those of older versions too
-	rm -fv "$$DESTDIR$(libdir)"/libduration_str.so.[0-9]* "$$DESTDIR$(mandir)"/man3/duration_str_*.3
+	# Pages of older versions too
+	rm -fv "$$DESTDIR$(mandir)"/man3/duration_str_*.3
+	for library in "$$DESTDIR$(libdir)"/libduration_str.so.[0-9]*; do
+	    [ ! -e "$$library" ] ||
+	        echo "uninstall: left for programs that were linked with it: $$library"
+	done
+	# Below DESTDIR nothing says which folders were made, so all that are empty go.
+	if [ -n "$$DESTDIR" ]; then
+	    [ -d "$$DESTDIR" ] || exit 0
+	    cd "$$DESTDIR"
+	    for folder in $(sort $(patsubst /%/,%,$(dir $(installed)))); do
+	        [ ! -d "$$folder" ] || rmdir -p --ignore-fail-on-non-empty "$$folder"
+	    done
+	    exit 0
+	fi
 	made=$$(for folder in $$made; do realpath -m "$(prefix)/$$folder"; done | sort -ru)
 	for folder in $(docdir) $(libdir)/cmake/duration_str $$made; do
-	    [ ! -d "$$DESTDIR$$folder" ] || rmdir --ignore-fail-on-non-empty "$$DESTDIR$$folder"
+	    [ ! -d "$$folder" ] || rmdir --ignore-fail-on-non-empty "$$folder"
 	done
 
 # ---- The rest
