@@ -236,7 +236,8 @@ install: installable
 	        case $$file in *.fish) shell=fish ;; */_*) shell=zsh ;; *) shell=bash ;; esac
 	        "$$command" --completions $$shell | put_text "$$file"
 	    done
-	    help2man --no-info --name 'read durations such as 1h 30m, and print them' "$$command" |
+	    help2man --no-info --include shell/duration.h2m \
+	        --name 'read durations such as 1h 30m, and print them' "$$command" |
 	        put_text $(mandir)/man1/duration.1
 	fi
 	[ -z "$$DESTDIR" ] || exit 0
