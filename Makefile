@@ -198,9 +198,15 @@ installable:
 	    ;;
 	esac
 
+# What BusyBox's tools of these names lack is noticed before anything is written.
 install: installing = yes
 install: installable
-	@$(put)
+	@sed 'e :' </dev/null 2>/dev/null || { echo 'install: needs GNU sed' >&2; exit 1; }
+	$(INSTALL) --help 2>/dev/null | grep -q -- --verbose || {
+	    echo "install: needs GNU's command install, of coreutils" >&2
+	    exit 1
+	}
+	$(put)
 	program=$$($(MAKE) --silent program installing=yes target=$(target) static=$(static))
 	libraries=$$($(MAKE) --silent library installing=yes target=$(target))
 	programs=durstr
