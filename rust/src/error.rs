@@ -2,7 +2,7 @@
 use crate::fault::Fault;
 use alloc::string::{String, ToString};
 use core::fmt;
-use duration_str_core::{Cause, Options};
+use duration_str_core::{Cause, Expected, Options};
 
 /// The error of [`parse_duration`](crate::parse_duration) and of `str::parse`: a [`Fault`] that
 /// owns its text.
@@ -76,6 +76,29 @@ impl DurationError {
     #[must_use]
     pub const fn place(&self) -> Option<usize> {
         self.cause.place()
+    }
+
+    /// What could stand at the place of a syntax fault, as in [`Fault::expected`].
+    ///
+    /// ```
+    /// let expected = duration_str::parse_duration("1m+").unwrap_err().expected();
+    /// assert!(expected.is_some_and(|expected| expected.number && !expected.text_end));
+    /// ```
+    #[must_use]
+    pub fn expected(&self) -> Option<Expected> {
+        self.as_fault().expected()
+    }
+
+    /// The token at the place of a syntax fault, as in [`Fault::found`].
+    ///
+    /// ```
+    /// let error = duration_str::parse_duration("5 mins").unwrap_err();
+    /// assert_eq!(error.found(), Some("mins"));
+    /// assert_eq!(duration_str::parse_duration("600y").unwrap_err().found(), None);
+    /// ```
+    #[must_use]
+    pub fn found(&self) -> Option<&str> {
+        self.as_fault().found()
     }
 
     /// The text, a caret and the line, as in [`Fault::report`].

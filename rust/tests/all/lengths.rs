@@ -195,7 +195,7 @@ proptest! {
                 prop_assert_eq!(read.cause(), wanted.cause(), "{}", text);
             }
             (Err(read), Err(wanted)) => {
-                let (read, wanted) = (read.as_fault().expected(), wanted.as_fault().expected());
+                let (read, wanted) = (read.expected(), wanted.expected());
                 prop_assert_eq!(read, wanted, "{}", text);
             }
             (read, wanted) => prop_assert!(false, "{}: {:?}, {:?}", text, read, wanted),
