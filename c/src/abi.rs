@@ -2,7 +2,8 @@
 //! function of its name.
 #![deny(clippy::no_mangle_with_rust_abi)]
 use crate::{answer::Answer, limits, message};
-use core::{mem::MaybeUninit, mem::offset_of, mem::zeroed, slice::from_raw_parts};
+use core::mem::{MaybeUninit, offset_of, zeroed};
+use core::{ptr::copy_nonoverlapping, slice::from_raw_parts};
 
 // The fields lie where C looks for them.
 const _: () = assert!(offset_of!(Answer, has_place) == 16 + 2 * size_of::<usize>());
@@ -14,6 +15,20 @@ unsafe fn bytes<'a>(start: *const u8, len: usize) -> &'a [u8] {
     } else {
         unsafe { from_raw_parts(start, len) }
     }
+}
+
+/// Has a call write to a buffer of its own, and copies the text and the zero after it to the
+/// caller's, which C may not have initialised. To such memory no reference may be made: Rust's
+/// Reference wants one to point to a valid value ("Behavior considered undefined").
+fn written<const SIZE: usize>(
+    out: &mut MaybeUninit<[u8; SIZE]>,
+    write: impl FnOnce(&mut [u8; SIZE]) -> usize,
+) -> usize {
+    let mut buffer = [0; SIZE];
+    let length = write(&mut buffer);
+    let text = &buffer[..=length.min(SIZE - 1)];
+    unsafe { copy_nonoverlapping(text.as_ptr(), out.as_mut_ptr().cast(), text.len()) };
+    length
 }
 
 #[unsafe(no_mangle)]
@@ -29,8 +44,8 @@ unsafe extern "C" fn duration_str_parse(
 }
 
 #[unsafe(no_mangle)]
-extern "C" fn duration_str_format(nanos: u64, buffer: &mut [u8; 64]) -> usize {
-    crate::duration_str_format(nanos, buffer)
+extern "C" fn duration_str_format(nanos: u64, out: &mut MaybeUninit<[u8; 64]>) -> usize {
+    written(out, |buffer| crate::duration_str_format(nanos, buffer))
 }
 
 #[unsafe(no_mangle)]
@@ -40,9 +55,11 @@ extern "C" fn duration_str_format_styled(
     units: u32,
     parts: u32,
     style: u32,
-    buffer: &mut [u8; 144],
+    out: &mut MaybeUninit<[u8; 144]>,
 ) -> usize {
-    limits::duration_str_format_styled(secs, nanos, units, parts, style, buffer)
+    written(out, |buffer| {
+        limits::duration_str_format_styled(secs, nanos, units, parts, style, buffer)
+    })
 }
 
 #[unsafe(no_mangle)]
@@ -61,9 +78,12 @@ unsafe extern "C" fn duration_str_one_line(
     len: usize,
     bits: u32,
     answer: &mut MaybeUninit<Answer>,
-    out: &mut [u8; 384],
+    out: &mut MaybeUninit<[u8; 384]>,
 ) -> usize {
-    unsafe { message::duration_str_one_line(bytes(text, len), bits, answer.write(zeroed()), out) }
+    let (text, answer) = unsafe { (bytes(text, len), answer.write(zeroed())) };
+    written(out, |buffer| {
+        message::duration_str_one_line(text, bits, answer, buffer)
+    })
 }
 
 #[unsafe(no_mangle)]
@@ -72,9 +92,12 @@ unsafe extern "C" fn duration_str_report(
     len: usize,
     bits: u32,
     answer: &mut MaybeUninit<Answer>,
-    out: &mut [u8; 867],
+    out: &mut MaybeUninit<[u8; 867]>,
 ) -> usize {
-    unsafe { message::duration_str_report(bytes(text, len), bits, answer.write(zeroed()), out) }
+    let (text, answer) = unsafe { (bytes(text, len), answer.write(zeroed())) };
+    written(out, |buffer| {
+        message::duration_str_report(text, bits, answer, buffer)
+    })
 }
 
 #[unsafe(no_mangle)]
