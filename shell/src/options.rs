@@ -229,7 +229,8 @@ fn with_list(shell: Shell, script: &str) -> String {
             let (before, after) = script.split_once("LIST").expect("clap writes the word");
             let (before, _) = before.rsplit_once('"').expect("it is in quotation marks");
             let (_, after) = after.split_once('"').expect("they are two");
-            let words = WORDS.join(",");
+            // After a tab fish would explain the word.
+            let words = WORDS.join(r"\t,") + r"\t";
             format!(r#"{before}"(__fish_complete_list , 'string split , {words}')"{after}"#)
         }
         Shell::Zsh => {

@@ -593,7 +593,7 @@ fn tells_of_itself() {
         ("bash", "##*,"),
         (
             "fish",
-            "-f -a \"(__fish_complete_list , 'string split , y,q,mon,w,d,h,min,s,ms,us,ns')\"\n",
+            r"(__fish_complete_list , 'string split , y\t,q\t,mon\t,w\t,d\t,",
         ),
         ("zsh", ":UNITS:_sequence compadd - y q mon "),
     ] {
