@@ -15,9 +15,10 @@
  *
  * The grammar: a text is one term or several. A term is a number and a unit,
  * such as `3m` or `29 ms`. Terms are joined by `+` or by `*`; terms that
- * follow one another are added. A number without a unit counts seconds, and
- * must be last or before an operator. Blanks (space, tab, carriage return,
- * line feed) may be anywhere except inside a number or a unit.
+ * follow one another are added. A number without a unit counts seconds, unless
+ * an option says otherwise, and must be last or before an operator. Blanks
+ * (space, tab, carriage return, line feed) may be anywhere except inside a
+ * number or a unit.
  *
  * Units: y year years, q quarter quarters, mon month months, w week weeks, d
  * day days, h hr hour hours, m min minute minutes, s sec second seconds, ms

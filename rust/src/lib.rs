@@ -115,8 +115,9 @@
 //!
 //! A text is one term or several. A term is a number and a unit. Terms are joined by `+` or by `*`;
 //! terms that follow one another are added. A text is a sum or a product, and can't mix both. A
-//! product multiplies its terms in seconds. A number without a unit counts seconds, and must be last
-//! or before an operator. Blanks may be anywhere except inside a number or a unit.
+//! product multiplies its terms in seconds. A number without a unit counts seconds, unless a call
+//! says otherwise, and must be last or before an operator. Blanks may be anywhere except inside a
+//! number or a unit.
 //!
 //! <!-- The table is made by tests/repository --write. -->
 //! | unit | names | with `cn_unit` also |

@@ -10,10 +10,10 @@ datetime.timedelta(seconds=193, microseconds=29000)
 
 A text is one term or several. A term is a number and a unit. Terms are
 joined by `+` or by `*`; terms that follow one another are added. A product
-multiplies its terms in seconds. A number without a unit counts seconds, and
-must be last or before an operator. Blanks may be anywhere except inside a
-number or a unit. Numbers are below 2**64, and values below 2**64
-nanoseconds.
+multiplies its terms in seconds. A number without a unit counts seconds,
+unless an option says otherwise, and must be last or before an operator.
+Blanks may be anywhere except inside a number or a unit. Numbers are below
+2**64, and values below 2**64 nanoseconds.
 
 The units:
 
