@@ -1,8 +1,8 @@
 -- Worked examples, computed: what texts are read as, why others are refused, and what durations print as.
 use Rattle.duration_str.proofs.Common.{ALL, answer, answer_with, Bool, Cause, codes, Compact, counts_of, Empty, encode_utf8_all, Err, Expected, false, flat_map, if◌then◌else◌, length, List, Long, map, MAX_LONG_LEN, MAX_PRINTED_LEN, message_of, Mixed, nanos_of, nat_lt, None, NumberTooLarge, off, Ok, older_row_of, older_unit_of_word, Options, OutOfRange, Overflow, Plus, printed_counts, Quarter, refl, replicate, Result, row_of, Short, Some, Star, Style, Syntax, TimeUnit, true, unit_lengths, unit_of_word, units, [], ℕ, ◌++◌, ◌∷◌, ◌≡◌}
 use Rattle.duration_str.specs.declared.format.Format.{Format}
-use Rattle.duration_str.specs.declared.unit.TimeUnit.TheVariants.{Day, Hour, MilliSecond, Minute, Month, NanoSecond, Second, Week, Year}
-use Rattle.duration_str.specs.Limits.{chosen, intersection, counts_within, down_to, is_in, lengths_within, set_of, text_within, up_to, whole_format, without_unit}
+use Rattle.duration_str.specs.declared.unit.TimeUnit.TheVariants.{Day, Hour, MicroSecond, MilliSecond, Minute, Month, NanoSecond, Second, Week, Year}
+use Rattle.duration_str.specs.Limits.{chosen, intersection, counts_within, down_to, is_in, lengths_within, set_of, shorter_units, text_within, up_to, whole_format, without_unit}
 use Rattle.duration_str.specs.OneLine.{is_letter, is_plain, one_line_of}
 use Rattle.duration_str.specs.Report.{report_of}
 use Rattle.duration_str.proofs.Characters.UnitLemmas.{Each, each_unit}
@@ -295,6 +295,12 @@ pub record LimitedTexts : Type 0 where
   pub number_of_all : set_of units ≡ ALL
   pub number_of_year : set_of (Year ∷ []) ≡ record { bits = 1 }
   pub number_of_nanosecond : set_of (NanoSecond ∷ []) ≡ record { bits = 1_024 }
+  pub number_from_days : up_to Day ALL ≡ record { bits = 0x7F0 }
+  pub number_down_to_hours : down_to Hour ALL ≡ record { bits = 0x3F }
+  -- ---- The units that are shorter than all of these
+  pub shorter_than_hours : shorter_units (Year ∷ Hour ∷ [])
+      ≡ Minute ∷ Second ∷ MilliSecond ∷ MicroSecond ∷ NanoSecond ∷ []
+  pub shorter_than_none : shorter_units [] ≡ MilliSecond ∷ MicroSecond ∷ NanoSecond ∷ []
 
 pub limited_texts : LimitedTexts
 unfolding chars digits encode chosen is_in
