@@ -37,7 +37,6 @@
 //! # Ok::<(), humantime::DurationError>(())
 //! ```
 use crate::Fault;
-use crate::default_unit::parse_with_default_unit;
 use crate::formatted::pad;
 use crate::human_duration::written_as_text;
 use crate::parser::CASE_SENSITIVE;
@@ -45,7 +44,7 @@ use alloc::string::{String, ToString};
 use alloc::vec::Vec;
 use core::fmt;
 use core::time::Duration as StdDuration;
-use duration_str_core::{self as proved, Cause, TimeUnit, Tokens};
+use duration_str_core::{self as proved, Cause, Options, TimeUnit, Tokens};
 
 pub use crate::DurationError;
 
@@ -80,8 +79,19 @@ pub(crate) fn read(text: &str) -> Result<StdDuration, Fault<'_>> {
 /// one that is refused, and for some in Chinese.
 #[inline]
 fn sum_of(text: &str) -> Option<u64> {
-    let nanos = proved::parse_nanos(text, CASE_SENSITIVE.with_no_calc(), None).ok()?;
+    let nanos = read_with(text, true).ok()?;
     nanos.checked_add(longer_by(text, nanos)?)
+}
+
+/// Reads a text by the proved reader, where each number needs a unit, and capitals and small letters
+/// differ. It is compiled for this alone, which makes it faster, and programs get no other reader.
+#[inline(never)]
+fn read_with(text: &str, no_calc: bool) -> Result<u64, proved::Fault<'_>> {
+    let options = Options {
+        no_calc,
+        ..CASE_SENSITIVE
+    };
+    proved::parse_nanos_inlined(text, options, None)
 }
 
 /// By how many nanoseconds a sum without operators is longer here than in the rest of this crate,
@@ -153,10 +163,10 @@ fn own_name(name: &str) -> Option<&'static str> {
 fn read_other(text: &str) -> Result<StdDuration, Fault<'_>> {
     let mut tokens = Tokens::new(text, CASE_SENSITIVE);
     if !has_longer(text) && !tokens.any(|token| own_name(token.text).is_some()) {
-        return parse_with_default_unit(text, CASE_SENSITIVE, None);
+        return with_operators(text);
     }
     let rewritten = Rewritten::of(text);
-    parse_with_default_unit(&rewritten.text, CASE_SENSITIVE, None).map_err(|fault| {
+    with_operators(&rewritten.text).map_err(|fault| {
         let cause = match fault.cause() {
             Cause::Syntax { place, expected } => Cause::Syntax {
                 place: rewritten.place_in(text, place),
@@ -166,6 +176,14 @@ fn read_other(text: &str) -> Result<StdDuration, Fault<'_>> {
         };
         Fault::of(text, cause, CASE_SENSITIVE)
     })
+}
+
+/// Reads a text that may have operators.
+fn with_operators(text: &str) -> Result<StdDuration, Fault<'_>> {
+    match read_with(text, false) {
+        Ok(nanos) => Ok(StdDuration::from_nanos(nanos)),
+        Err(fault) => Err(Fault::new(fault, CASE_SENSITIVE)),
+    }
 }
 
 /// A text as the rest of this crate means it: each token of the text that was written, and a blank
