@@ -3,6 +3,7 @@ ghost use Rattle.std.specs.Option.{ForSome};
 ghost use Rattle.std.specs.Str.{IsCharBoundary};
 ghost use Rattle.duration_str.specs.Faults.{place_of};
 
+use crate::assertions::{holds, holds_in_memory, is_fault, is_value, prints};
 use crate::vectors::{AFTER_NUMBER, OFF, START, syntax};
 use duration_str::{
     Cause, Fault, deserialize_duration, deserialize_duration_chrono, deserialize_duration_time,
@@ -12,24 +13,24 @@ use duration_str::{
 use jiff::SignedDuration;
 use serde_json::{Value, json};
 use std::alloc::{AllocError, Global};
-use std::test::Fail;
 use std::time::Duration;
 
 /// Whether each call reads the required value as this many seconds.
 fn is_required(value: &Value, secs: u32) -> bool {
-    let signed = Ok(SignedDuration::from_secs(i64::from(secs)));
-    deserialize_duration::<Duration>(value) == Ok(Duration::from_secs(u64::from(secs)))
-        && deserialize_duration::<SignedDuration>(value) == signed
-        && deserialize_duration_chrono(value) == signed
-        && deserialize_duration_time(value) == signed
+    let plain = Duration::from_secs(u64::from(secs));
+    let signed = SignedDuration::from_secs(i64::from(secs));
+    is_value(deserialize_duration::<Duration>(value), plain)
+        && is_value(deserialize_duration::<SignedDuration>(value), signed)
+        && is_value(deserialize_duration_chrono(value), signed)
+        && is_value(deserialize_duration_time(value), signed)
 }
 
 /// Whether each call refuses the required value with this fault.
 fn is_refused(value: &Value, fault: Fault<'_>) -> bool {
-    deserialize_duration::<Duration>(value) == Err(fault)
-        && deserialize_duration::<SignedDuration>(value) == Err(fault)
-        && deserialize_duration_chrono(value) == Err(fault)
-        && deserialize_duration_time(value) == Err(fault)
+    is_fault(deserialize_duration::<Duration>(value), fault)
+        && is_fault(deserialize_duration::<SignedDuration>(value), fault)
+        && is_fault(deserialize_duration_chrono(value), fault)
+        && is_fault(deserialize_duration_time(value), fault)
 }
 
 /// Whether each call reads the optional value as this many seconds, or as `None`.
@@ -41,20 +42,23 @@ fn is_optional(value: &Value, secs: Option<u32>) -> bool {
         ),
         None => (None, None),
     };
-    deserialize_duration::<Option<Duration>>(value) == Ok(plain)
-        && deserialize_option_duration(value) == Ok(plain)
-        && deserialize_duration::<Option<SignedDuration>>(value) == Ok(signed)
-        && deserialize_option_duration_chrono(value) == Ok(signed)
-        && deserialize_option_duration_time(value) == Ok(signed)
+    is_value(deserialize_duration::<Option<Duration>>(value), plain)
+        && is_value(deserialize_option_duration(value), plain)
+        && is_value(
+            deserialize_duration::<Option<SignedDuration>>(value),
+            signed,
+        )
+        && is_value(deserialize_option_duration_chrono(value), signed)
+        && is_value(deserialize_option_duration_time(value), signed)
 }
 
 /// Whether each call refuses the optional value with this fault.
 fn is_refused_if_there(value: &Value, fault: Fault<'_>) -> bool {
-    deserialize_duration::<Option<Duration>>(value) == Err(fault)
-        && deserialize_option_duration(value) == Err(fault)
-        && deserialize_duration::<Option<SignedDuration>>(value) == Err(fault)
-        && deserialize_option_duration_chrono(value) == Err(fault)
-        && deserialize_option_duration_time(value) == Err(fault)
+    is_fault(deserialize_duration::<Option<Duration>>(value), fault)
+        && is_fault(deserialize_option_duration(value), fault)
+        && is_fault(deserialize_duration::<Option<SignedDuration>>(value), fault)
+        && is_fault(deserialize_option_duration_chrono(value), fault)
+        && is_fault(deserialize_option_duration_time(value), fault)
 }
 
 /// The fault of a value that is not a text.
@@ -65,40 +69,50 @@ fn no_text<'a>(optional: bool) -> Fault<'a> {
     }
 }
 
+/// Whether each call reads the text, as a required and as an optional value, as this many seconds.
+fn is_read(alloc: Global, text: &str, secs: u32) -> Result<bool, AllocError> {
+    let value = json!(in alloc; text)?;
+    Ok(is_required(&value, secs) && is_optional(&value, Some(secs)))
+}
+
 #[test]
-fn reads_texts(rt: HostRuntime) -> Result<(), Fail> {
-    let rows = [
+fn reads_texts(rt: HostRuntime) {
+    for &(text, secs) in &[
         ("1y+30", 31_536_030),
         ("1 y + 30", 31_536_030),
         ("1min+30", 90),
         ("1m", 60),
         ("30s", 30),
-    ];
-    for (text, secs) in rows {
-        let value = json!(in rt.alloc(); text)?;
-        assert!(rt; is_required(&value, secs), "{text}");
-        assert!(rt; is_optional(&value, Some(secs)), "{text}");
+    ] {
+        holds_in_memory(&rt, text, is_read(rt.alloc(), text, secs));
     }
-    Ok(())
 }
 
-#[test]
-fn takes_null_and_the_empty_text_for_none(rt: HostRuntime) -> Result<(), Fail> {
-    let empty = json!(in rt.alloc(); "")?;
-    assert!(rt; is_optional(&empty, None));
-    assert!(rt; is_optional(&Value::Null, None));
+/// Whether the empty text is refused as a required value and is `None` as an optional one.
+fn takes_the_empty_text_for_none(alloc: Global) -> Result<bool, AllocError> {
+    let empty = json!(in alloc; "")?;
     let fault = Fault {
         text: "",
         cause: Cause::Empty,
     };
-    assert!(rt; is_refused(&empty, fault));
-    let config = json!(in rt.alloc(); {"timeout": "30s"})?;
+    Ok(is_optional(&empty, None) && is_refused(&empty, fault))
+}
+
+/// Whether a field that is missing is `None`.
+fn takes_a_missing_field_for_none(alloc: Global) -> Result<bool, AllocError> {
+    let config = json!(in alloc; {"timeout": "30s"})?;
     let missing = match config.get("interval") {
         Some(value) => deserialize_option_duration(value),
         None => Ok(None),
     };
-    assert_eq!(rt; missing, Ok(None));
-    Ok(())
+    Ok(missing == Ok(None))
+}
+
+#[test]
+fn takes_null_and_the_empty_text_for_none(rt: HostRuntime) {
+    assert!(rt; is_optional(&Value::Null, None));
+    holds_in_memory(&rt, "empty", takes_the_empty_text_for_none(rt.alloc()));
+    holds_in_memory(&rt, "missing", takes_a_missing_field_for_none(rt.alloc()));
 }
 
 /// Whether each call refuses the text, as a required and as an optional value, for this cause.
@@ -111,38 +125,65 @@ fn is_refused_text(alloc: Global, text: &str, cause: Cause) -> Result<bool, Allo
 }
 
 #[test]
-fn hands_on_the_fault_of_a_text(rt: HostRuntime) -> Result<(), Fail> {
+fn hands_on_the_fault_of_a_text(rt: HostRuntime) {
     let alloc = rt.alloc();
-    assert!(rt; is_refused_text(alloc, "0mxyz", syntax(1, AFTER_NUMBER))?);
-    assert!(rt; is_refused_text(alloc, " ", syntax(1, START))?);
-    assert!(rt; is_refused_text(alloc, "580y*2", Cause::Overflow { place: None })?);
-    Ok(())
+    let overflow = Cause::Overflow { place: None };
+    holds_in_memory(
+        &rt,
+        "0mxyz",
+        is_refused_text(alloc, "0mxyz", syntax(1, AFTER_NUMBER)),
+    );
+    holds_in_memory(&rt, "blank", is_refused_text(alloc, " ", syntax(1, START)));
+    holds_in_memory(&rt, "580y*2", is_refused_text(alloc, "580y*2", overflow));
+}
+
+/// Whether the token at the place of the value's fault is this one.
+fn has_token(value: &Value, token: &str) -> bool {
+    match deserialize_duration::<Duration>(value) {
+        Ok(_) => false,
+        Err(fault) => fault.found(OFF) == Some(token),
+    }
+}
+
+/// Whether the token at the place of the fault of the text, as a value, is this one.
+fn has_token_in_a_value(alloc: Global, text: &str, token: &str) -> Result<bool, AllocError> {
+    let value = json!(in alloc; text)?;
+    Ok(has_token(&value, token))
 }
 
 #[test]
-fn finds_the_token_in_a_value(rt: HostRuntime) -> Result<(), Fail> {
-    let value = json!(in rt.alloc(); "0mxyz")?;
-    let refused = deserialize_duration::<Duration>(&value).err();
-    assert_eq!(rt; refused.expect(&rt, "a fault").found(OFF), Some("mxyz"));
-    Ok(())
+fn finds_the_token_in_a_value(rt: HostRuntime) {
+    holds_in_memory(
+        &rt,
+        "0mxyz",
+        has_token_in_a_value(rt.alloc(), "0mxyz", "mxyz"),
+    );
+}
+
+/// Whether each call refuses this JSON, required or optional, since it is not a text.
+fn is_no_text(alloc: Global, json: &str) -> bool {
+    match Value::from_str(alloc, json) {
+        Ok(value) => {
+            is_refused(&value, no_text(false)) && is_refused_if_there(&value, no_text(true))
+        }
+        Err(_) => false,
+    }
 }
 
 #[test]
-fn refuses_what_is_no_text(rt: HostRuntime) -> Result<(), Fail> {
-    for json in ["5", "-1", "1.5", "true", "[]", "[\"1m\"]", "{\"secs\": 1}"] {
-        let value = Value::from_str(rt.alloc(), json)?;
-        assert!(rt; is_refused(&value, no_text(false)), "{json}");
-        assert!(rt; is_refused_if_there(&value, no_text(true)), "{json}");
+fn refuses_what_is_no_text(rt: HostRuntime) {
+    for &json in &["5", "-1", "1.5", "true", "[]", "[\"1m\"]", "{\"secs\": 1}"] {
+        holds(&rt, json, is_no_text(rt.alloc(), json));
     }
     assert!(rt; is_refused(&Value::Null, no_text(false)));
-    Ok(())
 }
 
 #[test]
-fn says_what_is_no_text(rt: HostRuntime) -> Result<(), Fail> {
-    let required = no_text(false).to_string(rt.alloc())?;
-    assert!(rt; required.as_str() == "expect duration string, e.g: '1min+30'");
-    let optional = no_text(true).to_string(rt.alloc())?;
-    assert!(rt; optional.as_str() == "expect duration string, null, or missing field");
-    Ok(())
+fn says_what_is_no_text(rt: HostRuntime) {
+    for &(optional, line) in &[
+        (false, "expect duration string, e.g: '1min+30'"),
+        (true, "expect duration string, null, or missing field"),
+    ] {
+        holds_in_memory(&rt, line, prints(rt.alloc(), &no_text(optional), line));
+    }
 }

@@ -1,10 +1,10 @@
 // What `Debug` prints of each public type.
+use crate::assertions::holds_in_memory;
 use crate::refusal::refusal;
 use crate::vectors::{AFTER_NUMBER, OFF, syntax};
-use duration_str::{Cause, CondUnit, DError, TimeUnit, Tokens};
+use duration_str::{Cause, CondUnit, DError, Fault, TimeUnit, Tokens};
 use std::alloc::{AllocError, Global};
 use std::fmt::Debug;
-use std::test::Fail;
 
 /// Whether `Debug` prints this text of the value.
 fn shows<T: Debug>(alloc: Global, value: &T, text: &str) -> Result<bool, AllocError> {
@@ -12,18 +12,18 @@ fn shows<T: Debug>(alloc: Global, value: &T, text: &str) -> Result<bool, AllocEr
 }
 
 #[test]
-fn shows_options_units_and_operators(rt: HostRuntime) -> Result<(), Fail> {
+fn shows_options_units_and_operators(rt: HostRuntime) {
     let alloc = rt.alloc();
     let off = "Options { no_calc: false, lowercase: false, cn_unit: false }";
-    assert!(rt; shows(alloc, &OFF, off)?);
-    assert!(rt; shows(alloc, &TimeUnit::MilliSecond, "MilliSecond")?);
-    assert!(rt; shows(alloc, &CondUnit::Star, "Star")?);
-    Ok(())
+    let unit = "MilliSecond";
+    holds_in_memory(&rt, off, shows(alloc, &OFF, off));
+    holds_in_memory(&rt, unit, shows(alloc, &TimeUnit::MilliSecond, unit));
+    holds_in_memory(&rt, "Star", shows(alloc, &CondUnit::Star, "Star"));
 }
 
 #[test]
-fn shows_tokens(rt: HostRuntime) -> Result<(), Fail> {
-    for (text, wanted) in [
+fn shows_tokens(rt: HostRuntime) {
+    for &(text, wanted) in &[
         ("12", "Token { start: 0, text: \"12\", what: Number }"),
         (
             "min",
@@ -34,40 +34,59 @@ fn shows_tokens(rt: HostRuntime) -> Result<(), Fail> {
         (" -", "Token { start: 1, text: \"-\", what: Other }"),
     ] {
         let token = Tokens::new(text, OFF).next().expect(&rt, "a token");
-        assert!(rt; shows(rt.alloc(), &token, wanted)?, "{wanted}");
+        holds_in_memory(&rt, wanted, shows(rt.alloc(), &token, wanted));
     }
-    Ok(())
+}
+
+const PLUS_THEN_STAR: Cause = Cause::Mixed {
+    first: CondUnit::Plus,
+    later: CondUnit::Star,
+};
+
+#[test]
+fn shows_causes(rt: HostRuntime) {
+    for &(cause, wanted) in &[
+        (
+            syntax(1, AFTER_NUMBER),
+            "Syntax { place: 1, expected: Expected { number: false, unit_word: true, operator: true, text_end: true } }",
+        ),
+        (
+            Cause::NumberTooLarge { place: Some(0) },
+            "NumberTooLarge { place: Some(0) }",
+        ),
+        (Cause::Overflow { place: None }, "Overflow { place: None }"),
+        (PLUS_THEN_STAR, "Mixed { first: Plus, later: Star }"),
+        (
+            Cause::NotText { optional: true },
+            "NotText { optional: true }",
+        ),
+        (Cause::Empty, "Empty"),
+        (Cause::OutOfRange, "OutOfRange"),
+    ] {
+        holds_in_memory(&rt, wanted, shows(rt.alloc(), &cause, wanted));
+    }
+}
+
+/// Whether `Debug` prints this text of an error that owns a line.
+fn shows_an_error(alloc: Global, line: &str, text: &str) -> Result<bool, AllocError> {
+    let error = DError::ParseError(String::from_str(alloc, line)?);
+    shows(alloc, &error, text)
+}
+
+/// Whether `Debug` prints this text of the fault's error.
+fn shows_the_error(alloc: Global, fault: Fault<'_>, text: &str) -> Result<bool, AllocError> {
+    let error = fault.to_derror(alloc)?;
+    shows(alloc, &error, text)
 }
 
 #[test]
-fn shows_causes(rt: HostRuntime) -> Result<(), Fail> {
-    let alloc = rt.alloc();
-    let wanted =
-        "Syntax { place: 1, expected: Expected { number: false, unit_word: true, operator: true, text_end: true } }";
-    assert!(rt; shows(alloc, &syntax(1, AFTER_NUMBER), wanted)?);
-    let large = Cause::NumberTooLarge { place: Some(0) };
-    assert!(rt; shows(alloc, &large, "NumberTooLarge { place: Some(0) }")?);
-    let overflow = Cause::Overflow { place: None };
-    assert!(rt; shows(alloc, &overflow, "Overflow { place: None }")?);
-    let (first, later) = (CondUnit::Plus, CondUnit::Star);
-    let mixed = "Mixed { first: Plus, later: Star }";
-    assert!(rt; shows(alloc, &Cause::Mixed { first, later }, mixed)?);
-    let no_text = Cause::NotText { optional: true };
-    assert!(rt; shows(alloc, &no_text, "NotText { optional: true }")?);
-    assert!(rt; shows(alloc, &Cause::Empty, "Empty")?);
-    assert!(rt; shows(alloc, &Cause::OutOfRange, "OutOfRange")?);
-    Ok(())
-}
-
-#[test]
-fn shows_faults_and_errors(rt: HostRuntime) -> Result<(), Fail> {
+fn shows_faults_and_errors(rt: HostRuntime) {
     let alloc = rt.alloc();
     let fault = refusal(&rt, "580y*2", OFF);
     let wanted = "Fault { text: \"580y*2\", cause: Overflow { place: None } }";
-    assert!(rt; shows(alloc, &fault, wanted)?);
-    let error = fault.to_derror(alloc)?;
-    assert!(rt; shows(alloc, &error, "OverflowError")?);
-    let error = DError::ParseError(String::from_str(alloc, "Empty input")?);
-    assert!(rt; shows(alloc, &error, "ParseError(\"Empty input\")")?);
-    Ok(())
+    holds_in_memory(&rt, wanted, shows(alloc, &fault, wanted));
+    let wanted = "OverflowError";
+    holds_in_memory(&rt, wanted, shows_the_error(alloc, fault, wanted));
+    let wanted = "ParseError(\"Empty input\")";
+    holds_in_memory(&rt, wanted, shows_an_error(alloc, "Empty input", wanted));
 }

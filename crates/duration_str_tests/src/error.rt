@@ -1,4 +1,5 @@
 // Faults as errors that own their line, with as much memory as they need and with none.
+use crate::assertions::{holds_in_memory, prints};
 use crate::refusal::refusal;
 use crate::vectors::{OFF, TOO_LARGE};
 use duration_str::{
@@ -7,91 +8,126 @@ use duration_str::{
 use jiff::Timestamp;
 use refusing::Refusing;
 use serde_json::{Value, json};
-use std::alloc::{AllocError, Global};
-use std::test::Fail;
+use std::alloc::{AllocError, Allocator, Global};
 use std::time::Duration;
 
-/// How many requests for memory the fault's error takes. `None` if its line is another, or if one of them is refused
-/// and the answer is not that, at once.
-fn requests(alloc: Global, fault: Fault<'_>, line: &str) -> Result<Option<u64>, AllocError> {
+/// Whether the error prints this line, and owns it unless it is an overflow.
+fn has_line<A: Allocator>(
+    alloc: Global,
+    error: &DError<A>,
+    line: &str,
+) -> Result<bool, AllocError> {
+    let is_owned = match error {
+        DError::ParseError(text) => text.as_str() == line,
+        DError::OverflowError => true,
+    };
+    Ok(is_owned && prints(alloc, error, line)?)
+}
+
+/// How many requests for memory the fault's error makes if this one is refused. `None` if its line
+/// is another, or if the request is refused and the answer is not that, at once.
+fn requests(
+    alloc: Global,
+    fault: Fault<'_>,
+    line: &str,
+    refused: u64,
+) -> Result<Option<u64>, AllocError> {
+    let heap = Refusing::nth(alloc, refused);
+    let is_right = match fault.to_derror(&heap) {
+        Ok(error) => heap.made() < refused && has_line(alloc, &error, line)?,
+        Err(AllocError) => heap.made() == refused,
+    };
+    Ok(is_right.then_some(heap.made()))
+}
+
+/// Whether the fault's error has this line and makes so many requests for memory, each of which
+/// can be refused.
+fn takes(alloc: Global, fault: Fault<'_>, line: &str, count: u64) -> Result<bool, AllocError> {
     for refused in 1..100u64 {
-        let heap = Refusing::nth(alloc, refused);
-        let error = match fault.to_derror(&heap) {
-            Ok(error) if heap.made() < refused => error,
-            Err(AllocError) if heap.made() == refused => continue,
-            _ => return Ok(None),
-        };
-        let printed = error.to_string(alloc)?;
-        let is_line = printed.as_str() == line
-            && match &error {
-                DError::ParseError(text) => text.as_str() == line,
-                DError::OverflowError => true,
-            };
-        return Ok(is_line.then_some(heap.made()));
+        let made = requests(alloc, fault, line, refused)?;
+        if made != Some(refused) {
+            return Ok(made == Some(count));
+        }
     }
-    Ok(None)
+    Ok(false)
 }
 
 #[test]
-fn holds_the_line(rt: HostRuntime) -> Result<(), Fail> {
-    let rows = [
+fn holds_the_line(rt: HostRuntime) {
+    for &(text, line) in &[
         ("", "Empty input"),
         ("1m+", "expected number"),
         ("18446744073709551616", TOO_LARGE),
         ("1s + 18446744073709551616", TOO_LARGE),
         ("1m 2s*3", "not support '+' with '*' calculate"),
-    ];
-    for (text, line) in rows {
+    ] {
         let fault = refusal(&rt, text, OFF);
-        assert_eq!(rt; requests(rt.alloc(), fault, line)?, Some(1), "{text}");
+        holds_in_memory(&rt, text, takes(rt.alloc(), fault, line, 1));
     }
-    Ok(())
+}
+
+/// Whether the fault of a date that is out of range holds its line.
+fn holds_the_line_out_of_range(alloc: Global) -> Result<bool, AllocError> {
+    match after_naive_date(Timestamp::MAX, "1ns") {
+        Ok(_) => Ok(false),
+        Err(fault) => takes(alloc, fault, "date out of range", 1),
+    }
 }
 
 #[test]
-fn holds_the_line_of_a_date(rt: HostRuntime) -> Result<(), Fail> {
-    let is_held = match after_naive_date(Timestamp::MAX, "1ns") {
-        Ok(_) => false,
-        Err(fault) => requests(rt.alloc(), fault, "date out of range")? == Some(1),
-    };
-    assert!(rt; is_held);
-    Ok(())
+fn holds_the_line_of_a_date(rt: HostRuntime) {
+    holds_in_memory(&rt, "1ns", holds_the_line_out_of_range(rt.alloc()));
 }
 
-#[test]
-fn holds_the_lines_of_what_is_no_text(rt: HostRuntime) -> Result<(), Fail> {
-    let refused = deserialize_duration::<Duration>(&Value::Null).err();
-    let fault = refused.expect(&rt, "a fault");
+/// Whether the fault of a value that is not a text holds its line.
+fn holds_the_line_of_no_text(alloc: Global) -> Result<bool, AllocError> {
     let line = "expect duration string, e.g: '1min+30'";
-    assert_eq!(rt; requests(rt.alloc(), fault, line)?, Some(1));
-    let number = json!(in rt.alloc(); 5)?;
-    let refused = deserialize_option_duration(&number).err();
-    let fault = refused.expect(&rt, "a fault");
-    let line = "expect duration string, null, or missing field";
-    assert_eq!(rt; requests(rt.alloc(), fault, line)?, Some(1));
-    Ok(())
-}
-
-#[test]
-fn becomes_an_error(rt: HostRuntime) -> Result<(), Fail> {
-    let error = refusal(&rt, "", OFF).to_derror(rt.alloc())?;
-    let line = String::from_str(rt.alloc(), "Empty input")?;
-    assert_eq!(rt; error, DError::ParseError(line));
-    let error = refusal(&rt, "580y*2", OFF).to_derror(rt.alloc())?;
-    assert_eq!(rt; error, DError::OverflowError);
-    assert_eq!(rt; error.to_string(rt.alloc())?.as_str(), "overflow error");
-    Ok(())
-}
-
-#[test]
-fn allocates_nothing_for_an_overflow(rt: HostRuntime) -> Result<(), Fail> {
-    for text in ["580y*2", "10000000000000000y"] {
-        let fault = refusal(&rt, text, OFF);
-        assert_eq!(rt;
-            requests(rt.alloc(), fault, "overflow error")?,
-            Some(0),
-            "{text}"
-        );
+    match deserialize_duration::<Duration>(&Value::Null) {
+        Ok(_) => Ok(false),
+        Err(fault) => takes(alloc, fault, line, 1),
     }
-    Ok(())
+}
+
+/// Whether the fault of an optional value that is not a text holds its line.
+fn holds_the_line_of_an_optional_value(alloc: Global) -> Result<bool, AllocError> {
+    let line = "expect duration string, null, or missing field";
+    let number = json!(in alloc; 5)?;
+    match deserialize_option_duration(&number) {
+        Ok(_) => Ok(false),
+        Err(fault) => takes(alloc, fault, line, 1),
+    }
+}
+
+#[test]
+fn holds_the_lines_of_what_is_no_text(rt: HostRuntime) {
+    holds_in_memory(&rt, "null", holds_the_line_of_no_text(rt.alloc()));
+    holds_in_memory(&rt, "5", holds_the_line_of_an_optional_value(rt.alloc()));
+}
+
+/// Whether the fault's error is equal to one that owns this line.
+fn becomes(alloc: Global, fault: Fault<'_>, line: &str) -> Result<bool, AllocError> {
+    let wanted = DError::ParseError(String::from_str(alloc, line)?);
+    Ok(fault.to_derror(alloc)? == wanted)
+}
+
+/// Whether the fault's error is equal to that of an overflow, and prints its line.
+fn becomes_an_overflow(alloc: Global, fault: Fault<'_>) -> Result<bool, AllocError> {
+    let error = fault.to_derror(alloc)?;
+    Ok(error == DError::OverflowError && prints(alloc, &error, "overflow error")?)
+}
+
+#[test]
+fn becomes_an_error(rt: HostRuntime) {
+    let empty = refusal(&rt, "", OFF);
+    holds_in_memory(&rt, "empty", becomes(rt.alloc(), empty, "Empty input"));
+    let overflow = refusal(&rt, "580y*2", OFF);
+    holds_in_memory(&rt, "580y*2", becomes_an_overflow(rt.alloc(), overflow));
+}
+
+#[test]
+fn allocates_nothing_for_an_overflow(rt: HostRuntime) {
+    for &text in &["580y*2", "10000000000000000y"] {
+        let fault = refusal(&rt, text, OFF);
+        holds_in_memory(&rt, text, takes(rt.alloc(), fault, "overflow error", 0));
+    }
 }

@@ -1,0 +1,46 @@
+// Assertions with a message, and questions about what calls answer and print. They are functions so
+// that they are proved once, and not again in each test.
+use duration_str::Fault;
+use std::alloc::{AllocError, Allocator};
+use std::fmt::{Debug, Display};
+use std::process::Abort;
+
+/// Fails the test, which is about this text, unless the condition holds.
+pub fn holds(rt: &impl Abort, about: &str, condition: bool) {
+    assert!(rt; condition, "{about}");
+}
+
+/// Fails the test, which is about this text, unless there was memory and the condition holds.
+pub fn holds_in_memory(rt: &impl Abort, about: &str, condition: Result<bool, AllocError>) {
+    assert!(rt; condition == Ok(true), "{about}");
+}
+
+/// Fails the test, which is about this text, unless the two values are equal.
+pub fn equals<T: Debug + PartialEq>(rt: &impl Abort, about: &str, value: &T, wanted: &T) {
+    assert_eq!(rt; *value, *wanted, "{about}");
+}
+
+/// Whether the value prints this text.
+pub fn prints<T: Display, A: Allocator>(
+    alloc: A,
+    value: &T,
+    text: &str,
+) -> Result<bool, AllocError> {
+    Ok(value.to_string(alloc)?.as_str() == text)
+}
+
+/// Whether the answer is this value.
+pub fn is_value<T: Copy + PartialEq>(answer: Result<T, Fault<'_>>, wanted: T) -> bool {
+    match answer {
+        Ok(value) => value == wanted,
+        Err(_) => false,
+    }
+}
+
+/// Whether the answer is this fault.
+pub fn is_fault<T: Copy>(answer: Result<T, Fault<'_>>, wanted: Fault<'_>) -> bool {
+    match answer {
+        Ok(_) => false,
+        Err(fault) => fault == wanted,
+    }
+}
