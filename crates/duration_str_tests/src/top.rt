@@ -3,6 +3,7 @@ ghost use Rattle.std.specs.Option.{ForSome};
 ghost use Rattle.std.specs.Str.{IsCharBoundary};
 ghost use Rattle.duration_str.specs.Faults.{place_of};
 
+use crate::assertions::{holds, holds_in_memory, prints};
 use crate::vectors::{AFTER_NUMBER, syntax};
 use duration_str::{
     Cause, Fault, HumanFormat, after_naive_date, after_naive_date_time, before_naive_date,
@@ -11,6 +12,7 @@ use duration_str::{
 use jiff::civil::{Date, DateTime};
 use jiff::tz::Offset;
 use jiff::{SignedDuration, Timestamp};
+use std::alloc::{AllocError, Global};
 use std::test::Fail;
 use std::time::Duration;
 
@@ -49,19 +51,40 @@ fn comes_from_nowhere(moment: Timestamp, fault: Fault<'_>) -> bool {
         && before_naive_date(moment, fault.text) == Err(fault)
 }
 
+/// Whether the longest signed duration prints so.
+fn prints_the_longest(alloc: Global) -> Result<bool, AllocError> {
+    let longest = SignedDuration::MAX.human_format(alloc)?;
+    Ok(longest.as_str() == "292471208677y 2q 1w 6d 15h 30min 7s 999ms 999µs 999ns")
+}
+
 #[test]
-fn prints_signed_durations(rt: HostRuntime) -> Result<(), Fail> {
-    let longest = SignedDuration::MAX.human_format(rt.alloc())?;
-    assert!(rt; longest.as_str() == "292471208677y 2q 1w 6d 15h 30min 7s 999ms 999µs 999ns");
+fn prints_signed_durations(rt: HostRuntime) {
+    holds_in_memory(&rt, "longest", prints_the_longest(rt.alloc()));
     let negative = SignedDuration::from_nanos(-1);
     assert!(rt; SignedDuration::ZERO.is_printable() && !negative.is_printable());
     assert!(rt; !SignedDuration::MIN.is_printable());
-    Ok(())
+}
+
+/// Whether the text leads from the first day to the last, and back.
+fn lies_between(first: Date, text: &str, last: Date) -> Result<bool, jiff::Error> {
+    let is_there = leads_to(midnight(first)?, text, last.at(0, 0, 0, 0));
+    let is_back = comes_from(midnight(last)?, text, first.at(0, 0, 0, 0));
+    Ok(is_there && is_back)
+}
+
+/// A day by its year, month and day.
+type Day = (i16, i8, i8);
+
+/// Whether the text leads from midnight of one day to midnight of the other, and back.
+fn leads_there_and_back(one: Day, text: &str, other: Day) -> Result<bool, jiff::Error> {
+    let first = Date::new(one.0, one.1, one.2)?;
+    let last = Date::new(other.0, other.1, other.2)?;
+    lies_between(first, text, last)
 }
 
 #[test]
 fn goes_back_and_forth_by_days(rt: HostRuntime) -> Result<(), Fail> {
-    let rows = [
+    for &(first, text, last) in &[
         ((1970, 1, 1), "180d", (1970, 6, 30)),
         ((2000, 2, 28), "2d", (2000, 3, 1)),
         ((2000, 2, 29), "1d", (2000, 3, 1)),
@@ -70,12 +93,8 @@ fn goes_back_and_forth_by_days(rt: HostRuntime) -> Result<(), Fail> {
         ((1969, 12, 31), "1w", (1970, 1, 7)),
         ((1969, 12, 2), "1mon", (1970, 1, 1)),
         ((1601, 1, 1), "0s", (1601, 1, 1)),
-    ];
-    for ((year, month, day), text, (y, m, d)) in rows {
-        let (first, last) = (Date::new(year, month, day)?, Date::new(y, m, d)?);
-        let is_there = leads_to(midnight(first)?, text, last.at(0, 0, 0, 0));
-        let is_back = comes_from(midnight(last)?, text, first.at(0, 0, 0, 0));
-        assert!(rt; is_there && is_back, "{text}");
+    ] {
+        holds(&rt, text, leads_there_and_back(first, text, last)?);
     }
     Ok(())
 }
@@ -104,7 +123,7 @@ fn begins_with_the_first_instant(rt: HostRuntime) -> Result<(), Fail> {
     let first = Date::new(-9999, 1, 2)?.at(1, 59, 59, 0);
     let out = fault("1ns", Cause::OutOfRange);
     assert!(rt; comes_from(Timestamp::MIN, "0s", first) && comes_from_nowhere(Timestamp::MIN, out));
-    assert!(rt; out.to_string(rt.alloc())?.as_str() == "date out of range");
+    holds_in_memory(&rt, "1ns", prints(rt.alloc(), &out, "date out of range"));
     Ok(())
 }
 
@@ -116,7 +135,7 @@ fn refuses_the_text_first(rt: HostRuntime) {
         fault("580y 580y", Cause::Overflow { place: None }),
     ] {
         let text = wanted.text;
-        assert!(rt; leads_nowhere(Timestamp::MAX, wanted), "{text}");
-        assert!(rt; comes_from_nowhere(Timestamp::MIN, wanted), "{text}");
+        holds(&rt, text, leads_nowhere(Timestamp::MAX, wanted));
+        holds(&rt, text, comes_from_nowhere(Timestamp::MIN, wanted));
     }
 }

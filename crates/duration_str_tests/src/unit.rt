@@ -1,13 +1,14 @@
 // The names and lengths of units, operators, and tokens.
+use crate::assertions::{equals, holds, holds_in_memory, prints};
 use crate::vectors::OFF;
 use duration_str::TimeUnit::{
     Day, Hour, MicroSecond, MilliSecond, Minute, Month, NanoSecond, Quarter, Second, Week, Year,
 };
 use duration_str::{CondUnit, TimeUnit, Token, Tokens, What, parse_looked};
-use std::test::Fail;
+use std::alloc::{AllocError, Global};
 
 /// Each unit with its length in nanoseconds and its printed name.
-const TABLE: [(TimeUnit, u64, &str); 11] = [
+static TABLE: [(TimeUnit, u64, &str); 11] = [
     (Year, 31_536_000_000_000_000, "y"),
     (Quarter, 7_862_400_000_000_000, "q"),
     (Month, 2_592_000_000_000_000, "mon"),
@@ -22,67 +23,90 @@ const TABLE: [(TimeUnit, u64, &str); 11] = [
 ];
 
 #[test]
-fn measures_and_prints_units(rt: HostRuntime) -> Result<(), Fail> {
-    for (unit, nanos, name) in TABLE {
-        let printed = unit.to_string(rt.alloc())?;
-        assert!(rt; unit.nanos() == nanos && printed.as_str() == name, "{name}");
+fn measures_and_prints_units(rt: HostRuntime) {
+    for &(unit, nanos, name) in &TABLE {
+        holds(&rt, name, unit.nanos() == nanos);
+        holds_in_memory(&rt, name, prints(rt.alloc(), &unit, name));
     }
     assert!(rt; TimeUnit::default() == TimeUnit::Second);
-    Ok(())
+}
+
+/// Whether a unit and an operator are padded as their formats say.
+fn are_padded(alloc: Global) -> Result<bool, AllocError> {
+    let padded = format!(in alloc; "{:>4}|{:.^5}", TimeUnit::Month, CondUnit::Plus)?;
+    Ok(padded.as_str() == " mon|..+..")
 }
 
 #[test]
-fn pads_units_and_operators(rt: HostRuntime) -> Result<(), Fail> {
-    let padded = format!(in rt.alloc(); "{:>4}|{:.^5}", TimeUnit::Month, CondUnit::Plus)?;
-    assert_eq!(rt; padded.as_str(), " mon|..+..");
-    Ok(())
+fn pads_units_and_operators(rt: HostRuntime) {
+    holds_in_memory(&rt, "padded", are_padded(rt.alloc()));
 }
 
 #[test]
-fn knows_and_prints_operators(rt: HostRuntime) -> Result<(), Fail> {
-    for (c, operator, sign) in [('+', CondUnit::Plus, "+"), ('*', CondUnit::Star, "*")] {
-        assert_eq!(rt; CondUnit::from_char(c), Some(operator), "{sign}");
-        assert_eq!(rt; operator.to_string(rt.alloc())?.as_str(), sign);
+fn knows_and_prints_operators(rt: HostRuntime) {
+    for &(c, operator, sign) in &[('+', CondUnit::Plus, "+"), ('*', CondUnit::Star, "*")] {
+        equals(&rt, sign, &CondUnit::from_char(c), &Some(operator));
+        holds_in_memory(&rt, sign, prints(rt.alloc(), &operator, sign));
     }
-    for c in ['-', '/', '1', 'm', ' ', '\u{ff0b}'] {
+    for &c in &['-', '/', '1', 'm', ' ', '\u{ff0b}'] {
         assert!(rt; CondUnit::from_char(c).is_none(), "{c}");
     }
-    Ok(())
 }
+
+/// Each unit after a word that names it.
+static WORDS: [(&str, TimeUnit); 11] = [
+    ("y", Year),
+    ("q", Quarter),
+    ("mon", Month),
+    ("w", Week),
+    ("d", Day),
+    ("h", Hour),
+    ("m", Minute),
+    ("s", Second),
+    ("ms", MilliSecond),
+    ("\u{b5}s", MicroSecond),
+    ("ns", NanoSecond),
+];
 
 #[test]
 fn knows_the_words(rt: HostRuntime) {
-    let words = [
-        "y", "q", "mon", "w", "d", "h", "m", "s", "ms", "\u{b5}s", "ns",
-    ];
-    for ((unit, _, _), word) in TABLE.iter().copied().zip(words) {
-        assert_eq!(rt; TimeUnit::from_word(word, OFF), Some(unit));
+    for &(word, unit) in &WORDS {
+        equals(&rt, word, &TimeUnit::from_word(word, OFF), &Some(unit));
     }
-    for word in ["nys", "", "mxyz", "\u{b5}"] {
-        assert_eq!(rt; TimeUnit::from_word(word, OFF), None);
+    for &word in &["nys", "", "mxyz", "\u{b5}"] {
+        equals(&rt, word, &TimeUnit::from_word(word, OFF), &None);
     }
 }
 
 #[test]
 fn cuts_into_tokens(rt: HostRuntime) {
     let mut tokens = Tokens::new("m123", OFF);
-    for (start, text, what) in [(0, "m", What::Word(Some(Minute))), (1, "123", What::Number)] {
-        assert_eq!(rt; tokens.next(), Some(Token { start, text, what }));
+    for &(start, text, what) in &[(0, "m", What::Word(Some(Minute))), (1, "123", What::Number)] {
+        equals(
+            &rt,
+            text,
+            &tokens.next(),
+            &Some(Token { start, text, what }),
+        );
     }
-    assert_eq!(rt; tokens.next(), None);
+    equals(&rt, "m123", &tokens.next(), &None);
+}
+
+/// Whether so many characters are looked at until the last token is given, and to read the text.
+fn is_looked_at(text: &str, count: u64) -> bool {
+    let mut tokens = Tokens::new(text, OFF);
+    while tokens.next().is_some() {}
+    tokens.looked() == count && parse_looked(text, OFF).1 == count
 }
 
 #[test]
 fn looks_at_each_character_once(rt: HostRuntime) {
-    for (text, all) in [
+    for &(text, all) in &[
         ("3m 13s 29ms", 11),
         ("   ", 3),
         ("1\u{b5}s \u{5206}", 5),
         ("", 0),
     ] {
-        let mut tokens = Tokens::new(text, OFF);
-        while tokens.next().is_some() {}
-        assert_eq!(rt; tokens.looked(), all);
-        assert_eq!(rt; parse_looked(text, OFF).1, all);
+        holds(&rt, text, is_looked_at(text, all));
     }
 }
