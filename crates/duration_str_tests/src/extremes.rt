@@ -1,14 +1,15 @@
 // Long texts, look-alikes, calls that have no allocator, and a run that is refused memory.
+use crate::assertions::{equals, holds_in_memory};
 use crate::refusal::refusal;
 use crate::vectors::{
     AFTER_NUMBER, AFTER_UNIT, CN_UNIT, NUMBER, OFF, OPERATORS, START, TOO_LARGE, UNITS, syntax,
 };
 use arrayvec::ArrayString;
 use duration_str::{
-    Cause, Expected, Options, after_naive_date, after_naive_date_time, before_naive_date,
+    Cause, Expected, Fault, Options, after_naive_date, after_naive_date_time, before_naive_date,
     before_naive_date_time, deserialize_duration, deserialize_duration_chrono,
     deserialize_duration_time, deserialize_option_duration, deserialize_option_duration_chrono,
-    deserialize_option_duration_time, parse, write_human,
+    deserialize_option_duration_time, parse, parse_with, write_human,
 };
 use durstr_run::{RunFault, run};
 use jiff::civil::Date;
@@ -23,162 +24,246 @@ use std::process::Abort;
 use std::test::Fail;
 use std::time::Duration;
 
-/// The part repeated this many times, between a head and a tail.
-fn long(
-    rt: &HostRuntime,
-    head: &str,
-    part: &str,
-    times: usize,
-    tail: &str,
-) -> Result<String, AllocError> {
-    let run = part.repeat(rt.alloc(), times)?;
-    format!(in rt.alloc(); "{head}{run}{tail}")
+/// A head, a part, how many times it is repeated, and a tail.
+type Long = (&'static str, &'static str, usize, &'static str);
+
+/// The part repeated this many times, between the head and the tail.
+fn long(alloc: Global, (head, part, times, tail): Long) -> Result<String, AllocError> {
+    let run = part.repeat(alloc, times)?;
+    format!(in alloc; "{head}{run}{tail}")
+}
+
+/// Whether the long text is read as so many nanoseconds.
+fn is_read(alloc: Global, pieces: Long, nanos: u64) -> Result<bool, AllocError> {
+    let text = long(alloc, pieces)?;
+    Ok(parse(&text) == Ok(Duration::from_nanos(nanos)))
 }
 
 #[test]
-fn reads_long_texts(rt: HostRuntime) -> Result<(), Fail> {
-    for (head, part, times, tail, nanos) in [
-        ("", "0", 100_000, "1s", 1_000_000_000),
-        ("", " ", 100_000, "1s", 1_000_000_000),
-        ("1s", "\t\r\n ", 25_000, "", 1_000_000_000),
-        ("", "1ns", 10_000, "", 10_000),
-        ("1ns", "+1ns", 9_999, "", 10_000),
-        ("1", "*1", 10_000, "", 1_000_000_000),
+fn reads_long_texts(rt: HostRuntime) {
+    for &(pieces, nanos) in &[
+        (("", "0", 100_000, "1s"), 1_000_000_000),
+        (("", " ", 100_000, "1s"), 1_000_000_000),
+        (("1s", "\t\r\n ", 25_000, ""), 1_000_000_000),
+        (("", "1ns", 10_000, ""), 10_000),
+        (("1ns", "+1ns", 9_999, ""), 10_000),
+        (("1", "*1", 10_000, ""), 1_000_000_000),
     ] {
-        let text = long(&rt, head, part, times, tail)?;
-        assert_eq!(rt; parse(&text), Ok(Duration::from_nanos(nanos)), "{part}");
+        holds_in_memory(&rt, pieces.1, is_read(rt.alloc(), pieces, nanos));
     }
-    Ok(())
 }
 
-/// A head, a part, how many times it is repeated, a tail, and the options; then the place of the syntax fault, what
-/// could stand there, and the line.
-const SYNTAX_FAULTS: [(&str, &str, usize, &str, Options, usize, Expected, &str); 7] = [
-    ("", "9", 100_000, " 2", OFF, 100_001, AFTER_NUMBER, UNITS),
-    ("1s", " ", 100_000, "x", OFF, 100_002, AFTER_UNIT, OPERATORS),
-    ("", " ", 100_000, "", OFF, 100_000, START, NUMBER),
-    ("1", "m", 100_000, "", OFF, 1, AFTER_NUMBER, UNITS),
-    ("1", "分", 1_000, "", CN_UNIT, 1, AFTER_NUMBER, UNITS),
-    ("1s", "+1s", 10_000, "+", OFF, 30_003, START, NUMBER),
-    ("1s", "-", 100_000, "", OFF, 2, AFTER_UNIT, OPERATORS),
+/// A long text, and the options; then the place of the syntax fault, what could stand there, and
+/// the line.
+static SYNTAX_FAULTS: [(Long, Options, usize, Expected, &str); 7] = [
+    (("", "9", 100_000, " 2"), OFF, 100_001, AFTER_NUMBER, UNITS),
+    (
+        ("1s", " ", 100_000, "x"),
+        OFF,
+        100_002,
+        AFTER_UNIT,
+        OPERATORS,
+    ),
+    (("", " ", 100_000, ""), OFF, 100_000, START, NUMBER),
+    (("1", "m", 100_000, ""), OFF, 1, AFTER_NUMBER, UNITS),
+    (("1", "分", 1_000, ""), CN_UNIT, 1, AFTER_NUMBER, UNITS),
+    (("1s", "+1s", 10_000, "+"), OFF, 30_003, START, NUMBER),
+    (("1s", "-", 100_000, ""), OFF, 2, AFTER_UNIT, OPERATORS),
 ];
 
-/// The text is refused for this cause, and the fault prints the whole text and this line.
-fn assert_refused(
-    rt: &impl Abort,
+/// Whether the text is refused for this cause, and the fault prints the whole text and this line.
+fn is_refused(
     alloc: Global,
     text: &str,
     o: Options,
     cause: Cause,
     line: &str,
-) -> Result<(), AllocError> {
-    let fault = refusal(rt, text, o);
-    assert_eq!(rt; fault.cause(), cause, "{line}");
-    assert_eq!(rt; fault.text(), text, "{line}");
+) -> Result<bool, AllocError> {
+    let Err(fault) = parse_with(text, o) else {
+        return Ok(false);
+    };
     let shown = fault.to_string(alloc)?;
-    assert!(rt; shown.starts_with(text), "{line}");
-    assert!(rt; shown.ends_with(line), "{line}");
-    Ok(())
+    let is_shown = shown.starts_with(text) && shown.ends_with(line);
+    Ok(is_shown && fault.cause() == cause && fault.text() == text)
+}
+
+/// Whether the long text is refused for this cause, and its fault prints it whole and this line.
+fn is_refused_long(
+    alloc: Global,
+    pieces: Long,
+    o: Options,
+    cause: Cause,
+    line: &str,
+) -> Result<bool, AllocError> {
+    let text = long(alloc, pieces)?;
+    is_refused(alloc, &text, o, cause, line)
 }
 
 #[test]
-fn refuses_long_texts(rt: HostRuntime) -> Result<(), Fail> {
-    for (head, part, times, tail, o, place, expected, line) in SYNTAX_FAULTS {
-        let text = long(&rt, head, part, times, tail)?;
-        assert_refused(&rt, rt.alloc(), &text, o, syntax(place, expected), line)?;
+fn refuses_long_texts(rt: HostRuntime) {
+    for &(pieces, o, place, expected, line) in &SYNTAX_FAULTS {
+        let cause = syntax(place, expected);
+        holds_in_memory(
+            &rt,
+            line,
+            is_refused_long(rt.alloc(), pieces, o, cause, line),
+        );
     }
-    let number = "9".repeat(rt.alloc(), 100_000)?;
-    let too_large = Cause::NumberTooLarge { place: Some(0) };
-    assert_refused(&rt, rt.alloc(), &number, OFF, too_large, TOO_LARGE)?;
-    Ok(())
+    let number = ("", "9", 100_000, "");
+    let cause = Cause::NumberTooLarge { place: Some(0) };
+    let answer = is_refused_long(rt.alloc(), number, OFF, cause, TOO_LARGE);
+    holds_in_memory(&rt, TOO_LARGE, answer);
 }
 
-#[test]
-fn finds_the_whole_run(rt: HostRuntime) -> Result<(), Fail> {
-    for (part, times, o) in [("m", 100_000, OFF), ("分", 1_000, CN_UNIT)] {
-        let text = long(&rt, "1", part, times, "")?;
-        let run = part.repeat(rt.alloc(), times)?;
-        let found = refusal(&rt, &text, o).found(o);
-        assert_eq!(rt; found, Some(run.as_str()), "{part}");
+/// Whether the token at the place of a text's fault is this one.
+fn has_token(text: &str, o: Options, token: &str) -> bool {
+    match parse_with(text, o) {
+        Ok(_) => false,
+        Err(fault) => fault.found(o) == Some(token),
     }
-    Ok(())
+}
+
+/// Whether the token after a number is the whole run of this part.
+fn is_whole_run(
+    alloc: Global,
+    part: &'static str,
+    times: usize,
+    o: Options,
+) -> Result<bool, AllocError> {
+    let text = long(alloc, ("1", part, times, ""))?;
+    let run = part.repeat(alloc, times)?;
+    Ok(has_token(&text, o, &run))
 }
 
 #[test]
-fn counts_blanks_before_the_caret(rt: HostRuntime) -> Result<(), Fail> {
-    let text = long(&rt, "1s", " ", 100_000, "x")?;
-    let want = long(&rt, "\n", " ", 100_002, "^\nexpected ['+', '*']")?;
-    let shown = refusal(&rt, &text, OFF).to_string(rt.alloc())?;
-    assert_eq!(rt; shown.strip_prefix(text.as_str()), Some(want.as_str()));
-    Ok(())
+fn finds_the_whole_run(rt: HostRuntime) {
+    for &(part, times, o) in &[("m", 100_000, OFF), ("分", 1_000, CN_UNIT)] {
+        holds_in_memory(&rt, part, is_whole_run(rt.alloc(), part, times, o));
+    }
 }
+
+/// Whether the text is refused, and the fault prints the text and then this.
+fn shows_after_the_text(alloc: Global, text: &str, wanted: &str) -> Result<bool, AllocError> {
+    let Err(fault) = parse_with(text, OFF) else {
+        return Ok(false);
+    };
+    let shown = fault.to_string(alloc)?;
+    Ok(shown.strip_prefix(text) == Some(wanted))
+}
+
+/// Whether as many blanks stand before the caret as before the place.
+fn counts_blanks(alloc: Global) -> Result<bool, AllocError> {
+    let text = long(alloc, ("1s", " ", 100_000, "x"))?;
+    let wanted = long(alloc, ("\n", " ", 100_002, "^\nexpected ['+', '*']"))?;
+    shows_after_the_text(alloc, &text, &wanted)
+}
+
+#[test]
+fn counts_blanks_before_the_caret(rt: HostRuntime) {
+    holds_in_memory(&rt, "blanks", counts_blanks(rt.alloc()));
+}
+
+/// Texts with the place of the syntax fault, what could stand there, and the token that does.
+static LOOK_ALIKES: [(&str, usize, Expected, &str); 16] = [
+    ("*1m", 0, START, "*"),
+    ("1m\u{3000}2", 2, AFTER_UNIT, "\u{3000}"),
+    ("1m\u{a0}2", 2, AFTER_UNIT, "\u{a0}"),
+    ("1m\u{2003}2", 2, AFTER_UNIT, "\u{2003}"),
+    ("1m\u{85}2", 2, AFTER_UNIT, "\u{85}"),
+    ("1m\u{feff}2", 2, AFTER_UNIT, "\u{feff}"),
+    ("1m\u{b}2", 2, AFTER_UNIT, "\u{b}"),
+    ("1m\u{c}2", 2, AFTER_UNIT, "\u{c}"),
+    ("1m\u{0}2", 2, AFTER_UNIT, "\u{0}"),
+    ("\u{ff11}m", 0, START, "\u{ff11}"),
+    ("1\u{ff4d}", 1, AFTER_NUMBER, "\u{ff4d}"),
+    ("1m\u{ff0b}2", 2, AFTER_UNIT, "\u{ff0b}"),
+    ("\u{661}m", 0, START, "\u{661}"),
+    ("1wee\u{212a}", 1, AFTER_NUMBER, "wee"),
+    ("1\u{17f}", 1, AFTER_NUMBER, "\u{17f}"),
+    ("1\u{1f600}", 1, AFTER_NUMBER, "\u{1f600}"),
+];
 
 #[test]
 fn takes_look_alikes_for_what_they_are(rt: HostRuntime) {
-    for (text, cause, found) in [
-        ("*1m", syntax(0, START), "*"),
-        ("1m\u{3000}2", syntax(2, AFTER_UNIT), "\u{3000}"),
-        ("1m\u{a0}2", syntax(2, AFTER_UNIT), "\u{a0}"),
-        ("1m\u{2003}2", syntax(2, AFTER_UNIT), "\u{2003}"),
-        ("1m\u{85}2", syntax(2, AFTER_UNIT), "\u{85}"),
-        ("1m\u{feff}2", syntax(2, AFTER_UNIT), "\u{feff}"),
-        ("1m\u{b}2", syntax(2, AFTER_UNIT), "\u{b}"),
-        ("1m\u{c}2", syntax(2, AFTER_UNIT), "\u{c}"),
-        ("1m\u{0}2", syntax(2, AFTER_UNIT), "\u{0}"),
-        ("\u{ff11}m", syntax(0, START), "\u{ff11}"),
-        ("1\u{ff4d}", syntax(1, AFTER_NUMBER), "\u{ff4d}"),
-        ("1m\u{ff0b}2", syntax(2, AFTER_UNIT), "\u{ff0b}"),
-        ("\u{661}m", syntax(0, START), "\u{661}"),
-        ("1wee\u{212a}", syntax(1, AFTER_NUMBER), "wee"),
-        ("1\u{17f}", syntax(1, AFTER_NUMBER), "\u{17f}"),
-        ("1\u{1f600}", syntax(1, AFTER_NUMBER), "\u{1f600}"),
-    ] {
+    for &(text, place, expected, found) in &LOOK_ALIKES {
         let fault = refusal(&rt, text, OFF);
-        assert_eq!(rt; fault.cause(), cause, "{text}");
-        assert_eq!(rt; fault.found(OFF), Some(found), "{text}");
+        equals(&rt, text, &fault.cause(), &syntax(place, expected));
+        equals(&rt, text, &fault.found(OFF), &Some(found));
     }
 }
 
 // The functions below take no allocator, so the calls that they make have nothing to allocate from.
 
-/// Reads, prints, and prints a fault.
-fn read_and_print_without_memory(rt: &impl Abort) {
-    let d = Duration::new(193, 29_000_000);
-    assert_eq!(rt; parse("3m 13s 29ms"), Ok(d));
-    assert_eq!(rt; write_human(&d, &mut [0; 64]), "3min 13s 29ms");
-    let mut shown = ArrayString::<64>::new();
-    let fault = refusal(rt, "3ms-2ms", OFF);
-    assert!(rt; write!(shown, "{fault}").is_ok());
-    assert_eq!(rt; shown.as_str(), "3ms-2ms\n   ^\nexpected ['+', '*']");
+/// Reads, and prints what was read.
+fn read_and_print_without_memory(rt: &impl Abort, text: &str, d: Duration) {
+    equals(rt, text, &parse(text), &Ok(d));
+    equals(rt, text, &write_human(&d, &mut [0; 64]), &"3min 13s 29ms");
 }
 
-/// Moves the first midnight of 1970 by 180 days, to these days.
-fn move_without_memory(rt: &impl Abort, before: Date, after: Date) {
+/// Prints a fault.
+fn print_a_fault_without_memory(rt: &impl Abort, fault: Fault<'_>) {
+    let mut shown = ArrayString::<64>::new();
+    assert!(rt; write!(shown, "{fault}").is_ok());
+    assert!(rt; shown.as_str() == "3ms-2ms\n   ^\nexpected ['+', '*']");
+}
+
+/// Moves the first midnight of 1970 by the text, from the day before to the day after.
+fn move_without_memory(rt: &impl Abort, text: &str, before: Date, after: Date) {
     let start = Timestamp::UNIX_EPOCH;
     let (first, last) = (before.at(0, 0, 0, 0), after.at(0, 0, 0, 0));
-    assert_eq!(rt; after_naive_date(start, "180d"), Ok(after));
-    assert_eq!(rt; before_naive_date(start, "180d"), Ok(before));
-    assert_eq!(rt; after_naive_date_time(start, "180d"), Ok(last));
-    assert_eq!(rt; before_naive_date_time(start, "180d"), Ok(first));
+    equals(rt, text, &after_naive_date(start, text), &Ok(after));
+    equals(rt, text, &before_naive_date(start, text), &Ok(before));
+    equals(rt, text, &after_naive_date_time(start, text), &Ok(last));
+    equals(rt, text, &before_naive_date_time(start, text), &Ok(first));
 }
 
-/// Reads a value of 90 seconds by each function for configurations.
-fn configure_without_memory(rt: &impl Abort, config: &Value) {
-    let (plain, signed) = (Duration::from_secs(90), SignedDuration::from_secs(90));
-    assert_eq!(rt; deserialize_duration::<Duration>(config), Ok(plain));
-    assert_eq!(rt; deserialize_duration_chrono(config), Ok(signed));
-    assert_eq!(rt; deserialize_duration_time(config), Ok(signed));
-    let some = Ok(Some(signed));
-    assert_eq!(rt; deserialize_option_duration(config), Ok(Some(plain)));
-    assert_eq!(rt; deserialize_option_duration_chrono(config), some);
-    assert_eq!(rt; deserialize_option_duration_time(config), some);
+/// Reads a value by each function for required values.
+fn configure_without_memory(rt: &impl Abort, config: &Value, secs: u32) {
+    let plain = Duration::from_secs(u64::from(secs));
+    let signed = Ok(SignedDuration::from_secs(i64::from(secs)));
+    equals(
+        rt,
+        "",
+        &deserialize_duration::<Duration>(config),
+        &Ok(plain),
+    );
+    equals(rt, "config", &deserialize_duration_chrono(config), &signed);
+    equals(rt, "config", &deserialize_duration_time(config), &signed);
+}
+
+/// Reads a value by each function for optional values.
+fn configure_options_without_memory(rt: &impl Abort, config: &Value, secs: u32) {
+    let plain = Duration::from_secs(u64::from(secs));
+    let signed = Ok(Some(SignedDuration::from_secs(i64::from(secs))));
+    equals(
+        rt,
+        "",
+        &deserialize_option_duration(config),
+        &Ok(Some(plain)),
+    );
+    equals(
+        rt,
+        "config",
+        &deserialize_option_duration_chrono(config),
+        &signed,
+    );
+    equals(
+        rt,
+        "config",
+        &deserialize_option_duration_time(config),
+        &signed,
+    );
 }
 
 #[test]
 fn answers_without_memory(rt: HostRuntime) -> Result<(), Fail> {
-    read_and_print_without_memory(&rt);
-    move_without_memory(&rt, Date::new(1969, 7, 5)?, Date::new(1970, 6, 30)?);
-    configure_without_memory(&rt, &json!(in rt.alloc(); "1min+30")?);
+    let config = json!(in rt.alloc(); "1min+30")?;
+    configure_without_memory(&rt, &config, 90);
+    configure_options_without_memory(&rt, &config, 90);
+    read_and_print_without_memory(&rt, "3m 13s 29ms", Duration::new(193, 29_000_000));
+    print_a_fault_without_memory(&rt, refusal(&rt, "3ms-2ms", OFF));
+    let (before, after) = (Date::new(1969, 7, 5)?, Date::new(1970, 6, 30)?);
+    move_without_memory(&rt, "180d", before, after);
     Ok(())
 }
 
@@ -191,22 +276,34 @@ fn stops_at_the_end_of_a_fixed_buffer(rt: HostRuntime) {
     assert!(rt; write!(whole, "{fault}").is_ok());
 }
 
-#[test]
-fn runs_over_long_lines(rt: HostRuntime) -> Result<(), Fail> {
-    let mut input = Vec::new(rt.alloc());
-    let zeros = long(&rt, "", "0", 100_000, "1s\n")?;
-    input.extend_from_slice(zeros.as_bytes())?;
+/// A long line that is read, one that is not UTF-8, one that is refused, and many that are empty.
+fn long_lines(alloc: Global) -> Result<Vec<u8>, AllocError> {
+    let mut input = Vec::new(alloc);
+    input.extend_from_slice(long(alloc, ("", "0", 100_000, "1s\n"))?.as_bytes())?;
     input.extend_from_slice(&[0xff; 1_000])?;
     input.extend_from_slice("\n1m\u{3000}2\r\n".as_bytes())?;
-    let lines = long(&rt, "", "\n", 100_000, "")?;
-    input.extend_from_slice(lines.as_bytes())?;
-    let mut output = Vec::new(rt.alloc());
-    let answer = run(rt.alloc(), &mut input.as_slice(), &mut output, OFF);
-    assert_eq!(rt; answer, Ok(false));
+    input.extend_from_slice(long(alloc, ("", "\n", 100_000, ""))?.as_bytes())?;
+    Ok(input)
+}
+
+/// Whether a run over these lines accepts some alone, and writes this.
+fn refuses_lines(alloc: Global, mut lines: &[u8], wanted: &str) -> bool {
+    let mut output = Vec::new(alloc);
+    let answer = run(alloc, &mut lines, &mut output, OFF);
+    answer == Ok(false) && output.as_slice() == wanted.as_bytes()
+}
+
+/// Whether a run over the long lines writes what it should.
+fn refuses_long_lines(alloc: Global) -> Result<bool, AllocError> {
     let first = "1000000000 1s\nnot UTF-8\n1m\u{3000}2\r\n  ^\nexpected ['+', '*']\n";
-    let want = long(&rt, first, "Empty input\n", 100_000, "")?;
-    assert!(rt; output.as_slice() == want.as_bytes());
-    Ok(())
+    let wanted = long(alloc, (first, "Empty input\n", 100_000, ""))?;
+    let lines = long_lines(alloc)?;
+    Ok(refuses_lines(alloc, lines.as_slice(), &wanted))
+}
+
+#[test]
+fn runs_over_long_lines(rt: HostRuntime) {
+    holds_in_memory(&rt, "lines", refuses_long_lines(rt.alloc()));
 }
 
 /// Gives three bytes in each read.

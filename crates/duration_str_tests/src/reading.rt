@@ -1,4 +1,5 @@
 // What texts are read as: each by every call that reads under its options, and printed again where that is told.
+use crate::assertions::{holds, holds_in_memory, is_value};
 use crate::vectors::{CN_UNIT, LOWERCASE, NO_CALC, OFF};
 use duration_str::{
     Cause, HumanFormat, Options, TimeUnit, parse, parse_chrono, parse_looked, parse_std,
@@ -6,11 +7,10 @@ use duration_str::{
 };
 use jiff::SignedDuration;
 use std::alloc::{AllocError, Global};
-use std::test::Fail;
 use std::time::Duration;
 
 /// Texts, between bars, that are read under these options as so many nanoseconds.
-const READ: [(&str, Options, u64); 65] = [
+static READ: [(&str, Options, u64); 65] = [
     ("0|0    |     0    |0m|580y*2*0|1000000000*1ns*1ns", OFF, 0),
     // The last factor would make 2^48 nanoseconds into 2^64 with one more.
     ("0*281474976710656ns*65535", OFF, 0),
@@ -84,7 +84,7 @@ const READ: [(&str, Options, u64); 65] = [
 ];
 
 /// Texts with the printed texts of the durations that they are read as.
-const PRINTED: [(&str, &str); 15] = [
+static PRINTED: [(&str, &str); 15] = [
     ("0s", "0s"),
     ("3m + 13s + 29ms", "3min 13s 29ms"),
     ("1d2h3min4s", "1d 2h 3min 4s"),
@@ -107,27 +107,40 @@ const PRINTED: [(&str, &str); 15] = [
 
 /// Whether each call that reads under these options reads the text as so many nanoseconds.
 fn is_read(text: &str, o: Options, nanos: u64) -> bool {
-    let wanted = Ok(Duration::from_nanos(nanos));
-    let signed = Ok(SignedDuration::from_nanos_i128(i128::from(nanos)));
+    let plain = Duration::from_nanos(nanos);
+    let signed = SignedDuration::from_nanos_i128(i128::from(nanos));
     let has_calls = o == OFF;
-    parse_with(text, o) == wanted
-        && parse_looked(text, o).0 == wanted
-        && (!has_calls || parse(text) == wanted && parse_std(text) == wanted)
-        && (!has_calls || parse_chrono(text) == signed && parse_time(text) == signed)
+    is_value(parse_with(text, o), plain)
+        && is_value(parse_looked(text, o).0, plain)
+        && (!has_calls || is_value(parse(text), plain) && is_value(parse_std(text), plain))
+        && (!has_calls
+            || is_value(parse_chrono(text), signed) && is_value(parse_time(text), signed))
 }
 
 #[test]
 fn reads_values(rt: HostRuntime) {
-    for (texts, o, nanos) in READ {
+    for &(texts, o, nanos) in &READ {
         for text in texts.split('|') {
-            assert!(rt; is_read(text, o, nanos), "{text}");
+            holds(&rt, text, is_read(text, o, nanos));
         }
     }
 }
 
+/// Whether the text is refused since units are required and a number before this place has none.
+fn lacks_a_unit(text: &str, at: usize) -> bool {
+    let Err(fault) = parse_with_units(text, OFF) else {
+        return false;
+    };
+    let Cause::Syntax { place, expected } = fault.cause() else {
+        return false;
+    };
+    let is_unit = expected.unit_word && !expected.operator;
+    place == at && is_unit && !expected.number && !expected.text_end
+}
+
 #[test]
 fn requires_units(rt: HostRuntime) {
-    for (text, at) in [
+    for &(text, at) in &[
         ("90", 2),
         ("90 -", 3),
         ("1h 30", 5),
@@ -138,37 +151,41 @@ fn requires_units(rt: HostRuntime) {
         ("1m 3-5", 4),
         ("99999999999999999999", 20),
     ] {
-        let Err(fault) = parse_with_units(text, OFF) else {
-            panic!(rt; "{text} is read");
-        };
-        let Cause::Syntax { place, expected } = fault.cause() else {
-            panic!(rt; "{text} has another fault");
-        };
-        assert!(rt; place == at, "{text}");
-        assert!(rt;
-            expected.unit_word && !expected.number && !expected.operator && !expected.text_end,
-            "{text}"
-        );
+        holds(&rt, text, lacks_a_unit(text, at));
     }
-    for text in ["1h 30m", "1 m*60s", "", "+1s", "1s -", "600y", "1s 2s*3s"] {
-        assert!(rt;
+    for &text in &["1h 30m", "1 m*60s", "", "+1s", "1s -", "600y", "1s 2s*3s"] {
+        holds(
+            &rt,
+            text,
             parse_with_units(text, OFF) == parse_with(text, OFF),
-            "{text}"
         );
     }
 }
 
+/// Whether numbers without a unit are milliseconds, and the text is read as so many of them.
+fn is_read_in_millis(text: &str, millis: u64) -> bool {
+    let length = parse_with_default_unit(text, OFF, Some(TimeUnit::MilliSecond));
+    is_value(length, Duration::from_millis(millis))
+}
+
 #[test]
 fn counts_numbers_in_the_default_unit(rt: HostRuntime) {
-    for (text, millis) in [
+    for &(text, millis) in &[
         ("1500", 1_500),
         ("1h 500", 3_600_500),
         ("2000*3", 6),
         ("1s + 5", 1_005),
     ] {
-        let length = parse_with_default_unit(text, OFF, Some(TimeUnit::MilliSecond));
-        assert!(rt; length == Ok(Duration::from_millis(millis)), "{text}");
+        holds(&rt, text, is_read_in_millis(text, millis));
     }
+}
+
+/// Whether the value is not negative and prints so.
+fn is_printed<T: HumanFormat>(alloc: Global, value: &T, printed: &str) -> Result<bool, AllocError> {
+    if !value.is_printable() {
+        return Ok(false);
+    }
+    Ok(value.human_format(alloc)?.as_str() == printed)
 }
 
 /// Whether the text is read as durations, signed and not, that print so into strings and into a buffer.
@@ -177,22 +194,18 @@ fn prints(alloc: Global, text: &str, printed: &str) -> Result<bool, AllocError> 
     else {
         return Ok(false);
     };
-    if !plain.is_printable() || !signed.is_printable() || !other.is_printable() {
-        return Ok(false);
-    }
     Ok(
-        plain.human_format(alloc)?.as_str() == printed
-            && signed.human_format(alloc)?.as_str() == printed
-            && other.human_format(alloc)?.as_str() == printed
-            && write_human(&plain, &mut [0xff; 64]) == printed,
+        write_human(&plain, &mut [0xff; 64]) == printed
+            && is_printed(alloc, &plain, printed)?
+            && is_printed(alloc, &signed, printed)?
+            && is_printed(alloc, &other, printed)?,
     )
 }
 
 #[test]
-fn prints_what_is_read(rt: HostRuntime) -> Result<(), Fail> {
-    for (text, printed) in PRINTED {
-        assert!(rt; prints(rt.alloc(), text, printed)?, "{text}");
-        assert!(rt; parse(printed) == parse(text), "{text}");
+fn prints_what_is_read(rt: HostRuntime) {
+    for &(text, printed) in &PRINTED {
+        holds_in_memory(&rt, text, prints(rt.alloc(), text, printed));
+        holds(&rt, text, parse(printed) == parse(text));
     }
-    Ok(())
 }

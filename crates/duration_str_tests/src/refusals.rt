@@ -1,4 +1,5 @@
 // Why texts are refused: the cause, the token at the place, and what the fault prints.
+use crate::assertions::{holds, holds_in_memory, is_fault, prints};
 use crate::vectors::{
     AFTER_NUMBER, AFTER_UNIT, ALONE_AFTER_NUMBER, ALONE_AFTER_UNIT, CN_UNIT, LOWERCASE, NO_CALC,
     NUMBER, OFF, OPERATORS, START, TOO_LARGE, UNITS, syntax,
@@ -8,8 +9,6 @@ use duration_str::{
     parse_chrono, parse_looked, parse_std, parse_time, parse_with, write_human,
 };
 use std::alloc::{AllocError, Global};
-use std::process::Abort;
-use std::test::Fail;
 use std::time::Duration;
 
 /// A text that is refused for its syntax: the place, the blanks before the caret, and the token at the place, if any.
@@ -18,7 +17,7 @@ type Row = (&'static str, usize, usize, &'static str);
 /// Texts that are refused under these options where this could stand, which the last line says.
 type Group = (Options, Expected, &'static str, &'static [Row]);
 
-const SYNTAX: [Group; 10] = [
+static SYNTAX: [Group; 10] = [
     (OFF, START, NUMBER, &STARTS),
     (OFF, AFTER_NUMBER, UNITS, &NUMBERS),
     (OFF, AFTER_UNIT, OPERATORS, &WORDS),
@@ -108,7 +107,7 @@ const STAR_THEN_PLUS: Cause = Cause::Mixed {
 /// the cause has no place.
 type Caused = (&'static str, Options, Cause, &'static str);
 
-const OTHERS: [Caused; 22] = [
+static OTHERS: [Caused; 22] = [
     ("", OFF, Cause::Empty, "Empty input"),
     ("", NO_CALC, Cause::Empty, "Empty input"),
     ("10000000000000000y+60", OFF, FIRST_OVERFLOW, OUT),
@@ -138,23 +137,30 @@ const OTHERS: [Caused; 22] = [
     ("580y 580y x|580y 580y 1 2", NO_CALC, OVERFLOW, OUT),
 ];
 
+/// Whether each call that reads with all options off refuses the text with this fault.
+fn is_refused(text: &str, fault: Fault<'_>) -> bool {
+    is_fault(parse(text), fault)
+        && is_fault(parse_std(text), fault)
+        && is_fault(parse_chrono(text), fault)
+        && is_fault(parse_time(text), fault)
+}
+
 /// The fault with which each call that reads under these options refuses the text for this cause.
 fn refusal(text: &str, o: Options, cause: Cause) -> Option<Fault<'_>> {
     let fault = parse_with(text, o).err()?;
-    let is_refused = fault.text() == text
-        && fault.cause() == cause
-        && parse_looked(text, o).0 == Err(fault)
-        && (o != OFF || parse(text) == Err(fault) && parse_std(text) == Err(fault))
-        && (o != OFF || parse_chrono(text) == Err(fault) && parse_time(text) == Err(fault));
-    is_refused.then_some(fault)
+    let is_caused = fault.text() == text && fault.cause() == cause;
+    let is_looked = is_fault(parse_looked(text, o).0, fault);
+    (is_caused && is_looked && (o != OFF || is_refused(text, fault))).then_some(fault)
+}
+
+/// Whether the fault prints this where a width is asked for.
+fn is_padded(alloc: Global, fault: Fault<'_>, wanted: &str) -> Result<bool, AllocError> {
+    Ok(format!(in alloc; "{fault:>999}")?.as_str() == wanted)
 }
 
 /// Whether the fault prints this, also where a width is asked for.
 fn is_printed(alloc: Global, fault: Fault<'_>, wanted: &str) -> Result<bool, AllocError> {
-    Ok(
-        fault.to_string(alloc)?.as_str() == wanted
-            && format!(in alloc; "{fault:>999}")?.as_str() == wanted,
-    )
+    Ok(prints(alloc, &fault, wanted)? && is_padded(alloc, fault, wanted)?)
 }
 
 /// Whether the fault prints its text, after so many blanks the caret, and the line.
@@ -164,16 +170,32 @@ fn points(alloc: Global, fault: Fault<'_>, blanks: usize, line: &str) -> Result<
     is_printed(alloc, fault, wanted.as_str())
 }
 
+/// Whether the text is refused at its place, where this could stand, and its fault points there.
+fn is_refused_at(
+    alloc: Global,
+    (text, place, blanks, token): Row,
+    o: Options,
+    expected: Expected,
+    line: &str,
+) -> Result<bool, AllocError> {
+    let Some(fault) = refusal(text, o, syntax(place, expected)) else {
+        return Ok(false);
+    };
+    let is_found = fault.found(o).unwrap_or_default() == token;
+    Ok(is_found && points(alloc, fault, blanks, line)?)
+}
+
 #[test]
-fn refuses_for_the_syntax(rt: HostRuntime) -> Result<(), Fail> {
-    for (o, expected, line, rows) in SYNTAX {
-        for (text, place, blanks, token) in rows.iter().copied() {
-            let fault = refusal(text, o, syntax(place, expected)).expect(&rt, text);
-            assert_eq!(rt; fault.found(o).unwrap_or_default(), token, "{text}");
-            assert!(rt; points(rt.alloc(), fault, blanks, line)?, "{text}");
+fn refuses_for_the_syntax(rt: HostRuntime) {
+    for &(o, expected, line, rows) in &SYNTAX {
+        for &row in rows {
+            holds_in_memory(
+                &rt,
+                row.0,
+                is_refused_at(rt.alloc(), row, o, expected, line),
+            );
         }
     }
-    Ok(())
 }
 
 /// Whether the text is refused for this cause, and prints the line, below a caret where the cause has a place.
@@ -195,17 +217,16 @@ fn is_caused(
 }
 
 #[test]
-fn refuses_texts(rt: HostRuntime) -> Result<(), Fail> {
-    for (texts, o, cause, line) in OTHERS {
+fn refuses_texts(rt: HostRuntime) {
+    for &(texts, o, cause, line) in &OTHERS {
         for text in texts.split('|') {
-            assert!(rt; is_caused(rt.alloc(), text, o, cause, line)?, "{text}");
+            holds_in_memory(&rt, text, is_caused(rt.alloc(), text, o, cause, line));
         }
     }
-    Ok(())
 }
 
 /// Texts that are refused under these options, what a report has above the line, and the line.
-const SHOWN: [(&str, Options, &str, &str); 7] = [
+static SHOWN: [(&str, Options, &str, &str); 7] = [
     ("", OFF, "", "empty text"),
     (
         "5 mins",
@@ -251,29 +272,42 @@ fn is_reported(
     Ok(fault.write_report(&mut [0; REPORT_BUFFER_SIZE]) == report.as_str())
 }
 
+/// Whether the text is refused with this line, and with a report that has this above it.
+fn is_shown(
+    alloc: Global,
+    text: &str,
+    o: Options,
+    above: &str,
+    line: &str,
+) -> Result<bool, AllocError> {
+    let Err(fault) = parse_with(text, o) else {
+        return Ok(false);
+    };
+    let is_line = fault.write_one_line(&mut [0; ONE_LINE_BUFFER_SIZE]) == line;
+    Ok(is_line && is_reported(alloc, fault, above, line)?)
+}
+
 #[test]
-fn writes_lines_and_reports(rt: HostRuntime) -> Result<(), Fail> {
-    for (text, o, above, line) in SHOWN {
-        let fault = parse_with(text, o).err().expect(&rt, text);
-        assert_eq!(rt;
-            fault.write_one_line(&mut [0; ONE_LINE_BUFFER_SIZE]),
-            line,
-            "{text}"
-        );
-        assert!(rt; is_reported(rt.alloc(), fault, above, line)?, "{text}");
+fn writes_lines_and_reports(rt: HostRuntime) {
+    for &(text, o, above, line) in &SHOWN {
+        holds_in_memory(&rt, text, is_shown(rt.alloc(), text, o, above, line));
     }
-    Ok(())
+}
+
+/// Whether the fault prints its byte and the line.
+fn names_the_byte(alloc: Global, fault: Fault<'_>, line: &str) -> Result<bool, AllocError> {
+    let place = fault.cause().place().unwrap_or_default();
+    let wanted = format!(in alloc; "byte {place}: {line}")?;
+    is_printed(alloc, fault, wanted.as_str())
 }
 
 /// Of a text of several lines the byte is printed in place of the text and the caret.
 #[test]
-fn names_the_byte_where_there_are_lines(rt: HostRuntime) -> Result<(), Fail> {
+fn names_the_byte_where_there_are_lines(rt: HostRuntime) {
     let number = refusal("1m\n+\nx", OFF, syntax(5, START)).expect(&rt, "a refused text");
-    assert!(rt; is_printed(rt.alloc(), number, "byte 5: expected number")?);
+    holds_in_memory(&rt, "+", names_the_byte(rt.alloc(), number, NUMBER));
     let unit = refusal("1\n2", OFF, syntax(2, AFTER_NUMBER)).expect(&rt, "a refused text");
-    let wanted = format!(in rt.alloc(); "byte 2: {UNITS}")?;
-    assert!(rt; is_printed(rt.alloc(), unit, wanted.as_str())?);
-    Ok(())
+    holds_in_memory(&rt, "1", names_the_byte(rt.alloc(), unit, UNITS));
 }
 
 /// One nanosecond more than is read prints, and what it prints is refused under each choice of options.
@@ -287,22 +321,29 @@ fn refuses_what_is_printed_at_the_limit(rt: HostRuntime) {
             lowercase: choice & 2 != 0,
             cn_unit: choice & 4 != 0,
         };
-        assert!(rt; refusal(printed, options, OVERFLOW).is_some(), "{choice}");
+        holds(&rt, printed, refusal(printed, options, OVERFLOW).is_some());
+    }
+}
+
+/// Whether the text is refused after so many blanks, and its fault points there.
+fn is_refused_after(alloc: Global, text: &str, count: usize) -> Result<bool, AllocError> {
+    match refusal(text, OFF, syntax(count, START)) {
+        Some(fault) => points(alloc, fault, count, NUMBER),
+        None => Ok(false),
     }
 }
 
 /// Whether the fault of a text points after so many blanks.
-fn points_after(rt: &impl Abort, alloc: Global, count: usize) -> Result<bool, AllocError> {
-    let text = format!(in alloc; "{}x", " ".repeat(alloc, count)?)?;
-    let fault = refusal(&text, OFF, syntax(count, START)).expect(rt, "a refused text");
-    points(alloc, fault, count, NUMBER)
+fn points_after(alloc: Global, count: usize) -> Result<bool, AllocError> {
+    let mut text = " ".repeat(alloc, count)?;
+    text.push('x')?;
+    is_refused_after(alloc, &text, count)
 }
 
 #[test]
-fn points_after_many_blanks(rt: HostRuntime) -> Result<(), Fail> {
+fn points_after_many_blanks(rt: HostRuntime) {
     for count in 0..300usize {
-        assert!(rt; points_after(&rt, rt.alloc(), count)?, "{count}");
+        assert!(rt; points_after(rt.alloc(), count) == Ok(true), "{count}");
     }
-    assert!(rt; points_after(&rt, rt.alloc(), 100_000)?);
-    Ok(())
+    assert!(rt; points_after(rt.alloc(), 100_000) == Ok(true));
 }
