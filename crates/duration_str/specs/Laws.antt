@@ -258,8 +258,8 @@ abbrev pub AllParts : Type 0
 AllParts = (style : Style) (parts nanos : ℕ) (text : Characters) → length units ≤ parts
     → (IsPrintedWithin (record whole_format { parts = parts; style = style }) nanos text ↔ IsPrintedIn style nanos text)
 
--- Broken down into the format's units and all that are shorter, it has no more parts than the format allows, and all
--- are of the format's units.
+-- The duration's breakdown into the format's units and all shorter ones has no more parts than the format allows, and
+-- each part is in one of the format's units.
 pub record KeepsWithin (format : Format) (nanos : ℕ) (counts : List ℕ) : Type 0 where
   pub breakdown : IsGreatestBreakdown (map nanos_of (units_within format ++ shorter_units (units_within format))) nanos counts
   pub few : part_count counts ≤ format.parts

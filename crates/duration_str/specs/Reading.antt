@@ -12,7 +12,7 @@ use Rattle.duration_str.specs.Tokens.{tokens_of}
 use Rattle.duration_str.specs.Place.{IsFront, CanFollow, start_after, terminals_of}
 use Rattle.duration_str.specs.Value.{Term, term_fault, sum_of, fits, or_else, unless, terms_of, terms_with, value_of, evaluation_fault, Evaluates}
 
--- With this default unit a sentence spells the text, evaluates, and has this value in nanoseconds.
+-- With this default unit some sentence spells the text, and its evaluation gives this value in nanoseconds.
 pub record IsReadWith (default_unit : Option TimeUnit) (o : Options) (text : Characters) (nanos : ℕ) : Type 0 where
   pub lexemes : List Characters
   pub spells : IsSentenceWith default_unit o lexemes text

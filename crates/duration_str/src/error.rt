@@ -27,8 +27,8 @@ pub enum DError<A: Allocator = Global> {
 pub type DResult<T> = Result<T, DError>;
 
 impl Fault<'_> {
-    /// The error for this fault: `OverflowError` for an overflow; this never fails. Otherwise `ParseError` with the line,
-    /// which fails only if memory is refused.
+    /// The error for this fault. An overflow becomes `OverflowError`, which can't fail. Any other cause becomes
+    /// `ParseError` with the line, which fails only if memory is refused.
     ///
     /// ```text
     /// match parse("") {

@@ -1,7 +1,7 @@
 //! A fault in one line: what is wrong, at which column, and what stands there.
 //!
-//! A function that writes returns where its part ends, and `None` if there is no room. So no contract bounds what stands
-//! before a part. That everything fits is shown once, for the whole line.
+//! Each function that writes returns the index where its part ends, or `None` if there is no room. So no contract bounds
+//! what stands before a part. One proof, for the whole line, shows that everything fits.
 ghost use Rattle.std.specs.Prelude.{◌≡◌, ◌≤◌, ◌++◌, ◌-◌, ◌&&◌, ◌==◌, not, slice_index, length, take, map, encode_utf8_all, IsTrue, ◌||◌, None, if◌then◌else◌};
 ghost use Rattle.std.specs.Char.{to_ascii_lowercase};
 ghost use Rattle.std.specs.Char.Escape.{escape_default};

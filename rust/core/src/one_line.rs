@@ -1,8 +1,8 @@
 // Made by tools/erase of crates/duration_str/src/one_line.rt.
 //! A fault in one line: what is wrong, at which column, and what stands there.
 //!
-//! A function that writes returns where its part ends, and `None` if there is no room. So no contract bounds what stands
-//! before a part. That everything fits is shown once, for the whole line.
+//! Each function that writes returns the index where its part ends, or `None` if there is no room. So no contract bounds
+//! what stands before a part. One proof, for the whole line, shows that everything fits.
 
 use crate::cause::{Cause, Expected};
 use crate::fault::Fault;

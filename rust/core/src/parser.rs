@@ -154,7 +154,7 @@ fn nanos_chosen(input: &str, o: Options, default_unit: Option<TimeUnit>) -> Resu
 
 /// Returns what `parse_nanos` returns, by a copy of the reader that stands where this is called.
 ///
-/// The copy knows the options that are known there, so it is faster. It adds 3 to 6 kB to the program.
+/// The compiler knows the options at that call, so the copy is faster. It adds 3 to 6 kB to the program.
 ///
 /// # Errors
 ///
@@ -174,8 +174,8 @@ pub fn parse_nanos_inlined(
 
 /// Returns what `parse_with` returns, and how many times a character of the text was looked at.
 ///
-/// There are at most as many looks as characters; reading again what was already cut off is not counted. All characters
-/// of an accepted text are looked at, and at least those before the place of a syntax fault.
+/// There are at most as many looks as characters. Reading a token again after it was cut off is not counted. All
+/// characters of an accepted text are looked at, and at least those before the place of a syntax fault.
 ///
 /// ```text
 /// parse_looked("3m 13s", Options::off()) // (Ok(Duration::from_secs(193)), 6)

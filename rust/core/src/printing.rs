@@ -2,8 +2,8 @@
 //! Durations printed for people, such as `3min 13s 29ms`: whole, or within limits and in a style.
 //!
 //! The text has the greatest possible count of the largest unit, then the greatest count of the next in what is left,
-//! and so on down to the smallest unit, until there are so many parts. Counts of 0 are left out, and so is what remains
-//! at the end. The duration 0 is `0s`.
+//! and so on down to the smallest unit, or until there are as many parts as were asked for. Counts of 0 are left out,
+//! and so is what remains at the end. The duration 0 is `0s`.
 //!
 //! A function that writes begins after the first `at` bytes of the buffer, and returns where its part ends.
 

@@ -52,7 +52,8 @@ fn expect_number(tokens: &mut Tokens<'_>) -> Result<(), Cause> {
     Err(Cause::syntax(tokens.place(), Expected::at_start()))
 }
 
-/// Reads the unit after a number. If an operator or the end follows, the unit is the default unit, and nothing is taken.
+/// Reads the unit after a number. If an operator or the end follows, the unit is the default unit, and no token is
+/// taken.
 #[inline(always)]
 fn read_unit(
     tokens: &mut Tokens<'_>,

@@ -31,7 +31,7 @@ no_number_last no_calc last (number n ∷ []) h = cc h
 no_number_last no_calc last (number n ∷ t ∷ front) h = ap (◌∷◌ (number n)) (no_number_last no_calc (Some (number n)) (t ∷ front) h)
 no_number_last no_calc last (t ∷ front) h = ap (◌∷◌ t) (no_number_last no_calc (Some t) front h)
 
--- Where the table lets the text end, all terms are complete.
+-- If the end can follow these terminals, all their terms are complete.
 pub whole_complete : (default_unit : Option TimeUnit) (no_calc : Bool) (front : List Terminal)
     → CanEnd default_unit no_calc None front
     → complete_terminals default_unit front [] ≡ front
