@@ -37,8 +37,8 @@ export interface Options {
 }
 
 /**
- * The names of the units, with a line for each unit, the longest first. They are those that a text
- * may have without options, so where no types are checked, capitals are taken too.
+ * The names of the units, with a line for each unit, the longest first. These are the names that a
+ * text may use if all options are off. Code without type checks may write them in capitals too.
  */
 // Made by tests/repository --write.
 export type Unit =

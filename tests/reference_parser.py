@@ -112,8 +112,8 @@ class Choice(typing.NamedTuple):
         return answer_of(text, self.options, self.default_unit and self.default_unit.length)
 
 
-# The sets of units, each with its units in order, by their numbers for C: the sum of 2^n for each
-# unit that stands at the place n in UNITS.
+# All sets of units, in the order of their numbers for C. A set's number is the sum of 2^n over the
+# places n of its units in UNITS.
 SETS = [
     tuple(unit for place, unit in enumerate(UNITS) if bits >> place & 1)
     for bits in range(2 ** len(UNITS))

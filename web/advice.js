@@ -62,8 +62,8 @@ export function offersFor(text, options) {
     return readings.flatMap(({ text: each }) => offer(complete(each, options), options));
 }
 
-/** The part of the text that a line's fault is about, from and to as indexes; none if the fault has
- * no place. */
+/** The range of the text that the fault is about, as two indexes; no range if the fault has no
+ * place. */
 export function markedParts({ words, start, fault }, options) {
     if (!fault || fault.index === null) return [];
     const { code, index, found } = fault;
@@ -108,7 +108,7 @@ function inMonths(sum, month) {
     return sum.map((term) => `${term.operator} ${words(term)}`.trim()).join(" ");
 }
 
-/** What is said of a text that is read and printed in this way, and what is offered beside it. */
+/** The page's notes on a text that was read, and the other readings that it offers. */
 export function notesOn(text, value, options, limits) {
     const found = Array.from(terms(text, options));
     const sum = found[1]?.operator === "*" ? [] : found;

@@ -150,8 +150,8 @@ function c(text, options, limits) {
     ].join("\n");
 }
 
-/** `durstr` reads lines and prints durations whole. `duration` can do more, but it lacks `no_calc`,
- * and has a default unit for a single number alone. */
+/** `durstr` reads lines, and prints each duration in full. `duration` can do more, but it lacks
+ * `no_calc`, and has a default unit for a single number alone. */
 function shell(text, options, limits) {
     if (/\p{C}/u.test(text)) return "";
     const { requireUnit, defaultUnit } = options;

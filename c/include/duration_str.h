@@ -233,9 +233,9 @@ size_t duration_str_format(
  * are `6mon`.
  *
  * If all counts are 0, the text is `0` and the name of the smallest unit in the
- * set, or of the second if that unit is shorter, even if the set has no second:
- * `0h` for hours, and `0s` for milliseconds. It is this text for every duration
- * if `parts` is 0, and `0s` if the set is empty.
+ * set, such as `0h`. If that unit is shorter than a second, the text is `0s`,
+ * even if the set has no second. It is this text for every duration if `parts`
+ * is 0, and `0s` if the set is empty.
  *
  * Returns 0, and the text is empty, if `nanos` is 1,000,000,000 or more, if
  * `style` is above 2, or if `units` is above DURATION_STR_UNITS_ALL. */

@@ -2,9 +2,9 @@
 // WebAssembly (compiled.js), or JavaScript made from that module (plain.js): `instance` is one of
 // the two. index.d.ts documents the exports.
 //
-// A page may have changed the prototypes of arrays and of objects. So no method of an array is
-// called here, lists are gone over by their indexes, tables of names and descriptions of properties
-// inherit nothing, and a field is defined before anything is assigned to it.
+// A page may have changed the prototypes of arrays and of objects. So arrays are walked by index,
+// without their methods. Tables of names and descriptions of properties have no prototype, and a
+// field is defined before it is assigned.
 import { instance } from "instance";
 
 /** The bytes by which a memory grows. */

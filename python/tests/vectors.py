@@ -22,7 +22,7 @@ def words_of(names):
     return words | dict(name.split("=") for name in names if "=" in name)
 
 
-# All choices of the options, and of a required or another default unit as rows have it.
+# Every combination of the options, and each default unit or required unit that a row has.
 NAMES = [name for group in VECTORS["values"] for name in group["on"]]
 UNITS = sorted({name for name in NAMES if name not in VECTORS["options"]})
 CHOICES = itertools.product((False, True), repeat=len(VECTORS["options"]))

@@ -8,8 +8,9 @@ use duration_str_core::{self as proved, Options, TimeUnit};
 /// Reads a text under these options. A number without a unit counts the default unit; with `None`
 /// it is refused.
 ///
-/// A factor is a number too, so it also counts that unit. Programs whose numbers are milliseconds
-/// have no operators: set `no_calc` for them, or use [`parse_in`], which does.
+/// A factor is a number too, so it also counts that unit. If your program's numbers are
+/// milliseconds, operators make no sense: turn on `no_calc`, or call [`parse_in`], which turns it
+/// on.
 ///
 /// # Errors
 ///

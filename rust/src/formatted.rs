@@ -29,8 +29,7 @@ use duration_str_core::{Format, STYLED_BUFFER_SIZE, Style, TimeUnit, write_withi
 /// next unit in what is left, and so on down to the smallest unit, until there are so many parts.
 /// Counts of 0 are left out. What is left at the end is left out too.
 ///
-/// The calls that choose units each take units out. So their order doesn't matter, and none brings
-/// a unit back.
+/// Each call that chooses units only takes units away, so you can make them in any order.
 ///
 /// If all counts are 0, the text is `0` and the smallest unit's name, or `0s` if that unit is
 /// shorter than a second, even if no seconds are printed. The text is also this if there are no

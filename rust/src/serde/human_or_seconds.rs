@@ -2,7 +2,8 @@
 //! too, as seconds.
 //!
 //! So `timeout = 30` in TOML, `"timeout": 30` in JSON and `timeout: 30` in YAML are 30 seconds. The
-//! number must be whole, and not negative; for anything shorter, write a text such as `"1500ms"`.
+//! number must be whole, and not negative. For a fraction of a second, write a text such as
+//! `"1500ms"`.
 //!
 //! Durations are written as text. The format has to tell the types of its values, which bincode and
 //! similar formats don't do.

@@ -86,10 +86,10 @@ impl<'de, T: Length> Visitor<'de> for Optional<T> {
 /// Needs the feature `serde`.
 ///
 /// As in `duration-str` 0.19.0, two rules differ. A required duration must be what the format
-/// itself calls a text. For an optional one the format is asked for a text. So YAML's `90` is
-/// refused as a required duration, and read as an optional one. Formats that don't tell the types
-/// of their values, such as bincode, can't have a required one. [`human`](crate::human) has one
-/// rule for both.
+/// itself calls a text. An optional one may be any value that the format can give as a text. So
+/// YAML's `90` is refused as a required duration, and read as an optional one. Formats that don't
+/// tell the types of their values, such as bincode, can't have a required one.
+/// [`human`](crate::human) has one rule for both.
 ///
 /// # Errors
 ///

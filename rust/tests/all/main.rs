@@ -100,7 +100,7 @@ struct Refused(
 #[derive(Deserialize)]
 struct Printed(String, String, String, usize, String, String);
 
-/// The same with the names of the units in which the duration is printed, in any order.
+/// A row like `Printed`, with the names of the units to print in. Their order doesn't matter.
 #[derive(Deserialize)]
 struct PrintedIn(String, Vec<String>, usize, String, String);
 
