@@ -8,7 +8,7 @@ use alloc::string::String;
 use chrono::{NaiveDate, NaiveDateTime, Utc};
 use duration_str_core::{Cause, Options};
 
-/// The moment that comes after this one by the value of a text. Both are in the same time zone,
+/// The given moment plus the value of a text. Both are in the same time zone,
 /// such as UTC.
 ///
 /// The text is read first, and its fault comes first. If chrono has no such moment, the cause is
@@ -38,7 +38,7 @@ pub fn moment_after(
         .ok_or(Fault::of(input, Cause::OutOfRange, options))
 }
 
-/// The moment that comes before this one by the value of a text. It is otherwise like
+/// The given moment minus the value of a text. It is otherwise like
 /// [`moment_after`].
 ///
 /// # Errors
