@@ -344,7 +344,7 @@ static int take_parts(PyObject *value, uint32_t *parts) {
 
 /* Takes a style by its name. Returns -1 with an error. */
 static int take_style(PyObject *name, uint32_t *style) {
-    const int place = place_among(name, style_names, DURATION_STR_STYLE_LONG + 1);
+    const int place = place_among(name, style_names, sizeof style_names / sizeof *style_names);
     if (place < 0)
         raise_name(name, "style", "short, compact, long");
     *style = (uint32_t)place;
