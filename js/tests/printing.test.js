@@ -11,14 +11,20 @@ const NAMES = ["y", "q", "mon", "w", "d", "h", "min", "s", "ms", "µs", "ns"];
 const TYPES = readFileSync(new URL("../index.d.ts", import.meta.url), "utf8");
 const ALL_NAMES = /type Unit =([^;]*);/.exec(TYPES)[1].trim().split("\n")
     .map((line) => Array.from(line.matchAll(/"(.*?)"/g), ([, name]) => name));
+const STYLES = Array.from(/style\?: (.*) \| undefined/.exec(TYPES)[1].matchAll(/\w+/g), String);
 const DAY = 86_400_000_000_000n;
+
+/** What is printed in each style that there is, given two of the texts. */
+function inStyles(short, long) {
+    const texts = { short, compact: short.replaceAll(" ", ""), long };
+    assert.deepEqual(Object.keys(texts), STYLES);
+    return Object.entries(texts);
+}
 
 test("prints the vectors in the units that are chosen", () => {
     for (const [text, units, parts, short, long] of VECTORS.printed_in) {
         if (!tryParseNs(text).ok) continue;
-        for (const [style, printed] of [
-            ["short", short], ["compact", short.replaceAll(" ", "")], ["long", long],
-        ]) {
+        for (const [style, printed] of inStyles(short, long)) {
             const print = () => formatNs(parseNs(text), { units, parts, style });
             if (parts === 0 || units.length === 0) assert.throws(print, RangeError);
             else assert.equal(print(), printed);
@@ -29,9 +35,7 @@ test("prints the vectors in the units that are chosen", () => {
 test("prints the vectors, and refuses limits that contradict each other", () => {
     for (const [text, largest, smallest, parts, short, long] of VECTORS.printed) {
         if (!tryParseNs(text).ok) continue;
-        for (const [style, printed] of [
-            ["short", short], ["compact", short.replaceAll(" ", "")], ["long", long],
-        ]) {
+        for (const [style, printed] of inStyles(short, long)) {
             const print = () => formatNs(parseNs(text), { largest, smallest, parts, style });
             if (parts === 0 || NAMES.indexOf(largest) > NAMES.indexOf(smallest)) {
                 assert.throws(print, RangeError);

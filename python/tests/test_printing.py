@@ -6,7 +6,7 @@ import re
 import typing
 import unittest
 
-from duration_str import DurationError, Unit, format, format_many, parse, parse_ns
+from duration_str import DurationError, Style, Unit, format, format_many, parse, parse_ns
 from tests.vectors import VECTORS
 
 SECOND = 10**9
@@ -19,15 +19,17 @@ def length_of(text):
     return int(secs) * SECOND + int(nanos) if is_long else parse_ns(text)
 
 
+def in_styles(short, long):
+    """What is printed in each style that there is, given two of the texts."""
+    texts = {"short": short, "compact": short.replace(" ", ""), "long": long}
+    return [(style, texts[style]) for style in typing.get_args(Style)]
+
+
 class Printing(unittest.TestCase):
     def test_prints_the_vectors(self):
         for text, largest, smallest, parts, short, long in VECTORS["printed"]:
             value = length_of(text)
-            for style, printed in [
-                ("short", short),
-                ("compact", short.replace(" ", "")),
-                ("long", long),
-            ]:
+            for style, printed in in_styles(short, long):
                 words = {"largest": largest, "smallest": smallest, "parts": parts, "style": style}
                 with self.subTest(text=text, **words):
                     if parts == 0 or UNITS.index(largest) > UNITS.index(smallest):
@@ -48,11 +50,7 @@ class Printing(unittest.TestCase):
     def test_prints_the_vectors_in_chosen_units(self):
         for text, units, parts, short, long in VECTORS["printed_in"]:
             value = length_of(text)
-            for style, printed in [
-                ("short", short),
-                ("compact", short.replace(" ", "")),
-                ("long", long),
-            ]:
+            for style, printed in in_styles(short, long):
                 words = {"units": units, "parts": parts, "style": style}
                 with self.subTest(text=text, **words):
                     if parts == 0 or not units:

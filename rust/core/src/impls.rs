@@ -105,7 +105,7 @@ impl FromStr for Style {
 /// ```
 /// use duration_str::{Style, UnknownStyle};
 ///
-/// let styles = [Style::default(), Style::Compact, Style::Long];
+/// let styles = [Style::Short, Style::Compact, Style::Long];
 /// for (name, style) in ["short", "compact", "long"].into_iter().zip(styles) {
 ///     assert_eq!((name.parse(), format!("{style:>8}")), (Ok(style), format!("{name:>8}")));
 /// }

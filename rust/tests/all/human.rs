@@ -1,4 +1,5 @@
 //! Durations as text, which serde writes and reads.
+use crate::STYLES;
 use duration_str::human::{self, HumanText};
 use duration_str::{
     HumanDuration, Style, TimeUnit, UnknownStyle, UnknownUnit, human_or_seconds, human_with_units,
@@ -97,7 +98,7 @@ fn reads_and_writes_names() {
     assert_eq!(to_value(&units).unwrap(), json!(["y", "h", "µs"]));
     let styles = json!(["short", "compact", "long"]);
     let read: Vec<Style> = from_value(styles.clone()).unwrap();
-    assert_eq!(read, [Style::Short, Style::Compact, Style::Long]);
+    assert_eq!(read, STYLES);
     assert_eq!(to_value(&read).unwrap(), styles);
     for (refused, refusal) in [
         (

@@ -13,7 +13,7 @@ mod owned;
 mod printing;
 mod values;
 
-use duration_str::{Options, TimeUnit, humantime};
+use duration_str::{Options, Style, TimeUnit, humantime};
 use serde::Deserialize;
 
 fn has(names: &[String], name: &str) -> bool {
@@ -99,6 +99,20 @@ struct Refused(
 /// unit, how many parts at most; and the printed text, in the short and in the long style.
 #[derive(Deserialize)]
 struct Printed(String, String, String, usize, String, String);
+
+/// All styles.
+pub const STYLES: &[Style] = &[Style::Short, Style::Compact, Style::Long];
+
+/// What is printed in each style, given two of the texts.
+pub fn in_styles(short: &str, long: &str) -> Vec<(Style, String)> {
+    let text = |style: Style| match style {
+        Style::Short => short.to_string(),
+        Style::Compact => short.replace(' ', ""),
+        Style::Long => long.to_string(),
+        _ => panic!("no text in the style {style}"),
+    };
+    STYLES.iter().map(|style| (*style, text(*style))).collect()
+}
 
 /// A row like `Printed`, with the names of the units to print in. Their order doesn't matter.
 #[derive(Deserialize)]

@@ -1,12 +1,12 @@
 //! Printed durations.
-use crate::{Printed, PrintedIn, vectors};
+use crate::{Printed, PrintedIn, in_styles, vectors};
 use duration_str::{
-    Format, FormattedDuration, HumanDuration, HumanFormat, Options, Style, TimeUnit,
-    format_duration, parse_with, write_human, write_within,
+    Format, FormattedDuration, HumanDuration, HumanFormat, Options, TimeUnit, format_duration,
+    parse_with, write_human, write_within,
 };
-#[cfg(any(feature = "chrono", feature = "time"))]
-use proptest::prelude::*;
 use std::time::Duration;
+#[cfg(any(feature = "chrono", feature = "time"))]
+use {duration_str::Style, proptest::prelude::*};
 
 /// The duration with this text, which may be too long to be read.
 fn length_of(text: &str) -> Duration {
@@ -28,12 +28,7 @@ fn prints_the_vectors_in_chosen_units() {
     for PrintedIn(text, names, parts, short, long) in vectors().printed_in {
         let length = length_of(&text);
         let units: Vec<TimeUnit> = names.iter().map(|name| unit(name)).collect();
-        let compact = short.replace(' ', "");
-        for (style, printed) in [
-            (Style::Short, &short),
-            (Style::Compact, &compact),
-            (Style::Long, &long),
-        ] {
+        for (style, printed) in in_styles(&short, &long) {
             let format = Format::whole().style(style).only(&units).parts(parts);
             let written = write_within(&length, format, &mut [0xff; 144]).to_string();
             assert_eq!(written, *printed, "{text} in {names:?}");
@@ -88,12 +83,7 @@ fn prints_the_vectors() {
     for Printed(text, largest, smallest, parts, short, long) in vectors().printed {
         let length = length_of(&text);
         let (first, last) = (unit(&largest), unit(&smallest));
-        let compact = short.replace(' ', "");
-        for (style, printed) in [
-            (Style::Short, &short),
-            (Style::Compact, &compact),
-            (Style::Long, &long),
-        ] {
+        for (style, printed) in in_styles(&short, &long) {
             let format = Format::whole()
                 .largest(first)
                 .smallest(last)
