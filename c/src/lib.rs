@@ -16,7 +16,10 @@ pub mod message;
 
 use crate::answer::Answer;
 use crate::message::refusal_of;
-use duration_str_core::{FORMAT_BUFFER_SIZE, Fault, Options, TimeUnit, UNITS, parse_nanos, write_human};
+use duration_str_core::{
+    FORMAT_BUFFER_SIZE, Fault, Options, TimeUnit, UNITS, parse_nanos, parse_nanos_inlined,
+    write_human,
+};
 use core::time::Duration;
 
 const NO_CALC: u32 = 1;
@@ -67,7 +70,7 @@ pub fn duration_str_parse(text: &[u8], nanos: &mut u64) -> bool {
     let Some(text) = text_of(text) else {
         return false;
     };
-    match parse_nanos(text, Options::off(), Some(TimeUnit::Second)) {
+    match parse_nanos_inlined(text, Options::off(), Some(TimeUnit::Second)) {
         Ok(value) => {
             *nanos = value;
             true
