@@ -119,10 +119,14 @@ function decode(bytes) {
     return decoder.decode(bytes);
 }
 
+/** Arrays for the codes of short texts, one for each length. They have all their places, since to
+ * assign to a place that an array lacks calls a setter that a page has given to all arrays. */
+const codesOf = { __proto__: null };
+
 /** The text of this length that a call has written. */
 function output(length) {
     if (length > SHORT_WRITTEN) return decode(written.subarray(0, length));
-    const codes = new Array(length);
+    const codes = codesOf[length] ??= " ".repeat(length).split("");
     for (let place = 0; place < length; place++) {
         codes[place] = written[place];
         if (codes[place] > 0x7f) return decode(written.subarray(0, length));
@@ -319,7 +323,9 @@ let lengths;
 
 /** Asks the library for the lengths. */
 function askLengths() {
-    const asked = { number: [], bigint: [] };
+    const asked = {
+        number: new Float64Array(UNITS.length), bigint: new BigUint64Array(UNITS.length),
+    };
     for (let unit = 0; unit < UNITS.length; unit++) {
         const length = parseNs(`1${UNITS[unit]}`);
         asked.number[unit] = Number(length);

@@ -28,6 +28,7 @@ const CHANGES = {
     "values of every object": `for (const name of names) Object.prototype[name] = "changed";`,
     "functions of every object": `for (const name of names) Object.prototype[name] = () => true;`,
     "setters of every object": setters("Object", "names"),
+    "setters of every array": setters("Array", "Array(100).keys()"),
 };
 const CALLS = [
     "format(5445001)",
