@@ -66,8 +66,8 @@ def main():
     same = [f"{1}h {30}m" for _ in range(FEW)]
 
     timed = [
-        ("`parse_ns`, called one by one", in_a_loop(duration_str.parse_ns), same),
-        ("`parse`, called one by one", in_a_loop(duration_str.parse), same),
+        ("`parse_ns` of `1h 30m`, called one by one", in_a_loop(duration_str.parse_ns), same),
+        ("`parse` of `1h 30m`, called one by one", in_a_loop(duration_str.parse), same),
         (
             "`parse_ns` refuses `1m 3-5`, and makes the `DurationError`",
             refuse_each,
@@ -75,18 +75,22 @@ def main():
         ),
         ("`format_many` of a Series of timedelta64", duration_str.format_many, lengths[:FEW]),
         (
-            "`parse_buffers` of texts as `3m 13s 29ms`",
+            "`parse_buffers` of texts such as `3m 13s 29ms`",
             lambda _: duration_str.parse_buffers(data, offsets),
             texts,
         ),
-        ("`to_timedelta` of a Series of these", duration_str.to_timedelta, series),
-        ("`pandas.to_timedelta` of the same", pandas.to_timedelta, series[:FEW]),
+        ("`to_timedelta` of a Series of such texts", duration_str.to_timedelta, series),
+        ("`pandas.to_timedelta` of such a Series", pandas.to_timedelta, series[:FEW]),
         (
-            "`to_timedelta` of it by Dask, four processes, in time of the clock",
+            "`to_timedelta` of such a Series by Dask, in four processes, elapsed time",
             in_processes,
             series,
         ),
-        ("pytimeparse of `3h 13m 29s`, called one by one", in_a_loop(pytimeparse.parse), whole),
+        (
+            "pytimeparse of texts such as `3h 13m 29s`, called one by one",
+            in_a_loop(pytimeparse.parse),
+            whole,
+        ),
     ]
     rounds = [[nanos_a_text(call, given) for _, call, given in timed] for _ in range(ROUNDS)]
     for (what, _, _), taken in zip(timed, zip(*rounds)):

@@ -13,8 +13,8 @@
 //!   `duration_str.h`.
 //! - `calls SIDE text BYTES COUNT`: reads a text of so many bytes.
 //! - `calls SIDE read-expressions COUNT`, `.. print-expressions ..`, `.. print-below-day ..`: reads
-//!   the 1,000 expressions of `texts.rs`, prints their values into a buffer, or what whole days
-//!   leave of them.
+//!   the 1,000 expressions of `texts.rs`, prints their values into a buffer, or the part of each
+//!   below a day.
 //! - `calls SIDE refuse NAME COUNT`: a refused text, and its line written into a buffer. `texts.rs`
 //!   has the names.
 //! - `calls SIDE error NAME COUNT`, `calls SIDE printed-error NAME COUNT`: a text refused by

@@ -53,7 +53,7 @@ pub fn expressions() -> Vec<String> {
     (0..1000).map(&mut expression).collect()
 }
 
-/// What whole days leave of a duration.
+/// The part of a duration below a day.
 pub fn below_day(length: Duration) -> Duration {
     Duration::new(length.as_secs() % 86_400, length.subsec_nanos())
 }
