@@ -1,4 +1,4 @@
--- What texts are read as with all options off, as signed durations and as configuration values.
+-- What the calls return that read signed durations and configuration values, with all options off.
 use Rattle.std.specs.Prelude.{◌≡◌, ℕ, ℤ, pos, [], ◌∷◌, Bool, true, false, Option, None, IsSomeAnd, Result, Ok, chars}
 use Rattle.serde_json.specs.Data.{Data, null, string}
 use Rattle.duration_str.specs.declared.cause.Cause.TheVariants.{NotText}
@@ -8,17 +8,18 @@ use Rattle.duration_str.specs.Options.{off}
 use Rattle.duration_str.specs.OtherResults.{IsValueOrFault}
 use Rattle.duration_str.specs.Reading.{IsRead, IsRefused}
 
--- With all options off, the bytes are read as a value that the result shows, or refused for its cause.
+-- With all options off, the bytes are read, and `shows` holds for the value in `Ok` and the nanoseconds. Or they are
+-- refused for the cause in `Err`.
 abbrev pub ParsesBy : {T : Type 0} → (T → ℕ → Type 0) → Bytes → Result T Fault → Type 0
 ParsesBy shows bytes result =
     IsValueOrFault (λ v. (nanos : ℕ) × IsRead off (chars bytes) nanos × shows v nanos)
     (IsRefused off (chars bytes)) bytes result
 
--- The bytes are read as the value in `Ok`, in nanoseconds, or refused.
+-- The bytes are read as the value in `Ok`, whose length is `nanos_of` it, or refused for the cause in `Err`.
 abbrev pub ParsesAs : {T : Type 0} → (T → ℤ) → Bytes → Result T Fault → Type 0
 ParsesAs nanos_of bytes result = ParsesBy (λ v nanos. nanos_of v ≡ pos nanos) bytes result
 
--- The bytes are read as the value in `Ok (Some ..)`, in nanoseconds, or refused.
+-- The bytes are read as the value in `Ok (Some ..)`, whose length is `nanos_of` it, or refused for the cause in `Err`.
 abbrev pub ParsesAsSome : {T : Type 0} → (T → ℤ) → Bytes → Result (Option T) Fault → Type 0
 ParsesAsSome nanos_of bytes result = ParsesBy (λ o nanos. IsSomeAnd o (λ v. nanos_of v ≡ pos nanos)) bytes result
 
@@ -26,12 +27,13 @@ ParsesAsSome nanos_of bytes result = ParsesBy (λ o nanos. IsSomeAnd o (λ v. na
 abbrev pub IsNotText : {T : Type 0} → Bool → Result T Fault → Type 0
 IsNotText optional result = IsValueOrFault (λ v. ⊥) (λ cause. cause ≡ NotText optional) [] result
 
--- A required value: a text is read, and anything else is refused.
+-- A required value: if it is a text, it is read, and otherwise it is refused.
 abbrev pub IsRequired : {T : Type 0} → (T → ℤ) → Data → Result T Fault → Type 0
 IsRequired nanos_of (string text) result = ParsesAs nanos_of text result
 IsRequired nanos_of _ result = IsNotText false result
 
--- An optional value: null and the empty text are `None`, any other text is read, and anything else is refused.
+-- An optional value: if it is null or the empty text, the result is `None`. Any other text is read, and any other value
+-- is refused.
 abbrev pub IsOptional : {T : Type 0} → (T → ℤ) → Data → Result (Option T) Fault → Type 0
 IsOptional nanos_of null result = result ≡ Ok None
 IsOptional nanos_of (string []) result = result ≡ Ok None

@@ -1,4 +1,4 @@
--- A moment moved by the value of a text, as a civil date in UTC.
+-- The date in UTC to which the value of a text moves a moment.
 use Rattle.std.specs.Prelude.{◌≡◌, ℕ, ◌<◌, ℤ, pos, ◌+ℤ◌, ◌*ℤ◌, ◌<ℤ◌, ◌≤ℤ◌, neg_ℤ, ◌⊎◌, Result, chars}
 use Rattle.jiff.specs.Types.{Date, DateTime}
 use Rattle.jiff.specs.Words.{epoch_day, time_nanos}
@@ -14,15 +14,15 @@ use Rattle.duration_str.specs.Reading.{IsRead, IsRefused}
 abbrev pub day_nanos : ℕ
 day_nanos = 86_400_000_000_000
 
--- The instant, in nanoseconds since 1970-01-01T00:00:00Z, is nanosecond `k` of day `day`; day 0 is 1970-01-01.
+-- The instant, in nanoseconds since 1970-01-01T00:00:00Z, is nanosecond `k` of day `day`. Day 0 is 1970-01-01.
 abbrev pub IsInDay : ℤ → ℤ → ℕ → Type 0
 IsInDay instant day k = (k < day_nanos) × (instant ≡ day *ℤ pos day_nanos +ℤ pos k)
 
--- The date and time are the instant's.
+-- This is the date and time of the instant.
 abbrev pub IsCivil : ℤ → DateTime → Type 0
 IsCivil instant at = IsInDay instant (epoch_day at.date) (time_nanos at.time)
 
--- The date is the instant's.
+-- This is the date of the instant.
 abbrev pub IsCivilDay : ℤ → Date → Type 0
 IsCivilDay instant date = (k : ℕ) × IsInDay instant (epoch_day date) k
 
@@ -38,17 +38,19 @@ last_instant = pos 253_402_207_200_999_999_999
 abbrev pub IsInRange : ℤ → Type 0
 IsInRange instant = (first_instant ≤ℤ instant) × (instant ≤ℤ last_instant)
 
--- The instant is before the first or after the last.
+-- The instant is before the first or after the last that a `Timestamp` can hold.
 abbrev pub IsOutOfRange : ℤ → Type 0
 IsOutOfRange instant = (instant <ℤ first_instant) ⊎ (last_instant <ℤ instant)
 
--- The cause is that of the text's refusal; or `OutOfRange`, if the text is read and reaches an instant out of range.
+-- The text is refused for this cause. Or it is read, the instant that its value reaches is out of range, and the cause
+-- is `OutOfRange`.
 abbrev pub IsDateFault : (ℕ → ℤ) → Bytes → Cause → Type 0
 IsDateFault reached bytes cause =
     IsRefused off (chars bytes) cause
     ⊎ ((nanos : ℕ) × IsRead off (chars bytes) nanos × IsOutOfRange (reached nanos) × (cause ≡ OutOfRange))
 
--- The text is read, and the result shows the instant in range that its value reaches; or it is a fault of this text.
+-- The text is read, the instant that its value reaches is in range, and `shows` holds for it and the value in `Ok`. Or
+-- the result is a fault with this text, for a cause as `IsDateFault` says.
 abbrev pub IsDated : {T : Type 0} → (ℤ → T → Type 0) → (ℕ → ℤ) → Bytes → Result T Fault → Type 0
 IsDated shows reached bytes result =
     IsValueOrFault (λ v. (nanos : ℕ)

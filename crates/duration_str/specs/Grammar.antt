@@ -15,7 +15,7 @@ pub data Terminal : Type 0 where
   operator : CondUnit → Terminal
   other : Terminal
 
--- the terminal of an operator, or `other` without one
+-- the terminal of an operator, or `other` if there is none
 abbrev pub operator_or_other : Option CondUnit → Terminal
 operator_or_other None = other
 operator_or_other (Some op) = operator op
@@ -25,7 +25,8 @@ abbrev pub sign_terminal : Characters → Terminal
 sign_terminal (c ∷ []) = operator_or_other (operator_of c)
 sign_terminal _ = other
 
--- Digits are a number, unit letters are a word with the unit that it names, and `+` and `*` are operators.
+-- the terminal that these characters stand for, given which units words name. Digits are a number, unit letters are a
+-- word with the unit that it names, `+` and `*` are operators, and anything else is `other`
 abbrev pub terminal_by : (Options → Characters → Option TimeUnit) → Options → Characters → Terminal
 terminal_by unit_of o [] = other
 terminal_by unit_of o (c ∷ cs) =
@@ -33,14 +34,16 @@ terminal_by unit_of o (c ∷ cs) =
     else if list_all (is_unit_letter o) (c ∷ cs) then word (unit_of o (c ∷ cs))
     else sign_terminal (c ∷ cs)
 
--- the terminal that these characters stand for
+-- the terminal that these characters stand for, by the table of units
 abbrev pub terminal_of : Options → Characters → Terminal
 terminal_of o w = terminal_by unit_of_word o w
 
--- S = Number | Number Unit | Number Op S | Number Unit Op S | Number Unit S;
--- under `no_calc` S = Number | Number Unit | Number Unit S.
--- A number without a unit has the default unit. Without a default unit each number has its unit:
--- S = Number Unit | Number Unit Op S | Number Unit S
+-- The terminals are a sentence S of this grammar:
+-- S = Number | Number Unit | Number Op S | Number Unit Op S | Number Unit S
+-- Under `no_calc` it is:
+-- S = Number | Number Unit | Number Unit S
+-- A number without a unit has the default unit. If there is no default unit, the alternatives in which a number has no
+-- unit are left out.
 abbrev pub IsSentence : Option TimeUnit → Bool → List Terminal → Type 0
 IsSentence default_unit no_calc (number n ∷ []) = IsSome default_unit
 IsSentence default_unit no_calc (number n ∷ operator op ∷ more) =
@@ -60,7 +63,7 @@ pub record BeginsWith (lexeme : Characters) (IsRest : Characters → Type 0) (te
   pub parts : text ≡ blanks ++ (lexeme ++ rest)
   pub is_rest : IsRest rest
 
--- The text is blanks, then each lexeme followed by blanks. Nothing is said about the length of a lexeme.
+-- The text is blanks, then each lexeme followed by blanks. Here a lexeme need not be as long as possible.
 abbrev pub Spells : List Characters → Characters → Type 0
 Spells [] text = IsBlank text
 Spells (w ∷ lexemes) text = BeginsWith w (Spells lexemes) text
@@ -70,6 +73,6 @@ abbrev pub IsSentenceWith : Option TimeUnit → Options → List Characters → 
 IsSentenceWith default_unit o lexemes text =
     IsSentence default_unit o.no_calc (map (terminal_of o) lexemes) × Spells lexemes text
 
--- The same with the second.
+-- The same with the second as the default unit.
 abbrev pub IsSentenceOf : Options → List Characters → Characters → Type 0
 IsSentenceOf o lexemes text = IsSentenceWith (Some Second) o lexemes text

@@ -1,4 +1,4 @@
--- The private contracts of the code: what each step of cutting, reading or printing does.
+-- The words of the private contracts: what each step of cutting, reading or printing does.
 pub mod Numbers
 pub mod UnitTable
 pub mod Positions

@@ -10,7 +10,7 @@ use Rattle.duration_str.specs.Text.{Bytes}
 use Rattle.duration_str.specs.Grammar.{Terminal, number, word, operator, other, terminal_of}
 use Rattle.duration_str.specs.Tokens.{Token, tokens_from}
 
--- what the token of a terminal is
+-- what a token is, given its terminal
 abbrev pub what_of : Terminal → What
 what_of (number n) = whats.Number
 what_of (word u) = whats.Word u
@@ -21,15 +21,15 @@ what_of other = whats.Other
 abbrev pub source : Tokens → Bytes
 source s = s.eye.text.now
 
--- the options under which it is cut
+-- the options under which the text is cut
 abbrev pub options_of : Tokens → Options
 options_of s = s.options
 
--- the byte up to which it is cut
+-- the byte up to which the text is cut
 abbrev pub cut_place : Tokens → ℕ
 cut_place s = s.eye.place
 
--- how many times a character was looked at
+-- how many times a character of the text was looked at
 abbrev pub looks_of : Tokens → ℕ
 looks_of s = s.eye.looks
 
@@ -37,22 +37,22 @@ looks_of s = s.eye.looks
 abbrev pub tokens_left : Tokens → List Token
 tokens_left s = tokens_from s.options s.eye.place (chars (drop s.eye.place s.eye.text.now))
 
--- a Rust token as its start and its characters
+-- the code's token as its start and its characters
 abbrev pub token_of : RustToken → Token
 token_of t = record { start = t.start; characters = chars t.text.now }
 
--- The text that is cut and the options stay the same.
+-- A call keeps the text that is cut, and the options.
 pub record KeepsInput (old new : Tokens) : Type 0 where
   pub text : source new ≡ source old
   pub options : options_of new ≡ options_of old
 
--- The token is the text from its start to the place, and says what it is.
+-- The token is the text from the token's start to `place`, and its `what` fits its characters.
 pub record IsCutAt (o : Options) (text : Bytes) (place : ℕ) (token : RustToken) : Type 0 where
   pub end : place ≡ token.start + length token.text.now
   pub slice : token.text.now ≡ slice_range text token.start place
   pub sort : token.what ≡ what_of (terminal_of o (chars token.text.now))
 
--- The first token that is left is returned; if none is left, the whole text is cut.
+-- The call returns the first token that is left. If none is left, the whole text is cut.
 pub record YieldsNextToken (old : Tokens) (result : Option RustToken) (new : Tokens) : Type 0 where
   pub first : YieldsFirstBy token_of tokens_left old result new
   pub kept : KeepsInput old new

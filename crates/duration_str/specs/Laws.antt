@@ -55,17 +55,17 @@ pub record OneSentence : Type 0 where
       → IsSentence default_unit o.no_calc (map (terminal_of o) lexemes)
       → (Spells lexemes text ↔ (lexemes ≡ lexemes_of (tokens_of o text)))
 
--- One character that is not a blank, or a run of digits or of unit letters.
+-- These characters are a run of digits or of unit letters, or a single character that is not a blank.
 abbrev pub IsLexeme : Options → Characters → Type 0
 IsLexeme o [] = ⊥
 IsLexeme o (c ∷ cs) = (is_blank c ≡ false) × IsTrue (list_all (are_of_one_run o c) cs)
 
--- The run of these characters ends before the rest.
+-- The rest does not continue the run of these characters.
 abbrev pub EndsRun : Options → Characters → Characters → Type 0
 EndsRun o [] rest = ⊤
 EndsRun o (c ∷ cs) rest = goes_on o c rest ≡ false
 
--- The text, which starts at byte `at`, is blanks, the token, as long as possible, and the rest.
+-- The text, which starts at byte `at`, is blanks, then the token, which is as long as possible, and then the rest.
 pub record IsNextToken (o : Options) (at : ℕ) (text : Characters) (token : Token) (rest : Characters) : Type 0 where
   pub blanks : Characters
   pub blank : IsBlank blanks
@@ -87,7 +87,7 @@ pub record OneCut : Type 0 where
   pub only : (o : Options) (text : Characters) (tokens : List Token) → AreTokens o 0 text tokens
       → tokens ≡ tokens_of o text
 
--- A text is read as one value or refused for one cause, not both.
+-- A text is either read as one value or refused for one cause.
 pub record OneReading : Type 0 where
   pub some : (default_unit : Option TimeUnit) (o : Options) (text : Characters)
       → ((nanos : ℕ) × IsReadWith default_unit o text nanos)
@@ -106,7 +106,8 @@ pub record AnswerIsReading : Type 0 where
   pub refused : (default_unit : Option TimeUnit) (o : Options) (text : Characters) (cause : Cause)
       → (answer_with default_unit o text ≡ Err cause ↔ IsRefusedWith default_unit o text cause)
 
--- The table says by the last terminal what can follow the beginning of a sentence, and leads to the longest beginning.
+-- What can follow the beginning of a sentence is what the table (`expected_after`) has for its last terminal. The
+-- longest beginning of a sentence is the one that the table allows (`front_of`).
 pub record PlaceAndKinds : Type 0 where
   pub kinds : (default_unit : Option TimeUnit) (no_calc : Bool) (front : List Terminal) (expected : Expected)
       → BeginsSentence default_unit no_calc front
@@ -122,27 +123,28 @@ pub record PlaceAndKinds : Type 0 where
       → (front ≡ take (front_of default_unit no_calc terminals) terminals)
       × (rest ≡ drop (front_of default_unit no_calc terminals) terminals)
 
--- Without operators `no_calc` changes neither what is accepted nor its value.
+-- For a text without operators, `no_calc` changes neither whether it is accepted nor its value.
 abbrev pub NoCalcAgrees : Type 0
 NoCalcAgrees = (default_unit : Option TimeUnit) (o : Options) (text : Characters) (nanos : ℕ) → HasNoOperator text
     → (IsReadWith default_unit (record o { no_calc = true }) text nanos
     ↔ IsReadWith default_unit (record o { no_calc = false }) text nanos)
 
--- With the option on and with it off, the text has the same values and is refused for the same causes.
+-- With the option on and with the option off, the text is read as the same value or refused for the same cause.
 pub record IsIdle (default_unit : Option TimeUnit) (choice : Bool → Options) (text : Characters) : Type 0 where
   pub value : (nanos : ℕ)
       → (IsReadWith default_unit (choice true) text nanos ↔ IsReadWith default_unit (choice false) text nanos)
   pub cause : (cause : Cause)
       → (IsRefusedWith default_unit (choice true) text cause ↔ IsRefusedWith default_unit (choice false) text cause)
 
--- `lowercase` changes nothing without ASCII capitals, and `cn_unit` nothing without Chinese characters.
+-- `lowercase` changes nothing for a text without ASCII capitals, and `cn_unit` changes nothing for a text without the
+-- Chinese characters of the units.
 pub record OptionsIdle : Type 0 where
   pub lowercase : (default_unit : Option TimeUnit) (o : Options) (text : Characters) → HasNoCapital text
       → IsIdle default_unit (λ on. record o { lowercase = on }) text
   pub cn_unit : (default_unit : Option TimeUnit) (o : Options) (text : Characters) → HasNoChinese text
       → IsIdle default_unit (λ on. record o { cn_unit = on }) text
 
--- Texts that one sentence spells have the same value, or are refused for the same cause.
+-- Two texts that one sentence spells have the same value, or are refused for the same cause.
 pub record BlanksFree : Type 0 where
   pub value : (default_unit : Option TimeUnit) (o : Options) (a b : Characters) (lexemes : List Characters) (nanos : ℕ)
       → IsSentenceWith default_unit o lexemes a → Spells lexemes b → IsReadWith default_unit o a nanos
@@ -152,7 +154,8 @@ pub record BlanksFree : Type 0 where
       → IsSentenceWith default_unit o lexemes a → Spells lexemes b → IsRefusedWith default_unit o a cause
       → IsRefusedWith default_unit o b cause
 
--- With `no_calc` off, two accepted texts without `*`, joined by a plus, have the sum of their values, or overflow.
+-- If `no_calc` is off, two accepted texts without `*`, joined by a plus, have the sum of their values, or are refused
+-- as an overflow if that sum is 2^64 or more.
 pub record SumOfTexts : Type 0 where
   pub below : (default_unit : Option TimeUnit) (o : Options) (a b : Characters) (m n : ℕ) → o.no_calc ≡ false
       → HasNoStar a → HasNoStar b
@@ -174,7 +177,8 @@ AllPlus [] = ⊤
 AllPlus (operator op ∷ terminals) = (op ≡ Plus) × AllPlus terminals
 AllPlus (terminal ∷ terminals) = AllPlus terminals
 
--- Two sums with the same values of terms, each equally often, are accepted alike and have the same value.
+-- If two sums have the same values of terms, each equally often, and one is accepted, so is the other, with the same
+-- value.
 abbrev pub Reorder : Type 0
 Reorder =
     (default_unit : Option TimeUnit) (o : Options) (a b : Characters) (lexemes others : List Characters) (nanos : ℕ)
@@ -184,9 +188,9 @@ Reorder =
     ≡ times_in n (map value_of_term (terms_with default_unit o others)))
     → IsReadWith default_unit o a nanos → IsReadWith default_unit o b nanos
 
--- A text of two terms joined by `*` is read exactly if both numbers, both terms and the product of the terms in
--- seconds, rounded down to nanoseconds, are below 2^64, and then as that product. With the terms exchanged it is read
--- as the same value.
+-- A text of two terms joined by `*` is read exactly if both numbers, both terms and their product are below 2^64, and
+-- it is read as that product. The product is that of the terms in seconds, rounded down to nanoseconds. If the terms
+-- are exchanged, the text is read as the same value.
 pub record TwoFactors : Type 0 where
   pub product : (default_unit : Option TimeUnit) (o : Options) (text : Characters) (lexemes : List Characters)
       (t u : Term) (nanos : ℕ)
@@ -202,12 +206,12 @@ pub record TwoFactors : Type 0 where
       → v.number ≡ u.number → v.length ≡ u.length → w.number ≡ t.number → w.length ≡ t.length
       → IsReadWith default_unit o a nanos → IsReadWith default_unit o b nanos
 
--- how often each length goes into what the longer lengths leave
+-- the count of each length: the quotient by it of what the longer lengths leave
 abbrev pub counts_of : List ℕ → ℕ → List ℕ
 counts_of [] nanos = []
 counts_of (l ∷ lengths) nanos = nanos / l ∷ counts_of lengths (nanos % l)
 
--- The counts by quotients and remainders are the greatest breakdown.
+-- The counts by quotients and remainders (`counts_of`) are the greatest breakdown.
 abbrev pub GreatestBreakdown : Type 0
 GreatestBreakdown = (nanos : ℕ) → IsGreatestBreakdown unit_lengths nanos (counts_of unit_lengths nanos)
 
@@ -216,7 +220,8 @@ abbrev pub EqualTexts : Type 0
 EqualTexts = (style : Style) (m n : ℕ) (a b : Characters) → FitsDuration m → FitsDuration n
     → IsPrintedIn style m a → IsPrintedIn style n b → (a ≡ b ↔ m ≡ n)
 
--- A text printed in any style is read as its duration below 2^64 ns, or overflows: from 585 years in the first term.
+-- A duration below 2^64 ns, printed in any style, is read back as itself. The text of any other duration is refused as
+-- an overflow, from 585 years on in its first term.
 pub record ReadsBack : Type 0 where
   pub below : (default_unit : Option TimeUnit) (o : Options) (style : Style) (nanos : ℕ) (text : Characters)
       → nanos < 2 ^ 64
@@ -233,15 +238,16 @@ pub record LastLine : Type 0 where
   pub line : (cause : Cause) → EndsInsideLine (encode_utf8_all (line_of cause))
   pub text : (text : Bytes) (cause : Cause) → EndsInsideLine (message_of text cause)
 
--- Of two rows of a unit the length and the printed names are the same.
+-- Two rows of a unit have the same length and the same printed names.
 pub record IsSameUnit (older row : UnitRow) : Type 0 where
   pub length : row.nanos ≡ older.nanos
   pub printed : row.printed ≡ older.printed
   pub long : long_name row ≡ long_name older
 
--- Each name in the table before the quarter still names its unit, which has the same length and printed names. A sentence
--- over those units is a sentence over all units, with the same terminals. So a text that was read is read as the same
--- value, and one whose evaluation was refused is refused for the same cause.
+-- Each name in the table from before the quarter still names its unit, and that unit has the same length and the same
+-- printed names. A sentence with that table is a sentence with today's table, and has the same terminals. So a text
+-- that was read then is read as the same value, and a text whose evaluation was refused then is refused for the same
+-- cause.
 pub record OlderTexts : Type 0 where
   pub names : (o : Options) (name : Characters) (u : TimeUnit) → older_unit_of_word o name ≡ Some u
       → unit_of_word o name ≡ Some u
@@ -253,20 +259,20 @@ pub record OlderTexts : Type 0 where
   pub value : (o : Options) (text : Characters) (nanos : ℕ) → WasRead o text nanos → IsRead o text nanos
   pub cause : (o : Options) (text : Characters) (cause : Cause) → WasRefused o text cause → IsRefused o text cause
 
--- With all units and at least as many parts as there are units, a duration prints as without limits.
+-- If a format has all units and at least as many parts as there are units, a duration prints as it does without limits.
 abbrev pub AllParts : Type 0
 AllParts = (style : Style) (parts nanos : ℕ) (text : Characters) → length units ≤ parts
     → (IsPrintedWithin (record whole_format { parts = parts; style = style }) nanos text ↔ IsPrintedIn style nanos text)
 
--- The duration's breakdown into the format's units and all shorter ones has no more parts than the format allows, and
--- each part is in one of the format's units.
+-- The duration fits into the format: its greatest breakdown into the format's units and all shorter ones has no more
+-- parts than the format allows, and each part is in one of the format's units.
 pub record KeepsWithin (format : Format) (nanos : ℕ) (counts : List ℕ) : Type 0 where
   pub breakdown : IsGreatestBreakdown (map nanos_of (units_within format ++ shorter_units (units_within format))) nanos counts
   pub few : part_count counts ≤ format.parts
   pub whole : weighted_sum (lengths_within format) counts ≡ nanos
 
--- The text is also that of this duration, and is read as it if it is below 2^64 nanoseconds. It is the greatest one, up
--- to the one printed, whose own breakdown keeps within the limits.
+-- The duration `most` prints as this text too, and the text is read as `most` if that is below 2^64 nanoseconds. And
+-- `most` is the greatest duration, up to `nanos`, that fits into the format.
 pub record IsMostWithin (format : Format) (nanos : ℕ) (text : Characters) (most : ℕ) : Type 0 where
   pub again : IsPrintedWithin format most text
   pub read : (default_unit : Option TimeUnit) (o : Options) → most < 2 ^ 64 → IsReadWith default_unit o text most
@@ -275,19 +281,20 @@ pub record IsMostWithin (format : Format) (nanos : ℕ) (text : Characters) (mos
   pub greatest : (between : ℕ) (counts : List ℕ) → most < between → between ≤ nanos
       → KeepsWithin format between counts → ⊥
 
--- What is printed within limits is such a duration.
+-- For each text that a duration prints as within limits, there is such a duration `most`.
 abbrev pub NeverMore : Type 0
 NeverMore = (format : Format) (nanos : ℕ) (text : Characters) → IsPrintedWithin format nanos text
     → (most : ℕ) × IsMostWithin format nanos text most
 
--- The word is near the unit's names and is none of them, and the advised name is one, under these options.
+-- Under these options the word is near the unit's names but names no unit, and the advised name names the unit.
 pub record IsAdvised (o : Options) (word name : Characters) : Type 0 where
   pub unit : TimeUnit
   pub near : is_among (near_words unit) (map to_ascii_lowercase (encode_utf8_all word)) ≡ true
   pub unread : unit_of_word o word ≡ None
   pub read : unit_of_word o name ≡ Some unit
 
--- What is advised for a word is a name of the unit that people mean by it, and the word names no unit, under any options.
+-- Under all options, the name that is advised for a word names the unit that people mean by the word, and the word
+-- itself names no unit.
 abbrev pub NearWords : Type 0
 NearWords = (o : Options) (word name : Characters) → near_name (encode_utf8_all word) ≡ Some name
     → IsAdvised o word name

@@ -1,4 +1,4 @@
--- A duration printed within limits, in the units of a set, in so many parts at most, and in a style.
+-- A duration printed in a format: in the units of a set, in at most a number of parts, and in a style.
 use Rattle.std.specs.Prelude.{◌≡◌, ℕ, ◌+◌, ◌-◌, ◌/◌, ◌%◌, ◌≤◌, ◌*◌, ◌^◌, Bool, List, [], ◌∷◌, if◌then◌else◌, length, ◌⊎◌, ◌==◌, nat_lt, map, filter, bit_and, bit_or}
 use Rattle.std.specs.Int.{bit_at, bit_not, w16}
 use Rattle.std.specs.List.{list_any}
@@ -14,15 +14,15 @@ use Rattle.duration_str.specs.declared.format.Style.TheVariants.{Long, Short}
 use Rattle.duration_str.specs.declared.printing.TheConstants.{MAX_LONG_LEN, MAX_PRINTED_LEN}
 use Rattle.duration_str.specs.Printing.{weighted_sum, IsBefore, printed_parts, joined_parts}
 
--- whether the unit is in the set: the bit 2^n is that of the unit than which n are longer
+-- whether the unit is in the set. The bit 2^n stands for the unit at index n of `units`
 unfoldable pub is_in : Units → TimeUnit → Bool
 is_in set u = bit_at set.bits (rank_of u) == 1
 
--- those of these units that are in the set
+-- the units among these that are in the set
 unfoldable pub chosen : Units → List TimeUnit → List TimeUnit
 chosen set us = filter (is_in set) us
 
--- the set with this unit too
+-- the set with this unit added
 abbrev pub with_unit : TimeUnit → Units → Units
 with_unit u set = record { bits = bit_or set.bits (2 ^ rank_of u) }
 
@@ -30,7 +30,7 @@ with_unit u set = record { bits = bit_or set.bits (2 ^ rank_of u) }
 abbrev pub without_unit : TimeUnit → Units → Units
 without_unit u set = record { bits = bit_and set.bits (bit_not w16 (2 ^ rank_of u)) }
 
--- the set with these units too
+-- the set with these units added
 abbrev pub with_each : List TimeUnit → Units → Units
 with_each [] set = set
 with_each (u ∷ us) set = with_each us (with_unit u set)
@@ -39,7 +39,7 @@ with_each (u ∷ us) set = with_each us (with_unit u set)
 abbrev pub set_of : List TimeUnit → Units
 set_of us = with_each us (record { bits = 0 })
 
--- whether the unit is one of these
+-- whether the unit is in this list
 abbrev pub is_one_of : List TimeUnit → TimeUnit → Bool
 is_one_of us u = list_any (λ v. nanos_of u == nanos_of v) us
 
@@ -63,7 +63,7 @@ whole_format = record { units = ALL; parts = length units; style = Short }
 abbrev pub units_within : Format → List TimeUnit
 units_within format = chosen format.units units
 
--- their lengths
+-- the lengths of these units
 abbrev pub lengths_within : Format → List ℕ
 lengths_within format = map nanos_of (units_within format)
 
@@ -72,27 +72,29 @@ abbrev pub part_count : List ℕ → ℕ
 part_count [] = 0
 part_count (n ∷ counts) = if n == 0 then part_count counts else 1 + part_count counts
 
--- There is one count for each length, at most `parts` of them are not 0, and together they are at most the duration.
+-- There is one count for each length, at most `parts` counts are not 0, and the counts times their lengths add up to at
+-- most the duration.
 pub record IsWithin (lengths : List ℕ) (parts nanos : ℕ) (counts : List ℕ) : Type 0 where
   pub one_each : length counts ≡ length lengths
   pub few : part_count counts ≤ parts
   pub no_more : weighted_sum lengths counts ≤ nanos
 
--- The counts are such, and all others are before them.
+-- The counts are within these limits, and all other counts within them come before.
 pub record IsGreatestWithin (lengths : List ℕ) (parts nanos : ℕ) (counts : List ℕ) : Type 0 where
   pub within : IsWithin lengths parts nanos counts
   pub greatest : (others : List ℕ) → IsWithin lengths parts nanos others → (others ≡ counts) ⊎ IsBefore others counts
 
--- the last of these units, or this one if there are none
+-- the last of these units, or `u` if there are none
 abbrev pub last_unit : TimeUnit → List TimeUnit → TimeUnit
 last_unit u [] = u
 last_unit u (v ∷ us) = last_unit v us
 
--- the units that are shorter than all of these; than the second if there are none
+-- the units that are shorter than the last of these, or shorter than the second if there are none
 abbrev pub shorter_units : List TimeUnit → List TimeUnit
 shorter_units us = filter (λ u. nat_lt (nanos_of u) (nanos_of (last_unit Second us))) units
 
--- the unit of a zero: the smallest of these, or the second if that is shorter or there are none
+-- the unit with which a zero is printed: the smallest of these units, but the second if that one is shorter or there
+-- are none
 abbrev pub zero_unit : List TimeUnit → TimeUnit
 zero_unit us = if nat_lt (nanos_of (last_unit Second us)) (nanos_of Second) then Second else last_unit Second us
 
@@ -108,12 +110,12 @@ IsPrintedWithin format nanos text =
     (counts : List ℕ)
     × IsGreatestWithin (lengths_within format) format.parts nanos counts × (text ≡ text_within format counts)
 
--- the most bytes of a printed text
+-- the most bytes of a printed text in this style
 abbrev pub most_len : Style → ℕ
 most_len Long = MAX_LONG_LEN
 most_len style = MAX_PRINTED_LEN
 
--- the counts by quotient and remainder, of which the first `parts` that are not 0 are kept
+-- the counts by quotients and remainders. The first `parts` counts that are not 0 are kept, and the others are 0
 abbrev pub counts_within : List ℕ → ℕ → ℕ → List ℕ
 counts_within [] parts nanos = []
 counts_within (l ∷ lengths) parts nanos =

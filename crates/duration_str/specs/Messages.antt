@@ -17,7 +17,8 @@ abbrev pub sign_of : CondUnit → Characters
 sign_of Plus = codes "+"
 sign_of Star = codes "*"
 
--- the line that says what is wrong; for a syntax fault it names the units if one could stand there, or else operators
+-- the line that says what is wrong. For a syntax fault it names the units if a unit could stand at the place; or the
+-- operators if an operator could; or otherwise a number
 abbrev pub line_of : Cause → Characters
 line_of Empty = codes "Empty input"
 line_of (Syntax place expected) =
@@ -34,7 +35,7 @@ line_of (NotText optional) =
     if optional then codes "expect duration string, null, or missing field"
     else codes "expect duration string, e.g: '1min+30'"
 
--- The text, below it a caret after so many spaces, and below that the line.
+-- the text, below it a caret after this many spaces, and below that the line
 abbrev pub caret_text : Bytes → ℕ → Bytes → Bytes
 caret_text text spaces line = text ++ (codes "\n" ++ (replicate spaces 32 ++ (codes "^\n" ++ line)))
 
@@ -50,14 +51,14 @@ has_line_feed text = list_any (λ b. b == 10) text
 abbrev pub chars_before : Bytes → ℕ → ℕ
 chars_before text place = length (chars (take place text))
 
--- without a place, the line alone; with one, `byte N: ` and the line if the text has a line feed, otherwise the text, a
--- caret after one space for each character before the place, and the line
+-- the message, given the place. Without a place it is the line alone. If the text has a line feed, it is `byte N: ` and
+-- the line. Otherwise it is the text, a caret after one space for each character before the place, and the line
 abbrev pub placed_text : Bytes → Option ℕ → Bytes → Bytes
 placed_text text None line = line
 placed_text text (Some place) line =
     if has_line_feed text then byte_text place line else caret_text text (chars_before text place) line
 
--- The last byte, if there is one, is no line feed.
+-- The bytes don't end with a line feed.
 abbrev pub EndsInsideLine : Bytes → Type 0
 EndsInsideLine bytes = last_or None bytes ≢ Some 10
 
@@ -67,7 +68,7 @@ message_of text cause = placed_text text (place_of cause) (encode_utf8_all (line
 
 -- ---- Layouts
 
--- the bytes of a message, given those of the text and of the line
+-- the bytes of a message, given the bytes of the text and of the line
 abbrev pub laid_out : Layout → Bytes → Bytes → Bytes
 laid_out Line text line = line
 laid_out (Byte place) text line = byte_text place line
@@ -83,7 +84,7 @@ abbrev pub IsParseError : {A : Type 0} → Characters → DError A → Type 0
 IsParseError line (ParseError text) = string_bytes text ≡ encode_utf8_all line
 IsParseError line OverflowError = ⊥
 
--- The error is `OverflowError` for an overflow, otherwise `ParseError` with the line of the cause.
+-- The error is `OverflowError` if the cause is an overflow, and otherwise `ParseError` with the line of the cause.
 abbrev pub IsErrorOf : {A : Type 0} → Cause → DError A → Type 0
 IsErrorOf (Overflow place) error = error ≡ OverflowError
 IsErrorOf cause error = IsParseError (line_of cause) error

@@ -1,4 +1,4 @@
--- The table of units before the quarter was added, and what texts were read as with it.
+-- The table of units from before the quarter was added, and what a text was read as with that table.
 use Rattle.std.specs.Prelude.{◌≡◌, ℕ, Bool, false, List, [], ◌∷◌, Option, Some, None, if◌then◌else◌, map, find, codes}
 use Rattle.std.specs.Option.{option_map_or}
 use Rattle.duration_str.specs.declared.options.Options.{Options}
@@ -12,7 +12,7 @@ use Rattle.duration_str.specs.Grammar.{Terminal, terminal_by, IsSentence, Spells
 use Rattle.duration_str.specs.Value.{Term, Evaluates, terms_by, value_of, or_else, evaluation_fault}
 use Rattle.duration_str.specs.Reading.{first_fault, running_fault}
 
--- The table of units before the quarter was added. It does not change with today's table.
+-- The table of units from before the quarter was added. It does not change if today's table does.
 abbrev pub older_row_of : TimeUnit → Option UnitRow
 older_row_of Year = Some (record { nanos = 31_536_000_000_000_000; printed = codes "y"; names = codes "y" ∷ codes "year" ∷ codes "years" ∷ []; chinese = codes "年" ∷ [] })
 older_row_of Quarter = None
@@ -26,7 +26,7 @@ older_row_of MilliSecond = Some (record { nanos = 1_000_000; printed = codes "ms
 older_row_of MicroSecond = Some (record { nanos = 1_000; printed = codes "µs"; names = codes "µs" ∷ codes "µsec" ∷ codes "µsecond" ∷ codes "us" ∷ codes "usec" ∷ codes "usecond" ∷ codes "microsecond" ∷ codes "microseconds" ∷ []; chinese = codes "微秒" ∷ [] })
 older_row_of NanoSecond = Some (record { nanos = 1; printed = codes "ns"; names = codes "ns" ∷ codes "nsec" ∷ codes "nanosecond" ∷ codes "nanoseconds" ∷ []; chinese = codes "纳秒" ∷ [] })
 
--- a unit's length in nanoseconds
+-- a unit's length in nanoseconds by that table, or 0 for the quarter
 abbrev pub older_nanos_of : TimeUnit → ℕ
 older_nanos_of u = option_map_or (λ row. row.nanos) (older_row_of u) 0
 
@@ -46,7 +46,7 @@ older_terminals o lexemes = map (terminal_by older_unit_of_word o) lexemes
 abbrev pub older_terms : Options → List Characters → List Term
 older_terms o lexemes = terms_by older_nanos_of (Some Second) Plus (older_terminals o lexemes)
 
--- The lexemes were a sentence of the options' grammar, and spell the text.
+-- The lexemes were a sentence of the grammar under these options, and they spell the text.
 pub record WasSentenceOf (o : Options) (lexemes : List Characters) (text : Characters) : Type 0 where
   pub sentence : IsSentence (Some Second) o.no_calc (older_terminals o lexemes)
   pub spells : Spells lexemes text
@@ -58,8 +58,8 @@ pub record WasRead (o : Options) (text : Characters) (nanos : ℕ) : Type 0 wher
   pub evaluates : Evaluates (older_terms o lexemes)
   pub value : value_of (older_terms o lexemes) ≡ Some nanos
 
--- the fault of these terms: under `no_calc` the first fault in adding them; otherwise the first term's, or else the
--- evaluation's
+-- the fault of these terms. Under `no_calc` it is the first fault in adding them one by one. Otherwise it is the fault
+-- of the first term, or, if there is none, that of the evaluation
 abbrev pub sentence_fault : Bool → List Term → Option Cause
 sentence_fault no_calc terms =
     if no_calc then running_fault [] terms else or_else (first_fault terms) (evaluation_fault terms)

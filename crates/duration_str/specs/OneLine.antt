@@ -15,8 +15,8 @@ use Rattle.duration_str.specs.Messages.{line_of, chars_before}
 
 -- ---- What is quoted
 
--- whether a character is safe and seen within a line: no control character, no blank but the space, and none that
--- Unicode lets a reader ignore, such as marks of direction, tags and the soft hyphen
+-- whether a character is safe in a line, and seen. It is not a control character, not a blank other than the space, and
+-- not one that Unicode allows programs to ignore, such as marks of direction, tags and the soft hyphen
 abbrev pub is_plain : ℕ → Bool
 is_plain c =
     not (is_control c || c == 0xA0 || c == 0xAD || c == 0x34F || c == 0x61C || is_in_range 0x115F 0x1160 c
@@ -29,24 +29,26 @@ is_plain c =
 abbrev pub is_clear : ℕ → Bool
 is_clear c = is_plain c && not (c == 34 || c == 92)
 
--- the characters that show a character in a quote; escaped as Rust does it: `\"`, `\\`, `\t`, `\r`, `\n`, `\u{1b}`
+-- the characters that show a character in a quote. They are the character itself, or its escape as Rust writes it:
+-- `\"`, `\\`, `\t`, `\r`, `\n`, `\u{1b}`
 abbrev pub shown : ℕ → Characters
 shown c = if is_clear c then c ∷ [] else escape_default c
 
--- what fits into so much room, the closing quote, and three dots if something is left out
+-- as much of the text as fits into this room, the closing quote, and three dots if something is left out
 abbrev pub quoted_end : ℕ → Characters → Bytes
 quoted_end room [] = codes "\""
 quoted_end room (c ∷ text) =
     if nat_le (length (shown c)) room then encode_utf8_all (shown c) ++ quoted_end (room - length (shown c)) text
     else codes "\"..."
 
--- a text in quotes, between which at most 40 characters are shown
+-- a text in quotes, which show at most 40 characters
 abbrev pub quoted : Characters → Bytes
 quoted text = codes "\"" ++ quoted_end 40 text
 
 -- ---- What stands at a place
 
--- an ASCII letter, or a plain character beyond ASCII that is no sign, such as `½`, `×`, `€` and the full-width colon
+-- whether a character is an ASCII letter, or a plain character beyond ASCII that is no sign. Signs are, for example,
+-- `½`, `×`, `€` and the full-width colon
 abbrev pub is_letter : ℕ → Bool
 is_letter c =
     is_ascii_alphabetic c || (nat_le 0x80 c && is_plain c && not (is_in_range 0xA1 0xB4 c || is_in_range 0xB6 0xBF c
@@ -57,22 +59,24 @@ abbrev pub begins_with_letter : Characters → Bool
 begins_with_letter [] = false
 begins_with_letter (c ∷ text) = is_letter c
 
--- whether both are digits, or both are letters
+-- whether both characters are digits, or both are letters
 abbrev pub is_like : ℕ → ℕ → Bool
 is_like c d = (is_digit d && is_digit c) || (is_letter d && is_letter c)
 
--- the digits or the letters that a text begins with, or its first character; of 41 characters 40 are shown
+-- the run of digits or of letters that a text begins with, or its first character. It has at most 41 characters, of
+-- which a quote shows 40
 abbrev pub first_piece : Characters → Characters
 first_piece [] = []
 first_piece (c ∷ text) = c ∷ take 40 (take_while (is_like c) text)
 
 -- ---- Help
 
--- those of the month that mean it in small letters alone: `Mo` is a megabyte too
+-- the words near the month's names that mean a month only in small letters, since `Mo` is a megabyte
 abbrev pub small_words : List Characters
 small_words = codes "mo" ∷ codes "mos" ∷ []
 
--- those of the microsecond without the micro sign; the last five have the Greek letter mu (U+03BC), which looks like it
+-- the words near the microsecond's names that don't have the micro sign. The last five have the Greek letter mu
+-- (U+03BC), which looks like the micro sign
 abbrev pub us_words : List Characters
 us_words =
     codes "usecs" ∷ codes "useconds" ∷ codes "micros" ∷ codes "μs" ∷ codes "μsec" ∷ codes "μsecs" ∷ codes "μsecond"
@@ -92,11 +96,12 @@ near_words MilliSecond = codes "msecs" ∷ codes "millis" ∷ []
 near_words MicroSecond = codes "µsecs" ∷ codes "µseconds" ∷ us_words
 near_words NanoSecond = codes "nsecs" ∷ codes "nanos" ∷ []
 
--- whether bytes are one of these words
+-- whether these bytes are one of the words
 abbrev pub is_among : List Characters → Bytes → Bool
 is_among words bytes = list_any (bytes_eq bytes) (map encode_utf8_all words)
 
--- the name to write for a word that is near it, given the word's bytes: the unit's, or `us` without the micro sign
+-- the name to write instead of a word, given the word's bytes. It is the printed name of the unit that the word is
+-- near, but `us` instead of `µs` for a word without the micro sign
 abbrev pub near_name : Bytes → Option Characters
 near_name word =
     let small = map to_ascii_lowercase word in
@@ -104,21 +109,22 @@ near_name word =
     else if is_among us_words small then Some (codes "us")
     else option_map (λ u. (row_of u).printed) (find (λ u. is_among (near_words u) small) units)
 
--- the help with a name
+-- the help that advises a name
 abbrev pub name_help : Bytes → Bytes
 name_help name = codes " (did you mean \"" ++ (name ++ codes "\"?)")
 
--- this help, or all units in place of none
+-- this help, or the names of all units if it is empty
 abbrev pub help_or_units : Bytes → Bytes
 help_or_units help = if length help == 0 then codes " (write y, q, mon, w, d, h, min, s, ms, us or ns)" else help
 
--- the name that is near, or else the help for the place, or all units
+-- the help for a word that is no unit: the name that it is near, or otherwise the help for its place, or otherwise the
+-- names of all units
 abbrev pub unit_help : Option Characters → Bytes → Bytes
 unit_help (Some name) help = name_help (encode_utf8_all name)
 unit_help None help = help_or_units help
 
--- the help for a piece that is first but for blanks, given its bytes and the byte after it: a sign before a digit or a
--- point, and `P` or `PT` before a digit
+-- the help for a piece that has only blanks before it, given the piece's bytes and the byte after it. There is help for
+-- a sign before a digit or a point, and for `P` or `PT` before a digit
 abbrev pub first_help : Bytes → ℕ → Bytes
 first_help piece next =
     let is_signed = is_digit next || next == 46 in
@@ -129,8 +135,8 @@ first_help piece next =
     then codes " (ISO 8601 is not read: write 1mon 30m for P1MT30M)"
     else []
 
--- the help for a piece after a digit, given its bytes and the byte after it: `e` before a digit, `-` or `+`; and a comma,
--- `_`, `'` or a colon before a digit
+-- the help for a piece after a digit, given the piece's bytes and the byte after it. There is help for `e` before a
+-- digit, `-` or `+`, and for a comma, `_`, `'` or a colon before a digit
 abbrev pub digit_help : Bytes → ℕ → Bytes
 digit_help piece next =
     let is_between = is_digit next in
@@ -140,9 +146,9 @@ digit_help piece next =
     else if is_between && bytes_eq piece (codes ":") then codes " (clock times are not read: write 1h 30m or 1m 30s)"
     else []
 
--- the help for the piece at byte `place`, given its bytes: for what people put between terms where a number and the end
--- could stand, so after a unit; for a point after a letter or a byte beyond ASCII, or before a digit; and for a piece that
--- is first or after a digit
+-- the help for the piece at byte `place`, given the piece's bytes. There is help for `,`, `&` and `and` after a unit,
+-- which is where both a number and the end could stand. There is help for a point after a letter or a byte beyond
+-- ASCII, or before a digit. And there is help for some pieces that have only blanks, or a digit, before them
 abbrev pub help_at : Expected → Bytes → ℕ → Bytes → Bytes
 help_at expected text place piece =
     let before = take place text in
@@ -189,7 +195,7 @@ found_line words column piece help = words ++ (at_column column ++ (found_words 
 abbrev pub unknown_line : ℕ → Characters → Bytes → Bytes
 unknown_line column word help = codes "unknown unit " ++ (quoted word ++ (at_column column ++ help))
 
--- the line of a syntax fault; columns are counted in characters from 1
+-- the line of a syntax fault. Columns are counted in characters, from 1
 abbrev pub syntax_line : Bytes → ℕ → Expected → Characters → Bytes
 syntax_line text place expected piece =
     let column = chars_before text place + 1 in
@@ -202,7 +208,7 @@ syntax_line text place expected piece =
 abbrev pub text_line : Bytes → Bytes → Bytes → Bytes
 text_line problem text help = problem ++ (codes " in " ++ (quoted (chars text) ++ help))
 
--- what is too large: of a text with a `*` it may be a step alone
+-- the line of an overflow. In a text with a `*`, only a step may be too large
 abbrev pub overflow_line : Bytes → Bytes
 overflow_line text =
     if list_any (λ b. b == 42) text then text_line (codes "step of over 584 years") text []
@@ -210,7 +216,7 @@ overflow_line text =
     then text_line (codes "duration of over 584 years") text (codes " (write the number's unit, such as ns)")
     else text_line (codes "duration of over 584 years") text []
 
--- the bytes of the line, given those of the text that was read
+-- the bytes of the line, given the bytes of the text that was read
 abbrev pub one_line_of : Bytes → Cause → Bytes
 one_line_of text Empty = codes "empty text"
 one_line_of text (Syntax place expected) = syntax_line text place expected (first_piece (chars (drop place text)))

@@ -8,7 +8,7 @@ use Rattle.duration_str.specs.Text.{Characters, is_digit}
 use Rattle.duration_str.specs.Units.{nanos_of}
 use Rattle.duration_str.specs.Value.{Term, term_fault, value_of_term}
 
--- A nonempty run of digits.
+-- The text is a nonempty run of digits.
 abbrev pub IsNumber : Characters → Type 0
 IsNumber text = (0 < length text) × IsTrue (list_all is_digit text)
 
@@ -21,6 +21,6 @@ abbrev pub fault_or : {A : Type 0} → Option Cause → Result A Cause → Resul
 fault_or (Some cause) result = Err cause
 fault_or None result = result
 
--- the value of a term, or its fault
+-- the value of a term, or its fault with this place
 abbrev pub term_answer : Option ℕ → Term → Result ℕ Cause
 term_answer place t = fault_or (term_fault place t) (Ok (value_of_term t))

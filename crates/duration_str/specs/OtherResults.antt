@@ -1,4 +1,4 @@
--- What the other calls that read a text return: values of another type, nanoseconds, looks.
+-- What the other calls that read a text return: values of other types, nanoseconds, the number of looks.
 use Rattle.std.specs.Prelude.{◌≡◌, ℕ, ◌≤◌, Option, Result, Ok, Err, IfOk, IfErr, IsOk, length, take, chars}
 use Rattle.duration_str.specs.declared.options.Options.{Options}
 use Rattle.duration_str.specs.declared.cause.Cause.{Cause}
@@ -9,7 +9,8 @@ use Rattle.duration_str.specs.declared.fault.Fault.{Fault}
 use Rattle.duration_str.specs.Text.{Bytes}
 use Rattle.duration_str.specs.Reading.{IsReadWith, IsRefusedWith}
 
--- The result is a value for which `reads` holds, or a fault of exactly these bytes, whose cause `refuses` holds for.
+-- The result is a value for which `reads` holds, or a fault with exactly these bytes, and `refuses` holds for its
+-- cause.
 abbrev pub IsValueOrFault : {T : Type 0} → (T → Type 0) → (Cause → Type 0) → Bytes → Result T Fault → Type 0
 IsValueOrFault reads refuses bytes (Ok value) = reads value
 IsValueOrFault reads refuses bytes (Err fault) = (fault.text.now ≡ bytes) × refuses fault.cause
@@ -22,7 +23,7 @@ pub record ReadsWith (default_unit : Option TimeUnit) (o : Options) (bytes : Byt
   pub accepts : (nanos : ℕ) → IsReadWith default_unit o (chars bytes) nanos → IsOk result
   pub refused : IfErr result (λ f. (f.text.now ≡ bytes) × IsRefusedWith default_unit o (chars bytes) f.cause)
 
--- There are at least as many looks as characters before the place of a syntax fault.
+-- If the cause is a syntax fault, there are at least as many looks as characters before its place.
 abbrev pub ReachesPlace : Bytes → Cause → ℕ → Type 0
 ReachesPlace bytes cause looks =
     (place : ℕ) (expected : Expected) → cause ≡ Syntax place expected → length (chars (take place bytes)) ≤ looks

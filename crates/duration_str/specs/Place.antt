@@ -26,7 +26,7 @@ pub record IsFront (default_unit : Option TimeUnit) (no_calc : Bool) (terminals 
       → n ≤ length front
 
 -- A kind is expected exactly if the front, followed by some terminal of this kind, begins a sentence. The end is
--- expected if the front is a sentence.
+-- expected exactly if the front is a sentence.
 pub record CanFollow (default_unit : Option TimeUnit) (no_calc : Bool) (front : List Terminal) (expected : Expected)
     : Type 0 where
   pub number_expected : IsTrue expected.number
@@ -37,11 +37,11 @@ pub record CanFollow (default_unit : Option TimeUnit) (no_calc : Bool) (front : 
       ↔ ((op : CondUnit) × BeginsSentence default_unit no_calc (front ++ operator op ∷ []))
   pub end_expected : IsTrue expected.text_end ↔ IsSentence default_unit no_calc front
 
--- the byte at which the first token starts; `len` without one
+-- the byte at which the first token starts, or `len` if there is none
 abbrev pub start_or : ℕ → List Token → ℕ
 start_or len [] = len
 start_or len (token ∷ tokens) = token.start
 
--- the byte at which the token after the first n starts; `len` without one
+-- the byte at which the token after the first n tokens starts, or `len` if there is none
 abbrev pub start_after : ℕ → ℕ → List Token → ℕ
 start_after n len tokens = start_or len (drop n tokens)

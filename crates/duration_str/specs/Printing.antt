@@ -7,12 +7,12 @@ use Rattle.duration_str.specs.declared.format.Style.TheVariants.{Short, Compact,
 use Rattle.duration_str.specs.Text.{Characters}
 use Rattle.duration_str.specs.Units.{UnitRow, units, row_of, unit_lengths}
 
--- the sum of the counts, each times its length
+-- the sum of all counts, each multiplied by its length
 abbrev pub weighted_sum : List ℕ → List ℕ → ℕ
 weighted_sum (l ∷ lengths) (n ∷ counts) = n * l + weighted_sum lengths counts
 weighted_sum _ _ = 0
 
--- At the first position where they differ, the first list has the smaller count.
+-- At the first position where the two lists differ, the first list has the smaller count.
 abbrev pub IsBefore : List ℕ → List ℕ → Type 0
 IsBefore (m ∷ ms) (n ∷ ns) = (m < n) ⊎ ((m ≡ n) × IsBefore ms ns)
 IsBefore _ _ = ⊥
@@ -22,7 +22,7 @@ pub record IsBreakdown (lengths : List ℕ) (nanos : ℕ) (counts : List ℕ) : 
   pub one_each : length counts ≡ length lengths
   pub whole : weighted_sum lengths counts ≡ nanos
 
--- The counts are a breakdown, and every other breakdown is before them.
+-- The counts are a breakdown, and every other breakdown comes before them.
 pub record IsGreatestBreakdown (lengths : List ℕ) (nanos : ℕ) (counts : List ℕ) : Type 0 where
   pub breakdown : IsBreakdown lengths nanos counts
   pub greatest : (others : List ℕ) → IsBreakdown lengths nanos others → (others ≡ counts) ⊎ IsBefore others counts
@@ -33,11 +33,11 @@ last_but_one [] = []
 last_but_one (name ∷ last ∷ []) = name
 last_but_one (_ ∷ names) = last_but_one names
 
--- the long name of one of a unit; the last name is that of several
+-- the long name for a count of 1, which is the last name but one. The last name is for other counts
 abbrev pub long_name : UnitRow → Characters
 long_name row = last_but_one row.names
 
--- a unit's name after a count: in the long style with an `s` unless it is one
+-- a unit's name after a count. In the long style it ends with an `s`, unless `one` says that the count is 1
 abbrev pub name_in : Style → Bool → TimeUnit → Characters
 name_in Long one u = long_name (row_of u) ++ (if one then [] else codes "s")
 name_in style one u = (row_of u).printed
@@ -62,7 +62,7 @@ printed_parts style (u ∷ us) (n ∷ counts) =
     if n == 0 then printed_parts style us counts else printed_part style n u ∷ printed_parts style us counts
 printed_parts style _ _ = []
 
--- the parts, one after another; `0` of this unit if there are none
+-- the parts, one after another, or a part with the count 0 and this unit if there are none
 abbrev pub joined_parts : Style → TimeUnit → List Characters → Characters
 joined_parts style u [] = printed_part style 0 u
 joined_parts style u (part ∷ parts) = part ++ flat_map (λ p. between style ++ p) parts

@@ -12,14 +12,14 @@ use Rattle.duration_str.specs.Tokens.{tokens_of}
 use Rattle.duration_str.specs.Place.{IsFront, CanFollow, start_after, terminals_of}
 use Rattle.duration_str.specs.Value.{Term, term_fault, sum_of, fits, or_else, unless, terms_of, terms_with, value_of, evaluation_fault, Evaluates}
 
--- With this default unit some sentence spells the text, and its evaluation gives this value in nanoseconds.
+-- With this default unit some sentence spells the text, and the sentence's evaluation gives this value in nanoseconds.
 pub record IsReadWith (default_unit : Option TimeUnit) (o : Options) (text : Characters) (nanos : ℕ) : Type 0 where
   pub lexemes : List Characters
   pub spells : IsSentenceWith default_unit o lexemes text
   pub evaluates : Evaluates (terms_with default_unit o lexemes)
   pub value : value_of (terms_with default_unit o lexemes) ≡ Some nanos
 
--- The same with the second.
+-- The same with the second as the default unit.
 abbrev pub IsRead : Options → Characters → ℕ → Type 0
 IsRead o text nanos = IsReadWith (Some Second) o text nanos
 
@@ -29,8 +29,8 @@ without_last_number [] = []
 without_last_number (number n ∷ []) = []
 without_last_number (terminal ∷ terminals) = terminal ∷ without_last_number terminals
 
--- the terminals of the complete terms of the front; a number at its end is one only with a default unit and at the end
--- of the text
+-- the terminals of the complete terms of the front. A number at the end of the front is a complete term only if there
+-- is a default unit and the front is the whole text
 abbrev pub complete_terminals : Option TimeUnit → List Terminal → List Terminal → List Terminal
 complete_terminals (Some u) front [] = front
 complete_terminals default_unit front rest = without_last_number front
@@ -39,17 +39,17 @@ complete_terminals default_unit front rest = without_last_number front
 abbrev pub complete_terms : Option TimeUnit → List Terminal → List Terminal → List Term
 complete_terms default_unit front rest = terms_of default_unit (complete_terminals default_unit front rest)
 
--- the place in a term's fault, given the terms before it: 0 for the first term, otherwise none
+-- the place in a term's fault, given the terms before it: 0 for the first term, and none for the others
 abbrev pub place_after : List Term → Option ℕ
 place_after [] = Some 0
 place_after (t ∷ before) = None
 
--- the fault of the first term
+-- the fault of the first of these terms
 abbrev pub first_fault : List Term → Option Cause
 first_fault [] = None
 first_fault (t ∷ terms) = term_fault (place_after []) t
 
--- the first fault of terms that are added one by one to those in `before`
+-- the first fault in adding these terms, one by one, to those in `before`
 abbrev pub running_fault : List Term → List Term → Option Cause
 running_fault before [] = None
 running_fault before (t ∷ terms) =
@@ -57,18 +57,20 @@ running_fault before (t ∷ terms) =
     (or_else (unless (fits (sum_of (before ++ t ∷ []))) (Overflow None))
     (running_fault (before ++ t ∷ []) terms))
 
--- the fault that precedes a syntax fault: of the first complete term, or under `no_calc` the first of adding them all
+-- the fault that comes before a syntax fault: that of the first term if it is complete, or under `no_calc` the first
+-- fault in adding all complete terms
 abbrev pub early_fault : Option TimeUnit → Bool → List Terminal → List Terminal → Option Cause
 early_fault default_unit no_calc front rest =
     if no_calc then running_fault [] (complete_terms default_unit front rest)
     else first_fault (complete_terms default_unit front rest)
 
--- the fault that is reported after any syntax fault: the evaluation's; none under `no_calc`, where each is early
+-- the fault that comes after a syntax fault: that of the evaluation. Under `no_calc` there is none, since each fault
+-- comes early
 abbrev pub late_fault : Option TimeUnit → Bool → List Terminal → Option Cause
 late_fault default_unit no_calc terminals =
     if no_calc then None else evaluation_fault (terms_of default_unit terminals)
 
--- The terminals `front ++ rest`, whose rest starts at byte `place`, are refused for this cause.
+-- The terminals `front ++ rest` are refused for this cause. The rest starts at byte `place`.
 pub data IsRefusedAt (default_unit : Option TimeUnit) (no_calc : Bool) (place : ℕ) (front rest : List Terminal)
     (cause : Cause) : Type 0 where
   early : early_fault default_unit no_calc front rest ≡ Some cause
@@ -83,8 +85,8 @@ pub data IsRefusedAt (default_unit : Option TimeUnit) (no_calc : Bool) (place : 
       → late_fault default_unit no_calc (front ++ rest) ≡ Some cause
       → IsRefusedAt default_unit no_calc place front rest cause
 
--- With this default unit the text is refused for this cause: the empty text as `Empty`, any other by its front and the
--- rest after it.
+-- With this default unit the text is refused for this cause. The empty text is refused as `Empty`, and any other text
+-- by its front and the rest after it.
 abbrev pub IsRefusedWith : Option TimeUnit → Options → Characters → Cause → Type 0
 IsRefusedWith default_unit o [] cause = cause ≡ Empty
 IsRefusedWith default_unit o (c ∷ text) cause =
@@ -93,6 +95,6 @@ IsRefusedWith default_unit o (c ∷ text) cause =
     × IsRefusedAt default_unit o.no_calc (start_after (length front) (byte_len (c ∷ text)) (tokens_of o (c ∷ text)))
     front rest cause
 
--- The same with the second.
+-- The same with the second as the default unit.
 abbrev pub IsRefused : Options → Characters → Cause → Type 0
 IsRefused o text cause = IsRefusedWith (Some Second) o text cause

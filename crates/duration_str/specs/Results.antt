@@ -17,6 +17,6 @@ pub record ParsesWith (default_unit : Option TimeUnit) (o : Options) (bytes : By
   pub refused : IfErr result (λ f. (f.text.now ≡ bytes) × IsRefusedWith default_unit o (chars bytes) f.cause)
   pub fits : IfOk result (λ d. as_nanos d < 2 ^ 64)
 
--- The same with the second.
+-- The same with the second as the default unit.
 abbrev pub ParsesText : Options → Bytes → Result Duration Fault → Type 0
 ParsesText o bytes result = ParsesWith (Some Second) o bytes result

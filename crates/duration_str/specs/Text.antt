@@ -14,11 +14,11 @@ Characters = List ℕ
 abbrev pub Bytes : Type 0
 Bytes = List ℕ
 
--- space, tab, carriage return, line feed
+-- whether a character is a space, a tab, a carriage return or a line feed
 abbrev pub is_blank : ℕ → Bool
 is_blank c = c == 32 || c == 9 || c == 13 || c == 10
 
--- 0 to 9
+-- whether a character is one of the digits 0 to 9
 abbrev pub is_digit : ℕ → Bool
 is_digit c = is_ascii_digit c
 
@@ -30,7 +30,7 @@ chinese_letters = codes "年月周日天时分秒毫微纳"
 abbrev pub is_chinese : ℕ → Bool
 is_chinese c = list_any (λ d. d == c) chinese_letters
 
--- an ASCII letter, µ (U+00B5), or with `cn_unit` one of the Chinese characters
+-- whether a character is an ASCII letter, µ (U+00B5), or, with `cn_unit`, one of the Chinese letters
 abbrev pub is_unit_letter : Options → ℕ → Bool
 is_unit_letter o c = is_ascii_alphabetic c || c == 0xB5 || (o.cn_unit && is_chinese c)
 
@@ -42,7 +42,7 @@ operator_of c = if c == 43 then Some Plus else if c == 42 then Some Star else No
 abbrev pub IsBlank : Characters → Type 0
 IsBlank text = IsTrue (list_all is_blank text)
 
--- the decimal number with the digits of n and then these
+-- the decimal number that has the digits of n and then these digits
 abbrev pub number_after : ℕ → Characters → ℕ
 number_after n [] = n
 number_after n (c ∷ digits) = number_after (n * 10 + (c - 48)) digits
@@ -51,7 +51,7 @@ number_after n (c ∷ digits) = number_after (n * 10 + (c - 48)) digits
 abbrev pub number_of : Characters → ℕ
 number_of digits = number_after 0 digits
 
--- the length of a character in UTF-8, in bytes; a number that is not a character counts as four
+-- the length of a character in UTF-8, in bytes. A number that is not a character counts as four
 abbrev pub width : ℕ → ℕ
 width c = if nat_le 0xD800 c && nat_le c 0xDFFF then 4 else len_utf8 c
 

@@ -8,7 +8,7 @@ pub record Token : Type 0 where
   pub start : ℕ
   pub characters : Characters
 
--- whether both are digits, or both are unit letters
+-- whether both characters are digits, or both are unit letters
 abbrev pub are_of_one_run : Options → ℕ → ℕ → Bool
 are_of_one_run o c d = (is_digit c && is_digit d) || (is_unit_letter o c && is_unit_letter o d)
 
@@ -17,7 +17,7 @@ abbrev pub goes_on : Options → ℕ → Characters → Bool
 goes_on o c [] = false
 goes_on o c (d ∷ _) = are_of_one_run o c d
 
--- the tokens with the character c, at byte `at`, added to the front of the first one
+-- the tokens, with the character c, which is at byte `at`, added to the front of the first token
 abbrev pub with_first_character : ℕ → ℕ → List Token → List Token
 with_first_character at c [] = record { start = at; characters = c ∷ [] } ∷ []
 with_first_character at c (token ∷ tokens) = record { start = at; characters = c ∷ token.characters } ∷ tokens

@@ -7,7 +7,8 @@ use Rattle.duration_str.specs.declared.unit.TimeUnit.{TimeUnit}
 use Rattle.duration_str.specs.declared.unit.TimeUnit.TheVariants.{Year, Quarter, Month, Week, Day, Hour, Minute, Second, MilliSecond, MicroSecond, NanoSecond}
 use Rattle.duration_str.specs.Text.{Characters}
 
--- a unit's length in nanoseconds, the name that is printed, the names that are read, and those read only with `cn_unit`
+-- a unit's length in nanoseconds, the name that is printed, the names that are read, and the names that are read only
+-- with `cn_unit`
 pub record UnitRow : Type 0 where
   pub nanos : ℕ
   pub printed : Characters
@@ -36,7 +37,7 @@ units = Year ∷ Quarter ∷ Month ∷ Week ∷ Day ∷ Hour ∷ Minute ∷ Seco
 abbrev pub nanos_of : TimeUnit → ℕ
 nanos_of u = (row_of u).nanos
 
--- how many units are longer
+-- how many units are longer than this one
 abbrev pub rank_of : TimeUnit → ℕ
 rank_of u = count_by (λ v. nat_lt (nanos_of u) (nanos_of v)) units
 

@@ -26,8 +26,9 @@ value_of_term t = t.number * t.length
 abbrev pub second : ℕ
 second = nanos_of Second
 
--- the terms after `op`, with these lengths of the units; an operator left out is plus, and a unit left out the default
--- unit. Without a default unit no sentence leaves a unit out, so the second is never taken
+-- the terms that these terminals write, with these lengths of the units. `op` is the operator before the first term. If
+-- an operator is left out, it is plus. If a unit is left out, it is the default unit. Without a default unit no
+-- sentence leaves a unit out, so the second is never used
 abbrev pub terms_by : (TimeUnit → ℕ) → Option TimeUnit → CondUnit → List Terminal → List Term
 terms_by length_of default_unit op (number n ∷ word (Some u) ∷ more) =
     record { operator = op; number = n; length = length_of u } ∷ terms_by length_of default_unit Plus more
@@ -37,11 +38,11 @@ terms_by length_of default_unit op (number n ∷ more) =
 terms_by length_of default_unit op (operator next ∷ more) = terms_by length_of default_unit next more
 terms_by length_of default_unit op _ = []
 
--- the terms after the operator `op`
+-- the terms that these terminals write after the operator `op`
 abbrev pub terms_after : Option TimeUnit → CondUnit → List Terminal → List Term
 terms_after default_unit op terminals = terms_by nanos_of default_unit op terminals
 
--- the terms of a sentence; the first one's operator is plus, and has no meaning
+-- the terms of a sentence. The operator of the first term is plus, and means nothing
 abbrev pub terms_of : Option TimeUnit → List Terminal → List Term
 terms_of default_unit terminals = terms_after default_unit Plus terminals
 
@@ -49,7 +50,7 @@ terms_of default_unit terminals = terms_after default_unit Plus terminals
 abbrev pub terms_with : Option TimeUnit → Options → List Characters → List Term
 terms_with default_unit o lexemes = terms_of default_unit (map (terminal_of o) lexemes)
 
--- the same with the second
+-- the same with the second as the default unit
 abbrev pub written_terms : Options → List Characters → List Term
 written_terms o lexemes = terms_with (Some Second) o lexemes
 
@@ -64,7 +65,8 @@ abbrev pub sum_of : List Term → ℕ
 sum_of [] = 0
 sum_of (t ∷ terms) = value_of_term t + sum_of terms
 
--- the product of the terms' values in seconds, as nanoseconds: from left to right, each step rounded down
+-- the product of the terms' values in seconds, in nanoseconds. It is computed from left to right, and each step is
+-- rounded down
 abbrev pub product_of : List Term → ℕ
 product_of terms = fold (λ p t. p * value_of_term t / second) second terms
 
@@ -73,13 +75,14 @@ abbrev pub later_total : CondUnit → List Term → ℕ
 later_total Plus later = sum_of later
 later_total Star later = product_of later
 
--- x and the rest combined: their sum, or their product in seconds, rounded down to nanoseconds
+-- `x` and `rest` combined: their sum, or their product in seconds, rounded down to nanoseconds
 abbrev pub combination : CondUnit → ℕ → ℕ → ℕ
 combination Plus x rest = x + rest
 combination Star x rest = x * rest / second
 
--- the value of a sentence in nanoseconds, given its terms; `None` without terms, or if its operators are mixed. The
--- first term is combined last: of `a*b*c`, with the product of `b` and `c`, which is rounded down
+-- the value of a sentence in nanoseconds, given its terms. It is `None` if there are no terms, or if the operators are
+-- mixed. The first term is combined last: in `a*b*c` it is multiplied by the product of `b` and `c`, which is rounded
+-- down first
 abbrev pub value_of : List Term → Option ℕ
 value_of [] = None
 value_of (t ∷ []) = Some (value_of_term t)
@@ -107,7 +110,8 @@ abbrev pub term_fault : Option ℕ → Term → Option Cause
 term_fault place t =
     or_else (unless (fits t.number) (NumberTooLarge place)) (unless (fits (value_of_term t)) (Overflow place))
 
--- the first fault of the later terms after those in `before`, which have none; `op` is that of the first later term
+-- the first fault of the later terms that follow those in `before`, which have no fault. `op` is the operator of the
+-- first later term
 abbrev pub fault_of_terms : CondUnit → List Term → List Term → Option Cause
 fault_of_terms op before [] = None
 fault_of_terms op before (t ∷ later) =
@@ -116,7 +120,8 @@ fault_of_terms op before (t ∷ later) =
     (or_else (unless (fits (later_total op (before ++ t ∷ []))) (Overflow None))
     (fault_of_terms op (before ++ t ∷ []) later)))
 
--- the fault of a sentence whose first term has none: that of the later terms, or of the total including the first term
+-- the fault of a sentence whose first term has no fault: that of the later terms, or otherwise that of the step with
+-- the first term
 abbrev pub evaluation_fault : List Term → Option Cause
 evaluation_fault (t ∷ u ∷ later) =
     or_else (fault_of_terms u.operator [] (u ∷ later))

@@ -4,11 +4,12 @@ use Rattle.duration_str.specs.declared.cause.Cause.{Cause}
 use Rattle.duration_str.specs.declared.cause.Cause.TheVariants.{NumberTooLarge, Overflow}
 use Rattle.duration_str.specs.Value.{fits}
 
--- `Some` of a number below 2^64, else `None`
+-- the number if it is below 2^64, and otherwise `None`
 abbrev pub u64_from : ℕ → Option ℕ
 u64_from n = if fits n then Some n else None
 
--- the value of a term, or its fault, given its unit's length and its number, which is `None` from 2^64 on
+-- the value of a term, or its fault with this place, given the unit's length and the number. The number is `None` if it
+-- is 2^64 or more
 abbrev pub checked_term : Option ℕ → Option ℕ → ℕ → Result ℕ Cause
 checked_term place None length = Err (NumberTooLarge place)
 checked_term place (Some n) length = if fits (n * length) then Ok (n * length) else Err (Overflow place)

@@ -34,16 +34,18 @@ pub record Passes (test : ℕ → Bool) (text : Bytes) (place next : ℕ) : Type
   pub between : Between text place next characters
   pub all : IsTrue (list_all test characters)
 
--- the number of a character by its place in a list, whose first one has the number n; 0 if it is not there
+-- the digit that a character is, by its index in this list, whose first character is the digit n. It is 0 if the
+-- character is not in the list
 abbrev pub number_in : ℕ → Characters → ℕ → ℕ
 number_in n [] c = 0
 number_in n (d ∷ letters) c = if d == c then n else number_in (n + 1) letters c
 
--- the number of a unit letter beyond ASCII, and 0 of any other character
+-- the digit that a unit letter beyond ASCII is, and 0 for any other character
 abbrev pub wide_number : ℕ → ℕ
 wide_number c = number_in 27 (0xB5 ∷ chinese_letters) c
 
--- the number of a unit letter, ignoring case; under `lowercase` 39 for a capital, which no other letter has
+-- the digit that a unit letter is. A capital is the same digit as its small letter, but under `lowercase` it is 39,
+-- which no other letter is
 abbrev pub letter_number : Options → ℕ → ℕ
 letter_number o c =
     if o.lowercase && is_ascii_uppercase c then 39 else if is_ascii_alphabetic c then c % 32 else wide_number c
@@ -62,7 +64,7 @@ pub record TakesDigits (text : Bytes) (place next value : ℕ) : Type 0 where
   pub run : Passes is_digit text place next
   pub number : value ≡ number_of run.characters % 2 ^ 64
 
--- They are unit letters, and `value` is their packed number modulo 2^64.
+-- The characters from `place` to `next` are unit letters, and `value` is their packed number modulo 2^64.
 pub record TakesLetters (o : Options) (text : Bytes) (place next value : ℕ) : Type 0 where
   pub run : Passes (is_unit_letter o) text place next
   pub number : value ≡ packed_number o run.characters % 2 ^ 64

@@ -1,4 +1,4 @@
--- The printed bytes, built unit by unit.
+-- The bytes of a printed duration, built unit by unit.
 use Rattle.std.specs.Prelude.{ℕ, Bool, List, [], ◌∷◌, ◌++◌, if◌then◌else◌, ◌==◌, decimal, encode_utf8_all, map}
 unfoldable pub use Rattle.std.specs.Fmt.{digits}
 use Rattle.duration_str.specs.declared.unit.TimeUnit.{TimeUnit}
@@ -9,7 +9,7 @@ use Rattle.duration_str.specs.Printing.{before_name, name_in}
 use Rattle.duration_str.specs.Units.{nanos_of}
 use Rattle.duration_str.specs.Limits.{counts_within}
 
--- the bytes followed by what stands between two parts, unless they are empty
+-- the bytes, followed by the space between two parts, unless the bytes are empty or the style is compact
 abbrev pub with_gap : Style → Bytes → Bytes
 with_gap Compact bytes = bytes
 with_gap style [] = []
@@ -23,15 +23,15 @@ name_part style one u = before_name style ++ name_in style one u
 abbrev pub part_bytes : Style → ℕ → TimeUnit → Bytes
 part_bytes style n u = decimal n ++ encode_utf8_all (name_part style (n == 1) u)
 
--- the bytes followed by one more part, unless its count is 0
+-- the bytes, followed by one more part unless the part's count is 0
 abbrev pub with_part : Style → Bytes → TimeUnit → ℕ → Bytes
 with_part style bytes u n = if n == 0 then bytes else with_gap style bytes ++ part_bytes style n u
 
--- the bytes followed by a part for each of these counts of these units
+-- the bytes, followed by a part for each of these units and its count
 abbrev pub with_counts : Style → Bytes → List TimeUnit → List ℕ → Bytes
 with_counts style bytes (u ∷ us) (n ∷ counts) = with_counts style (with_part style bytes u n) us counts
 with_counts style bytes _ _ = bytes
 
--- the bytes followed by at most so many parts of a duration in these units
+-- the bytes, followed by a duration in these units, in at most `most` parts
 abbrev pub with_parts : Style → Bytes → List TimeUnit → ℕ → ℕ → Bytes
 with_parts style bytes us most nanos = with_counts style bytes us (counts_within (map nanos_of us) most nanos)

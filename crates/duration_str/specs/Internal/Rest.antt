@@ -47,7 +47,7 @@ abbrev pub terminals_in : Rest → List Terminal
 terminals_in (terminal_at at terminal rest) = terminal ∷ terminals_in rest
 terminals_in (end_at at) = []
 
--- the syntax fault that the rest starts with none of the kinds that could stand there
+-- the syntax fault at the start of the rest, where these kinds could stand
 abbrev pub misplacement : Expected → Rest → Cause
 misplacement expected rest = Syntax (start_left 0 rest) expected
 
@@ -56,7 +56,7 @@ pub record ReadItem (A : Type 0) : Type 0 where
   pub item : A
   pub rest : Rest
 
--- a result paired with the rest after it, or its fault
+-- a result together with the rest after it, or the result's fault
 abbrev pub leaving : {A : Type 0} → Rest → Result A Cause → Result (ReadItem A) Cause
 leaving rest (Ok item) = Ok (record { item = item; rest = rest })
 leaving rest (Err cause) = Err cause
@@ -66,7 +66,8 @@ abbrev pub number_fault : Rest → Option Cause
 number_fault (terminal_at at (number n) rest) = None
 number_fault rest = Some (misplacement expected_at_start rest)
 
--- the unit after a number; the default unit, if there is one, where it is left out before an operator or at the end
+-- the unit after a number. Before an operator and at the end the unit can be left out, and is then the default unit if
+-- there is one
 abbrev pub unit_read : Option TimeUnit → Bool → Rest → Result (ReadItem TimeUnit) Cause
 unit_read default_unit no_calc (terminal_at at (word (Some u)) rest) = leaving rest (Ok u)
 unit_read default_unit false (terminal_at at (operator op) rest) =
@@ -76,7 +77,8 @@ unit_read default_unit no_calc (end_at at) =
     leaving (end_at at) (ok_or default_unit (Syntax at (expected_after_number default_unit no_calc)))
 unit_read default_unit no_calc rest = Err (misplacement (expected_after_number default_unit no_calc) rest)
 
--- the operator after a unit, which a number must follow; plus if it is left out, `None` at the end
+-- the operator after a unit. A number must follow it. If the operator is left out, it is plus, and at the end it is
+-- `None`
 abbrev pub operator_read : Bool → Rest → Result (ReadItem (Option CondUnit)) Cause
 operator_read no_calc (terminal_at at (number n) rest) = leaving (terminal_at at (number n) rest) (Ok (Some Plus))
 operator_read false (terminal_at at (operator op) rest) = leaving rest (fault_or (number_fault rest) (Ok (Some op)))
@@ -104,24 +106,26 @@ answer_left default_unit no_calc rest =
 
 -- ---- Values, or the first fault
 
--- two values combined, the second one or its fault given, if that is below 2^64; otherwise an overflow
+-- the combination of two values if it is below 2^64, and otherwise an overflow. If the second value is a fault, it is
+-- that fault
 abbrev pub checked_combination : CondUnit → ℕ → Result ℕ Cause → Result ℕ Cause
 checked_combination op x (Ok y) = ok_or (u64_from (combination op x y)) (Overflow None)
 checked_combination op x (Err cause) = Err cause
 
--- the later terms' total with one more, or its fault: `later` has their operator and total so far, `next` precedes it
+-- the total of the later terms after one more term, or the fault of that step. `later` has their operator and their
+-- total so far, and `next` is the operator before the new term
 abbrev pub total_with : Option (CondUnit × ℕ) → CondUnit → Option ℕ → ℕ → Result ℕ Cause
 total_with None next n length = checked_term None n length
 total_with (Some (op, total)) next n length =
     fault_or (unless (is_same_operator op next) (Mixed op next))
     (checked_combination op total (checked_term None n length))
 
--- the operator between the later terms, given their total or its fault
+-- the later terms, given the operator between them and their total, or the fault of that total
 abbrev pub by_operator : CondUnit → Result ℕ Cause → Result (Option (CondUnit × ℕ)) Cause
 by_operator op (Ok total) = Ok (Some (op, total))
 by_operator op (Err cause) = Err cause
 
--- the later terms with one more, or their first fault
+-- the later terms after one more term, or their first fault
 abbrev pub with_term : Result (Option (CondUnit × ℕ)) Cause → CondUnit → Option ℕ → ℕ
     → Result (Option (CondUnit × ℕ)) Cause
 with_term (Ok later) next n length = by_operator next (total_with later next n length)

@@ -13,7 +13,7 @@ use Rattle.duration_str.specs.Internal.Positions.{Between}
 
 -- ---- Sorts
 
--- the sort of an operator, or `Other` without one
+-- the sort of an operator, or `Other` if there is none
 abbrev pub sign_sort : Option CondUnit → TokenStart
 sign_sort (Some op) = sorts.Operator op
 sign_sort None = sorts.Other
@@ -38,12 +38,12 @@ pub record StartsToken (s : Tokens) (sort : TokenStart) : Type 0 where
   pub not_blank : is_blank character ≡ false
   pub is_sort : sort ≡ sort_at (options_of s) character
 
--- A token of this sort is ahead; `None` at the end.
+-- A token of this sort is ahead. `None` means that the end is.
 abbrev pub IsAhead : Tokens → Option TokenStart → Type 0
 IsAhead s None = s.head ≡ None
 IsAhead s (Some sort) = StartsToken s sort
 
--- Blanks are skipped, so the same tokens are left, and a token of this sort is ahead; `None` at the end.
+-- Blanks are skipped, so the same tokens are left, and a token of this sort is ahead. `None` means that the end is.
 pub record LooksAhead (old new : Tokens) (sort : Option TokenStart) : Type 0 where
   pub kept : KeepsInput old new
   pub same_left : tokens_left new ≡ tokens_left old
@@ -60,7 +60,7 @@ pub record LooksForNumber (old new : Tokens) (answer : Bool) : Type 0 where
   pub look : LooksAhead old new sort
   pub is_answer : answer ≡ is_number sort
 
--- The sort is of a single character, neither a digit nor a unit letter.
+-- A token of this sort is a single character that is neither a digit nor a unit letter.
 abbrev pub IsSign : TokenStart → Type 0
 IsSign sorts.Number = ⊥
 IsSign sorts.Word = ⊥
@@ -68,7 +68,7 @@ IsSign _ = ⊤
 
 -- ---- What is taken
 
--- The first token that is left is taken; it starts at the place and stands for this terminal.
+-- The first token that is left is taken. It starts at the place and stands for this terminal.
 pub record TakesToken (old new : Tokens) (terminal : Terminal) : Type 0 where
   pub characters : Characters
   pub kept : KeepsInput old new
@@ -76,19 +76,19 @@ pub record TakesToken (old new : Tokens) (terminal : Terminal) : Type 0 where
   pub between : Between (source old) (cut_place old) (cut_place new) characters
   pub is_terminal : terminal ≡ terminal_of (options_of old) characters
 
--- The first token that is left is taken; it is a number, and `value` is `None` from 2^64 on.
+-- The first token that is left is taken. It is a number, and `value` is `None` if it is 2^64 or more.
 pub record TakesNumber (old new : Tokens) (value : Option ℕ) : Type 0 where
   pub n : ℕ
   pub token : TakesToken old new (number n)
   pub is_value : value ≡ u64_from n
 
--- The first token that is left is taken; it stands for a terminal that has the property.
+-- The first token that is left is taken. It stands for a terminal for which `Has` holds.
 pub record TakesTokenWith (old new : Tokens) (Has : Terminal → Type 0) : Type 0 where
   pub terminal : Terminal
   pub token : TakesToken old new terminal
   pub has : Has terminal
 
--- If a token of a single character is ahead, it is taken; it stands for a terminal of its sort.
+-- If a token of a single character is ahead, it is taken. It stands for a terminal of its sort.
 abbrev pub TakesSign : Tokens → Tokens → Type 0
 TakesSign old new =
     (sort : TokenStart) → IsSign sort → IsAhead old (Some sort)

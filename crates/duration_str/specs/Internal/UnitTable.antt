@@ -1,4 +1,4 @@
--- The code's tables: of units, of names by their packed numbers, and of near words.
+-- The tables in the code: of units, of names by their packed numbers, and of near words.
 use Rattle.std.specs.Prelude.{All, Bool, List, Option, bytes_eq, encode_utf8_all, length, map, not, take, [], ℕ, ◌&&◌, ◌++◌, ◌-◌, ◌/◌, ◌==◌, ◌^◌, ◌∷◌, ◌≡◌}
 use Rattle.std.specs.Char.{is_ascii_whitespace, to_ascii_lowercase}
 use Rattle.std.specs.List.{find, list_any, suffix_len}
@@ -11,7 +11,7 @@ use Rattle.duration_str.specs.Options.{off}
 use Rattle.duration_str.specs.OneLine.{is_among, small_words}
 use Rattle.duration_str.specs.Internal.Positions.{packed_number}
 
--- what is printed of a unit
+-- the row of a unit in the table for printing
 abbrev pub printed_row : TimeUnit → Printed
 printed_row u = record {
   unit = u;
@@ -25,11 +25,11 @@ printed_row u = record {
 abbrev pub units_in : List Printed → List TimeUnit
 units_in rows = map (λ row. row.unit) rows
 
--- the units of a set, given by its bits
+-- the units of a set that is given by its bits
 abbrev pub units_of : ℕ → List TimeUnit
 units_of bits = chosen (record { bits = bits }) units
 
--- Each row is that of its unit.
+-- Each row is the right one for its unit.
 abbrev pub AreRight : List Printed → Type 0
 AreRight rows = All (λ row. row ≡ printed_row row.unit) rows
 
@@ -37,15 +37,15 @@ AreRight rows = All (λ row. row ≡ printed_row row.unit) rows
 abbrev pub all_names : TimeUnit → List Characters
 all_names u = (row_of u).names ++ (row_of u).chinese
 
--- whether a name packs to n
+-- whether the packed number of a name is n
 abbrev pub packs_to : ℕ → Characters → Bool
 packs_to n name = packed_number off name == n
 
--- the unit with a name that packs to n
+-- the unit with a name whose packed number is n
 unfoldable pub unit_of_packed : ℕ → Option TimeUnit
 unit_of_packed n = find (λ u. list_any (packs_to n) (all_names u)) units
 
--- bytes without the spaces after them
+-- the bytes without the spaces at their end
 abbrev pub trimmed : Bytes → Bytes
 trimmed bytes = take (length bytes - suffix_len is_ascii_whitespace bytes) bytes
 
@@ -53,6 +53,6 @@ trimmed bytes = take (length bytes - suffix_len is_ascii_whitespace bytes) bytes
 abbrev pub is_megabyte : Bytes → Bool
 is_megabyte word = is_among small_words (map to_ascii_lowercase word) && not (is_among small_words word)
 
--- whether a word is the one in a row
+-- whether a word is the word in a row of the table, which is filled up with spaces
 abbrev pub is_near : Bytes → Bytes → Bool
 is_near near word = bytes_eq (map to_ascii_lowercase word) (map to_ascii_lowercase (trimmed near))
