@@ -17,20 +17,20 @@ use jiff::SignedDuration;
 use serde_json::Value;
 use std::time::Duration;
 
-/// What can be read from a configuration value.
+/// A type that can be read from a configuration value.
 ///
-/// `Duration` and `SignedDuration` are required values: a text is read by `parse`, and anything else is
-/// `NotText { optional: false }`. Their `Option`s are optional values: null and the empty text are `None`, any other
-/// text is read by `parse`, and anything else is `NotText { optional: true }`.
+/// A `Duration` or `SignedDuration` is a required value: a text is read by `parse`, and any other value is refused as
+/// `NotText { optional: false }`. An `Option` of either is an optional value: null and the empty text are read as
+/// `None`, any other text is read by `parse`, and any other value is refused as `NotText { optional: true }`.
 ///
 /// ```text
 /// Option::<Duration>::deserialize_duration(&Value::Null) // Ok(None)
 /// ```
 pub trait DeserializeDuration<'de>: Sized {
-    /// What the data of a value is read as.
+    /// The result of reading a value with this data.
     ghost gives: { Data → Result Self PlainFault → Type 0 };
 
-    /// Reads the value. A fault of its text borrows that text; the text of a `NotText` fault is empty.
+    /// Reads the value. If its text is refused, the fault borrows that text. The text of a `NotText` fault is empty.
     fn deserialize_duration(value: &'de Value) -> Result<Self, Fault<'de>>
         ensures { gives (view value.now) result };
 }
@@ -45,7 +45,7 @@ fn not_text<'a>(optional: bool) -> Fault<'a>
     }
 }
 
-/// The text to read; `None` if the value says that there is none.
+/// The text of an optional value, or `None` if the value is null or the empty text.
 fn optional_text<'a>(value: &'a Value) -> Result<Option<&'a str>, Fault<'a>>
     ensures some { IfOk result (λ o. IfSome o (λ text.
         (view value.now ≡ string text.now) × (text.now ≢ []))) }
@@ -106,8 +106,8 @@ impl<'de> DeserializeDuration<'de> for Option<SignedDuration> {
     }
 }
 
-/// Reads a configuration value as its type says: a `Duration` or `SignedDuration` is required, an `Option` of one is
-/// not.
+/// Reads a configuration value into the type `T`: a `Duration` or `SignedDuration` is required, and an `Option` of
+/// either is optional.
 ///
 /// ```text
 /// deserialize_duration::<Duration>(&json!(in alloc; "1min+30")?)  // Ok, 90 s
@@ -116,8 +116,8 @@ impl<'de> DeserializeDuration<'de> for Option<SignedDuration> {
 ///
 /// # Errors
 ///
-/// The fault of a text that `parse` refuses; `NotText` for a value that is not a text. If the value is optional, null
-/// and the empty text are not errors but `None`.
+/// It returns the fault of a text that `parse` refuses, and `NotText` for a value that is not a text. If the value is
+/// optional, null and the empty text are no errors: they are read as `None`.
 pub fn deserialize_duration<'de, T: DeserializeDuration<'de>>(
     value: &'de Value,
 ) -> Result<T, Fault<'de>>

@@ -1,4 +1,4 @@
-//! Dates before and after a moment, moved by the value of a text.
+//! Dates before and after a moment, by as much as a text says.
 ghost use Rattle.std.specs.Prelude.{◌≡◌, ◌↔◌, pos, ◌+ℤ◌, ◌-ℤ◌, IsSome, IfSome, IfNone, IsErrAnd, Ok};
 ghost use Rattle.std.specs.Duration.{as_nanos};
 ghost use Rattle.duration_str.specs.Dates.{IsCivil, IsCivilDay, IsDated, IsInRange};
@@ -12,9 +12,10 @@ use jiff::civil::{Date, DateTime};
 use jiff::tz::Offset;
 use std::time::Duration;
 
-/// The moment minus the value of the text, as a date and time in UTC.
+/// Subtracts the value of the text from the moment, and returns the date and time in UTC.
 ///
-/// The text is read by `parse`, and its refusal comes first. `OutOfRange` if the instant is before `Timestamp::MIN`.
+/// The text is read by `parse`. If it is refused, that fault is returned. Otherwise the cause is `OutOfRange` if the
+/// result would be before `Timestamp::MIN`.
 ///
 /// ```text
 /// before_naive_date_time(Timestamp::UNIX_EPOCH, "1ns") // Ok, 1969-12-31T23:59:59.999999999
@@ -26,9 +27,10 @@ pub fn before_naive_date_time(moment: Timestamp, input: &str) -> Result<DateTime
     in_range(earlier(moment, length), input)
 }
 
-/// The moment plus the value of the text, as a date and time in UTC.
+/// Adds the value of the text to the moment, and returns the date and time in UTC.
 ///
-/// The text is read by `parse`, and its refusal comes first. `OutOfRange` if the instant is after `Timestamp::MAX`.
+/// The text is read by `parse`. If it is refused, that fault is returned. Otherwise the cause is `OutOfRange` if the
+/// result would be after `Timestamp::MAX`.
 ///
 /// ```text
 /// after_naive_date_time(Timestamp::UNIX_EPOCH, "180d") // Ok, 1970-06-30T00:00:00
@@ -40,7 +42,7 @@ pub fn after_naive_date_time(moment: Timestamp, input: &str) -> Result<DateTime,
     in_range(later(moment, length), input)
 }
 
-/// The date of `before_naive_date_time`.
+/// Returns the date of what `before_naive_date_time` returns, or the same fault.
 ///
 /// ```text
 /// before_naive_date(Timestamp::UNIX_EPOCH, "90d") // Ok, 1969-10-03
@@ -54,7 +56,7 @@ pub fn before_naive_date(moment: Timestamp, input: &str) -> Result<Date, Fault<'
     }
 }
 
-/// The date of `after_naive_date_time`.
+/// Returns the date of what `after_naive_date_time` returns, or the same fault.
 ///
 /// ```text
 /// after_naive_date(Timestamp::UNIX_EPOCH, "180d") // Ok, 1970-06-30

@@ -1,4 +1,4 @@
-//! Faults as errors that own their text.
+//! Errors that own their line, made from faults.
 ghost use Rattle.std.specs.Prelude.{IfOk, IsOk};
 ghost use Rattle.duration_str.specs.Messages.{IsErrorOf, IsOverflow};
 
@@ -15,7 +15,7 @@ use thiserror::Error;
 /// ```
 #[derive(Debug, PartialEq, Drop, Error)]
 pub enum DError<A: Allocator = Global> {
-    /// Any fault except an overflow, with its line.
+    /// Any fault except an overflow, with the line that says what is wrong.
     #[error("{0}")]
     ParseError(String<A>),
     /// A term, a step of the evaluation or the value is 2^64 nanoseconds or more.
@@ -27,8 +27,8 @@ pub enum DError<A: Allocator = Global> {
 pub type DResult<T> = Result<T, DError>;
 
 impl Fault<'_> {
-    /// The error for this fault. An overflow becomes `OverflowError`, which can't fail. Any other cause becomes
-    /// `ParseError` with the line, which fails only if memory is refused.
+    /// Turns this fault into an error. An overflow becomes `OverflowError`. Any other cause becomes `ParseError` with
+    /// the fault's line, and this fails only if memory for the line is refused.
     ///
     /// ```text
     /// match parse("") {

@@ -19,12 +19,12 @@ pub trait HumanFormat {
     /// The length in nanoseconds.
     ghost nanos: { Self → ℤ };
 
-    /// Whether the length is not negative.
+    /// Returns whether the length can be printed, which means that it is not negative.
     fn is_printable(&self) -> bool
         ensures { IsTrue result ↔ (pos 0 ≤ℤ nanos self.now) };
 
-    /// The printed text of a length that is not negative, at most `MAX_PRINTED_LEN` bytes. Fails only if memory is
-    /// refused.
+    /// Prints a length that is not negative, and returns its text, which has at most `MAX_PRINTED_LEN` bytes. It fails
+    /// only if memory is refused.
     fn human_format<A: Allocator>(&self, alloc: A) -> Result<String<A>, AllocError>
         requires { pos 0 ≤ℤ nanos self.now }
         ensures text { IfOk result (λ text.

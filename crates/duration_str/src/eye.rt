@@ -1,10 +1,10 @@
-//! The only access to the text while it is cut: one character after the other, and every look is counted.
+//! The only access to a text while it is cut into tokens. It takes one character after another, and counts each look.
 ghost use Rattle.std.specs.Prelude.{◌≡◌, ◌+◌, ◌<◌, ◌≤◌, ◌^◌, [], is_some, IfSome, IfNone, if◌then◌else◌, slice_range, IsUtf8, length};
 ghost use Rattle.std.specs.Str.{IsCharBoundary};
 ghost use Rattle.duration_str.specs.Internal.Positions.{Stands, ahead};
 ghost use Rattle.duration_str.specs.Text.{width};
 
-/// A text, and the place up to which it is cut.
+/// A text, the place up to which it is cut into tokens, and the number of looks.
 #[derive(Drop)]
 pub(crate) struct Eye<'a> {
     text: &'a str,
@@ -43,7 +43,7 @@ impl<'a> Eye<'a> {
         self.looks
     }
 
-    /// Looks at the character at the place; `None` at the end of the text.
+    /// Returns the character at the place, or `None` at the end of the text. The look is counted.
     #[inline(always)]
     pub(crate) fn look(&mut self) -> Option<char>
         requires { self.old.looks + 1 < 2 ^ 64 }
@@ -58,7 +58,7 @@ impl<'a> Eye<'a> {
         Some(c)
     }
 
-    /// Moves past the character just looked at.
+    /// Moves the place past `looked_at`, which is the character there.
     #[inline(always)]
     pub(crate) fn step(&mut self, looked_at: char)
         requires { Stands self.old.text.now self.old.place looked_at }
@@ -78,7 +78,7 @@ impl<'a> Eye<'a> {
         &self.text[start..self.place]
     }
 
-    /// The bytes of `since`, without checking character boundaries.
+    /// Returns the bytes of what `since` returns, without checking character boundaries.
     #[inline(always)]
     pub(crate) fn bytes_since(&self, start: usize) -> &'a [u8]
         requires order { start ≤ self.now.place }

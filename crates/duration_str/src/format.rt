@@ -1,4 +1,4 @@
-//! How a duration is printed: in which units, in so many parts at most, and in a style.
+//! How a duration is printed: its units, the greatest number of parts, and the style.
 ghost use Rattle.std.specs.Prelude.{◌≡◌, ◌==◌, ◌&&◌, ◌||◌, ◌<◌, ◌≤◌, None, Some, nat_le, not};
 ghost use Rattle.duration_str.specs.declared.unit.TimeUnit.{TimeUnit};
 ghost use Rattle.duration_str.specs.Units.{nanos_of};
@@ -6,10 +6,11 @@ ghost use Rattle.duration_str.specs.Limits.{down_to, intersection, is_in, is_one
 
 use crate::unit::{TimeUnit, UNITS};
 
-/// How a duration is printed: the units, the greatest number of parts, and the style.
+/// How a duration is printed: the units, the greatest number of parts, and the style. A part is a count with its unit,
+/// such as `3min`.
 ///
-/// Start from [`Format::whole`], since a later version may have more fields. `largest`, `smallest`, `only` and `without`
-/// each take units out of the set. So their order does not matter, and none brings a unit back.
+/// Start from [`Format::whole`], since a later version may have more fields. `largest`, `smallest`, `only` and
+/// `without` each take units out of the set. So their order does not matter, and none of them brings a unit back.
 ///
 /// ```
 /// use duration_str::{Format, STYLED_BUFFER_SIZE, TimeUnit, write_within};
@@ -21,9 +22,9 @@ use crate::unit::{TimeUnit, UNITS};
 /// ```
 #[derive(Clone, Copy, Debug, PartialEq, Eq, Hash)]
 pub struct Format {
-    /// The units that are printed. If there are none, every duration prints as the zero, `0s`.
+    /// The units that are printed. If the set is empty, every duration prints as `0s`.
     pub units: Units,
-    /// The greatest number of parts. If it is 0, every duration prints as the zero.
+    /// The greatest number of parts. If it is 0, every duration prints as a duration of 0 does.
     pub parts: usize,
     /// How the parts are written.
     pub style: Style,
@@ -43,7 +44,7 @@ pub struct Format {
 /// ```
 #[derive(Clone, Copy, Debug, PartialEq, Eq, Hash)]
 pub struct Units {
-    /// The bit 2^n is that of the unit than which n are longer.
+    /// The bit 2^n says whether the set has the unit at index n of `UNITS`.
     bits: u16,
 }
 
@@ -54,8 +55,9 @@ impl Units {
     /// No unit.
     pub const NONE: Units = Units { bits: 0 };
 
-    /// The set of the units of these bits. The bit 2^n is that of the unit than which n are longer: 1 for the year, 2 for
-    /// the quarter, and 1,024 for the nanosecond. `None` if a bit is above that of the nanosecond.
+    /// Returns the set that these bits stand for. The bit 2^n stands for the unit at index n of `UNITS`: 1 is the year,
+    /// 2 is the quarter, and 1,024 is the nanosecond. The result is `None` if a bit above that of the nanosecond is
+    /// set.
     ///
     /// ```
     /// use duration_str::{TimeUnit, Units};
@@ -77,7 +79,7 @@ impl Units {
         }
     }
 
-    /// The bits of the units in the set, which [`Units::from_bits`] takes.
+    /// Returns the bits that stand for the set, as [`Units::from_bits`] takes them.
     ///
     /// ```
     /// use duration_str::Units;
@@ -92,7 +94,7 @@ impl Units {
         self.bits
     }
 
-    /// The set of these units. Their order does not matter, and a unit may be among them twice.
+    /// Returns the set of these units. Their order does not matter, and a unit may occur twice.
     ///
     /// ```
     /// use duration_str::{TimeUnit, Units};
@@ -114,7 +116,7 @@ impl Units {
         set
     }
 
-    /// The units that are in both sets.
+    /// Returns the units that are in both sets.
     #[inline]
     const fn intersection(self, other: Units) -> Units
         ensures value { result ≡ intersection self other }
@@ -125,7 +127,7 @@ impl Units {
         }
     }
 
-    /// Whether the unit is in the set.
+    /// Returns whether the unit is in the set.
     ///
     /// ```
     /// use duration_str::{TimeUnit, Units};
@@ -141,7 +143,7 @@ impl Units {
         self.bits >> unit.rank() & 1 == 1
     }
 
-    /// The set with this unit too.
+    /// Returns the set with this unit added.
     ///
     /// ```
     /// use duration_str::{TimeUnit, Units};
@@ -160,7 +162,7 @@ impl Units {
         }
     }
 
-    /// The set without this unit.
+    /// Returns the set without this unit.
     ///
     /// ```
     /// use duration_str::{TimeUnit, Units};
@@ -179,7 +181,7 @@ impl Units {
         }
     }
 
-    /// The set without the units that are longer than this one.
+    /// Returns the set without the units that are longer than this one.
     #[inline]
     pub(crate) const fn up_to(self, largest: TimeUnit) -> Units
         ensures value { result ≡ up_to largest self }
@@ -191,7 +193,7 @@ impl Units {
         }
     }
 
-    /// The set without the units that are shorter than this one.
+    /// Returns the set without the units that are shorter than this one.
     #[inline]
     const fn down_to(self, smallest: TimeUnit) -> Units
         ensures value { result ≡ down_to smallest self }
@@ -216,8 +218,8 @@ pub enum Style {
 }
 
 impl Format {
-    /// All units, as many parts as there are units, and the short style. With it everything is
-    /// printed, as `write_human` prints it.
+    /// Returns the format with all units, 11 parts and the short style. It leaves nothing out: a
+    /// duration prints as `write_human` prints it.
     ///
     /// ```
     /// assert_eq!(duration_str::Format::whole().parts, 11);
@@ -233,7 +235,7 @@ impl Format {
         }
     }
 
-    /// The same format without the units that are not among these.
+    /// Returns the same format without the units that are not in this list.
     ///
     /// ```
     /// use duration_str::{Format, STYLED_BUFFER_SIZE, TimeUnit, write_within};
@@ -254,7 +256,7 @@ impl Format {
         }
     }
 
-    /// The same format without this unit.
+    /// Returns the same format without this unit.
     ///
     /// ```
     /// use duration_str::{Format, STYLED_BUFFER_SIZE, TimeUnit, write_within};
@@ -275,7 +277,7 @@ impl Format {
         }
     }
 
-    /// The same format without the units that are longer than this one.
+    /// Returns the same format without the units that are longer than this one.
     ///
     /// ```
     /// use duration_str::{Format, STYLED_BUFFER_SIZE, TimeUnit, write_within};
@@ -295,7 +297,7 @@ impl Format {
         }
     }
 
-    /// The same format without the units that are shorter than this one.
+    /// Returns the same format without the units that are shorter than this one.
     ///
     /// ```
     /// use duration_str::{Format, STYLED_BUFFER_SIZE, TimeUnit, write_within};
@@ -317,7 +319,7 @@ impl Format {
         }
     }
 
-    /// The same format with at most so many parts.
+    /// Returns the same format with at most `parts` parts.
     ///
     /// ```
     /// use duration_str::{Format, STYLED_BUFFER_SIZE, write_within};
@@ -334,7 +336,7 @@ impl Format {
         Format { parts, ..self }
     }
 
-    /// The same format in this style.
+    /// Returns the same format in this style.
     ///
     /// ```
     /// use duration_str::{Format, STYLED_BUFFER_SIZE, Style, write_within};
@@ -351,7 +353,8 @@ impl Format {
         Format { style, ..self }
     }
 
-    /// The unit of a zero: the smallest, or the second if that is shorter or there is none.
+    /// The unit with which a zero is printed: the smallest unit of the format. If that unit is
+    /// shorter than a second, or the format has no unit, it is the second.
     #[inline]
     pub(crate) fn zero_unit(self) -> TimeUnit
         ensures { result ≡ zero_unit (units_within self) }

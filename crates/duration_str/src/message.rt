@@ -1,4 +1,4 @@
-//! The message of a fault, and how one is laid out.
+//! The message of a fault, and its layout.
 ghost use Rattle.std.specs.Prelude.{◌≡◌, ◌≤◌, ◌-◌, ◌^◌, ◌++◌, ◌<◌, None, Some, IfSome, IfNone, IsUtf8, length, take, replicate, decimal, encode_utf8_all};
 ghost use Rattle.std.specs.Fmt.{DisplaysOnOk, DisplaysStyledOnOk};
 ghost use Rattle.std.specs.Str.{IsCharBoundary};
@@ -27,8 +27,9 @@ impl Fault<'_> {
     }
 }
 
-/// The line that says what is wrong. If the fault has a place, the text and a caret under the place are printed above
-/// it; or, if the text has a line feed, the byte offset is printed before it: `byte 5: expected number`.
+/// Prints the line that says what is wrong. If the fault has a place, the text and a caret under the place are printed
+/// above the line. But if the text has a line feed, the place is printed before the line instead, as in
+/// `byte 5: expected number`.
 ///
 /// ```text
 /// 3ms-2ms
@@ -48,8 +49,8 @@ impl fmt::Display for Fault<'_> {
         if let Layout::Line = layout {
             return f.write_str(line);
         }
-        // Most messages are short. One call of a formatter takes less time than several, and no more memory than the
-        // message is long.
+        // Most messages are short and fit into this buffer. Then one call of the formatter is enough, which takes less
+        // time than several.
         match layout.message(&mut [0; 256], self.text, line) {
             Some(message) => f.write_str(message),
             None => layout.write(f, self.text, line),
@@ -139,7 +140,8 @@ fn put_caret(buffer: &mut [u8], text: &str, spaces: usize, line: &str) -> Option
     put(buffer, line_start, line.as_bytes())
 }
 
-/// Writes a part after the first `at` bytes, and returns where it ends; `None` if there is no room.
+/// Writes a part after the first `at` bytes of the buffer. Returns where the part ends, or `None`
+/// if there is no room for it.
 pub(crate) fn put(buffer: &mut [u8], at: usize, part: &[u8]) -> Option<usize>
     requires { at ≤ length buffer.old }
     ensures { IsWritten (take at buffer.old ++ part.now) buffer.old result buffer.new }
@@ -177,7 +179,7 @@ pub(crate) fn put_decimal(buffer: &mut [u8], at: usize, number: usize) -> Option
     put(buffer, at, &digits[..end])
 }
 
-/// This many spaces, written in runs.
+/// Prints as this many spaces, up to 64 at a time.
 #[derive(Clone, Copy)]
 struct Spaces(usize);
 

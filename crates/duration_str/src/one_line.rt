@@ -1,7 +1,7 @@
 //! A fault in one line: what is wrong, at which column, and what stands there.
 //!
-//! Each function that writes returns the index where its part ends, or `None` if there is no room. So no contract bounds
-//! what stands before a part. One proof, for the whole line, shows that everything fits.
+//! Each function that writes returns the index where its part ends, or `None` if there is no room. So no contract has
+//! to bound what is in the buffer before a part. One proof, for the whole line, shows that everything fits.
 ghost use Rattle.std.specs.Prelude.{◌≡◌, ◌≤◌, ◌++◌, ◌-◌, ◌&&◌, ◌==◌, not, slice_index, length, take, map, encode_utf8_all, IsTrue, ◌||◌, None, if◌then◌else◌};
 ghost use Rattle.std.specs.Char.{to_ascii_lowercase};
 ghost use Rattle.std.specs.Char.Escape.{escape_default};
@@ -22,7 +22,7 @@ use crate::fault::Fault;
 use crate::message::{chars_before, put, put_decimal};
 use crate::token::is_blank;
 
-/// A line has no more bytes than this.
+/// The most bytes that a line has.
 ///
 /// ```
 /// use duration_str::{MAX_ONE_LINE_LEN, ONE_LINE_BUFFER_SIZE, Options, parse_with};
@@ -33,16 +33,17 @@ use crate::token::is_blank;
 /// ```
 pub const MAX_ONE_LINE_LEN: usize = 294;
 
-/// The size of a buffer for a line.
+/// The size of a buffer that has room for every line.
 pub const ONE_LINE_BUFFER_SIZE: usize = 384;
 
-/// The most characters that are shown of a text.
+/// The most characters of a quote.
 const MOST_SHOWN: usize = 40;
 
 impl Fault<'_> {
-    /// Writes the fault in one line to the start of a buffer, whatever the buffer holds: what is
-    /// wrong, at which column, and what stands there. At most 40 characters show the text.
-    /// Characters that aren't safe or can't be seen are escaped. Allocates nothing and cannot fail.
+    /// Writes the fault in one line to the start of a buffer, and returns the line. It says what is
+    /// wrong, at which column, and what stands there. It quotes the text in at most 40 characters,
+    /// and escapes characters that aren't safe in a line or can't be seen. What the buffer held
+    /// before does not matter. The call allocates nothing and cannot fail.
     ///
     /// ```
     /// use duration_str::{ONE_LINE_BUFFER_SIZE, Options, parse_with};
@@ -173,7 +174,8 @@ fn put_text(buffer: &mut [u8], at: usize, text: &str) -> Option<usize>
     put(buffer, at, text.as_bytes())
 }
 
-/// Writes as much of a text in quotes as fits into 40 characters. Most texts are short and shown as they are.
+/// Writes a text in quotes, cut to what fits into 40 characters. Most texts are short and need no escapes, so they are
+/// copied whole.
 #[inline(never)]
 fn put_quoted(buffer: &mut [u8], at: usize, text: &str) -> Option<usize>
     requires { at ≤ length buffer.old }
@@ -197,7 +199,7 @@ fn put_quoted(buffer: &mut [u8], at: usize, text: &str) -> Option<usize>
     put(buffer, end, b"\"")
 }
 
-/// Whether all of these bytes are characters of ASCII that are quoted as they are.
+/// Whether all of these bytes are ASCII characters that need no escape.
 fn are_clear(bytes: &[u8]) -> bool
     ensures { result ≡ list_all (λ b. is_in_range 32 126 b && not (b == 34 || b == 92)) bytes.now }
 {
@@ -240,7 +242,8 @@ fn put_escaped(buffer: &mut [u8], at: usize, c: char) -> Option<usize>
     Some(end)
 }
 
-/// The digits or letters that a text begins with, or its first character; at most one character more than is shown.
+/// The run of digits or of letters at the start of a text, or its first character if that is neither. A run is cut to
+/// 41 characters, one more than a quote shows.
 fn first_piece(text: &str) -> &str
     ensures { chars result.now ≡ first_piece (chars text.now) }
 {
@@ -275,7 +278,8 @@ fn begins_with_letter(text: &str) -> bool
     }
 }
 
-/// An ASCII letter, or a plain character beyond ASCII that is no sign.
+/// Whether a character is an ASCII letter, or a character beyond ASCII that is plain and is no
+/// sign.
 #[inline(never)]
 fn is_letter(c: char) -> bool
     ensures { result ≡ is_letter c }
@@ -294,7 +298,7 @@ pub(crate) fn is_clear(c: char) -> bool
     is_plain(c) && c != '"' && c != '\\'
 }
 
-/// Whether a character is safe and seen within a line.
+/// Whether a character is plain: safe in a line, and seen.
 #[inline(always)]
 fn is_plain(c: char) -> bool
     ensures { result ≡ is_plain c }
@@ -302,7 +306,7 @@ fn is_plain(c: char) -> bool
     c >= ' ' && (c <= '~' || !is_hidden(c))
 }
 
-/// Whether a character after those of ASCII that are printed isn't safe or isn't seen.
+/// Whether a character after `~` is not plain.
 #[inline(never)]
 fn is_hidden(c: char) -> bool
     requires { 127 ≤ c }
@@ -339,7 +343,8 @@ fn expected_words(expected: Expected) -> &'static str
     }
 }
 
-/// The help for a word that is no unit: the name that it is near, or the help for its place, or all units.
+/// Writes the help for a word that is no unit. It is the name that the word is near; or, if there is none, the help for
+/// the word's place; or, if there is none either, the names of all units.
 fn put_unit_help(buffer: &mut [u8], at: usize, word: &str, help: &str) -> Option<usize>
     requires { at ≤ length buffer.old }
     ensures { IsInFront (take at buffer.old ++ unit_help (near_name word.now) help.now)
@@ -370,7 +375,7 @@ fn put_name_help(buffer: &mut [u8], at: usize, name: &[u8]) -> Option<usize>
     put(buffer, end, b"\"?)")
 }
 
-/// The row of a word for which a name is advised.
+/// The row of `NEAR_WORDS` for a word, if it has one.
 fn near_row(word: &str) -> Option<([u8; 9], [u8; 3])>
     ensures { result ≡ (if is_megabyte word.now then None
         else find (λ row. is_near row.0 word.now) NEAR_WORDS) }
@@ -387,7 +392,8 @@ fn row_beside(word: &str) -> Option<([u8; 9], [u8; 3])>
     NEAR_WORDS.iter().copied().find(|row| is_near(&row.0, word))
 }
 
-/// Whether a word is `mo` or `mos` with a capital: `Mo` is a megabyte too.
+/// Whether a word is `mo` or `mos` with a capital. No name is advised for these, since `Mo` is a
+/// megabyte.
 fn is_megabyte(word: &str) -> bool
     ensures { result ≡ is_megabyte word.now }
 {
@@ -400,8 +406,9 @@ fn is_near(near: &[u8; 9], word: &str) -> bool
     word.as_bytes().eq_ignore_ascii_case(near.trim_ascii_end())
 }
 
-/// The words that people write for a unit and that aren't read, each with the name to write, and spaces after both:
-/// texts, which have addresses, would make a program larger. The words after `micros` have a Greek mu.
+/// The words that people write for a unit but that aren't read, each with the name to write instead. Both are filled up
+/// with spaces to a fixed length, since string slices have addresses, which would make a program larger. The words
+/// after `micros` have a Greek mu.
 static NEAR_WORDS: [([u8; 9], [u8; 3]); 28] = [
     (*b"usecs    ", *b"us "),
     (*b"useconds ", *b"us "),
@@ -433,7 +440,7 @@ static NEAR_WORDS: [([u8; 9], [u8; 3]); 28] = [
     (*b"nanos    ", *b"ns "),
 ];
 
-/// Whether a word is this one, apart from ASCII capitals.
+/// Whether `word` is `name`, if ASCII capitals are read as small letters.
 fn is_word(word: &str, name: &str) -> bool
     ensures { result ≡ bytes_eq (map to_ascii_lowercase word.now)
         (map to_ascii_lowercase name.now) }
@@ -441,7 +448,8 @@ fn is_word(word: &str, name: &str) -> bool
     word.eq_ignore_ascii_case(name)
 }
 
-/// The help for the piece at a place; otherwise nothing. Only after a unit can both a number and the end stand.
+/// The help for the piece at a place, or an empty text if there is none. The place is after a unit exactly if both a
+/// number and the end could stand there.
 fn help_at(expected: Expected, text: &[u8], place: usize, piece: &str) -> &'static str
     requires { place ≤ length text.now }
     ensures { result.now ≡ help_at expected text.now place piece.now }
@@ -465,7 +473,7 @@ fn help_at(expected: Expected, text: &[u8], place: usize, piece: &str) -> &'stat
     }
 }
 
-/// The help for a piece that is first but for blanks; nothing for other pieces.
+/// The help for a piece with nothing before it except blanks, or an empty text if there is none.
 fn first_help(piece: &str, next: u8) -> &'static str
     ensures { result.now ≡ first_help piece.now next }
 {
@@ -481,7 +489,7 @@ fn first_help(piece: &str, next: u8) -> &'static str
     }
 }
 
-/// The help for a piece after a digit; nothing for other pieces.
+/// The help for a piece after a digit, or an empty text if there is none.
 fn digit_help(piece: &str, next: u8) -> &'static str
     ensures { result.now ≡ digit_help piece.now next }
 {

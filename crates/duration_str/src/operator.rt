@@ -20,7 +20,7 @@ pub enum CondUnit {
 }
 
 impl CondUnit {
-    /// The operator that a character stands for, if any.
+    /// Returns the operator that a character stands for, if any.
     ///
     /// ```
     /// use duration_str::CondUnit;
@@ -40,7 +40,7 @@ impl CondUnit {
     }
 }
 
-/// `+` or `*`.
+/// Prints `+` or `*`.
 impl fmt::Display for CondUnit {
     ghost output = { λ operator. Some (sign_of operator) };
 

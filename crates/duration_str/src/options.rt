@@ -1,4 +1,4 @@
-//! The choice of options.
+//! The options for reading.
 ghost use Rattle.std.specs.Prelude.{◌≡◌, ◌↔◌, IsTrue};
 ghost use Rattle.duration_str.specs.Options.{off};
 
@@ -15,16 +15,17 @@ ghost use Rattle.duration_str.specs.Options.{off};
 /// ```
 #[derive(Clone, Copy, Debug, PartialEq, Eq, Hash)]
 pub struct Options {
-    /// Operators are not read; terms are added one by one.
+    /// `+` and `*` are not read, and the terms are added one by one.
     pub no_calc: bool,
-    /// Units are compared as written. Without this option ASCII capitals are read as small letters.
+    /// Capitals are not read as small letters. Without this option ASCII capitals are, so `1M` is a
+    /// minute.
     pub lowercase: bool,
     /// The Chinese names of the units are read too.
     pub cn_unit: bool,
 }
 
 impl Options {
-    /// All options off.
+    /// Returns options that are all off.
     ///
     /// ```
     /// assert!(!duration_str::Options::off().no_calc);
@@ -40,7 +41,7 @@ impl Options {
         }
     }
 
-    /// Whether all options are off.
+    /// Returns whether all options are off.
     ///
     /// ```
     /// assert!(duration_str::Options::off().are_off());

@@ -1,10 +1,10 @@
 //! Durations printed for people, such as `3min 13s 29ms`: whole, or within limits and in a style.
 //!
-//! The text has the greatest possible count of the largest unit, then the greatest count of the next in what is left,
-//! and so on down to the smallest unit, or until there are as many parts as were asked for. Counts of 0 are left out,
-//! and so is what remains at the end. The duration 0 is `0s`.
+//! The text has the greatest possible count of the largest unit, then the greatest count of the next unit in what is
+//! left, and so on down to the smallest unit, or until there are as many parts as were asked for. Counts of 0 are left
+//! out, and so is what remains at the end. A duration of 0 is `0s`.
 //!
-//! A function that writes begins after the first `at` bytes of the buffer, and returns where its part ends.
+//! Each function that writes begins after the first `at` bytes of the buffer, and returns where its part ends.
 ghost use Rattle.std.specs.Prelude.{ℕ, IfNone, IfSome, List, ◌≡◌, ◌+◌, ◌-◌, ◌<◌, ◌≤◌, ◌++◌, ◌^◌, ◌∷◌, [], take, length, decimal, encode_utf8_all, chars, IsUtf8, map, true, unwrap_or};
 ghost use Rattle.std.specs.Duration.{as_nanos};
 ghost use Rattle.duration_str.specs.declared.format.Style.{Style};
@@ -37,12 +37,13 @@ use std::time::Duration;
 /// ```
 pub const MAX_PRINTED_LEN: usize = 60;
 
-/// The size of the buffer for `write_human`. It has room for the longest text, and for four bytes
-/// of the last name's row.
+/// The size of the buffer for `write_human`. It has room for the longest text and four more bytes,
+/// since every name is copied as four bytes.
 pub const FORMAT_BUFFER_SIZE: usize = 64;
 
-/// Prints a duration to the start of a buffer, whatever the buffer holds. The text has at most
-/// `MAX_PRINTED_LEN` bytes; bytes after it may change too. Allocates nothing and cannot fail.
+/// Prints a duration to the start of a buffer, and returns the text. What the buffer held before
+/// does not matter. The text has at most `MAX_PRINTED_LEN` bytes, and bytes after it may change
+/// too. The call allocates nothing and cannot fail.
 ///
 /// ```
 /// use duration_str::{FORMAT_BUFFER_SIZE, write_human};
@@ -62,24 +63,26 @@ pub fn write_human<'b>(d: &Duration, buffer: &'b mut [u8; FORMAT_BUFFER_SIZE]) -
     printed(buffer, end)
 }
 
-/// The most bytes in a printed duration of the long style:
+/// The length in bytes of the longest printed duration in the long style:
 /// `100000000000 years 3 quarters 2 months 3 weeks 6 days 23 hours 59 minutes 59 seconds 999 milliseconds
 /// 999 microseconds 999 nanoseconds`.
 pub const MAX_LONG_LEN: usize = 134;
 
-/// The size of the buffer for `write_within`, with the same room in every style.
+/// The size of the buffer for `write_within`. It is the same for all styles.
 pub const STYLED_BUFFER_SIZE: usize = 144;
 
-/// Prints a duration within limits and in a style to the start of a buffer, whatever the buffer
-/// holds.
+/// Prints a duration in this format to the start of a buffer, and returns the text. What the buffer
+/// held before does not matter.
 ///
-/// The text is the lexicographically greatest breakdown, with only these units and at most so many
-/// parts, that is not above the duration. If all its counts are 0, the text is the zero: `0` and
-/// the smallest unit's name, or the second's name if that unit is shorter than a second. Every
-/// duration prints as the zero if there are no units, which is `0s`, or no parts.
+/// The text has as many of the format's largest unit as fit, then as many of the next one, and so
+/// on, until it has `format.parts` parts. (It is the lexicographically greatest breakdown that has
+/// only the format's units and at most that many parts, and is not above the duration.) If all
+/// counts are 0, the text is `0` and the name of the smallest unit, or of the second if the
+/// smallest unit is shorter than that. A format without units prints every duration as `0s`. A
+/// format with 0 parts prints every duration as it prints a duration of 0.
 ///
-/// The text has at most `MAX_PRINTED_LEN` bytes, in the long style `MAX_LONG_LEN`; bytes after it
-/// may change too. Allocates nothing and cannot fail.
+/// The text has at most `MAX_PRINTED_LEN` bytes, or `MAX_LONG_LEN` in the long style. Bytes after
+/// it may change too. The call allocates nothing and cannot fail.
 ///
 /// ```
 /// use duration_str::{Format, STYLED_BUFFER_SIZE, Style, TimeUnit, write_within};
@@ -135,7 +138,8 @@ pub(crate) fn put_number(buffer: &mut [u8], at: usize, n: u64) -> usize
     put_digit(buffer, end, n % 10)
 }
 
-/// Without a branch, since nobody can foresee whether there are two digits: of one alone the place is written twice.
+/// Writes a number of one or two digits. It has no branch, since a branch on the number of digits can't be predicted: a
+/// single digit is written twice to the same place.
 #[inline(always)]
 #[tactic(auto, using(crate::proofs::Printer::DigitLemmas::put_steps))]
 fn put_tens(buffer: &mut [u8], at: usize, n: u64) -> usize
@@ -150,7 +154,7 @@ fn put_tens(buffer: &mut [u8], at: usize, n: u64) -> usize
     put_digit(buffer, last, n - 10 * tens)
 }
 
-/// The same with up to three digits.
+/// Writes a number of up to three digits, as `put_tens` does.
 #[inline(always)]
 #[tactic(auto, using(crate::proofs::Printer::DigitLemmas::put_steps))]
 fn put_hundreds(buffer: &mut [u8], at: usize, n: u64) -> usize
@@ -165,7 +169,7 @@ fn put_hundreds(buffer: &mut [u8], at: usize, n: u64) -> usize
     put_digit(buffer, last, n - 10 * tens)
 }
 
-/// Most counts have up to three digits, which need no call.
+/// Writes a number of any length. Most counts have up to three digits, for which it makes no call.
 #[inline(always)]
 #[tactic(auto, using(crate::proofs::Printer::DigitLemmas::put_steps))]
 fn put_count(buffer: &mut [u8], at: usize, n: u64) -> usize
@@ -195,7 +199,7 @@ fn put_str(buffer: &mut [u8], at: usize, text: &str) -> usize
     end
 }
 
-/// Writes what stands between two parts, unless there is none before.
+/// Writes the space between two parts, unless this is the first part or the style is compact.
 #[inline(always)]
 fn put_gap(buffer: &mut [u8], at: usize, style: Style) -> usize
     requires room { at < length buffer.old }
@@ -222,7 +226,8 @@ fn put_wide(buffer: &mut [u8], at: usize, n: u128) -> usize
     put_digit(buffer, end, (n % 10) as u64)
 }
 
-/// Copies each name with what follows it in four bytes, which takes no call and no branch.
+/// Writes a unit's printed name. It copies four bytes, the name and the spaces after it in the row,
+/// which takes no call and no branch.
 #[tactic(auto, using(crate::proofs::Printer::LimitsLemmas::name_copied, crate::proofs::Printer::LimitsLemmas::name_spaced))]
 #[inline(always)]
 fn put_name(buffer: &mut [u8], at: usize, row: &Printed) -> usize
@@ -284,7 +289,8 @@ fn put_part(buffer: &mut [u8], at: usize, count: u64, row: &Printed, style: Styl
     put_name_in(buffer, end, row, count == 1, style)
 }
 
-/// The row of the longest unit of a set, which is given by its bits, and the bits of the others.
+/// The row of the longest unit of a set, and the bits of the set's other units. The set is given by
+/// its bits.
 #[inline(always)]
 fn longest(bits: u32) -> Option<(&'static Printed, u32)>
     ensures right { IfSome result (λ first. first.0.now ≡ printed_row first.0.now.unit) }
@@ -299,7 +305,7 @@ fn longest(bits: u32) -> Option<(&'static Printed, u32)>
     Some((&PRINTED[rank as usize], bits & !(1 << rank)))
 }
 
-/// Writes at most `most` parts of so many nanoseconds in the units of these rows.
+/// Writes this many nanoseconds in the units of these rows, in at most `most` parts.
 #[inline(never)]
 fn put_all(
     buffer: &mut [u8],
@@ -337,7 +343,8 @@ fn put_all(
     end
 }
 
-/// Writes such parts in the units of a set: over its bits, since it may lack many units.
+/// Writes this many nanoseconds in the units of a set, in at most `most` parts. It goes over the
+/// set's bits, since the set may lack many units.
 #[inline(never)]
 fn put_chosen(
     buffer: &mut [u8],
@@ -376,8 +383,8 @@ fn put_chosen(
     end
 }
 
-/// The rows of the units in which so many nanoseconds can be printed. Most durations are below a day, and have no longer
-/// units to look for.
+/// The rows of the units that this many nanoseconds can be printed in. Most durations are below a day, so that the
+/// longer units need not be tried.
 #[inline(always)]
 fn rows_for(nanos: u64) -> &'static [Printed]
     ensures right { AreRight result.now }
@@ -391,7 +398,7 @@ fn rows_for(nanos: u64) -> &'static [Printed]
     &PRINTED
 }
 
-/// The set, without longer units for a duration below a day.
+/// The set, without the units longer than an hour if the duration is below a day.
 #[inline(always)]
 fn set_for(nanos: u64, set: Units) -> Units
     ensures { (style : Style) (bytes : List ℕ) (most : ℕ)
@@ -404,7 +411,8 @@ fn set_for(nanos: u64, set: Units) -> Units
     set
 }
 
-/// Writes such parts in the units of a set. All units take less time.
+/// Writes this many nanoseconds in the units of a set, in at most `most` parts. The set of all
+/// units takes less time than others.
 #[inline(always)]
 fn put_parts(
     buffer: &mut [u8],
@@ -427,8 +435,8 @@ fn put_parts(
     put_chosen(buffer, at, set_for(nanos, set), most, nanos, style)
 }
 
-/// Writes a part and a space after it, which stay only if the count is not 0: without a branch, since nobody can foresee
-/// whether it is.
+/// Writes a part and a space after it. If the count is 0, it returns `at`, so that the next part is written over this
+/// one. It has no branch, since nobody can predict which counts are 0.
 #[inline(always)]
 fn put_spaced(buffer: &mut [u8], at: usize, count: u32, unit: TimeUnit) -> usize
     requires short { count < 1000 }
@@ -445,8 +453,8 @@ fn put_spaced(buffer: &mut [u8], at: usize, count: u32, unit: TimeUnit) -> usize
     if count == 0 { at } else { at + next }
 }
 
-/// Writes all parts of a duration below a day. Each count is a quotient of the seconds or of the nanoseconds, none of which
-/// waits for the one before.
+/// Writes all parts of a duration below a day. Each count is computed from the seconds or from the nanoseconds, so that
+/// none has to wait for the count before it.
 #[inline(never)]
 fn put_below_day(buffer: &mut [u8], d: Duration) -> usize
     requires short { as_nanos d < nanos_of Day }
@@ -472,7 +480,7 @@ fn put_below_day(buffer: &mut [u8], d: Duration) -> usize
     end.saturating_sub(1)
 }
 
-/// Writes the first part, whose count may be above 64 bits.
+/// Writes the first part, whose count may need more than 64 bits.
 #[inline(always)]
 fn put_first(buffer: &mut [u8], count: u128, row: &Printed, style: Style) -> usize
     requires right { row.now ≡ printed_row row.now.unit }
@@ -485,7 +493,8 @@ fn put_first(buffer: &mut [u8], count: u128, row: &Printed, style: Style) -> usi
     put_name_in(buffer, end, row, count == 1, style)
 }
 
-/// Writes the parts of 2^64 nanoseconds or more: the first one leaves less than that.
+/// Writes a duration of 2^64 nanoseconds or more in the units of a set. What the first part leaves
+/// is below 2^64.
 #[inline(never)]
 fn put_long(buffer: &mut [u8], set: Units, most: usize, nanos: u128, style: Style) -> usize
     requires long { 2 ^ 64 ≤ nanos }
@@ -513,7 +522,7 @@ fn put_within(buffer: &mut [u8], format: Format, d: Duration) -> usize
         ≡ with_parts format.style [] (units_within format) format.parts (as_nanos d) }
     ensures end { result ≤ length buffer.old }
 {
-    // The zero has no parts to look for.
+    // A duration of 0 has no parts.
     if d.is_zero() {
         return 0;
     }

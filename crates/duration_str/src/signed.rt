@@ -1,4 +1,4 @@
-//! Texts as signed durations, and signed durations printed.
+//! Signed durations, read from texts and printed.
 ghost use Rattle.std.specs.Prelude.{◌≡◌, pos, ◌^◌, ◌<◌};
 ghost use Rattle.std.specs.Duration.{as_nanos};
 ghost use Rattle.jiff.specs.Words.{signed_nanos};
@@ -11,7 +11,7 @@ use jiff::SignedDuration;
 use std::alloc::{AllocError, Allocator};
 use std::time::Duration;
 
-/// A signed duration is printed as its length, unless it is negative.
+/// A signed duration that is not negative is printed as its length.
 impl HumanFormat for SignedDuration {
     ghost nanos = { signed_nanos };
 
@@ -31,7 +31,8 @@ fn to_signed(length: Duration) -> SignedDuration
     SignedDuration::from_nanos_i128(length.as_nanos() as i128)
 }
 
-/// Reads a text as `parse` does, into a signed duration, which can hold every value of a text.
+/// Reads a text as `parse` does, and returns a signed duration, which can hold the value of every
+/// text.
 ///
 /// ```text
 /// parse_chrono("1h+30s") // Ok(SignedDuration::from_secs(3_630))

@@ -1,10 +1,11 @@
 // Made by tools/erase of crates/duration_str/src/cause.rt.
-//! Why a text is refused: what could stand at the place of a syntax fault, the cause, and its line.
+//! Why a text is refused: the cause, the line that says so, and what could stand at the place of a
+//! syntax fault.
 
 use crate::operator::CondUnit;
 use crate::unit::TimeUnit;
 
-/// What could stand at the place of a syntax fault.
+/// What could stand at the place of a syntax fault. Each field says whether one kind of item could.
 ///
 /// ```
 /// use duration_str::{Cause, Options, parse_with};
@@ -26,7 +27,7 @@ pub struct Expected {
 }
 
 impl Expected {
-    /// What can start a text, or follow an operator.
+    /// What can stand at the start of a text or after an operator: a number.
     #[inline(always)]
     pub(crate) fn at_start() -> Expected {
         Expected {
@@ -72,27 +73,27 @@ pub enum Cause {
     Empty,
     /// The text stops being valid at `place`.
     Syntax {
-        /// Where the first token is that can't follow the text before it, or the length of the
-        /// text.
+        /// The byte at which the first token starts that can't follow the text before it. If there
+        /// is no such token, it is the length of the text.
         place: usize,
-        /// What could stand there.
+        /// What could stand at `place`.
         expected: Expected,
     },
     /// A number is 2^64 or more.
     NumberTooLarge {
-        /// 0 for the first number, or `None` for a later one.
+        /// 0 if it is the text's first number, and `None` if it is a later one.
         place: Option<usize>,
     },
     /// A term, a step of the evaluation or the value is 2^64 nanoseconds or more.
     Overflow {
-        /// 0 for the first term, or `None` for a later one and for a step.
+        /// 0 if it is the first term, and `None` if it is a later term, a step or the value.
         place: Option<usize>,
     },
-    /// The operator `later` follows the different operator `first`.
+    /// The text has both operators: `later` follows `first`, and differs from it.
     Mixed {
         /// The first operator.
         first: CondUnit,
-        /// The first operator that differs from it.
+        /// The first operator that differs from `first`.
         later: CondUnit,
     },
     /// The date is out of range.
@@ -106,10 +107,10 @@ pub enum Cause {
 }
 
 impl Cause {
-    /// The byte offset of the fault. Each syntax fault has one. If the first term is too large, it
-    /// is 0. Otherwise it is `None`.
+    /// Returns the byte offset of the fault. A syntax fault always has one. If the first term is
+    /// too large, the offset is 0. For all other causes it is `None`.
     ///
-    /// In a `Fault` it is a character boundary within the text.
+    /// In a `Fault` the offset is a character boundary within the text.
     ///
     /// ```
     /// use duration_str::{Options, parse_with};
@@ -132,7 +133,7 @@ impl Cause {
         Cause::Syntax { place, expected }
     }
 
-    /// The line that says why the text is refused.
+    /// Returns the line that says why the text is refused.
     ///
     /// ```
     /// assert_eq!(duration_str::Cause::Empty.line(), "Empty input");

@@ -1,7 +1,7 @@
 // Made by tools/erase of crates/duration_str/src/eye.rt.
-//! The only access to the text while it is cut: one character after the other, and every look is counted.
+//! The only access to a text while it is cut into tokens. It takes one character after another, and counts each look.
 
-/// A text, and the place up to which it is cut.
+/// A text, the place up to which it is cut into tokens, and the number of looks.
 pub(crate) struct Eye<'a> {
     text: &'a str,
     place: usize,
@@ -28,7 +28,7 @@ impl<'a> Eye<'a> {
         self.looks
     }
 
-    /// Looks at the character at the place; `None` at the end of the text.
+    /// Returns the character at the place, or `None` at the end of the text. The look is counted.
     #[inline(always)]
     pub(crate) fn look(&mut self) -> Option<char> {
         let c = character_at(self.text, self.place)?;
@@ -36,7 +36,7 @@ impl<'a> Eye<'a> {
         Some(c)
     }
 
-    /// Moves past the character just looked at.
+    /// Moves the place past `looked_at`, which is the character there.
     #[inline(always)]
     pub(crate) fn step(&mut self, looked_at: char) {
         self.place += looked_at.len_utf8();
@@ -47,7 +47,7 @@ impl<'a> Eye<'a> {
         &self.text[start..self.place]
     }
 
-    /// The bytes of `since`, without checking character boundaries.
+    /// Returns the bytes of what `since` returns, without checking character boundaries.
     #[inline(always)]
     pub(crate) fn bytes_since(&self, start: usize) -> &'a [u8] {
         &self.text.as_bytes()[start..self.place]

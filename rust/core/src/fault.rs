@@ -15,14 +15,14 @@ use crate::token::Tokens;
 /// ```
 #[derive(Clone, Copy, Debug, PartialEq, Eq, Hash)]
 pub struct Fault<'a> {
-    /// The whole text that was read; the empty text for `NotText`.
+    /// The whole text that was read. For the cause `NotText` it is empty.
     pub(crate) text: &'a str,
-    /// Why it is refused.
+    /// Why the text is refused.
     pub(crate) cause: Cause,
 }
 
 impl<'a> Fault<'a> {
-    /// The whole text that was read; the empty text for `NotText`.
+    /// The whole text that was read. For the cause `NotText` it is empty.
     ///
     /// ```
     /// use duration_str_core::{Options, parse_with};
@@ -34,7 +34,7 @@ impl<'a> Fault<'a> {
         self.text
     }
 
-    /// Why it is refused.
+    /// Why the text is refused.
     ///
     /// ```
     /// use duration_str_core::{Cause, Options, parse_with};
@@ -47,10 +47,11 @@ impl<'a> Fault<'a> {
         self.cause
     }
 
-    /// The token that starts at the place of a syntax fault, as a slice of the text.
+    /// Returns the token that starts at the place of a syntax fault, as a slice of the text.
     ///
-    /// The text is cut under these options. `None` if no token starts at the place, and for every other cause. With the
-    /// options of the reading, a syntax fault has no token exactly if it is at the end of the text.
+    /// The text is cut into tokens under these options. The result is `None` if no token starts at the place, and for
+    /// every other cause. If these are the options under which the text was read, a syntax fault has no token exactly
+    /// if it is at the end of the text.
     ///
     /// ```text
     /// parse("3ms-2ms").unwrap_err().found(Options::off()) // Some("-")
@@ -60,13 +61,14 @@ impl<'a> Fault<'a> {
         let Cause::Syntax { place, .. } = self.cause else {
             return None;
         };
-        // To find a token at the place it is enough to cut from the character before it on.
+        // To find the token at the place, it is enough to cut the text from the character before
+        // the place on.
         let from = last_boundary(self.text, place.saturating_sub(1));
         token_at(Tokens::new(&self.text[from..], o), place - from)
     }
 }
 
-/// The last byte up to this one at which the text may be cut.
+/// The last character boundary at or before `place`.
 fn last_boundary(text: &str, mut place: usize) -> usize {
     while !text.is_char_boundary(place) {
         place -= 1;
@@ -74,7 +76,7 @@ fn last_boundary(text: &str, mut place: usize) -> usize {
     place
 }
 
-/// The token that starts at the place, among those that are left.
+/// The token that starts at `place`, if it is one of those that `tokens` has left.
 fn token_at<'a>(mut tokens: Tokens<'a>, place: usize) -> Option<&'a str> {
     while let Some(token) = tokens.next() {
         if token.start == place {

@@ -1,12 +1,13 @@
 // Made by tools/erase of crates/duration_str/src/format.rt.
-//! How a duration is printed: in which units, in so many parts at most, and in a style.
+//! How a duration is printed: its units, the greatest number of parts, and the style.
 
 use crate::unit::{TimeUnit, UNITS};
 
-/// How a duration is printed: the units, the greatest number of parts, and the style.
+/// How a duration is printed: the units, the greatest number of parts, and the style. A part is a count with its unit,
+/// such as `3min`.
 ///
-/// Start from [`Format::whole`], since a later version may have more fields. `largest`, `smallest`, `only` and `without`
-/// each take units out of the set. So their order does not matter, and none brings a unit back.
+/// Start from [`Format::whole`], since a later version may have more fields. `largest`, `smallest`, `only` and
+/// `without` each take units out of the set. So their order does not matter, and none of them brings a unit back.
 ///
 /// ```
 /// use duration_str::{Format, STYLED_BUFFER_SIZE, TimeUnit, write_within};
@@ -19,9 +20,9 @@ use crate::unit::{TimeUnit, UNITS};
 #[derive(Clone, Copy, Debug, PartialEq, Eq, Hash)]
 #[non_exhaustive]
 pub struct Format {
-    /// The units that are printed. If there are none, every duration prints as the zero, `0s`.
+    /// The units that are printed. If the set is empty, every duration prints as `0s`.
     pub units: Units,
-    /// The greatest number of parts. If it is 0, every duration prints as the zero.
+    /// The greatest number of parts. If it is 0, every duration prints as a duration of 0 does.
     pub parts: usize,
     /// How the parts are written.
     pub style: Style,
@@ -41,7 +42,7 @@ pub struct Format {
 /// ```
 #[derive(Clone, Copy, Debug, PartialEq, Eq, Hash)]
 pub struct Units {
-    /// The bit 2^n is that of the unit than which n are longer.
+    /// The bit 2^n says whether the set has the unit at index n of `UNITS`.
     bits: u16,
 }
 
@@ -52,8 +53,9 @@ impl Units {
     /// No unit.
     pub const NONE: Units = Units { bits: 0 };
 
-    /// The set of the units of these bits. The bit 2^n is that of the unit than which n are longer: 1 for the year, 2 for
-    /// the quarter, and 1,024 for the nanosecond. `None` if a bit is above that of the nanosecond.
+    /// Returns the set that these bits stand for. The bit 2^n stands for the unit at index n of `UNITS`: 1 is the year,
+    /// 2 is the quarter, and 1,024 is the nanosecond. The result is `None` if a bit above that of the nanosecond is
+    /// set.
     ///
     /// ```
     /// use duration_str::{TimeUnit, Units};
@@ -72,7 +74,7 @@ impl Units {
         }
     }
 
-    /// The bits of the units in the set, which [`Units::from_bits`] takes.
+    /// Returns the bits that stand for the set, as [`Units::from_bits`] takes them.
     ///
     /// ```
     /// use duration_str::Units;
@@ -85,7 +87,7 @@ impl Units {
         self.bits
     }
 
-    /// The set of these units. Their order does not matter, and a unit may be among them twice.
+    /// Returns the set of these units. Their order does not matter, and a unit may occur twice.
     ///
     /// ```
     /// use duration_str::{TimeUnit, Units};
@@ -104,7 +106,7 @@ impl Units {
         set
     }
 
-    /// The units that are in both sets.
+    /// Returns the units that are in both sets.
     #[inline]
     const fn intersection(self, other: Units) -> Units {
         Units {
@@ -112,7 +114,7 @@ impl Units {
         }
     }
 
-    /// Whether the unit is in the set.
+    /// Returns whether the unit is in the set.
     ///
     /// ```
     /// use duration_str::{TimeUnit, Units};
@@ -126,7 +128,7 @@ impl Units {
         self.bits >> unit.rank() & 1 == 1
     }
 
-    /// The set with this unit too.
+    /// Returns the set with this unit added.
     ///
     /// ```
     /// use duration_str::{TimeUnit, Units};
@@ -141,7 +143,7 @@ impl Units {
         }
     }
 
-    /// The set without this unit.
+    /// Returns the set without this unit.
     ///
     /// ```
     /// use duration_str::{TimeUnit, Units};
@@ -156,7 +158,7 @@ impl Units {
         }
     }
 
-    /// The set without the units that are longer than this one.
+    /// Returns the set without the units that are longer than this one.
     #[inline]
     pub(crate) const fn up_to(self, largest: TimeUnit) -> Units {
         Units {
@@ -164,7 +166,7 @@ impl Units {
         }
     }
 
-    /// The set without the units that are shorter than this one.
+    /// Returns the set without the units that are shorter than this one.
     #[inline]
     const fn down_to(self, smallest: TimeUnit) -> Units {
         Units {
@@ -186,8 +188,8 @@ pub enum Style {
 }
 
 impl Format {
-    /// All units, as many parts as there are units, and the short style. With it everything is
-    /// printed, as `write_human` prints it.
+    /// Returns the format with all units, 11 parts and the short style. It leaves nothing out: a
+    /// duration prints as `write_human` prints it.
     ///
     /// ```
     /// assert_eq!(duration_str::Format::whole().parts, 11);
@@ -201,7 +203,7 @@ impl Format {
         }
     }
 
-    /// The same format without the units that are not among these.
+    /// Returns the same format without the units that are not in this list.
     ///
     /// ```
     /// use duration_str::{Format, STYLED_BUFFER_SIZE, TimeUnit, write_within};
@@ -220,7 +222,7 @@ impl Format {
         }
     }
 
-    /// The same format without this unit.
+    /// Returns the same format without this unit.
     ///
     /// ```
     /// use duration_str::{Format, STYLED_BUFFER_SIZE, TimeUnit, write_within};
@@ -239,7 +241,7 @@ impl Format {
         }
     }
 
-    /// The same format without the units that are longer than this one.
+    /// Returns the same format without the units that are longer than this one.
     ///
     /// ```
     /// use duration_str::{Format, STYLED_BUFFER_SIZE, TimeUnit, write_within};
@@ -257,7 +259,7 @@ impl Format {
         }
     }
 
-    /// The same format without the units that are shorter than this one.
+    /// Returns the same format without the units that are shorter than this one.
     ///
     /// ```
     /// use duration_str::{Format, STYLED_BUFFER_SIZE, TimeUnit, write_within};
@@ -277,7 +279,7 @@ impl Format {
         }
     }
 
-    /// The same format with at most so many parts.
+    /// Returns the same format with at most `parts` parts.
     ///
     /// ```
     /// use duration_str::{Format, STYLED_BUFFER_SIZE, write_within};
@@ -292,7 +294,7 @@ impl Format {
         Format { parts, ..self }
     }
 
-    /// The same format in this style.
+    /// Returns the same format in this style.
     ///
     /// ```
     /// use duration_str::{Format, STYLED_BUFFER_SIZE, Style, write_within};
@@ -307,7 +309,8 @@ impl Format {
         Format { style, ..self }
     }
 
-    /// The unit of a zero: the smallest, or the second if that is shorter or there is none.
+    /// The unit with which a zero is printed: the smallest unit of the format. If that unit is
+    /// shorter than a second, or the format has no unit, it is the second.
     #[inline]
     pub(crate) fn zero_unit(self) -> TimeUnit {
         let mut smallest = TimeUnit::Second;

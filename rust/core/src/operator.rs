@@ -17,7 +17,7 @@ pub enum CondUnit {
 }
 
 impl CondUnit {
-    /// The operator that a character stands for, if any.
+    /// Returns the operator that a character stands for, if any.
     ///
     /// ```
     /// use duration_str::CondUnit;
@@ -35,7 +35,7 @@ impl CondUnit {
     }
 }
 
-/// `+` or `*`.
+/// Prints `+` or `*`.
 impl fmt::Display for CondUnit {
     fn fmt(&self, f: &mut fmt::Formatter<'_>) -> fmt::Result {
         f.pad(match self {

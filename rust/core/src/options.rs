@@ -1,5 +1,5 @@
 // Made by tools/erase of crates/duration_str/src/options.rt.
-//! The choice of options.
+//! The options for reading.
 
 /// Options for reading: which grammar is read, and which words name units.
 ///
@@ -14,16 +14,17 @@
 /// ```
 #[derive(Clone, Copy, Debug, PartialEq, Eq, Hash)]
 pub struct Options {
-    /// Operators are not read; terms are added one by one.
+    /// `+` and `*` are not read, and the terms are added one by one.
     pub no_calc: bool,
-    /// Units are compared as written. Without this option ASCII capitals are read as small letters.
+    /// Capitals are not read as small letters. Without this option ASCII capitals are, so `1M` is a
+    /// minute.
     pub lowercase: bool,
     /// The Chinese names of the units are read too.
     pub cn_unit: bool,
 }
 
 impl Options {
-    /// All options off.
+    /// Returns options that are all off.
     ///
     /// ```
     /// assert!(!duration_str::Options::off().no_calc);
@@ -37,7 +38,7 @@ impl Options {
         }
     }
 
-    /// Whether all options are off.
+    /// Returns whether all options are off.
     ///
     /// ```
     /// assert!(duration_str::Options::off().are_off());

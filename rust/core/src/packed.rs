@@ -1,6 +1,6 @@
 // Made by tools/erase of crates/duration_str/src/packed.rt.
-//! The letters of units' names, packed into one number, and the unit that such a number names. The letters are digits to
-//! the base 40. Case is ignored.
+//! A word's letters packed into one number, and the unit that such a number names. The letters are digits to the base
+//! 40. A capital is the same digit as its small letter, unless the option `lowercase` is on.
 
 use crate::options::Options;
 use crate::unit::TimeUnit;
@@ -10,7 +10,7 @@ use crate::unit::TimeUnit::{
 };
 
 impl TimeUnit {
-    /// The unit that a word names under these options, if any. No word names two units.
+    /// Returns the unit that a word names under these options, if any. No word names two units.
     ///
     /// ```
     /// use duration_str::{Options, TimeUnit};
@@ -31,10 +31,10 @@ impl TimeUnit {
     }
 }
 
-/// The most bytes of a name. The packed number of as many letters fits into a `u64`.
+/// The most bytes that a name has. The packed number of 12 letters fits into a `u64`.
 pub(crate) const MOST_BYTES: usize = 12;
 
-/// The values of digits and letters are kept modulo this.
+/// The numbers that digits write, and the packed numbers of letters, are computed modulo this.
 pub(crate) const MODULUS: u128 = 1 << 64;
 
 /// A packed number with one more letter.
@@ -48,7 +48,7 @@ pub(crate) fn is_unit_letter(c: char, o: Options) -> bool {
     letter_number(c, o).is_some()
 }
 
-/// The number of a unit letter under these options; `None` of any other character.
+/// The digit that a unit letter is under these options, or `None` for any other character.
 #[inline(always)]
 pub(crate) fn letter_number(c: char, o: Options) -> Option<u64> {
     if c.is_ascii_alphabetic() {
@@ -63,7 +63,7 @@ pub(crate) fn letter_number(c: char, o: Options) -> Option<u64> {
     }
 }
 
-/// The number of a unit letter.
+/// The digit that a unit letter is.
 #[inline(always)]
 pub(crate) fn first_number(c: char, o: Options) -> u64 {
     if c.is_ascii() {
@@ -72,8 +72,8 @@ pub(crate) fn first_number(c: char, o: Options) -> u64 {
     wide_number(c, o.cn_unit)
 }
 
-/// The number of an ASCII letter, ignoring case: 1 to 26, its code modulo 32. Under `lowercase` a capital has a number
-/// that no letter of a name has.
+/// The digit that an ASCII letter is: its code modulo 32, which is 1 to 26 for small letters and for capitals. Under
+/// `lowercase` a capital is a digit that no letter of a name is.
 #[inline(always)]
 fn ascii_number(c: char, o: Options) -> u64 {
     if o.lowercase && c < 'a' {
@@ -82,7 +82,8 @@ fn ascii_number(c: char, o: Options) -> u64 {
     u64::from(c as u32 % 32)
 }
 
-/// The number of a unit letter beyond ASCII: `µ`, and those that the option `cn_unit` adds; 0 of any other character.
+/// The digit that a unit letter beyond ASCII is: `µ`, or a letter that the option `cn_unit` adds. For any other
+/// character it is 0.
 #[inline]
 fn wide_number(c: char, cn_unit: bool) -> u64 {
     if c == 'µ' {
@@ -107,13 +108,14 @@ fn wide_number(c: char, cn_unit: bool) -> u64 {
     }
 }
 
-/// The number of a capital under `lowercase`.
+/// The digit that a capital is under `lowercase`.
 const CAPITAL: u64 = 39;
 
 /// The unit with a name that packs to this number.
 #[inline]
 pub(crate) fn unit_of_packed(packed: u64) -> Option<TimeUnit> {
-    // Computed in 128 bits, which the compiler turns into one multiplication of 64 bits.
+    // The product is computed in 128 bits, which the compiler turns into one multiplication of 64
+    // bits.
     let slot = (packed as u128 * SPREAD as u128 >> 57) % 128;
     let name = SLOTS[slot as usize] as usize;
     if NAMES[name] == packed {
@@ -194,7 +196,7 @@ static NAMES: [u64; 54] = [
     1_555, // 纳秒
 ];
 
-/// The unit of each name.
+/// The unit of each name, in the order of `NAMES`.
 static NAMED_UNITS: [TimeUnit; 54] = [
     Year, Year, Year, Year, Quarter, Quarter, Quarter, Month, Month, Month, Month, Week, Week,
     Week, Week, Day, Day, Day, Day, Day, Hour, Hour, Hour, Hour, Hour, Minute, Minute, Minute,

@@ -9,14 +9,15 @@ use crate::token::Tokens;
 use crate::unit::TimeUnit;
 use core::time::Duration;
 
-/// The duration that a text means with all options off.
+/// Reads a text with all options off, and returns the duration that it means.
 ///
-/// It returns what `parse_with` returns for `Options::off()`. Terms such as `3m`, `29ms` or `10` (no unit means
-/// seconds) are joined by `+` or by `*`; an operator that is left out is a plus. The value is below 2^64 nanoseconds.
+/// It returns what `parse_with` returns for `Options::off()`. Terms such as `3m`, `29ms` or `10` (a number without a
+/// unit counts seconds) are joined by `+` or by `*`. If an operator is left out, it is a plus. The value is below 2^64
+/// nanoseconds.
 ///
 /// # Errors
 ///
-/// The [`Fault`], if the text means no duration.
+/// It returns a [`Fault`] if the text means no duration.
 ///
 /// ```
 /// use duration_str::parse;
@@ -34,7 +35,7 @@ pub fn parse(input: &str) -> Result<Duration, Fault<'_>> {
 ///
 /// # Errors
 ///
-/// That of [`parse`].
+/// It refuses the same texts as [`parse`], for the same causes.
 ///
 /// ```
 /// assert_eq!(duration_str::parse_std("2h 37m").unwrap().as_secs(), 9_420);
@@ -43,23 +44,24 @@ pub fn parse_std(input: &str) -> Result<Duration, Fault<'_>> {
     parse(input)
 }
 
-/// The duration that a text means under these options.
+/// Reads a text under these options, and returns the duration that it means.
 ///
-/// Returns `Ok` if and only if a sentence of the grammar spells the text and evaluates. The value
-/// is below 2^64 nanoseconds.
+/// It returns `Ok` if and only if the text follows the grammar and its evaluation has no fault. The
+/// value is below 2^64 nanoseconds.
 ///
-/// A refusal holds the text, and the first of these causes:
+/// A refusal holds the text, and the first cause in this order:
 /// - `Empty` for the empty text
 /// - a fault in the value of the first term
-/// - `Syntax` at the first token that can't follow the text before it, with what could stand there
+/// - `Syntax` at the first token that can't follow the text before it, or at the end of the text,
+///   with what could stand there
 /// - the first fault of the evaluation
 ///
-/// Under `no_calc` the terms are added one by one, and their faults precede later syntax faults.
-/// Allocates nothing.
+/// Under `no_calc` the terms are added one by one, so the fault of a term comes before a syntax
+/// fault after it. The call allocates nothing.
 ///
 /// # Errors
 ///
-/// The [`Fault`], if the text means no duration.
+/// It returns a [`Fault`] if the text means no duration.
 ///
 /// ```
 /// use duration_str::{Options, parse_with};
@@ -75,17 +77,19 @@ pub fn parse_with(input: &str, o: Options) -> Result<Duration, Fault<'_>> {
     parse_with_default_unit(input, o, Some(TimeUnit::Second))
 }
 
-/// The duration that a text means under these options, where a number without a unit has the default unit.
+/// Reads a text under these options and with this default unit, which a number without a unit has, and returns the
+/// duration that it means.
 ///
-/// `parse_with` is this call with the second. With `None` each number must have its unit, so that after a number only a
-/// unit can stand.
+/// `parse_with` is this call with the second as the default unit. If the default unit is `None`, each number must have
+/// its unit, so only a unit can follow a number.
 ///
-/// A product multiplies seconds, so a factor without a unit is a length too: in milliseconds `90s*2` is 180 ms. Texts
-/// whose numbers are milliseconds have no operators: turn on `no_calc` for them. Allocates nothing.
+/// A product multiplies its terms in seconds, and a factor without a unit counts the default unit too: in milliseconds
+/// `90s*2` is 180 ms. If the numbers in your texts are milliseconds, turn on `no_calc`, so that operators are refused.
+/// The call allocates nothing.
 ///
 /// # Errors
 ///
-/// The [`Fault`], if the text means no duration.
+/// It returns a [`Fault`] if the text means no duration.
 ///
 /// ```text
 /// let in_milliseconds = |text| parse_with_default_unit(text, Options::off(), Some(TimeUnit::MilliSecond));
@@ -102,13 +106,14 @@ pub fn parse_with_default_unit(
     parse_nanos(input, o, default_unit).map(Duration::from_nanos)
 }
 
-/// The duration that a text means under these options, where each number must have its unit.
+/// Reads a text in which each number must have its unit, under these options, and returns the
+/// duration that it means.
 ///
-/// It returns what `parse_with_default_unit` returns for `None`. Allocates nothing.
+/// It returns what `parse_with_default_unit` returns for `None`. The call allocates nothing.
 ///
 /// # Errors
 ///
-/// The [`Fault`], if the text means no duration, or lacks a unit.
+/// It returns a [`Fault`] if the text means no duration, or lacks a unit.
 ///
 /// ```text
 /// parse_with_units("1h 30m", Options::off()) // Ok(Duration::from_secs(5_400))
@@ -119,13 +124,14 @@ pub fn parse_with_units(input: &str, o: Options) -> Result<Duration, Fault<'_>> 
     parse_with_default_unit(input, o, None)
 }
 
-/// The nanoseconds of what `parse_with_default_unit` returns, or its refusal.
+/// Reads a text as `parse_with_default_unit` does, and returns the duration in nanoseconds.
 ///
-/// With all options off and the second, a copy of the reader is called that knows this, and is faster.
+/// If all options are off and the default unit is the second, it calls a copy of the reader that is compiled for this
+/// case, and is faster.
 ///
 /// # Errors
 ///
-/// That of [`parse_with_default_unit`].
+/// It refuses the same texts as [`parse_with_default_unit`], for the same causes.
 ///
 /// ```text
 /// parse_nanos("1ms 5ns", Options::off(), None) // Ok(1_000_005)
@@ -152,13 +158,13 @@ fn nanos_chosen(input: &str, o: Options, default_unit: Option<TimeUnit>) -> Resu
     parse_nanos_inlined(input, o, default_unit)
 }
 
-/// Returns what `parse_nanos` returns, by a copy of the reader that stands where this is called.
+/// Returns what `parse_nanos` returns. A copy of the reader is compiled into the place of each call.
 ///
-/// The compiler knows the options at that call, so the copy is faster. It adds 3 to 6 kB to the program.
+/// If the compiler knows the options there, the copy is faster. Each copy adds 3 to 6 kB to the program.
 ///
 /// # Errors
 ///
-/// Those of [`parse_nanos`].
+/// It refuses the same texts as [`parse_nanos`], for the same causes.
 ///
 /// ```text
 /// parse_nanos_inlined("1ms 5ns", Options::off(), None) // Ok(1_000_005)
@@ -174,8 +180,9 @@ pub fn parse_nanos_inlined(
 
 /// Returns what `parse_with` returns, and how many times a character of the text was looked at.
 ///
-/// There are at most as many looks as characters. Reading a token again after it was cut off is not counted. All
-/// characters of an accepted text are looked at, and at least those before the place of a syntax fault.
+/// There are at most as many looks as characters. Reading a token again after it was cut off is not counted. If the
+/// text is accepted, all its characters are looked at. If it has a syntax fault, at least the characters before the
+/// fault's place are.
 ///
 /// ```text
 /// parse_looked("3m 13s", Options::off()) // (Ok(Duration::from_secs(193)), 6)

@@ -6,15 +6,16 @@ use crate::operator::CondUnit;
 use crate::token::{TokenStart, Tokens};
 use crate::unit::TimeUnit;
 
-/// The later terms: the operator between them and their total; `None` if there are none; or their first fault.
+/// The later terms, which are all but the first: the operator between them and their total, or `None` if there are no
+/// later terms, or their first fault.
 type Later = Result<Option<(CondUnit, u64)>, Cause>;
 
-/// The value of the tokens in nanoseconds, or the cause of their refusal.
+/// Reads the tokens. Returns their value in nanoseconds, or the cause of their refusal.
 ///
 /// The later terms are combined first, by the operator before the second term, and the first term is combined with
-/// their total at the end. Under `no_calc` the first term is the beginning of that total, and the first fault of a later
-/// term is answered at once. Otherwise it is kept in place of the total while the rest is read, since a syntax fault
-/// there comes first.
+/// their total at the end. Under `no_calc` the total starts with the first term instead, and the first fault of a later
+/// term is returned at once. Otherwise that fault is kept in place of the total while the rest is read, since a syntax
+/// fault in the rest comes first.
 #[inline(always)]
 pub(crate) fn read(
     tokens: &mut Tokens<'_>,
@@ -43,7 +44,7 @@ pub(crate) fn read(
     }
 }
 
-/// Moves to the number that must follow, at the start and after an operator.
+/// Moves to the number that must stand at the start and after an operator.
 #[inline(always)]
 fn expect_number(tokens: &mut Tokens<'_>) -> Result<(), Cause> {
     if tokens.is_number_ahead() {
@@ -70,13 +71,15 @@ fn read_unit(
             None => Err(no_unit(place, no_calc, default_unit)),
         },
         TokenStart::Operator(_) if !no_calc => unit_left_out(place, no_calc, default_unit),
-        // An arm of its own, since the prover would not know of a joined one which pattern it is.
+        // This is an arm of its own, since in one with two patterns the prover would not know which
+        // one matched.
         TokenStart::Operator(_) => Err(no_unit(place, no_calc, default_unit)),
         TokenStart::Number | TokenStart::Other => Err(no_unit(place, no_calc, default_unit)),
     }
 }
 
-/// The default unit, which a number without a unit has; if there is none, the fault that only a unit could stand there.
+/// Returns the default unit, which a number without a unit has. If there is no default unit, it is a syntax fault at
+/// `place`, where only a unit could stand.
 #[inline(always)]
 fn unit_left_out(
     place: usize,
@@ -86,13 +89,14 @@ fn unit_left_out(
     default_unit.ok_or(no_unit(place, no_calc, default_unit))
 }
 
-/// The fault of what stands after a number and is neither a unit nor what may follow a number without one.
+/// The syntax fault of a token that can't follow a number.
 #[inline(always)]
 fn no_unit(place: usize, no_calc: bool, default_unit: Option<TimeUnit>) -> Cause {
     Cause::syntax(place, Expected::after_number(no_calc, default_unit))
 }
 
-/// Reads the operator after a unit, up to the number that must follow: a plus if it is left out, `None` at the end.
+/// Reads the operator after a unit, and moves to the number that must follow. If the operator is left out, it is a
+/// plus. At the end of the text the result is `None`.
 #[inline(always)]
 fn read_operator(tokens: &mut Tokens<'_>, no_calc: bool) -> Result<Option<CondUnit>, Cause> {
     let Some(sort) = tokens.sort_ahead() else {
@@ -106,19 +110,19 @@ fn read_operator(tokens: &mut Tokens<'_>, no_calc: bool) -> Result<Option<CondUn
             expect_number(tokens)?;
             Ok(Some(operator))
         }
-        // An arm of its own, as in `read_unit`.
+        // This is an arm of its own, as in `read_unit`.
         TokenStart::Operator(_) => Err(no_operator(place, no_calc)),
         TokenStart::Word | TokenStart::Other => Err(no_operator(place, no_calc)),
     }
 }
 
-/// The fault of what stands after a unit and is neither a number nor an operator that is read.
+/// The syntax fault of a token that can't follow a unit.
 #[inline(always)]
 fn no_operator(place: usize, no_calc: bool) -> Cause {
     Cause::syntax(place, Expected::after_unit(no_calc))
 }
 
-/// The later terms with one more, before which `next` stands.
+/// Adds one more term to the later terms. `next` is the operator before it.
 #[inline(always)]
 fn with_term(later: Later, next: CondUnit, number: Option<u64>, unit: TimeUnit) -> Later {
     let Some((operator, total)) = later? else {
@@ -147,7 +151,8 @@ fn combination(operator: CondUnit, left: u64, right: u64) -> Option<u64> {
     }
 }
 
-/// The product of two values in seconds, rounded down to nanoseconds; `None` from 2^64 on.
+/// The product of two values in seconds, rounded down to nanoseconds, or `None` if it is 2^64 or
+/// more.
 #[inline]
 fn scaled(left: u64, right: u64) -> Option<u64> {
     const SECOND: u128 = 1_000_000_000;

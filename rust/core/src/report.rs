@@ -6,20 +6,20 @@ use crate::fault::Fault;
 use crate::message::Layout;
 use crate::one_line::{ONE_LINE_BUFFER_SIZE, is_clear};
 
-/// The bytes of a buffer for a report: 80 characters of four bytes, two columns for each, two line feeds, the caret and
-/// a line.
+/// The size of a buffer that has room for every report: 80 characters of four bytes, two spaces for each of them before
+/// the caret, the caret, two line feeds, and a line.
 pub const REPORT_BUFFER_SIZE: usize = 80 * 4 + 80 * 2 + 3 + ONE_LINE_BUFFER_SIZE;
 
-/// The most characters of a text above a caret.
+/// The most characters of a text that can stand above a caret.
 const MOST_ABOVE: usize = 80;
 
 impl Fault<'_> {
-    /// Writes the fault for a terminal to the start of a buffer, whatever the buffer holds: the text,
-    /// below it a caret at the place of a syntax fault, and below that the line of
-    /// `write_one_line`.
+    /// Writes the fault for a terminal to the start of a buffer, and returns this report: the text, below it a caret at
+    /// the place of a syntax fault, and below that the line of `write_one_line`.
     ///
-    /// It is the line alone for another cause, for a text of more than 80 characters, and for a
-    /// text with characters that the line would escape. Allocates nothing and cannot fail.
+    /// The report is the line alone if the cause is not `Syntax`, if the text has more than 80 characters, or if the
+    /// line would escape one of its characters. What the buffer held before does not matter. The call allocates nothing
+    /// and cannot fail.
     ///
     /// ```
     /// use duration_str_core::{Options, REPORT_BUFFER_SIZE, parse_with};
@@ -50,7 +50,7 @@ impl Fault<'_> {
     }
 }
 
-/// Whether a text can stand above a caret.
+/// Whether a text can stand above a caret: it is short enough, and needs no escapes.
 fn is_clear_text(text: &str) -> bool {
     text.chars().count() <= MOST_ABOVE && are_clear(text)
 }
@@ -59,8 +59,8 @@ fn are_clear(text: &str) -> bool {
     text.chars().all(is_clear)
 }
 
-/// How many columns of a terminal a text takes. What stands before a syntax fault has no wide characters but Chinese
-/// ones.
+/// How many columns of a terminal a text takes. Every character from U+2E80 on is counted as two, but only the Chinese
+/// letters among them can stand before a syntax fault.
 fn columns_of(text: &str) -> usize {
     let mut columns = 0;
     let mut chars = text.chars();

@@ -40,15 +40,15 @@ pub enum What {
 /// ```
 #[derive(Clone, Copy, Debug, PartialEq, Eq, Hash)]
 pub struct Token<'a> {
-    /// The byte of the source at which it starts.
+    /// The byte of the text at which the token starts.
     pub start: usize,
-    /// Its slice of the source.
+    /// The token's slice of the text.
     pub text: &'a str,
-    /// What it is.
+    /// What the token is.
     pub what: What,
 }
 
-/// The sort of a token, by its first character.
+/// The sort of a token, which its first character decides.
 #[derive(Clone, Copy)]
 pub(crate) enum TokenStart {
     Number,
@@ -73,7 +73,7 @@ impl TokenStart {
     }
 }
 
-/// The tokens of a text, in order. Each character is looked at once, when it is reached.
+/// An iterator over the tokens of a text, in order. Each character is looked at once, when it is reached.
 ///
 /// ```
 /// use duration_str_core::{Options, Tokens};
@@ -83,13 +83,13 @@ impl TokenStart {
 /// ```
 pub struct Tokens<'a> {
     eye: Eye<'a>,
-    /// The character at the place, already looked at; `None` at the end.
+    /// The character at the place, which has already been looked at, or `None` at the end.
     head: Option<char>,
     options: Options,
 }
 
 impl<'a> Tokens<'a> {
-    /// The tokens of a text, cut under these options.
+    /// Returns an iterator over the tokens of a text, which is cut under these options.
     ///
     /// ```
     /// use duration_str_core::{Options, Tokens};
@@ -108,7 +108,7 @@ impl<'a> Tokens<'a> {
         }
     }
 
-    /// How many times a character of the text was looked at.
+    /// Returns how many times a character of the text has been looked at so far.
     ///
     /// ```
     /// use duration_str_core::{Options, Tokens};
@@ -128,8 +128,8 @@ impl<'a> Tokens<'a> {
         self.eye.place()
     }
 
-    /// Moves past the character ahead, and looks at the next one. So an operator, or a character that is neither a
-    /// digit nor a unit letter, is taken as a token.
+    /// Moves past the character ahead, and looks at the next one. This takes an operator, or another single character,
+    /// as a token.
     #[inline(always)]
     pub(crate) fn advance(&mut self) {
         if let Some(c) = self.head {
@@ -149,7 +149,7 @@ impl<'a> Tokens<'a> {
         }
     }
 
-    /// Moves past the digits, and returns their number modulo 2^64.
+    /// Moves past the digits ahead, and returns the number that they write, modulo 2^64.
     #[inline(always)]
     fn take_digits(&mut self) -> u64 {
         let mut number = 0u64;
@@ -165,7 +165,7 @@ impl<'a> Tokens<'a> {
         number
     }
 
-    /// Takes the number ahead; `None` from 2^64 on.
+    /// Takes the number ahead. Returns its value, or `None` if it is 2^64 or more.
     #[inline(always)]
     pub(crate) fn take_number(&mut self) -> Option<u64> {
         let start = self.eye.place();
@@ -176,8 +176,8 @@ impl<'a> Tokens<'a> {
         fits(self.eye.bytes_since(start), low).then_some(low)
     }
 
-    /// Moves past the letters of the word ahead, and returns their packed number modulo 2^64. Its first character is a
-    /// unit letter, and is handled before the loop, which takes fewer instructions.
+    /// Moves past the letters of the word ahead, and returns their packed number modulo 2^64. The word's first
+    /// character is known to be a unit letter, and is handled before the loop, which takes fewer instructions.
     #[inline(always)]
     fn take_letters(&mut self) -> u64 {
         let Some(first) = self.head else {
@@ -224,7 +224,7 @@ impl<'a> Tokens<'a> {
         }
     }
 
-    /// Moves past the blanks, and returns the sort of the token ahead; `None` at the end.
+    /// Moves past the blanks. Returns the sort of the token ahead, or `None` at the end.
     #[inline(always)]
     pub(crate) fn sort_ahead(&mut self) -> Option<TokenStart> {
         self.skip_blanks();
@@ -242,7 +242,7 @@ impl<'a> Tokens<'a> {
         }
     }
 
-    /// What `sort_ahead` returns. After a number a word is most likely, so letters are tested first.
+    /// Returns what `sort_ahead` returns. After a number a word is most likely, so letters are tested first.
     #[inline(always)]
     pub(crate) fn sort_after_number(&mut self) -> Option<TokenStart> {
         if let Some(c) = self.head {
@@ -266,7 +266,7 @@ impl<'a> Iterator for Tokens<'a> {
     }
 }
 
-/// The most digits whose number is certainly below 2^64.
+/// Each number of up to 19 digits is below 2^64.
 const MOST_DIGITS: usize = 19;
 
 /// Whether each character up to the space is a blank. A table takes fewer instructions than comparisons.
@@ -276,14 +276,15 @@ static BLANKS: [bool; 33] = [
     false, false, false, false, false, true,
 ];
 
-/// Space, tab, carriage return, line feed.
+/// Whether a character is a space, a tab, a carriage return or a line feed.
 #[inline]
 pub(crate) fn is_blank(c: char) -> bool {
     c <= ' ' && BLANKS[c as usize]
 }
 
-/// Whether more than 19 digits write a number below 2^64; `low` is that number modulo 2^64. Before the last 19 digits
-/// such a number has zeros alone, or zeros and a `1`; then it is from 10^19 on, and below 2^64 if `low` is too.
+/// Whether a number of more than 19 digits is below 2^64. `low` is that number modulo 2^64. Before its last 19 digits,
+/// a number below 2^64 has only zeros, or zeros and then a `1`. With the `1` the number is from 10^19 to below 2 *
+/// 10^19, so it is below 2^64 exactly if `low` is 10^19 or more.
 #[cold]
 #[inline(never)]
 fn fits(digits: &[u8], low: u64) -> bool {

@@ -49,7 +49,7 @@ impl Default for TimeUnit {
 }
 
 impl TimeUnit {
-    /// The length in nanoseconds.
+    /// Returns the unit's length in nanoseconds.
     ///
     /// ```
     /// assert_eq!(duration_str::TimeUnit::Minute.nanos(), 60_000_000_000);
@@ -89,7 +89,7 @@ impl TimeUnit {
         }
     }
 
-    /// The long name of one of the unit.
+    /// The long name for a count of 1, such as `minute`.
     #[inline(always)]
     pub(crate) const fn long_name(self) -> &'static str {
         match self {
@@ -107,7 +107,7 @@ impl TimeUnit {
         }
     }
 
-    /// How many units are longer.
+    /// How many units are longer than this one.
     #[inline(always)]
     pub(crate) const fn rank(self) -> usize {
         self as usize
@@ -118,7 +118,8 @@ impl TimeUnit {
         &PRINTED[self.rank()]
     }
 
-    /// The value of a term in nanoseconds. `number` is `None` if it exceeds `u64`; `place` goes into the error.
+    /// The nanoseconds of a term with this number and this unit. `number` is `None` if it is 2^64 or more, and `place`
+    /// is the place of the error.
     #[inline]
     pub(crate) fn times(self, number: Option<u64>, place: Option<usize>) -> Result<u64, Cause> {
         let Some(n) = number else {
@@ -128,7 +129,7 @@ impl TimeUnit {
     }
 }
 
-/// The printed name, such as `min` or `µs`.
+/// Prints the unit's name, such as `min` or `µs`.
 impl fmt::Display for TimeUnit {
     fn fmt(&self, f: &mut fmt::Formatter<'_>) -> fmt::Result {
         f.pad(self.name())
@@ -158,22 +159,22 @@ const QUARTER: u64 = 91 * DAY;
 
 const YEAR: u64 = 365 * DAY;
 
-/// What is printed of a unit.
+/// A unit's printed name, and its length for the divisions that printing needs.
 #[derive(Clone, Copy)]
 pub(crate) struct Printed {
     pub(crate) unit: TimeUnit,
     pub(crate) nanos: u64,
-    /// The greatest `u64` divided by the length.
+    /// The greatest `u64`, divided by the unit's length and rounded down.
     reciprocal: u64,
-    /// The printed name, and then spaces, so that names of all lengths are copied alike.
+    /// The printed name, filled up with spaces, so that every name is copied as four bytes.
     pub(crate) letters: [u8; 4],
     /// How many bytes the name has.
     pub(crate) width: u8,
 }
 
 impl Printed {
-    /// How often the unit goes into so many nanoseconds, and what it leaves. The multiplication gives that number or one
-    /// less, and is faster than a division.
+    /// Divides nanoseconds by the unit's length, and returns the quotient and the remainder. It multiplies by the
+    /// reciprocal, which is faster than a division and gives the quotient or one less.
     #[inline(always)]
     pub(crate) fn division(&self, nanos: u64) -> (u64, u64) {
         let count = (nanos as u128 * self.reciprocal as u128 >> 64) as u64;
@@ -186,8 +187,8 @@ impl Printed {
     }
 }
 
-/// What is printed of the units, the longest first. It is a table of its own, so that a program that
-/// prints has no names in it that are read.
+/// The names and lengths that printing uses, the longest unit first. The names that are read are in another table, so
+/// that a program that only prints does not contain them.
 pub(crate) static PRINTED: [Printed; 11] = [
     Printed {
         unit: TimeUnit::Year,
